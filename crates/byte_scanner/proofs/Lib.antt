@@ -1,1 +1,4 @@
 pub mod ProtectedLemmas
+pub mod Windows
+pub mod OnePage
+pub mod AllPages

@@ -1,2 +1,4 @@
 pub mod Protected
 pub mod Least
+pub mod Code
+pub mod Found

@@ -1,5 +1,17 @@
+//! The encodings that outer code must not hold.
 ghost use Rattle.std.specs.Prelude.{◌≡◌, ℕ, ◌<◌, ◌+◌, length, slice_get, Some, None};
 ghost use Rattle.byte_scanner.specs.Protected.{is_refused_with, length_after_escape, length_at};
+
+/// A protected encoding in an image.
+#[derive(Clone, Copy, Debug, PartialEq, Eq)]
+pub struct Found {
+    /// Its linear address.
+    pub at: u64,
+    /// Its bytes, 0 past its length.
+    pub bytes: [u8; 3],
+    /// Its length, 2 or 3.
+    pub count: u8,
+}
 
 /// The byte that every protected encoding begins with: the escape to the two-byte opcodes.
 pub(crate) const ESCAPE: u8 = 0x0f;

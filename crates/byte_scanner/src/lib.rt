@@ -1,10 +1,14 @@
 //! The scan of outer code: the least place, or address, at which an encoding stands that outer code must not hold.
 //!
-//! Every offset counts, whether or not an instruction begins there, since outer code may jump to any byte. The definition
-//! is in `specs/Protected.antt`; what an image maps where is `elf_image`'s. Nothing here takes memory.
+//! Every offset counts, whether or not an instruction begins there, since outer code may jump to any byte. What is
+//! protected is defined in `specs/Protected.antt`, and what an image maps where is `elf_image`'s. Nothing here takes memory.
 #![tactic(auto)]
 
 mod encoding;
-mod first;
+mod slice_scan;
+mod window;
+mod image_scan;
 
-pub use crate::first::first_protected;
+pub use crate::encoding::Found;
+pub use crate::image_scan::scan;
+pub use crate::slice_scan::first_protected;

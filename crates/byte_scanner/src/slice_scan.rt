@@ -1,3 +1,4 @@
+//! The scan of a slice of bytes.
 ghost use Rattle.std.specs.Prelude.{◌≡◌, ℕ, ◌<◌, slice_get, length, MatchOption};
 ghost use Rattle.byte_scanner.specs.Least.{IsNowhere, IsLeastPlace};
 

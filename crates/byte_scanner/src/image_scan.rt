@@ -1,0 +1,59 @@
+//! The scan of an image's code as it is mapped, page by page.
+ghost use Rattle.std.specs.Prelude.{◌≡◌, ◌+◌, ◌<◌, ◌*◌, ◌^◌, slice_index, length, slice_get, IsTrue, MatchOption};
+ghost use Rattle.elf_image.specs.Pages.{page_count, pages_of};
+ghost use Rattle.byte_scanner.specs.Protected.{is_protected_at};
+ghost use Rattle.byte_scanner.specs.Code.{code_at, IsClean};
+ghost use Rattle.byte_scanner.specs.Found.{IsFirstOn, first_found, found_with};
+
+use crate::encoding::{Found, encoding_length};
+use crate::slice_scan::first_protected;
+use crate::window::{WINDOW, fill};
+use elf_image::{Image, PAGE_SIZE};
+
+/// The encoding at a place of a window, which is shown whole.
+fn found_in(window: &[u8], place: usize, at: u64) -> Found
+    requires { IsTrue (is_protected_at (slice_get window.now) place) }
+    ensures { result ≡ found_with (slice_get window.now) place at }
+{
+    let count = encoding_length(window, place);
+    let third = if count == 3 { window[place + 2] } else { 0 };
+    Found {
+        at,
+        bytes: [window[place], window[place + 1], third],
+        count: count as u8,
+    }
+}
+
+/// The first encoding that begins on page number `i`, where that page is code.
+fn scan_page(image: &Image, i: u32) -> Option<Found>
+    requires { i < page_count image.now }
+    ensures { let start = PAGE_SIZE * slice_index (pages_of image.now) i in
+        MatchOption result (IsClean (code_at image.now) start) (IsFirstOn (code_at image.now) start) }
+{
+    let page = image.page(i);
+    if !page.exec {
+        return None;
+    }
+    let mut window = [0; WINDOW];
+    let shown = fill(image, i, &mut window);
+    let Some(place) = first_protected(&window[..shown]) else {
+        return None;
+    };
+    if place >= PAGE_SIZE as usize {
+        // It begins on the next page, where it is found in its turn.
+        return None;
+    }
+    Some(found_in(&window[..shown], place, page.va + place as u64))
+}
+
+/// The protected encoding at the least address of the image's code.
+pub fn scan(image: &Image) -> Option<Found>
+    ensures first { result ≡ first_found image.now }
+{
+    for i in 0..image.pages() {
+        if let Some(found) = scan_page(image, i) {
+            return Some(found);
+        }
+    }
+    None
+}

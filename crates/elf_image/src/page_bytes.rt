@@ -1,0 +1,12 @@
+//! The bytes of a page, of which a part is taken from the file.
+
+ghost use Rattle.std.specs.Prelude.{◌≡◌, ◌+◌, ◌-◌, ◌≤◌, ◌++◌, length, replicate};
+
+/// Writes `bytes` from `place` on, and zeros before and after them.
+pub fn lay(into: &mut [u8], place: usize, bytes: &[u8])
+    requires { place + length bytes.now ≤ length into.old }
+    ensures { into.new ≡ replicate place 0 ++ (bytes.now ++ replicate (length into.old - (place + length bytes.now)) 0) }
+{
+    into.fill(0);
+    into[place..place + bytes.len()].copy_from_slice(bytes);
+}

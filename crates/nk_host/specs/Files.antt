@@ -1,0 +1,10 @@
+-- What a shelf that tells its files answers to a fetch. Files are a function from a name's bytes to the file's, None where no file is held.
+use Rattle.std.specs.Prelude.{◌≡◌, ℕ, ◌<◌, ◌≤◌, List, length, Option, Some, IsSomeAnd}
+
+-- the bytes are the whole file of the name
+abbrev pub IsFile : (List ℕ → Option (List ℕ)) → List ℕ → List ℕ → Type 0
+IsFile files name bytes = files name ≡ Some bytes
+
+-- a file is held under the name, and it has more bytes than `most`
+abbrev pub IsLonger : (List ℕ → Option (List ℕ)) → List ℕ → ℕ → Type 0
+IsLonger files name most = IsSomeAnd (files name) (λ file. most < length file)

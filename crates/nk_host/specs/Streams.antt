@@ -1,0 +1,23 @@
+-- What readers gave and writers took, where their bytes are known.
+use Rattle.std.specs.Prelude.{◌≡◌, ℕ, ◌+◌, ◌<◌, ◌≤◌, List, ◌++◌, length, Option, IfSome}
+use Rattle.std.specs.Io.KnownBytes.{Consumes, IsAtEnd}
+
+-- the reader gave some bytes, at most so many
+abbrev pub GivesAtMost : Option (List ℕ) → Option (List ℕ) → ℕ → Type 0
+GivesAtMost before after most = (given : List ℕ) × (length given ≤ most) × Consumes before after given
+
+-- the reader gave n bytes, which were put behind those that stood before
+pub record GivesMore (before after : Option (List ℕ)) (old new : List ℕ) (n : ℕ) : Type 0 where
+  pub given : List ℕ
+  pub count : length given ≡ n
+  pub behind : new ≡ old ++ given
+  pub consumed : Consumes before after given
+  pub end : n ≡ 0 → IsAtEnd after
+
+-- the bytes are all that the reader had
+abbrev pub IsWhole : Option (List ℕ) → List ℕ → Type 0
+IsWhole before bytes = IfSome before (λ all. bytes ≡ all)
+
+-- the reader had more bytes than so many
+abbrev pub HadMore : Option (List ℕ) → ℕ → Type 0
+HadMore before most = IfSome before (λ all. most < length all)

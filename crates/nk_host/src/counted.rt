@@ -1,0 +1,72 @@
+//! A reader or a writer whose faults are counted.
+ghost use Rattle.std.specs.Prelude.{◌≡◌, ◌≢◌, ◌<◌, ◌≤◌, [], length, take, IfOk, OnErr, IfErr};
+ghost use Rattle.std.specs.Io.KnownBytes.{Appends, Keeps, ReadConsumes};
+ghost use Rattle.nk_host.specs.Faults.{RoseTo};
+
+use crate::{FetchFault, SinkFault};
+use std::io::{Read, Write};
+
+/// A reader or a writer, and the count of its faults.
+#[derive(Drop)]
+pub(crate) struct Counted<T> {
+    inner: T,
+    faults: u64,
+}
+
+impl<T> Counted<T> {
+    /// A reader or a writer that had so many faults before.
+    pub(crate) fn new(inner: T, faults: u64) -> Counted<T>
+        ensures inner { result.inner ≡ inner }
+        ensures faults { result.faults ≡ faults }
+    {
+        Counted { inner, faults }
+    }
+
+    /// The count of faults.
+    pub(crate) fn faults(&self) -> u64
+        ensures { result ≡ self.now.faults }
+    {
+        self.faults
+    }
+}
+
+impl<F: Read> Counted<F> {
+    /// Reads once, into the front of `block`. Each error is a fault, an interruption too.
+    pub(crate) fn read(&mut self, block: &mut [u8]) -> Result<usize, FetchFault>
+        ensures bound { IfOk result (λ n. n ≤ length block.new) }
+        ensures bytes { ReadConsumes (F.remaining self.old.inner) (F.remaining self.new.inner) result block.new }
+        ensures never_falls { self.old.faults ≤ self.new.faults }
+        ensures failed { OnErr result (RoseTo self.old.faults self.new.faults) }
+        ensures only { IfErr result (λ fault. fault ≡ FetchFault.Failed) }
+    {
+        match self.inner.read(block) {
+            Ok(n) => Ok(n),
+            Err(_) => {
+                self.faults = self.faults.saturating_add(1);
+                Err(FetchFault::Failed)
+            }
+        }
+    }
+}
+
+impl<W: Write> Counted<W> {
+    /// Writes once, from the front of `bytes`. Each error is a fault, an interruption too, and so is
+    /// a write that takes no byte.
+    pub(crate) fn write(&mut self, bytes: &[u8]) -> Result<usize, SinkFault>
+        requires { 0 < length bytes.now }
+        ensures some { IfOk result (λ n. 0 < n) }
+        ensures bound { IfOk result (λ n. n ≤ length bytes.now) }
+        ensures ok { IfOk result (λ n. Appends (W.contents self.old.inner) (W.contents self.new.inner) (take n bytes.now)) }
+        ensures err { OnErr result (Appends (W.contents self.old.inner) (W.contents self.new.inner) []) }
+        ensures never_falls { self.old.faults ≤ self.new.faults }
+        ensures failed { OnErr result (RoseTo self.old.faults self.new.faults) }
+    {
+        match self.inner.write(bytes) {
+            Ok(n) if n > 0 => Ok(n),
+            _ => {
+                self.faults = self.faults.saturating_add(1);
+                Err(SinkFault)
+            }
+        }
+    }
+}

@@ -1,0 +1,20 @@
+//! What a fetch, a put and the making of a shelf or a sink answer where they fail.
+
+/// Why a fetch gave no file.
+#[derive(Clone, Copy, Debug, PartialEq, Eq)]
+pub enum FetchFault {
+    /// There was no memory for the file.
+    Memory,
+    /// The file couldn't be read, or there is none of that name.
+    Failed,
+    /// The file has more bytes than the caller allows.
+    Longer,
+}
+
+/// A put failed, and took only some of the bytes or none.
+#[derive(Clone, Copy, Debug, PartialEq, Eq)]
+pub struct SinkFault;
+
+/// There was no memory.
+#[derive(Clone, Copy, Debug, PartialEq, Eq)]
+pub struct NoMemory;

@@ -1,0 +1,6 @@
+pub mod Words
+pub mod Lines
+pub mod Outcome
+pub mod Clauses
+pub mod ReplyText
+pub mod Replies

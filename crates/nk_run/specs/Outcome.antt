@@ -1,0 +1,117 @@
+-- The outcome of words and files: status and text without a fault of the outside and without want of memory. It is a
+-- list of checks in order; the first that doesn't pass decides, and where all pass the command's text is written.
+use Rattle.std.specs.Prelude.{◌≡◌, ℕ, List, [], ◌∷◌, length, take, Option, None, Some, if◌then◌else◌, nat_lt, unwrap_or, ⊤}
+use Rattle.elf_image.specs.declared.fault.ImageFault.{ImageFault}
+use Rattle.elf_image.specs.Faults.{number_of, name_of}
+use Rattle.elf_image.specs.Rows.{first_fault_yet}
+use Rattle.elf_image.specs.Pages.{entry_of, executable_page_count}
+use Rattle.byte_scanner.specs.declared.encoding.Found.{Found}
+use Rattle.byte_scanner.specs.Found.{first_found}
+use Rattle.nk_run.specs.declared.lines.TheConstants.{FILE_LIMIT}
+use Rattle.nk_run.specs.declared.words.Command.{Command}
+use Rattle.nk_run.specs.declared.words.Command.TheVariants.{Scan}
+use Rattle.nk_run.specs.declared.words.Role.{Role}
+use Rattle.nk_run.specs.declared.words.Role.TheVariants.{Image}
+use Rattle.nk_run.specs.Words.{command_of, name_in}
+use Rattle.nk_run.specs.Lines.{usage_line, longer_line, image_line, protected_line, admitted_line}
+
+-- files, by the bytes of their names
+abbrev pub Files : Type 0
+Files = List ℕ → Option (List ℕ)
+
+-- a status and the text that goes with it
+pub record Answer : Type 0 where
+  pub status : ℕ
+  pub text : List ℕ
+
+-- what a check finds: nothing is in the way; the program ends with an answer; or no file is held to be looked at
+pub data Verdict : Type 0 where
+  passes : Verdict
+  ends : Answer → Verdict
+  unheld : Verdict
+
+-- a check, with the role whose file it fetches where it is a fetch
+pub record Check : Type 0 where
+  pub fetches : Option Role
+  pub finds : Verdict
+
+-- what the first check finds that doesn't pass
+abbrev pub unless_ended : Verdict → Verdict → Verdict
+unless_ended passes later = later
+unless_ended (ends answer) later = ends answer
+unless_ended unheld later = unheld
+
+abbrev pub first_verdict : List Check → Verdict
+first_verdict [] = passes
+first_verdict (check ∷ checks) = unless_ended check.finds (first_verdict checks)
+
+-- that verdict decides, and where all checks pass the command's own answer is given; nothing is decided where a file isn't held
+abbrev pub decided : Verdict → Answer → Option Answer
+decided passes answer = Some answer
+decided (ends other) answer = Some other
+decided unheld answer = None
+
+-- a test on files that were fetched
+abbrev pub test : Verdict → Check
+test verdict = record { fetches = None; finds = verdict }
+
+-- the fetch of a role's file: it has to be held, and to have at most the limit's number of bytes
+abbrev pub fetched : Role → Option (List ℕ) → Verdict
+fetched role None = unheld
+fetched role (Some file) = if nat_lt FILE_LIMIT (length file) then ends (record { status = 7; text = longer_line role FILE_LIMIT }) else passes
+
+abbrev pub fetch : Files → List (List ℕ) → Role → Check
+fetch files words role = record { fetches = Some role; finds = fetched role (files (name_in words role)) }
+
+-- the file of a role, where one is held
+abbrev pub file_in : Files → List (List ℕ) → Role → List ℕ
+file_in files words role = unwrap_or (files (name_in words role)) []
+
+-- the image has a fault: its first is named
+abbrev pub formed : Option ImageFault → Verdict
+formed None = passes
+formed (Some fault) = ends (record { status = 1; text = image_line (number_of fault.kind) (name_of fault.kind) fault.value })
+
+-- a protected encoding stands in the image's code: the least address is named
+abbrev pub clean : Option Found → Verdict
+clean None = passes
+clean (Some found) = ends (record { status = 1; text = protected_line found.at (take found.count found.bytes) })
+
+-- the checks on the image that every command makes
+abbrev pub image_checks : Files → List (List ℕ) → List Check
+image_checks files words =
+    fetch files words Image
+    ∷ test (formed (first_fault_yet (file_in files words Image)))
+    ∷ test (clean (first_found (file_in files words Image)))
+    ∷ []
+
+-- the checks of a command, in order, and its text where all pass
+abbrev pub checks_of : Command → Files → List (List ℕ) → List Check
+checks_of Scan files words = image_checks files words
+
+abbrev pub text_of : Command → Files → List (List ℕ) → List ℕ
+text_of Scan files words = let image = file_in files words Image in admitted_line (entry_of image) (executable_page_count image)
+
+-- the outcome of the words, of which the command is what they spell
+abbrev pub outcome_of : Option Command → List (List ℕ) → Files → Option Answer
+outcome_of None words files = Some (record { status = 2; text = usage_line })
+outcome_of (Some command) words files = decided (first_verdict (checks_of command files words)) (record { status = 0; text = text_of command files words })
+
+abbrev pub outcome : List (List ℕ) → Files → Option Answer
+outcome words files = outcome_of (command_of words) words files
+
+-- a check passes
+abbrev pub DoesPass : Verdict → Type 0
+DoesPass passes = ⊤
+DoesPass (ends answer) = ⊥
+DoesPass unheld = ⊥
+
+-- this check fetches a role's file, or it passes and a later one does
+abbrev pub IsReachedAfter : Option Role → Role → Verdict → Type 0 → Type 0
+IsReachedAfter None role finds later = DoesPass finds × later
+IsReachedAfter (Some Image) Image finds later = ⊤
+
+-- the checks fetch a role's file, and those before that fetch pass
+abbrev pub IsReached : Role → List Check → Type 0
+IsReached role [] = ⊥
+IsReached role (check ∷ checks) = IsReachedAfter check.fetches role check.finds (IsReached role checks)

@@ -1,0 +1,14 @@
+//! The top call: what the program does with its words, over a shelf of files and a sink.
+#![tactic(auto)]
+
+mod words;
+mod lines;
+mod reply;
+mod image;
+mod scan;
+mod answer;
+mod top;
+
+pub use crate::lines::FILE_LIMIT;
+pub use crate::top::nk_main;
+pub use crate::words::{Command, Role};

@@ -1,0 +1,80 @@
+//! The lines that the program writes.
+ghost use Rattle.std.specs.Prelude.{◌≡◌, ◌≤◌, IfOk, length, take};
+ghost use Rattle.std.specs.String.{string_bytes};
+ghost use Rattle.elf_image.specs.Faults.{number_of, name_of};
+ghost use Rattle.nk_run.specs.Lines.{usage_line, no_memory_line, unread_line, longer_line, image_line, protected_line, admitted_line};
+
+use crate::words::Role;
+use byte_scanner::Found;
+use elf_image::ImageFault;
+use std::alloc::{AllocError, Global};
+
+/// The longest file that is read, in bytes.
+pub const FILE_LIMIT: u64 = 67_108_864;
+
+/// The words have none of the forms.
+#[tactic(auto, unfolding(crate::specs::Lines::usage_line))]
+pub(crate) fn usage() -> &'static str
+    ensures { result.now ≡ usage_line }
+{
+    "usage: nkrun scan IMAGE\n"
+}
+
+/// There was no memory.
+#[tactic(auto, unfolding(crate::specs::Lines::no_memory_line))]
+pub(crate) fn no_memory() -> &'static str
+    ensures { result.now ≡ no_memory_line }
+{
+    "no memory\n"
+}
+
+/// A role's file couldn't be read.
+#[tactic(auto, unfolding(crate::specs::Lines::unread_line))]
+pub(crate) fn unread(role: Role) -> &'static str
+    ensures { result.now ≡ unread_line role }
+{
+    match role {
+        Role::Image => "unread image\n",
+    }
+}
+
+/// A role's file has more bytes than the limit.
+pub(crate) fn longer(role: Role) -> &'static str
+    ensures { result.now ≡ longer_line role FILE_LIMIT }
+{
+    match role {
+        Role::Image => "longer image 67108864\n",
+    }
+}
+
+/// The image's first fault.
+#[tactic(auto, unfolding(crate::specs::Lines::image_line))]
+pub(crate) fn image_fault(alloc: Global, fault: &ImageFault) -> Result<String, AllocError>
+    ensures { IfOk result (λ line. string_bytes line
+        ≡ image_line (number_of fault.now.kind) (name_of fault.now.kind) fault.now.value) }
+{
+    let number = fault.kind.number();
+    let name = fault.kind.name();
+    let value = fault.value;
+    format!(in alloc; "image {number} {name} {value}\n")
+}
+
+/// The first protected encoding in the image's code.
+#[tactic(auto, unfolding(crate::specs::Lines::protected_line, crate::specs::Lines::hex_16))]
+pub(crate) fn protected(alloc: Global, found: &Found) -> Result<String, AllocError>
+    requires { found.now.count ≤ length found.now.bytes }
+    ensures { IfOk result (λ line. string_bytes line
+        ≡ protected_line found.now.at (take found.now.count found.now.bytes)) }
+{
+    let address = found.at;
+    let bytes = hex::encode(alloc, &found.bytes[..found.count as usize])?;
+    format!(in alloc; "protected {address:016x} {bytes}\n")
+}
+
+/// The image is admitted.
+#[tactic(auto, unfolding(crate::specs::Lines::admitted_line, crate::specs::Lines::hex_16))]
+pub(crate) fn admitted(alloc: Global, entry: u64, pages: u32) -> Result<String, AllocError>
+    ensures { IfOk result (λ line. string_bytes line ≡ admitted_line entry pages) }
+{
+    format!(in alloc; "admitted entry {entry:016x} pages {pages}\n")
+}

@@ -1,0 +1,73 @@
+//! What a call says in the end, and how it goes out.
+ghost use Rattle.std.specs.Prelude.{◌≡◌, ◌≤◌, MatchResult};
+ghost use Rattle.std.specs.String.{string_bytes};
+ghost use Rattle.nk_run.specs.Replies.{IsWant, IsWritten};
+ghost use Rattle.nk_run.specs.ReplyText.{text_of};
+
+use crate::lines::no_memory;
+use nk_host::{Sink, put_all};
+use std::alloc::AllocError;
+
+/// A line, made for the occasion or always the same.
+#[derive(Drop)]
+pub(crate) enum Line {
+    Fixed(&'static str),
+    Made(String),
+}
+
+/// A status and the line that goes with it.
+#[derive(Drop)]
+pub(crate) struct Reply {
+    pub status: u8,
+    pub line: Line,
+}
+
+impl Line {
+    /// The line's bytes.
+    fn as_bytes(&self) -> &[u8]
+        ensures { result.now ≡ text_of self.now }
+    {
+        match self {
+            Line::Fixed(text) => text.as_bytes(),
+            Line::Made(text) => text.as_bytes(),
+        }
+    }
+}
+
+/// There was no memory.
+pub(crate) fn want() -> Reply
+    ensures { IsWant result.status (text_of result.line) }
+{
+    Reply {
+        status: 5,
+        line: Line::Fixed(no_memory()),
+    }
+}
+
+/// A line made for the occasion, or that there was no memory for it.
+pub(crate) fn made(status: u8, line: Result<String, AllocError>) -> Reply
+    ensures { MatchResult line (λ line. (result.status ≡ status) × (text_of result.line ≡ string_bytes line))
+        (λ _. IsWant result.status (text_of result.line)) }
+{
+    match line {
+        Ok(line) => Reply {
+            status,
+            line: Line::Made(line),
+        },
+        Err(_) => want(),
+    }
+}
+
+impl Reply {
+    /// Writes the line and gives the status, or that of a fault of the sink.
+    pub fn write<O: Sink>(&self, sink: &mut O) -> u8
+        ensures never_falls { O.faults sink.old ≤ O.faults sink.new }
+        ensures written { IsWritten (O.taken sink.old) (O.taken sink.new) (O.faults sink.old)
+            (O.faults sink.new) self.now.status (text_of self.now.line) result }
+    {
+        match put_all(sink, self.line.as_bytes()) {
+            Ok(()) => self.status,
+            Err(_) => 4,
+        }
+    }
+}

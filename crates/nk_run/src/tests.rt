@@ -1,0 +1,206 @@
+//! Worked cases of the command line, over a shelf and a sink in memory.
+use crate::nk_main;
+use nk_host::{MemShelf, MemSink};
+use std::alloc::{AllocError, Global};
+use std::test::Fail;
+
+/// The name of the file that holds the image.
+const NAME: &str = "kernel.elf";
+
+/// The flags of a segment that may be read and executed.
+const READ_EXECUTE: u32 = 5;
+
+/// What a call gave and wrote.
+#[derive(Drop)]
+struct Ran {
+    status: u8,
+    text: Vec<u8>,
+}
+
+/// An ELF file with one program header, which loads the text from file offset 4,096 to FFFFFFFF80000000, the entry there.
+fn image_with_flags(alloc: Global, flags: u32, text: &[u8]) -> Result<Vec<u8>, AllocError> {
+    let home = 0xffff_ffff_8000_0000u64;
+    let size = text.len() as u64;
+    let mut file = Vec::new(alloc);
+    file.extend_from_slice(b"\x7fELF\x02\x01\x01\0\0\0\0\0\0\0\0\0")?;
+    file.extend_from_slice(&[2, 0, 62, 0, 1, 0, 0, 0])?;
+    for number in [home, 64, 0] {
+        file.extend_from_slice(&u64::to_le_bytes(number))?;
+    }
+    file.extend_from_slice(&[0, 0, 0, 0, 64, 0, 56, 0, 1, 0, 0, 0, 0, 0, 0, 0])?;
+    file.extend_from_slice(&u32::to_le_bytes(1))?;
+    file.extend_from_slice(&u32::to_le_bytes(flags))?;
+    for number in [4096, home, home, size, size, 4096] {
+        file.extend_from_slice(&u64::to_le_bytes(number))?;
+    }
+    file.resize(4096, 0)?;
+    file.extend_from_slice(text)?;
+    Ok(file)
+}
+
+fn image(alloc: Global, text: &[u8]) -> Result<Vec<u8>, AllocError> {
+    image_with_flags(alloc, READ_EXECUTE, text)
+}
+
+/// A text of so many NOPs, with some bytes put in place of those from an offset on.
+fn nops_with(alloc: Global, before: usize, bytes: &[u8], after: usize) -> Result<Vec<u8>, AllocError> {
+    let mut text = vec![in alloc; 0x90; before]?;
+    text.extend_from_slice(bytes)?;
+    for _ in 0..after {
+        text.push(0x90)?;
+    }
+    Ok(text)
+}
+
+fn owned(alloc: Global, words: &[&str]) -> Result<Vec<String>, AllocError> {
+    let mut list = Vec::new(alloc);
+    for word in words {
+        list.push(String::from_str(alloc, word)?)?;
+    }
+    Ok(list)
+}
+
+/// Runs the words over one held file; `failing` are the numbers of failing fetches and puts, and a failing put takes `cut` bytes.
+fn run_with(
+    alloc: Global,
+    words: &[&str],
+    file: Vec<u8>,
+    failing_fetches: &[u64],
+    failing_puts: &[u64],
+    cut: usize,
+) -> Result<Ran, Fail> {
+    let words = owned(alloc, words)?;
+    let files = vec![in alloc; (String::from_str(alloc, NAME)?, file)]?;
+    let mut shelf = MemShelf::new(alloc, files, failing_fetches.to_vec(alloc)?)?;
+    let mut sink = MemSink::new(alloc, 65_536, failing_puts.to_vec(alloc)?, cut)?;
+    let status = nk_main(alloc, &words, &mut shelf, &mut sink);
+    Ok(Ran {
+        status,
+        text: sink.taken().to_vec(alloc)?,
+    })
+}
+
+fn scan(alloc: Global, file: Vec<u8>) -> Result<Ran, Fail> {
+    run_with(alloc, &["scan", NAME], file, &[], &[], 0)
+}
+
+/// The status, and whether this is what was written.
+fn gives(ran: &Ran, status: u8, text: &str) -> bool {
+    ran.status == status && ran.text.as_slice() == text.as_bytes()
+}
+
+#[test]
+fn an_empty_file_is_short(rt: HostRuntime) -> Result<(), Fail> {
+    let alloc = rt.alloc();
+    assert!(rt; gives(&scan(alloc, Vec::new(alloc))?, 1, "image 1 Short 0\n"));
+    Ok(())
+}
+
+#[test]
+fn a_halting_kernel_is_admitted(rt: HostRuntime) -> Result<(), Fail> {
+    let alloc = rt.alloc();
+    let ran = scan(alloc, image(alloc, &[0xf4])?)?;
+    assert!(rt; gives(&ran, 0, "admitted entry ffffffff80000000 pages 1\n"));
+    Ok(())
+}
+
+#[test]
+fn an_encoding_inside_an_immediate_is_found(rt: HostRuntime) -> Result<(), Fail> {
+    let alloc = rt.alloc();
+    let ran = scan(alloc, image(alloc, &[0x48, 0xc7, 0xc0, 0x0f, 0x22, 0xc0, 0x00])?)?;
+    assert!(rt; gives(&ran, 1, "protected ffffffff80000003 0f22c0\n"));
+    Ok(())
+}
+
+#[test]
+fn an_encoding_across_a_page_border_is_found(rt: HostRuntime) -> Result<(), Fail> {
+    let alloc = rt.alloc();
+    let text = nops_with(alloc, 4095, &[0x0f, 0x22, 0xc0], 0)?;
+    assert!(rt; gives(&scan(alloc, image(alloc, &text)?)?, 1, "protected ffffffff80000fff 0f22c0\n"));
+    Ok(())
+}
+
+#[test]
+fn an_encoding_must_end_inside_the_run(rt: HostRuntime) -> Result<(), Fail> {
+    let alloc = rt.alloc();
+    let cut_off = nops_with(alloc, 4094, &[0x0f, 0x22], 0)?;
+    let ran = scan(alloc, image(alloc, &cut_off)?)?;
+    assert!(rt; gives(&ran, 0, "admitted entry ffffffff80000000 pages 1\n"));
+    let whole = nops_with(alloc, 4094, &[0x0f, 0x30], 0)?;
+    assert!(rt; gives(&scan(alloc, image(alloc, &whole)?)?, 1, "protected ffffffff80000ffe 0f30\n"));
+    Ok(())
+}
+
+#[test]
+fn padding_completes_an_encoding(rt: HostRuntime) -> Result<(), Fail> {
+    let alloc = rt.alloc();
+    let ran = scan(alloc, image(alloc, &[0x90, 0x0f, 0x23])?)?;
+    assert!(rt; gives(&ran, 1, "protected ffffffff80000001 0f2300\n"));
+    Ok(())
+}
+
+#[test]
+fn the_operand_byte_decides_after_0f_01(rt: HostRuntime) -> Result<(), Fail> {
+    let alloc = rt.alloc();
+    let from_memory = scan(alloc, image(alloc, &[0x0f, 0x01, 0x18])?)?;
+    assert!(rt; gives(&from_memory, 1, "protected ffffffff80000000 0f0118\n"));
+    let register_form = scan(alloc, image(alloc, &[0x0f, 0x01, 0xd8])?)?;
+    assert!(rt; gives(&register_form, 0, "admitted entry ffffffff80000000 pages 1\n"));
+    Ok(())
+}
+
+#[test]
+fn the_form_is_judged_before_the_code(rt: HostRuntime) -> Result<(), Fail> {
+    let alloc = rt.alloc();
+    let ran = scan(alloc, image_with_flags(alloc, 7, &[0x0f, 0x30])?)?;
+    assert!(rt; gives(&ran, 1, "image 0 NotYet 0\n"));
+    Ok(())
+}
+
+#[test]
+fn a_file_past_the_limit_is_longer(rt: HostRuntime) -> Result<(), Fail> {
+    let alloc = rt.alloc();
+    let ran = scan(alloc, vec![in alloc; 0; 67_108_865]?)?;
+    assert!(rt; gives(&ran, 7, "longer image 67108864\n"));
+    Ok(())
+}
+
+#[test]
+fn other_words_have_no_form(rt: HostRuntime) -> Result<(), Fail> {
+    let alloc = rt.alloc();
+    let forms: [&[&str]; 6] = [
+        &[],
+        &["scan"],
+        &["scan", NAME, NAME],
+        &["Scan", NAME],
+        &["--help"],
+        &["run", NAME, NAME, NAME, "10", "511"],
+    ];
+    for words in forms {
+        let ran = run_with(alloc, words, Vec::new(alloc), &[1], &[], 0)?;
+        assert!(rt; gives(&ran, 2, "usage: nkrun scan IMAGE\n"));
+    }
+    Ok(())
+}
+
+#[test]
+fn a_failing_fetch_is_told(rt: HostRuntime) -> Result<(), Fail> {
+    let alloc = rt.alloc();
+    let words = ["scan", NAME];
+    let ran = run_with(alloc, &words, image(alloc, &[0xf4])?, &[1], &[], 0)?;
+    assert!(rt; gives(&ran, 3, "unread image\n"));
+    let missing = run_with(alloc, &["scan", "missing"], Vec::new(alloc), &[], &[], 0)?;
+    assert!(rt; gives(&missing, 3, "unread image\n"));
+    Ok(())
+}
+
+#[test]
+fn a_failing_put_leaves_a_prefix(rt: HostRuntime) -> Result<(), Fail> {
+    let alloc = rt.alloc();
+    let words = ["scan", NAME];
+    let ran = run_with(alloc, &words, image(alloc, &[0xf4])?, &[], &[1], 3)?;
+    assert!(rt; gives(&ran, 4, "adm"));
+    let refused = run_with(alloc, &["scan"], Vec::new(alloc), &[], &[1], 9)?;
+    assert!(rt; gives(&refused, 4, "usage: nk"));
+    Ok(())
+}

@@ -1,0 +1,51 @@
+/* A small outer kernel: it greets on the console port, asks the nested kernel to set a trap handler, and halts.
+ * It has no writable data of its own: this example is one read-only, executable segment. */
+#include <stdint.h>
+
+#define CONSOLE_PORT 0xE9
+
+/* The entry gate takes the call's number and four arguments in the registers of a C call, and answers in RAX. */
+typedef uint64_t gate_t(uint64_t number, uint64_t a, uint64_t b, uint64_t c, uint64_t d);
+#define ENTRY_GATE ((gate_t *)0xFFFFFF8000001000ull)
+
+enum call { SET_TRAP = 1 };
+
+static inline void console_byte(char byte)
+{
+        __asm__ volatile("outb %0, %1" : : "a"(byte), "Nd"((uint16_t)CONSOLE_PORT));
+}
+
+static void console(const char *text)
+{
+        while (*text)
+                console_byte(*text++);
+}
+
+static void console_number(uint64_t number)
+{
+        char digits[20];
+        int length = 0;
+        do {
+                digits[length++] = (char)('0' + number % 10);
+                number /= 10;
+        } while (number);
+        while (length)
+                console_byte(digits[--length]);
+}
+
+/* Where a trap leads: this kernel expects none. */
+__attribute__((noreturn)) static void trap_handler(void)
+{
+        console("unexpected trap\n");
+        for (;;)
+                __asm__ volatile("hlt");
+}
+
+void kernel_main(uint64_t first_free, uint64_t frames)
+{
+        console("outer kernel: ");
+        console_number(frames - first_free);
+        console(" free frames\n");
+        if (ENTRY_GATE(SET_TRAP, (uint64_t)trap_handler, 0, 0, 0) != 0)
+                console("set_trap was refused\n");
+}
