@@ -1,5 +1,5 @@
 //! The scan of an image's code as it is mapped, page by page.
-ghost use Rattle.std.specs.Prelude.{◌≡◌, ◌+◌, ◌<◌, ◌*◌, ◌^◌, slice_index, length, slice_get, IsTrue, MatchOption};
+ghost use Rattle.std.specs.Prelude.{◌≡◌, ◌+◌, ◌<◌, ◌≤◌, ◌*◌, slice_index, slice_get, IsTrue, IfSome, MatchOption};
 ghost use Rattle.elf_image.specs.Pages.{page_count, pages_of};
 ghost use Rattle.byte_scanner.specs.Protected.{is_protected_at};
 ghost use Rattle.byte_scanner.specs.Code.{code_at, IsClean};
@@ -13,7 +13,8 @@ use elf_image::{Image, PAGE_SIZE};
 /// The encoding at a place of a window, which is shown whole.
 fn found_in(window: &[u8], place: usize, at: u64) -> Found
     requires { IsTrue (is_protected_at (slice_get window.now) place) }
-    ensures { result ≡ found_with (slice_get window.now) place at }
+    ensures is { result ≡ found_with (slice_get window.now) place at }
+    ensures length { (2 ≤ result.count) × (result.count ≤ 3) }
 {
     let count = encoding_length(window, place);
     let third = if count == 3 { window[place + 2] } else { 0 };
@@ -27,7 +28,8 @@ fn found_in(window: &[u8], place: usize, at: u64) -> Found
 /// The first encoding that begins on page number `i`, where that page is code.
 fn scan_page(image: &Image, i: u32) -> Option<Found>
     requires { i < page_count image.now }
-    ensures { let start = PAGE_SIZE * slice_index (pages_of image.now) i in
+    ensures length { IfSome result (λ found. (2 ≤ found.count) × (found.count ≤ 3)) }
+    ensures first { let start = PAGE_SIZE * slice_index (pages_of image.now) i in
         MatchOption result (IsClean (code_at image.now) start) (IsFirstOn (code_at image.now) start) }
 {
     let page = image.page(i);
@@ -49,6 +51,7 @@ fn scan_page(image: &Image, i: u32) -> Option<Found>
 /// The protected encoding at the least address of the image's code.
 pub fn scan(image: &Image) -> Option<Found>
     ensures first { result ≡ first_found image.now }
+    ensures length { IfSome result (λ found. (2 ≤ found.count) × (found.count ≤ 3)) }
 {
     for i in 0..image.pages() {
         if let Some(found) = scan_page(image, i) {
