@@ -26,7 +26,7 @@ pub more_out : (all rest piece later : List ℕ) (before now after : Option (Lis
 more_out all rest piece later before now after w e a = record {
   done = w.done ++ piece;
   split = w.split ∙ ap (λ l. w.done ++ l) e ∙ sym (append_assoc w.done piece later);
-  appended = Appends-trans before now after w.done piece w.appended a
+  appended = Appends-trans before now after w.done piece w.appended a;
 }
 
 -- with no rest, all went out
@@ -48,6 +48,8 @@ pub prefix_out : (all rest piece later : List ℕ) (before now after : Option (L
     → WentOut all rest before now → rest ≡ piece ++ later → AppendsPrefix now after piece → AppendsPrefix before after all
 prefix_out all rest piece later before now after w e p =
     let (k, short, appended) = p in
-    let whole = w.split ∙ ap (λ l. w.done ++ l) e in
-    (length w.done + k, prefix_short all w.done piece later k whole short,
-     subst (Appends before after) (prefix_joined all w.done piece later k whole short) (Appends-trans before now after w.done (take k piece) w.appended appended))
+    let whole = w.split ∙ ap (λ l. w.done ++ l) e in (
+      length w.done + k,
+      prefix_short all w.done piece later k whole short,
+      subst (Appends before after) (prefix_joined all w.done piece later k whole short) (Appends-trans before now after w.done (take k piece) w.appended appended),
+    )

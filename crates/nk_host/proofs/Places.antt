@@ -1,12 +1,12 @@
 -- The place of a name among files.
-use Rattle.std.proofs.Common.{◌≡◌, ℕ, ◌+◌, ◌<◌, Bool, true, false, cond, not, nat_lt, List, [], ◌∷◌, length, map, refl, ap, sym, ◌∙◌, Option, Some, None, position}
-use Rattle.std.specs.List.{position_or_len, prefix_len}
+use Rattle.std.proofs.Common.{◌≡◌, ℕ, ◌+◌, ◌<◌, Bool, true, false, cond, not, List, [], ◌∷◌, length, map, refl, ap, sym, ◌∙◌, Option, Some, None, position}
+use Rattle.std.specs.List.{position_or_len}
 use Rattle.std.proofs.lemmas.List.{length-map}
 use Rattle.std.proofs.lemmas.Bool.{cases_eq, false≢true}
 use Rattle.std.proofs.lemmas.List.Quantifiers.{position-Some}
 use Rattle.std.proofs.lemmas.Slice.Eq.{bytes_eq-Decides}
 use Rattle.std.proofs.Common.{get_or}
-use Rattle.std.proofs.Common.{◌-◌, ◌^◌, ◌≤◌, ◌≢◌, arith, ⊎_elim, if◌then◌else◌, IsSome, subst, slice_index, slice_set, get_or-set_same, get_or-set_other}
+use Rattle.std.proofs.Common.{◌-◌, ◌^◌, ◌≤◌, ◌≢◌, arith, ⊎_elim, if◌then◌else◌, IsSome, slice_index, slice_set, get_or-set_same, get_or-set_other}
 use Rattle.nk_host.specs.Faults.{raised, Rose, NeverFalls, OnlyAt}
 use Rattle.nk_host.specs.ShelfInMemory.{NamedFile, Stock, at_place, place_of, file_of, count_of, with_fault, fetch_fails, after_fetch}
 
@@ -80,7 +80,7 @@ never_falls s name same h n = fault_above s name (place_of s.files name) refl sa
 
 fault_rises : (s : Stock) (name : List ℕ) (p : Option ℕ) → place_of s.files name ≡ p → length s.files ≡ length s.counts → raised (counted s.counts s.others p) ≤ count_of (fault_at s p) name
 fault_rises s name None e h = rw e (omega arith)
-fault_rises s name (Some i) e h = 
+fault_rises s name (Some i) e h =
     let below : i < length s.counts = omega (arith, place_below s.files name i e, h) in
     rw (e, get_or-set_same s.counts i (raised (slice_index s.counts i)) 0 below) (omega arith)
 

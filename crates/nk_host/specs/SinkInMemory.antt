@@ -1,5 +1,5 @@
 -- A sink in memory, as contracts see it.
-use Rattle.std.specs.Prelude.{◌≡◌, ℕ, ◌+◌, ◌-◌, ◌<◌, min, Bool, ◌&&◌, ◌||◌, nat_lt, List, [], ◌++◌, length, take, if◌then◌else◌}
+use Rattle.std.specs.Prelude.{ℕ, ◌-◌, min, Bool, ◌||◌, nat_lt, List, ◌++◌, length, take, if◌then◌else◌}
 use Rattle.nk_host.specs.Calls.{is_due}
 use Rattle.nk_host.specs.Faults.{raised}
 
@@ -31,5 +31,5 @@ abbrev pub after_put : Tray → List ℕ → Tray
 after_put t bytes = record t {
   taken = t.taken ++ take (count_taken t bytes) bytes;
   puts = raised t.puts;
-  faults = if put_fails t bytes then raised t.faults else t.faults
+  faults = if put_fails t bytes then raised t.faults else t.faults;
 }

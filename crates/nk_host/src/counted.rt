@@ -1,7 +1,7 @@
 //! A reader or a writer whose faults are counted.
 ghost use Rattle.std.specs.Prelude.{◌≡◌, ◌≢◌, ◌<◌, ◌≤◌, [], length, take, IfOk, OnErr, IfErr};
 ghost use Rattle.std.specs.Io.KnownBytes.{Appends, Keeps, ReadConsumes};
-ghost use Rattle.nk_host.specs.Faults.{RoseTo};
+ghost use Rattle.nk_host.specs.Faults.{RoseTo, raised};
 
 use crate::{FetchFault, SinkFault};
 use std::io::{Read, Write};
@@ -28,6 +28,13 @@ impl<T> Counted<T> {
     {
         self.faults
     }
+
+    fn count_fault(&mut self)
+        ensures after { self.new ≡ record self.old { faults = raised self.old.faults } }
+        ensures never_falls { self.old.faults ≤ self.new.faults }
+    {
+        self.faults = self.faults.saturating_add(1);
+    }
 }
 
 impl<F: Read> Counted<F> {
@@ -42,7 +49,7 @@ impl<F: Read> Counted<F> {
         match self.inner.read(block) {
             Ok(n) => Ok(n),
             Err(_) => {
-                self.faults = self.faults.saturating_add(1);
+                self.count_fault();
                 Err(FetchFault::Failed)
             }
         }
@@ -64,7 +71,7 @@ impl<W: Write> Counted<W> {
         match self.inner.write(bytes) {
             Ok(n) if n > 0 => Ok(n),
             _ => {
-                self.faults = self.faults.saturating_add(1);
+                self.count_fault();
                 Err(SinkFault)
             }
         }

@@ -6,22 +6,24 @@
 //! written it leaves to the crates above.
 #![tactic(auto)]
 
-mod fault;
-mod sink;
-mod shelf;
-mod pieces;
-mod mem_sink;
 mod counted;
-mod whole;
+mod fault;
 mod file_shelf;
-mod std_sink;
 mod mem_shelf;
+mod mem_sink;
+mod pieces;
+mod shelf;
+mod sink;
+mod std_sink;
+#[cfg(test)]
+mod tests;
+mod whole;
 
 pub use fault::{FetchFault, NoMemory, SinkFault};
 pub use file_shelf::FileShelf;
-pub use std_sink::StdSink;
 pub use mem_shelf::MemShelf;
 pub use mem_sink::MemSink;
 pub use pieces::{PIECE, put_all};
 pub use shelf::Shelf;
 pub use sink::Sink;
+pub use std_sink::StdSink;

@@ -4,7 +4,6 @@ ghost use Rattle.std.specs.Option.{option_copied};
 ghost use Rattle.nk_host.specs.Files.{IsFile, IsLonger};
 ghost use Rattle.std.specs.Str.{bytes_eq};
 ghost use Rattle.std.specs.String.{string_bytes};
-
 ghost use Rattle.nk_host.specs.Calls.{is_due};
 ghost use Rattle.nk_host.specs.Faults.{NeverFalls, OnlyAt, Rose, raised};
 ghost use Rattle.nk_host.specs.ShelfInMemory.{after_fetch, count_of, fetch_fails, file_of, named_files, place_of, with_fault};
@@ -30,11 +29,11 @@ impl Model for MemShelf {
     ghost Value = { Stock };
 
     ghost view = { λ s. record {
-        files = named_files s.held.items;
-        counts = s.counts.items;
-        others = s.others;
-        failing = s.failing.items;
-        fetches = s.fetches
+      files = named_files s.held.items;
+      counts = s.counts.items;
+      others = s.others;
+      failing = s.failing.items;
+      fetches = s.fetches;
     } };
 
     ghost invariant = { λ s. vec_len s.counts ≡ vec_len s.held };
@@ -82,13 +81,14 @@ impl MemShelf {
         files: Vec<(String, Vec<u8>)>,
         failing: Vec<u64>,
     ) -> Result<MemShelf, NoMemory>
-        ensures { IfOk result (λ shelf. shelf ≡ record {
-            files = named_files files.items;
-            counts = replicate (length files.items) 0;
-            others = 0;
-            failing = failing.items;
-            fetches = 0
+        ensures shelf { IfOk result (λ shelf. shelf ≡ record {
+          files = named_files files.items;
+          counts = replicate (length files.items) 0;
+          others = 0;
+          failing = failing.items;
+          fetches = 0;
         }) }
+        ensures no_faults { IfOk result (λ shelf. (name : List ℕ) → count_of shelf name ≡ 0) }
     {
         let counts = no_faults(alloc, files.len())?;
         Ok(MemShelf {
@@ -127,12 +127,7 @@ impl MemShelf {
         Some(&self.held[place].1)
     }
 
-    fn fetch_next(
-        &mut self,
-        alloc: Global,
-        name: &str,
-        most: u64,
-    ) -> Result<Vec<u8>, FetchFault>
+    fn fetch_next(&mut self, alloc: Global, name: &str, most: u64) -> Result<Vec<u8>, FetchFault>
         ensures after { self.new ≡ after_fetch self.old name.now }
         ensures failed { result ≡ Err FetchFault.Failed ↔ IsTrue (fetch_fails self.old name.now) }
         ensures longer { result ≡ Err FetchFault.Longer

@@ -29,12 +29,12 @@ impl Model for MemSink {
     ghost Value = { Tray };
 
     ghost view = { λ s. record {
-        taken = s.bytes.items;
-        room = s.room;
-        failing = s.failing.items;
-        cut = s.cut;
-        puts = s.puts;
-        faults = s.count
+      taken = s.bytes.items;
+      room = s.room;
+      failing = s.failing.items;
+      cut = s.cut;
+      puts = s.puts;
+      faults = s.count;
     } };
 
     ghost invariant = { λ s. (vec_len s.bytes ≤ s.room) × (s.room ≤ vec_capacity s.bytes) };
@@ -43,14 +43,19 @@ impl Model for MemSink {
 impl MemSink {
     /// A sink that has taken nothing. `failing` are numbers of puts, which count from 1 those of at
     /// least one byte, and `cut` is the most bytes that a failing put takes.
-    pub fn new(alloc: Global, room: usize, failing: Vec<u64>, cut: usize) -> Result<MemSink, NoMemory>
+    pub fn new(
+        alloc: Global,
+        room: usize,
+        failing: Vec<u64>,
+        cut: usize,
+    ) -> Result<MemSink, NoMemory>
         ensures { IfOk result (λ s. s ≡ record {
-            taken = [];
-            room = room;
-            failing = failing.items;
-            cut = cut;
-            puts = 0;
-            faults = 0
+          taken = [];
+          room = room;
+          failing = failing.items;
+          cut = cut;
+          puts = 0;
+          faults = 0;
         }) }
     {
         let bytes = Vec::with_capacity(alloc, room).map_err(|_| NoMemory)?;

@@ -1,5 +1,5 @@
 //! A reader read to its end, and bytes written whole.
-ghost use Rattle.std.specs.Prelude.{◌≡◌, ◌≢◌, ◌+◌, ◌-◌, ◌<◌, ◌≤◌, [], length, min, vec_len, IfOk, OnOk, OnErr, IfErr};
+ghost use Rattle.std.specs.Prelude.{◌≡◌, ◌≢◌, ◌+◌, ◌-◌, ◌<◌, ◌≤◌, [], length, min, vec_len, IfOk, IsOk, OnOk, OnErr, IfErr};
 ghost use Rattle.std.specs.Io.KnownBytes.{Appends};
 ghost use Rattle.nk_host.specs.Faults.{RoseTo};
 ghost use Rattle.nk_host.specs.Streams.{GivesAtMost, GivesMore, HadMore, IsWhole};
@@ -74,6 +74,7 @@ fn read_more<F: Read>(
 pub(crate) fn write_whole<W: Write>(to: &mut Counted<W>, bytes: &[u8]) -> Result<(), SinkFault>
     ensures all { OnOk result (Appends (W.contents to.old.inner) (W.contents to.new.inner) bytes.now) }
     ensures some { OnErr result (AppendsPrefix (W.contents to.old.inner) (W.contents to.new.inner) bytes.now) }
+    ensures nothing { bytes.now ≡ [] → IsOk result }
     ensures failed { OnErr result (RoseTo to.old.faults to.new.faults) }
     ensures never_falls { to.old.faults ≤ to.new.faults }
 {

@@ -12,3 +12,6 @@ mod top;
 pub use crate::lines::FILE_LIMIT;
 pub use crate::top::nk_main;
 pub use crate::words::{Command, Role};
+
+#[cfg(test)]
+mod tests;

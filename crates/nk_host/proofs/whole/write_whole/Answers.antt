@@ -1,6 +1,6 @@
 use Rattle.std.proofs.Common.{arith, take-append-drop, sym, append-nil}
 use Rattle.std.proofs.lemmas.Result.{err_from_is_err_and}
-use Rattle.nk_host.proofs.Passed.{more_out, cut_in_two, prefix_out}
+use Rattle.nk_host.proofs.Passed.{more_out, prefix_out}
 use Rattle.nk_host.proofs.whole.write_whole.Goals as goal
 
 pub loop-rest-preserved : goal.loop-rest-preserved

@@ -5,7 +5,7 @@ use Rattle.nk_host.proofs.whole.write_whole.Given as goal
 abbrev pub invariant-loop-rest : goal.invariant-loop-rest
 invariant-loop-rest g l = record {
   out : WentOut l.bytes l.rest (g.W.Write.contents l.initial.to.inner) (g.W.Write.contents l.to.inner);
-  counted : l.initial.to.faults ≤ l.to.faults
+  counted : l.initial.to.faults ≤ l.to.faults;
 }
 
 abbrev pub decreases-loop-rest : goal.decreases-loop-rest

@@ -1,5 +1,4 @@
-use Rattle.std.proofs.Common.{ap, Some, refl}
-use Rattle.nk_host.proofs.Places.{fetch_keeps, fetch_never_falls, fetch_only_at, fetch_rises}
+use Rattle.nk_host.proofs.Places.{fetch_never_falls, fetch_only_at}
 use Rattle.nk_host.proofs.mem_shelf.MemShelfShelf.fetch.Goals as goal
 
 pub returns-clause-never_falls : goal.returns-clause-never_falls

@@ -1,0 +1,228 @@
+//! The shelves and sinks at worked values.
+use crate::counted::Counted;
+use crate::whole::{read_whole, write_whole};
+use crate::{
+    FetchFault, FileShelf, MemShelf, MemSink, PIECE, Shelf, Sink, SinkFault, StdSink, put_all,
+};
+use std::alloc::Global;
+use std::fs;
+use std::io::{Error, ErrorKind, Read, Result as IoResult, Write};
+use std::test::Fail;
+
+fn named(alloc: Global, name: &str, bytes: &[u8]) -> Result<(String, Vec<u8>), Fail> {
+    Ok((String::from_str(alloc, name)?, bytes.to_vec(alloc)?))
+}
+
+fn two_files(alloc: Global, failing: &[u64]) -> Result<MemShelf, Fail> {
+    let mut files = Vec::new(alloc);
+    files.push(named(alloc, "one", b"first")?)?;
+    files.push(named(alloc, "two", b"")?)?;
+    files.push(named(alloc, "one", b"second")?)?;
+    Ok(MemShelf::new(alloc, files, failing.to_vec(alloc)?)?)
+}
+
+fn sink(alloc: Global, room: usize, failing: &[u64], cut: usize) -> Result<MemSink, Fail> {
+    Ok(MemSink::new(alloc, room, failing.to_vec(alloc)?, cut)?)
+}
+
+// These hide the exact contracts: the tests run the code, and their proofs stay short.
+fn fetch<S: Shelf>(
+    shelf: &mut S,
+    alloc: Global,
+    name: &str,
+    most: u64,
+) -> Result<Vec<u8>, FetchFault> {
+    shelf.fetch(alloc, name, most)
+}
+
+fn fault<S: Shelf>(shelf: &mut S, alloc: Global, name: &str, most: u64) -> Option<FetchFault> {
+    shelf.fetch(alloc, name, most).err()
+}
+
+fn put<O: Sink>(out: &mut O, bytes: &[u8]) -> Result<(), SinkFault> {
+    out.put(bytes)
+}
+
+#[test]
+fn the_first_file_of_a_name_counts(rt: HostRuntime) -> Result<(), Fail> {
+    let alloc = rt.alloc();
+    let mut shelf = two_files(alloc, &[])?;
+    let file = fetch(&mut shelf, alloc, "one", 5)?;
+    assert_eq!(rt; file.as_slice(), b"first".as_slice());
+    let empty = fetch(&mut shelf, alloc, "two", 0)?;
+    assert_eq!(rt; empty.len(), 0);
+    assert_eq!(rt;
+        fault(&mut shelf, alloc, "one", 4),
+        Some(FetchFault::Longer)
+    );
+    assert_eq!(rt;
+        fault(&mut shelf, alloc, "three", 9),
+        Some(FetchFault::Failed)
+    );
+    Ok(())
+}
+
+#[test]
+fn a_fetch_fails_at_its_number(rt: HostRuntime) -> Result<(), Fail> {
+    let alloc = rt.alloc();
+    let mut shelf = two_files(alloc, &[2, 3])?;
+    assert_eq!(rt; fault(&mut shelf, alloc, "one", 5), None);
+    assert_eq!(rt;
+        fault(&mut shelf, alloc, "one", 5),
+        Some(FetchFault::Failed)
+    );
+    assert_eq!(rt;
+        fault(&mut shelf, alloc, "one", 4),
+        Some(FetchFault::Failed)
+    );
+    assert_eq!(rt; fault(&mut shelf, alloc, "one", 5), None);
+    Ok(())
+}
+
+#[test]
+fn a_put_is_cut_at_its_number_and_at_the_room(rt: HostRuntime) -> Result<(), Fail> {
+    let mut out = sink(rt.alloc(), 10, &[2, 4], 3)?;
+    assert_eq!(rt; put(&mut out, b"abcd"), Ok(()));
+    assert_eq!(rt; put(&mut out, b""), Ok(()));
+    assert_eq!(rt; put(&mut out, b"efgh"), Err(SinkFault));
+    assert_eq!(rt; out.taken(), b"abcdefg".as_slice());
+    assert_eq!(rt; put(&mut out, b"ij"), Ok(()));
+    assert_eq!(rt; put(&mut out, b"klm"), Err(SinkFault));
+    assert_eq!(rt; out.taken(), b"abcdefgijk".as_slice());
+    assert_eq!(rt; put(&mut out, b"n"), Err(SinkFault));
+    assert_eq!(rt; out.taken(), b"abcdefgijk".as_slice());
+    Ok(())
+}
+
+// How many bytes a sink took of so many zeros, where the put of one number fails and takes none.
+fn taken_of(alloc: Global, len: usize, failing: u64) -> Result<(bool, usize), Fail> {
+    let mut out = sink(alloc, 3 * PIECE, &[failing], 0)?;
+    let zeros = vec![in alloc; 0; len]?;
+    let all = put_all(&mut out, &zeros).is_ok();
+    Ok((all, out.taken().len()))
+}
+
+#[test]
+fn texts_go_out_in_pieces(rt: HostRuntime) -> Result<(), Fail> {
+    let alloc = rt.alloc();
+    assert_eq!(rt; taken_of(alloc, 0, 1)?, (true, 0));
+    assert_eq!(rt; taken_of(alloc, 4096, 1)?, (false, 0));
+    assert_eq!(rt; taken_of(alloc, 4096, 2)?, (true, 4096));
+    assert_eq!(rt; taken_of(alloc, 4097, 2)?, (false, 4096));
+    assert_eq!(rt; taken_of(alloc, 4097, 3)?, (true, 4097));
+    assert_eq!(rt; taken_of(alloc, 8192, 2)?, (false, 4096));
+    assert_eq!(rt; taken_of(alloc, 8192, 3)?, (true, 8192));
+    Ok(())
+}
+
+// A reader and a writer of so many single bytes, which then fails.
+#[derive(Drop)]
+struct Halting {
+    left: u64,
+    kind: ErrorKind,
+}
+
+impl Read for Halting {
+    fn read(&mut self, block: &mut [u8]) -> IoResult<usize> {
+        if self.left == 0 {
+            return Err(Error::from(self.kind));
+        }
+        if block.is_empty() {
+            return Ok(0);
+        }
+        self.left -= 1;
+        block[0] = 7;
+        Ok(1)
+    }
+}
+
+impl Write for Halting {
+    fn write(&mut self, bytes: &[u8]) -> IoResult<usize> {
+        if self.left == 0 {
+            return if self.kind == ErrorKind::WriteZero {
+                Ok(0)
+            } else {
+                Err(Error::from(self.kind))
+            };
+        }
+        self.left -= 1;
+        Ok(bytes.len().min(1))
+    }
+
+    fn flush(&mut self) -> IoResult<()> {
+        Ok(())
+    }
+}
+
+fn halting_after(left: u64, kind: ErrorKind) -> Counted<Halting> {
+    Counted::new(Halting { left, kind }, 5)
+}
+
+fn read_fault(alloc: Global, from: &mut Counted<Halting>, most: u64) -> Option<FetchFault> {
+    read_whole(alloc, from, most).err()
+}
+
+fn write(to: &mut Counted<Halting>, bytes: &[u8]) -> Result<(), SinkFault> {
+    write_whole(to, bytes)
+}
+
+#[test]
+fn a_read_that_halts_is_a_fault(rt: HostRuntime) -> Result<(), Fail> {
+    let mut from = halting_after(3, ErrorKind::Interrupted);
+    assert_eq!(rt;
+        read_fault(rt.alloc(), &mut from, 9),
+        Some(FetchFault::Failed)
+    );
+    assert_eq!(rt; from.faults(), 6);
+    let mut endless = halting_after(100, ErrorKind::Other);
+    assert_eq!(rt;
+        read_fault(rt.alloc(), &mut endless, 9),
+        Some(FetchFault::Longer)
+    );
+    assert_eq!(rt; endless.faults(), 5);
+    Ok(())
+}
+
+#[test]
+fn a_write_that_halts_is_a_fault(rt: HostRuntime) {
+    let mut to = halting_after(3, ErrorKind::Interrupted);
+    assert_eq!(rt; write(&mut to, b"abc"), Ok(()));
+    assert_eq!(rt; write(&mut to, b"d"), Err(SinkFault));
+    assert_eq!(rt; to.faults(), 6);
+    let mut full = halting_after(0, ErrorKind::WriteZero);
+    assert_eq!(rt; write(&mut full, b"a"), Err(SinkFault));
+    assert_eq!(rt; full.faults(), 6);
+}
+
+#[test]
+fn the_machine_s_files_are_fetched(rt: HostRuntime) -> Result<(), Fail> {
+    let alloc = rt.alloc();
+    let zeros = vec![in alloc; 0; 5000]?;
+    fs::write(&rt, "fetched.tmp", zeros.as_slice())?;
+    let mut shelf = FileShelf::new(&rt);
+    let file = fetch(&mut shelf, alloc, "fetched.tmp", 5000);
+    let longer = fetch(&mut shelf, alloc, "fetched.tmp", 4999);
+    fs::remove_file(&rt, "fetched.tmp")?;
+    assert_eq!(rt; file?.as_slice(), zeros.as_slice());
+    assert_eq!(rt; longer.err(), Some(FetchFault::Longer));
+    assert_eq!(rt;
+        fault(&mut shelf, alloc, "fetched.tmp", 5000),
+        Some(FetchFault::Failed)
+    );
+    assert_eq!(rt;
+        fault(&mut shelf, alloc, ".", 5000),
+        Some(FetchFault::Failed)
+    );
+    assert_eq!(rt;
+        fault(&mut shelf, alloc, "/dev/zero", 10),
+        Some(FetchFault::Longer)
+    );
+    Ok(())
+}
+
+#[test]
+fn standard_output_takes_bytes(rt: HostRuntime) {
+    let mut out = StdSink::new(&rt);
+    assert_eq!(rt; put(&mut out, b""), Ok(()));
+    assert_eq!(rt; put_all(&mut out, b"a line\n"), Ok(()));
+}
