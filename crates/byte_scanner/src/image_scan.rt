@@ -1,5 +1,5 @@
 //! The scan of an image's code as it is mapped, page by page.
-ghost use Rattle.std.specs.Prelude.{◌≡◌, ◌+◌, ◌<◌, ◌≤◌, ◌*◌, slice_index, slice_get, IsTrue, IfSome, MatchOption};
+ghost use Rattle.std.specs.Prelude.{◌≡◌, ◌+◌, ◌<◌, ◌≤◌, ◌*◌, length, slice_index, slice_get, IsTrue, IfSome, MatchOption};
 ghost use Rattle.elf_image.specs.Pages.{page_count, pages_of};
 ghost use Rattle.byte_scanner.specs.Protected.{is_protected_at};
 ghost use Rattle.byte_scanner.specs.Code.{code_at, IsClean};
@@ -25,9 +25,10 @@ fn found_in(window: &[u8], place: usize, at: u64) -> Found
     }
 }
 
-/// The first encoding that begins on page number `i`, where that page is code.
-fn scan_page(image: &Image, i: u32) -> Option<Found>
-    requires { i < page_count image.now }
+/// The first encoding that begins on page number `i`, where that page is code. The window's bytes are of no account.
+fn scan_page(image: &Image, i: u32, window: &mut [u8]) -> Option<Found>
+    requires page { i < page_count image.now }
+    requires size { length window.old ≡ WINDOW }
     ensures length { IfSome result (λ found. (2 ≤ found.count) × (found.count ≤ 3)) }
     ensures first { let start = PAGE_SIZE * slice_index (pages_of image.now) i in
         MatchOption result (IsClean (code_at image.now) start) (IsFirstOn (code_at image.now) start) }
@@ -36,8 +37,7 @@ fn scan_page(image: &Image, i: u32) -> Option<Found>
     if !page.exec {
         return None;
     }
-    let mut window = [0; WINDOW];
-    let shown = fill(image, i, &mut window);
+    let shown = fill(image, i, window);
     let Some(place) = first_protected(&window[..shown]) else {
         return None;
     };
@@ -53,8 +53,9 @@ pub fn scan(image: &Image) -> Option<Found>
     ensures first { result ≡ first_found image.now }
     ensures length { IfSome result (λ found. (2 ≤ found.count) × (found.count ≤ 3)) }
 {
+    let mut window = [0; WINDOW];
     for i in 0..image.pages() {
-        if let Some(found) = scan_page(image, i) {
+        if let Some(found) = scan_page(image, i, &mut window) {
             return Some(found);
         }
     }

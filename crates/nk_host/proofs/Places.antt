@@ -1,13 +1,11 @@
 -- The place of a name among files.
-use Rattle.std.proofs.Common.{◌≡◌, ℕ, ◌+◌, ◌<◌, Bool, true, false, cond, not, List, [], ◌∷◌, length, map, refl, ap, sym, ◌∙◌, Option, Some, None, position}
+use Rattle.std.proofs.Common.{◌≡◌, ◌≢◌, ℕ, ◌+◌, ◌-◌, ◌^◌, ◌<◌, ◌≤◌, Bool, true, false, cond, not, if◌then◌else◌, List, [], ◌∷◌, length, map, get_or, slice_index, slice_set, refl, ap, sym, ◌∙◌, ⊎_elim, Option, Some, None, IsSome, position, arith, get_or-set_same, get_or-set_other}
 use Rattle.std.specs.List.{position_or_len}
 use Rattle.std.proofs.lemmas.List.{length-map}
 use Rattle.std.proofs.lemmas.Bool.{cases_eq, false≢true}
 use Rattle.std.proofs.lemmas.List.Quantifiers.{position-Some}
 use Rattle.std.proofs.lemmas.Slice.Eq.{bytes_eq-Decides}
-use Rattle.std.proofs.Common.{get_or}
-use Rattle.std.proofs.Common.{◌-◌, ◌^◌, ◌≤◌, ◌≢◌, arith, ⊎_elim, if◌then◌else◌, IsSome, slice_index, slice_set, get_or-set_same, get_or-set_other}
-use Rattle.nk_host.specs.Faults.{raised, Rose, NeverFalls, OnlyAt}
+use Rattle.nk_host.specs.Faults.{raised, NeverFalls, OnlyAt}
 use Rattle.nk_host.specs.ShelfInMemory.{NamedFile, Stock, at_place, place_of, file_of, count_of, with_fault, fetch_fails, after_fetch}
 
 abbrev no_file : NamedFile
@@ -76,17 +74,6 @@ fault_above s name (Some i) e same h n =
 pub never_falls : (s : Stock) (name : List ℕ) → length s.files ≡ length s.counts → count_of s name ≤ 2 ^ 64 - 1 → NeverFalls (count_of s) (count_of (with_fault s name))
 never_falls s name same h n = fault_above s name (place_of s.files name) refl same h n
 
--- ---- the count of the name rises
-
-fault_rises : (s : Stock) (name : List ℕ) (p : Option ℕ) → place_of s.files name ≡ p → length s.files ≡ length s.counts → raised (counted s.counts s.others p) ≤ count_of (fault_at s p) name
-fault_rises s name None e h = rw e (omega arith)
-fault_rises s name (Some i) e h =
-    let below : i < length s.counts = omega (arith, place_below s.files name i e, h) in
-    rw (e, get_or-set_same s.counts i (raised (slice_index s.counts i)) 0 below) (omega arith)
-
-pub rises : (s : Stock) (name : List ℕ) → length s.files ≡ length s.counts → Rose (count_of s) (count_of (with_fault s name)) name
-rises s name h = fault_rises s name (place_of s.files name) refl h
-
 -- ---- the counts of other names that are held stay
 
 set_stays : (counts : List ℕ) (i j v : ℕ) → j ≢ i → slice_index (slice_set counts i v) j ≡ slice_index counts j
@@ -109,20 +96,13 @@ others_stay s name other held apart =
 
 -- ---- a fetch
 
+-- the shelf once the next fetch began
 abbrev begun : Stock → Stock
 begun s = record s { fetches = raised s.fetches }
 
+-- the shelf after a fetch that fails or not
 abbrev fetched : Bool → Stock → List ℕ → Stock
 fetched b s name = if b then with_fault (begun s) name else begun s
-
-fetched_files : (b : Bool) (s : Stock) (p : Option ℕ) → (if b then fault_at (begun s) p else begun s).files ≡ s.files
-fetched_files true s None = refl
-fetched_files true s (Some i) = refl
-fetched_files false s p = refl
-
--- no fetch changes the files
-pub fetch_keeps : (s : Stock) (name : List ℕ) → (after_fetch s name).files ≡ s.files
-fetch_keeps s name = fetched_files (fetch_fails s name) s (place_of s.files name)
 
 fetched_above : (b : Bool) (s : Stock) (name : List ℕ) → (b ≡ true → length s.files ≡ length s.counts) → (b ≡ true → count_of s name ≤ 2 ^ 64 - 1) → NeverFalls (count_of s) (count_of (fetched b s name))
 fetched_above true s name same h = never_falls (begun s) name (same refl) (h refl)
@@ -137,6 +117,3 @@ fetched_only_at false s name = λ other held apart. refl
 
 pub fetch_only_at : (s : Stock) (name : List ℕ) → OnlyAt (file_of s.files) (count_of s) (count_of (after_fetch s name)) name
 fetch_only_at s name = fetched_only_at (fetch_fails s name) s name
-
-pub fetch_rises : (s : Stock) (name : List ℕ) → length s.files ≡ length s.counts → fetch_fails s name ≡ true → Rose (count_of s) (count_of (after_fetch s name)) name
-fetch_rises s name same e = rw e (rises (begun s) name same)

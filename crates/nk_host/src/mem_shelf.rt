@@ -12,7 +12,7 @@ use crate::{FetchFault, NoMemory, Shelf};
 use std::alloc::Global;
 use std::marker::Model;
 
-/// Files in memory, which fails at the fetches that it is told to.
+/// A shelf of files in memory, which fails at the fetches that it is told to.
 #[derive(Drop)]
 pub struct MemShelf {
     held: Vec<(String, Vec<u8>)>,

@@ -10,7 +10,7 @@ use crate::{NoMemory, Sink, SinkFault};
 use std::alloc::Global;
 use std::marker::Model;
 
-/// A sink in memory, with room for so many bytes, that fails at the puts that it is told to.
+/// A sink in memory, with room for so many bytes, which fails at the puts that it is told to.
 #[derive(Drop)]
 pub struct MemSink {
     bytes: Vec<u8>,
@@ -85,7 +85,7 @@ impl MemSink {
         self.failing.contains(&self.puts)
     }
 
-    // How many of so many bytes a put takes, and whether it takes them all.
+    // How many of so many bytes fit.
     fn fitting(&self, len: usize) -> usize
         ensures { result ≡ min len (room_left self.now) }
     {

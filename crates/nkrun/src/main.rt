@@ -3,9 +3,8 @@
 
 use nk_host::{FileShelf, StdSink};
 use nk_run::nk_main;
-use std::io;
 use std::process::ExitCode;
-use std::env;
+use std::{env, io};
 
 /// The status where the runtime doesn't give the words; the top call never gives it.
 const NO_WORDS: u8 = 64;
