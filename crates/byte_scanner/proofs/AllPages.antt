@@ -22,8 +22,8 @@ find_first : (p : ℕ → Bool) (a n x : ℕ) → a ≤ x → x < a + n → p x 
 find_first p a zero x low high here below = absurd (omega arith)
 find_first p a (suc n) x low high here below =
     elim (cases_lt a x) [
-      inl less ↦ rw (below a less) (find_first p (a + 1) n x (omega arith) (omega arith) here below)
-    | inr reached ↦ let e : x ≡ a = omega arith in let P : ℕ → Type 0 = λ y. find p (range_with_len y (suc n)) ≡ Some x in subst P e (rw here refl)
+      | inl less ↦ rw (below a less) (find_first p (a + 1) n x (omega arith) (omega arith) here below)
+      | inr reached ↦ let e : x ≡ a = omega arith in let P : ℕ → Type 0 = λ y. find p (range_with_len y (suc n)) ≡ Some x in subst P e (rw here refl)
     ]
 
 -- a page that may be executed is a page
@@ -50,8 +50,8 @@ module _ (b : List ℕ) (pages : IsPageList b (pages_of b)) where
   pub nowhere : ((i : ℕ) → i < length (pages_of b) → IsClean (code_at b) (4096 * get_or (pages_of b) i 0)) → (a : ℕ) → is_protected_at (code_at b) a ≡ false
   nowhere clean a =
       elim (cases_Bool (is_executable b (a / 4096))) [
-        inl on ↦ let (i, inside, e) = pages.complete (a / 4096) (executable_page b (a / 4096) on) in on_page a i e (clean i inside)
-      | inr off ↦ off_code b a off
+        | inl on ↦ let (i, inside, e) = pages.complete (a / 4096) (executable_page b (a / 4096) on) in on_page a i e (clean i inside)
+        | inr off ↦ off_code b a off
       ]
 
   -- below the first encoding of a page, where the pages before it are clean, no encoding stands
@@ -66,18 +66,18 @@ module _ (b : List ℕ) (pages : IsPageList b (pages_of b)) where
     listed : (y j : ℕ) → j < length (pages_of b) → get_or (pages_of b) j 0 ≡ y / 4096 → y < 4096 * get_or (pages_of b) i 0 + first.place → is_protected_at (code_at b) y ≡ false
     listed y j there e low =
         elim (cases_lt j i) [
-          inl earlier ↦ on_page y j e (before j earlier)
-        | inr not_earlier ↦ elim (cases_lt i j) [
-            inl later ↦ absurd (omega (arith, pages.ascending i j later there, e, low, first.on_page))
-          | inr not_later ↦ same_page y j (omega arith) e low
+          | inl earlier ↦ on_page y j e (before j earlier)
+          | inr not_earlier ↦ elim (cases_lt i j) [
+            | inl later ↦ absurd (omega (arith, pages.ascending i j later there, e, low, first.on_page))
+            | inr not_later ↦ same_page y j (omega arith) e low
           ]
         ]
 
     lower : (y : ℕ) → y < 4096 * get_or (pages_of b) i 0 + first.place → is_protected_at (code_at b) y ≡ false
     lower y low =
         elim (cases_Bool (is_executable b (y / 4096))) [
-          inl on ↦ let (j, there, e) = pages.complete (y / 4096) (executable_page b (y / 4096) on) in listed y j there e low
-        | inr off ↦ off_code b y off
+          | inl on ↦ let (j, there, e) = pages.complete (y / 4096) (executable_page b (y / 4096) on) in listed y j there e low
+          | inr off ↦ off_code b y off
         ]
 
     pub first_is : Some found ≡ first_found b
@@ -85,7 +85,7 @@ module _ (b : List ℕ) (pages : IsPageList b (pages_of b)) where
     first_is =
         let home = pages.home i inside in
         let least = find_first (is_protected_at (code_at b)) HOME_START (HOME_END - HOME_START) (4096 * get_or (pages_of b) i 0 + first.place)
-            (omega (arith, home.0)) (omega (arith, home.1, first.on_page)) first.stands lower in
+        (omega (arith, home.0)) (omega (arith, home.1, first.on_page)) first.stands lower in
         ap (λ (f : Found). Some f) first.is ∙ sym (ap (option_map (λ at. found_with (code_at b) at at)) least)
 
   pub none_is : ((i : ℕ) → i < length (pages_of b) → IsClean (code_at b) (4096 * get_or (pages_of b) i 0)) → None ≡ first_found b

@@ -28,12 +28,12 @@ module _ (byte_at : ℕ → Option ℕ) (start : ℕ) (window : List ℕ) (shows
   pub first_on : (place at : ℕ) (found : Found) → IsLeastPlace (slice_get window) place → place < 4096 → at ≡ start + place
       → found ≡ found_with (slice_get window) place at → IsFirstOn byte_at start found
   first_on place at found least on e is = record {
-      place = place;
-      on_page = on;
-      stands = sym (same_protected place on) ∙ least.stands;
-      lowest = λ k below. sym (same_protected k (omega arith)) ∙ least.lowest k below;
-      is = is ∙ same_found place at on ∙ ap (λ (a : ℕ). found_with byte_at (start + place) a) e
-    }
+    place = place;
+    on_page = on;
+    stands = sym (same_protected place on) ∙ least.stands;
+    lowest = λ k below. sym (same_protected k (omega arith)) ∙ least.lowest k below;
+    is = is ∙ same_found place at on ∙ ap (λ (a : ℕ). found_with byte_at (start + place) a) e;
+  }
 
   pub clean_below : (place : ℕ) → IsLeastPlace (slice_get window) place → 4096 ≤ place → IsClean byte_at start
   clean_below place least past k h = sym (same_protected k h) ∙ least.lowest k (omega arith)

@@ -33,8 +33,8 @@ at_place xs k x inside e = slice_get-get_or xs k 0 inside ∙ ap (λ (y : ℕ). 
 pub shows_page : (b : List ℕ) (n : ℕ) (bytes : List ℕ) → IsBytesOfPage b n bytes → is_executable b n ≡ true → is_executable b (n + 1) ≡ false → Shows (code_at b) (4096 * n) bytes
 shows_page b n bytes page here after k h =
     elim (cases_lt k 4096) [
-      inl low ↦ at_place bytes k _ (omega (arith, page.full)) (page.each k low) ∙ sym (code_on b (4096 * n + k) n (page_of n k low) here)
-    | inr high ↦ slice_get_past bytes k (omega (arith, page.full)) ∙ sym (code_off b (4096 * n + k) (n + 1) (next_page_of n k high (omega arith)) after)
+      | inl low ↦ at_place bytes k _ (omega (arith, page.full)) (page.each k low) ∙ sym (code_on b (4096 * n + k) n (page_of n k low) here)
+      | inr high ↦ slice_get_past bytes k (omega (arith, page.full)) ∙ sym (code_off b (4096 * n + k) (n + 1) (next_page_of n k high (omega arith)) after)
     ]
 
 -- a page's bytes with two more after them, of the next page, which is code too
@@ -73,17 +73,17 @@ module _ (b : List ℕ) (n : ℕ) (bytes rest : List ℕ) (x y : ℕ) (page : Is
     filled_past k low high =
         let P : ℕ → Type 0 = λ m. get_or filled m 0 ≡ byte_of b (4096 * n + m) in
         elim (cases_lt k 4097) [
-          inl is_first ↦ let e : 4096 ≡ k = omega arith in subst P e (filled_first ∙ first)
-        | inr is_second ↦ let e : 4097 ≡ k = omega arith in subst P e (filled_second ∙ second)
+          | inl is_first ↦ let e : 4096 ≡ k = omega arith in subst P e (filled_first ∙ first)
+          | inr is_second ↦ let e : 4097 ≡ k = omega arith in subst P e (filled_second ∙ second)
         ]
 
     pub shows_both : is_executable b n ≡ true → is_executable b (n + 1) ≡ true → Shows (code_at b) (4096 * n) filled
     shows_both here after k h =
         elim (cases_lt k 4096) [
-          inl low ↦ at_place filled k _ (omega (arith, filled_length)) (filled_low k low)
-            ∙ sym (code_on b (4096 * n + k) n (page_of n k low) here)
-        | inr high ↦ at_place filled k _ (omega (arith, filled_length)) (filled_past k high h)
-            ∙ sym (code_on b (4096 * n + k) (n + 1) (next_page_of n k high (omega arith)) after)
+          | inl low ↦ at_place filled k _ (omega (arith, filled_length)) (filled_low k low)
+              ∙ sym (code_on b (4096 * n + k) n (page_of n k low) here)
+          | inr high ↦ at_place filled k _ (omega (arith, filled_length)) (filled_past k high h)
+              ∙ sym (code_on b (4096 * n + k) (n + 1) (next_page_of n k high (omega arith)) after)
         ]
 
 pub fits : (window : List ℕ) → length window ≡ 4098 → length (take 4096 window) ≡ 4096

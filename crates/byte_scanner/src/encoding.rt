@@ -42,7 +42,11 @@ fn length_after(rest: &[u8]) -> usize
 {
     match rest {
         [WRMSR, ..] => 2,
-        [opcode, modrm, ..] => if is_refused_with_modrm(*opcode, *modrm) { 3 } else { 0 },
+        [opcode, modrm, ..] => if is_refused_with_modrm(*opcode, *modrm) {
+            3
+        } else {
+            0
+        },
         _ => 0,
     }
 }
@@ -52,5 +56,9 @@ pub(crate) fn encoding_length(bytes: &[u8], place: usize) -> usize
     requires { place < length bytes.now }
     ensures { result ≡ length_at (slice_get bytes.now) place }
 {
-    if bytes[place] == ESCAPE { length_after(&bytes[place + 1..]) } else { 0 }
+    if bytes[place] == ESCAPE {
+        length_after(&bytes[place + 1..])
+    } else {
+        0
+    }
 }

@@ -5,9 +5,11 @@
 #![tactic(auto)]
 
 mod encoding;
-mod slice_scan;
-mod window;
 mod image_scan;
+mod slice_scan;
+#[cfg(test)]
+mod tests;
+mod window;
 
 pub use crate::encoding::Found;
 pub use crate::image_scan::scan;

@@ -1,19 +1,18 @@
 -- What follows where no row stands.
-use Rattle.std.proofs.Common.{◌≡◌, ℕ, ◌+◌, ◌*◌, ◌<◌, ◌≤◌, Bool, true, false, cond, not, ◌&&◌, ◌||◌, List, [], ◌∷◌, length, get_or, map, Option, Some, None, refl, sym, ap, ◌∙◌, subst, arith, rules, inl, inr}
-use Rattle.std.proofs.lemmas.Bool.{ltb-false, le-ltb, or_cases, false≢true, or_parts, not-false, both_ways, false_from_ne_true, cases_Bool, eqb-true, and_parts, ltb-true}
+use Rattle.std.proofs.Common.{◌≡◌, ℕ, ◌<◌, ◌≤◌, Bool, true, false, cond, not, List, [], ◌∷◌, length, get_or, Option, Some, None, refl, sym, ap, subst, arith, inl, inr}
+use Rattle.std.proofs.lemmas.Bool.{ltb-false, le-ltb, or_cases, false≢true, or_parts, not-false, and_parts, ltb-true}
 use Rattle.std.proofs.lemmas.List.Elements.{All-nil, All-cons, All-get_or, filter_passes}
 use Rattle.std.proofs.lemmas.List.Sums.{sum_by-cons}
 use Rattle.std.proofs.lemmas.List.Filters.{length-filter_both}
-use Rattle.std.proofs.lemmas.List.Folds.{Any-from_list_any}
 use Rattle.std.proofs.lemmas.List.FromFn.{length-map-range_with_len}
-use Rattle.std.specs.Prelude.{find, filter, option_map, nat_lt, is_some, ◌==◌}
-use Rattle.std.specs.List.{All, list_any, range_with_len}
+use Rattle.std.specs.Prelude.{find, option_map, nat_lt}
+use Rattle.std.specs.List.{All, list_any}
 use Rattle.elf_image.specs.declared.row.Row.{Row}
 use Rattle.elf_image.specs.declared.row.RowFault.{RowFault}
 use Rattle.elf_image.specs.declared.program_header.ProgramHeader.{ProgramHeader}
-use Rattle.elf_image.specs.Elf.{e_entry, e_phnum, header_at, headers, has_flag, is_segment, segments}
-use Rattle.elf_image.specs.Segments.{passes_end, is_misaligned, leaves_home, shares_with_earlier, is_writable_code, is_code_at, total_pages, pages_touched, covers}
-use Rattle.elf_image.specs.Rows.{row_if, row_at, or_later, first_index, file_fault, segment_fault, whole_fault, first_fault, first_fault_yet, IsForm}
+use Rattle.elf_image.specs.Elf.{e_entry, e_phnum, header_at, headers, is_segment, segments}
+use Rattle.elf_image.specs.Segments.{passes_end, is_misaligned, leaves_home, shares_with_earlier, is_writable_code, is_code_at, total_pages, pages_touched}
+use Rattle.elf_image.specs.Rows.{row_if, row_at, or_later, segment_fault, whole_fault, first_fault, IsForm}
 use Rattle.elf_image.specs.Loaded.{IsPlaced, IsLoaded}
 
 row_at-None : (o : Option ℕ) (k : Row) (later : Option RowFault) → row_at o k later ≡ None → (o ≡ None) × (later ≡ None)
@@ -126,7 +125,7 @@ loaded b d long none one =
       form = in_form b long none one;
       only = single.0;
       placed = placed (length b) _ (All-get_or (λ x. is_segment x ≡ true) (segments b) 0 d some (passes b))
-        (All-get_or (λ x. passes_end (length b) x ≡ false) (segments b) 0 d some law.ends) (All-get_or (λ x. leaves_home x ≡ false) (segments b) 0 d some law.home);
+          (All-get_or (λ x. passes_end (length b) x ≡ false) (segments b) 0 d some law.ends) (All-get_or (λ x. leaves_home x ≡ false) (segments b) 0 d some law.home);
       few = total_of_one _ (segments b) single.0 law.few;
       code = (and_parts _ _ single.1).0;
     }

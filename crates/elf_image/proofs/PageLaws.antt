@@ -1,6 +1,6 @@
 -- The pages of an image of one segment: the range from its first page to its last.
-use Rattle.std.proofs.Common.{◌≡◌, ℕ, ◌+◌, ◌-◌, ◌*◌, ◌/◌, ◌<◌, ◌≤◌, Bool, true, false, cond, ◌&&◌, ◌||◌, List, [], ◌∷◌, ◌++◌, length, length-append, get_or, max, min, leb, replicate, inl, inr, refl, sym, ap, ◌∙◌, subst, arith, zero, suc, add-zero, add-suc, append-nil, zero-add}
-use Rattle.std.proofs.lemmas.Bool.{lt-ltb, le-ltb, cases_lt, cases_Bool, and_parts, and_left, and_right, and_from, lt-leb, le-leb, leb-true, ltb-true, or_cases}
+use Rattle.std.proofs.Common.{◌≡◌, ℕ, ◌+◌, ◌-◌, ◌*◌, ◌<◌, ◌≤◌, Bool, true, false, ◌&&◌, ◌||◌, List, [], ◌∷◌, ◌++◌, length, length-append, get_or, max, min, leb, replicate, inl, inr, refl, sym, ap, ◌∙◌, subst, arith, zero, suc, add-zero, append-nil, zero-add}
+use Rattle.std.proofs.lemmas.Bool.{lt-ltb, le-ltb, cases_lt, and_parts, and_left, and_right, and_from, lt-leb, le-leb, leb-true, ltb-true}
 use Rattle.std.proofs.lemmas.List.Elements.{filter-append, All-head, All-tail, All-from_get_or}
 use Rattle.std.proofs.lemmas.List.FromFn.{length-range_with_len, get_or-range_with_len}
 use Rattle.std.proofs.lemmas.List.{get_or_append_left, get_or-append_right, length-replicate, get_or-replicate}
@@ -11,7 +11,7 @@ use Rattle.elf_image.specs.declared.elf.TheConstants.{HOME_START, HOME_END, PAGE
 use Rattle.elf_image.specs.declared.program_header.ProgramHeader.{ProgramHeader}
 use Rattle.elf_image.specs.Elf.{has_flag, segments}
 use Rattle.elf_image.specs.Segments.{first_page, last_page, pages_touched, touches, loads}
-use Rattle.elf_image.specs.Loaded.{IsLoaded, IsLoadedPart, IsPlaced}
+use Rattle.elf_image.specs.Loaded.{IsLoaded, IsLoadedPart}
 use Rattle.elf_image.specs.Pages.{IsBytesOfPage, IsPageList, byte_from, byte_of, executable_page_count, home_pages, is_executable, is_page, is_writable, numbers_from, page_count, pages_of}
 
 -- a range in two parts
@@ -58,7 +58,7 @@ filter_range p a m f c low high below within above =
     let P : ℕ → Type 0 = λ x. filter p (range_with_len a x) ≡ range_with_len f c in
     let Q : ℕ → Type 0 = λ x. filter p (range_with_len a ((f - a) + (c + (a + m - (f + c))))) ≡ range_with_len x c in
     subst P e (subst Q s (middle p a (f - a) c (a + m - (f + c))
-        (λ n h. below n (omega arith)) (λ n l h. within n (omega arith) (omega arith)) (λ n l. above n (omega arith))))
+    (λ n h. below n (omega arith)) (λ n l h. within n (omega arith) (omega arith)) (λ n l. above n (omega arith))))
 
 or_no_more : (x : Bool) → (x || false) ≡ x
 or_no_more true = refl
@@ -148,14 +148,14 @@ module _ (b : List ℕ) (s : ProgramHeader) (image : IsLoaded b s) where
 
   pub page_list : IsPageList b (pages_of b)
   page_list = record {
-      ascending = λ i j low high. omega (arith, page_at i (omega arith), page_at j high);
-      home = page_in_home;
-      touched = λ i h. rw (page_at i h) (touched_within _ (omega arith) (omega (arith, count_is)));
-      complete = λ n h.
+    ascending = λ i j low high. omega (arith, page_at i (omega arith), page_at j high);
+    home = page_in_home;
+    touched = λ i h. rw (page_at i h) (touched_within _ (omega arith) (omega (arith, count_is)));
+    complete = λ n h.
         let inside : n - first_page s < page_count b = omega (arith, from_touched n h, count_is, in_order) in
         (n - first_page s, inside, omega (arith, page_at (n - first_page s) inside, from_touched n h));
-      executable = executable_is_page;
-    }
+    executable = executable_is_page;
+  }
 
   filter_executable : (ps : List ℕ) → All (λ n. is_executable b n ≡ true) ps → filter (is_executable b) ps ≡ ps
   filter_executable [] h = refl
@@ -195,33 +195,33 @@ module _ (b : List ℕ) (s : ProgramHeader) (image : IsLoaded b s) where
       record {
         fits = omega (arith, long);
         within = λ k h.
-          let low : s.address ≤ va + (start - va + k) = omega arith in
-          let high : va + (start - va + k) < s.address + s.file_size = omega (arith, long) in
-          let is_loaded = and_from (leb s.address (va + (start - va + k))) _ (le-leb _ _ low) (lt-ltb _ _ high) in
-          let same : at + k ≡ s.offset + (va + (start - va + k) - s.address) = omega arith in
-          get_or-between b at upto k 0 (omega (arith, long)) ∙ ap (λ (i : ℕ). get_or b i 0) same ∙ byte_loaded (va + (start - va + k)) is_loaded;
+            let low : s.address ≤ va + (start - va + k) = omega arith in
+            let high : va + (start - va + k) < s.address + s.file_size = omega (arith, long) in
+            let is_loaded = and_from (leb s.address (va + (start - va + k))) _ (le-leb _ _ low) (lt-ltb _ _ high) in
+            let same : at + k ≡ s.offset + (va + (start - va + k) - s.address) = omega arith in
+            get_or-between b at upto k 0 (omega (arith, long)) ∙ ap (λ (i : ℕ). get_or b i 0) same ∙ byte_loaded (va + (start - va + k)) is_loaded;
         before = λ k h.
-          let below : va + k < s.address = omega arith in
-          sym (byte_blank (va + k) (and_left _ _ (lt-leb _ _ below)));
+            let below : va + k < s.address = omega arith in
+            sym (byte_blank (va + k) (and_left _ _ (lt-leb _ _ below)));
         after = λ k h inside.
-          let above : s.address + s.file_size ≤ va + k = omega (arith, long) in
-          sym (byte_blank (va + k) (and_right _ _ (le-ltb _ _ above)));
+            let above : s.address + s.file_size ≤ va + k = omega (arith, long) in
+            sym (byte_blank (va + k) (and_right _ _ (le-ltb _ _ above)));
       }
 
   -- and where it doesn't
   pub part_none : (va start end : ℕ) → start ≡ max va s.address → end ≡ min (va + PAGE_SIZE) (s.address + s.file_size) → end ≤ start → (part : List ℕ) → length part ≡ 0 → IsLoadedPart b va 0 part
   part_none va start end first last none part empty = record {
-      fits = omega (arith, empty);
-      within = λ k h. absurd (omega (arith, empty));
-      before = λ k h. absurd (omega arith);
-      after = λ k h inside.
+    fits = omega (arith, empty);
+    within = λ k h. absurd (omega (arith, empty));
+    before = λ k h. absurd (omega arith);
+    after = λ k h inside.
         elim (cases_lt (va + k) s.address) [
-            inl below ↦ sym (byte_blank (va + k) (and_left _ _ (lt-leb _ _ below)))
+          | inl below ↦ sym (byte_blank (va + k) (and_left _ _ (lt-leb _ _ below)))
           | inr above ↦
-            let past : s.address + s.file_size ≤ va + k = omega arith in
-            sym (byte_blank (va + k) (and_right _ _ (le-ltb _ _ past)))
+              let past : s.address + s.file_size ≤ va + k = omega arith in
+              sym (byte_blank (va + k) (and_right _ _ (le-ltb _ _ past)))
         ];
-    }
+  }
 
 -- a page of zeros but for that part
 pub page_laid : (b : List ℕ) (n place : ℕ) (part bytes : List ℕ) → IsLoadedPart b (PAGE_SIZE * n) place part
@@ -233,21 +233,21 @@ page_laid b n place part bytes l e =
     subst P (sym e) (record {
       full = long;
       each = λ k h.
-        elim (cases_lt k place) [
-            inl front ↦
-              get_or_append_left (replicate place 0) (part ++ rest) 0 k (omega (arith, length-replicate {A = ℕ} place 0))
-              ∙ get_or-replicate place k 0 0 front ∙ sym (l.before k front)
-          | inr past ↦
-            let moved = get_or-append_right (replicate place 0) (part ++ rest) place k 0 (length-replicate place 0) past in
-            elim (cases_lt (k - place) (length part)) [
-                inl inside ↦
-                  let here : place + (k - place) ≡ k = omega arith in
-                  moved ∙ get_or_append_left part rest 0 (k - place) inside ∙ l.within (k - place) inside
-                  ∙ ap (λ (i : ℕ). byte_of b (PAGE_SIZE * n + i)) here
-              | inr after ↦
-                  let up : place + length part ≤ k = omega arith in
-                  moved ∙ get_or-append_right part rest (length part) (k - place) 0 refl after
-                  ∙ get_or-replicate (PAGE_SIZE - (place + length part)) (k - place - length part) 0 0 (omega arith) ∙ sym (l.after k up h)
-            ]
-        ];
+          elim (cases_lt k place) [
+            | inl front ↦
+                get_or_append_left (replicate place 0) (part ++ rest) 0 k (omega (arith, length-replicate {A = ℕ} place 0))
+                ∙ get_or-replicate place k 0 0 front ∙ sym (l.before k front)
+            | inr past ↦
+                let moved = get_or-append_right (replicate place 0) (part ++ rest) place k 0 (length-replicate place 0) past in
+                elim (cases_lt (k - place) (length part)) [
+                  | inl inside ↦
+                      let here : place + (k - place) ≡ k = omega arith in
+                      moved ∙ get_or_append_left part rest 0 (k - place) inside ∙ l.within (k - place) inside
+                      ∙ ap (λ (i : ℕ). byte_of b (PAGE_SIZE * n + i)) here
+                  | inr after ↦
+                      let up : place + length part ≤ k = omega arith in
+                      moved ∙ get_or-append_right part rest (length part) (k - place) 0 refl after
+                      ∙ get_or-replicate (PAGE_SIZE - (place + length part)) (k - place - length part) 0 0 (omega arith) ∙ sym (l.after k up h)
+                ]
+          ];
     })

@@ -31,14 +31,14 @@ e_phnum b = number_at b E_PHNUM 2
 -- the program header that stands at place p of the file and has this index in the table
 unfoldable pub program_header_at : List ℕ → ℕ → ℕ → ProgramHeader
 program_header_at b p i = record {
-    index = i;
-    kind = number_at b (p + P_TYPE) 4;
-    flags = number_at b (p + P_FLAGS) 4;
-    offset = number_at b (p + P_OFFSET) 8;
-    address = number_at b (p + P_VADDR) 8;
-    file_size = number_at b (p + P_FILESZ) 8;
-    memory_size = number_at b (p + P_MEMSZ) 8
-  }
+  index = i;
+  kind = number_at b (p + P_TYPE) 4;
+  flags = number_at b (p + P_FLAGS) 4;
+  offset = number_at b (p + P_OFFSET) 8;
+  address = number_at b (p + P_VADDR) 8;
+  file_size = number_at b (p + P_FILESZ) 8;
+  memory_size = number_at b (p + P_MEMSZ) 8;
+}
 
 -- the program header of this index
 abbrev pub header_at : List ℕ → ℕ → ProgramHeader

@@ -1,5 +1,5 @@
 -- Where a segment lies in the file, in memory and among the pages. Sums are of numbers without bound.
-use Rattle.std.specs.Prelude.{ℕ, ◌+◌, ◌-◌, ◌/◌, ◌%◌, ◌==◌, Bool, not, ◌&&◌, ◌||◌, List, sum_by, nat_lt, nat_le, bit_and}
+use Rattle.std.specs.Prelude.{ℕ, ◌+◌, ◌-◌, ◌/◌, ◌%◌, ◌==◌, Bool, not, ◌&&◌, ◌||◌, List, sum_by, nat_lt, nat_le}
 use Rattle.std.specs.List.{list_any}
 use Rattle.elf_image.specs.declared.elf.TheConstants.{PF_X, PF_W, PAGE_SIZE, HOME_START, HOME_END}
 use Rattle.elf_image.specs.declared.program_header.ProgramHeader.{ProgramHeader}

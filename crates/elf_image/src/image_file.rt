@@ -164,7 +164,9 @@ impl Image {
 
     /// The number of pages that may be executed.
     pub fn executable_pages(&self) -> u32
-        ensures { result ≡ executable_page_count self.now }
+        ensures count { result ≡ executable_page_count self.now }
+        ensures some { 0 < result }
+        ensures few { result ≤ MOST_PAGES }
     {
         let _ = &self.segment;
         self.pages()

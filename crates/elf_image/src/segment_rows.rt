@@ -46,9 +46,7 @@ fn shares_with_earlier(segments: &[ProgramHeader], segment: &ProgramHeader) -> b
 fn first_sharing(segments: &[ProgramHeader]) -> Option<u64>
     ensures { result ≡ first_index (shares_with_earlier segments.now) segments.now }
 {
-    let first = segments
-        .iter()
-        .find(|s| shares_with_earlier(segments, s))?;
+    let first = segments.iter().find(|s| shares_with_earlier(segments, s))?;
     Some(first.index)
 }
 

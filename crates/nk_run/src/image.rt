@@ -18,14 +18,19 @@ use nk_host::{FetchFault, Shelf};
 use std::alloc::Global;
 
 /// The file of a role, or the reply to a failed fetch.
-fn fetch<S: Shelf>(alloc: Global, words: &[String], role: Role, shelf: &mut S) -> Result<Vec<u8>, Reply>
+fn fetch<S: Shelf>(
+    alloc: Global,
+    words: &[String],
+    role: Role,
+    shelf: &mut S,
+) -> Result<Vec<u8>, Reply>
     requires { place_of role < length words.now }
     ensures files_stay { S.files shelf.new ≡ S.files shelf.old }
     ensures fetched { let names = map string_bytes words.now in MatchResult result
         (λ bytes. IfTold (S.files shelf.old) (λ files. (files (name_in names role) ≡ Some bytes.items)
-            × (fetched role (files (name_in names role)) ≡ passes)))
+        × (fetched role (files (name_in names role)) ≡ passes)))
         (λ reply. Stops names (S.files shelf.old) (S.faults shelf.old) (S.faults shelf.new) role
-            (λ files. fetched role (files (name_in names role))) reply.status (text_of reply.line)) }
+        (λ files. fetched role (files (name_in names role))) reply.status (text_of reply.line)) }
 {
     match shelf.fetch(alloc, words[role.place()].as_str(), FILE_LIMIT) {
         Ok(bytes) => Ok(bytes),
@@ -71,9 +76,9 @@ pub(crate) fn open<S: Shelf>(alloc: Global, words: &[String], shelf: &mut S) -> 
     ensures files_stay { S.files shelf.new ≡ S.files shelf.old }
     ensures opened { let names = map string_bytes words.now in MatchResult result
         (λ image. IfTold (S.files shelf.old) (λ files. (image ≡ file_in files names Role.Image)
-            × (first_verdict (image_checks files names) ≡ passes)))
+        × (first_verdict (image_checks files names) ≡ passes)))
         (λ reply. Stops names (S.files shelf.old) (S.faults shelf.old) (S.faults shelf.new) Role.Image
-            (λ files. first_verdict (image_checks files names)) reply.status (text_of reply.line)) }
+        (λ files. first_verdict (image_checks files names)) reply.status (text_of reply.line)) }
 {
     let bytes = match fetch(alloc, words, Role::Image, shelf) {
         Ok(bytes) => bytes,

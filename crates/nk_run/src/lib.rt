@@ -1,13 +1,13 @@
 //! The top call: what the program does with its words, over a shelf of files and a sink.
 #![tactic(auto)]
 
-mod words;
+mod answer;
+mod image;
 mod lines;
 mod reply;
-mod image;
 mod scan;
-mod answer;
 mod top;
+mod words;
 
 pub use crate::lines::FILE_LIMIT;
 pub use crate::top::nk_main;

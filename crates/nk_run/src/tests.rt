@@ -43,7 +43,12 @@ fn image(alloc: Global, text: &[u8]) -> Result<Vec<u8>, AllocError> {
 }
 
 /// A text of so many NOPs, with some bytes put in place of those from an offset on.
-fn nops_with(alloc: Global, before: usize, bytes: &[u8], after: usize) -> Result<Vec<u8>, AllocError> {
+fn nops_with(
+    alloc: Global,
+    before: usize,
+    bytes: &[u8],
+    after: usize,
+) -> Result<Vec<u8>, AllocError> {
     let mut text = vec![in alloc; 0x90; before]?;
     text.extend_from_slice(bytes)?;
     for _ in 0..after {
@@ -107,7 +112,10 @@ fn a_halting_kernel_is_admitted(rt: HostRuntime) -> Result<(), Fail> {
 #[test]
 fn an_encoding_inside_an_immediate_is_found(rt: HostRuntime) -> Result<(), Fail> {
     let alloc = rt.alloc();
-    let ran = scan(alloc, image(alloc, &[0x48, 0xc7, 0xc0, 0x0f, 0x22, 0xc0, 0x00])?)?;
+    let ran = scan(
+        alloc,
+        image(alloc, &[0x48, 0xc7, 0xc0, 0x0f, 0x22, 0xc0, 0x00])?,
+    )?;
     assert!(rt; gives(&ran, 1, "protected ffffffff80000003 0f22c0\n"));
     Ok(())
 }
@@ -116,7 +124,13 @@ fn an_encoding_inside_an_immediate_is_found(rt: HostRuntime) -> Result<(), Fail>
 fn an_encoding_across_a_page_border_is_found(rt: HostRuntime) -> Result<(), Fail> {
     let alloc = rt.alloc();
     let text = nops_with(alloc, 4095, &[0x0f, 0x22, 0xc0], 0)?;
-    assert!(rt; gives(&scan(alloc, image(alloc, &text)?)?, 1, "protected ffffffff80000fff 0f22c0\n"));
+    assert!(rt;
+        gives(
+            &scan(alloc, image(alloc, &text)?)?,
+            1,
+            "protected ffffffff80000fff 0f22c0\n"
+        )
+    );
     Ok(())
 }
 
@@ -127,7 +141,13 @@ fn an_encoding_must_end_inside_the_run(rt: HostRuntime) -> Result<(), Fail> {
     let ran = scan(alloc, image(alloc, &cut_off)?)?;
     assert!(rt; gives(&ran, 0, "admitted entry ffffffff80000000 pages 1\n"));
     let whole = nops_with(alloc, 4094, &[0x0f, 0x30], 0)?;
-    assert!(rt; gives(&scan(alloc, image(alloc, &whole)?)?, 1, "protected ffffffff80000ffe 0f30\n"));
+    assert!(rt;
+        gives(
+            &scan(alloc, image(alloc, &whole)?)?,
+            1,
+            "protected ffffffff80000ffe 0f30\n"
+        )
+    );
     Ok(())
 }
 
@@ -145,7 +165,13 @@ fn the_operand_byte_decides_after_0f_01(rt: HostRuntime) -> Result<(), Fail> {
     let from_memory = scan(alloc, image(alloc, &[0x0f, 0x01, 0x18])?)?;
     assert!(rt; gives(&from_memory, 1, "protected ffffffff80000000 0f0118\n"));
     let register_form = scan(alloc, image(alloc, &[0x0f, 0x01, 0xd8])?)?;
-    assert!(rt; gives(&register_form, 0, "admitted entry ffffffff80000000 pages 1\n"));
+    assert!(rt;
+        gives(
+            &register_form,
+            0,
+            "admitted entry ffffffff80000000 pages 1\n"
+        )
+    );
     Ok(())
 }
 

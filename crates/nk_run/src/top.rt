@@ -11,7 +11,12 @@ use std::alloc::Global;
 ///
 /// The statuses: 0 done; 1 the image is refused; 2 the words have none of the forms; 3 a file couldn't be read; 4 the text
 /// couldn't be written whole; 5 there was no memory; 7 a file is longer than the limit.
-pub fn nk_main<S: Shelf, O: Sink>(alloc: Global, words: &[String], shelf: &mut S, sink: &mut O) -> u8
+pub fn nk_main<S: Shelf, O: Sink>(
+    alloc: Global,
+    words: &[String],
+    shelf: &mut S,
+    sink: &mut O,
+) -> u8
     ensures status_range { result ≤ 7 }
 
     // The statuses of the outside come only with the counts of faults.

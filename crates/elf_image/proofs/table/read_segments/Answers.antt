@@ -1,4 +1,4 @@
-use Rattle.std.proofs.Common.{arith, ◌≡◌, ◌+◌, ◌++◌, ◌∷◌, [], ℕ, List, Bool, true, false, cond, ap, append-nil}
+use Rattle.std.proofs.Common.{arith, ◌≡◌, ◌+◌, ◌++◌, ◌∷◌, [], ℕ, List, Bool, true, false, ap, append-nil}
 use Rattle.std.proofs.lemmas.List.FromFn.{filter_of_map_range_with_len_more}
 use Rattle.std.specs.Prelude.{map, filter}
 use Rattle.std.specs.List.{range_with_len}
@@ -30,10 +30,12 @@ pub loop-index-preserved : goal.loop-index-preserved
 loop-index-preserved c =
     let is_next : c.read-header.result ≡ header_at c.args.bytes.now c.loop-index.index = cc (c.read-header.ensures, c.xword-table.ensures) in
     elim c.if-is_segment.branch [
-        then-is_segment w ↦
-            (kept is_segment (header_at c.args.bytes.now) c.loop-index.index _ _ c.read-header.result c.loop-index.invariant.0 is_next (cc (c.is_segment.ensures, w.if-is_segment.true)) (cc (w.found-is, w.push.ensures.items)),
-            omega (arith, ap array_vec_len w.found-is, w.push.ensures.len))
-      | else-is_segment w ↦
-            (passed is_segment (header_at c.args.bytes.now) c.loop-index.index _ _ c.read-header.result c.loop-index.invariant.0 is_next (cc (c.is_segment.ensures, w.if-is_segment.false)) (cc w.found-is),
-            omega (arith, ap array_vec_len w.found-is))
+      | then-is_segment w ↦ (
+        kept is_segment (header_at c.args.bytes.now) c.loop-index.index _ _ c.read-header.result c.loop-index.invariant.0 is_next (cc (c.is_segment.ensures, w.if-is_segment.true)) (cc (w.found-is, w.push.ensures.items)),
+        omega (arith, ap array_vec_len w.found-is, w.push.ensures.len),
+      )
+      | else-is_segment w ↦ (
+        passed is_segment (header_at c.args.bytes.now) c.loop-index.index _ _ c.read-header.result c.loop-index.invariant.0 is_next (cc (c.is_segment.ensures, w.if-is_segment.false)) (cc w.found-is),
+        omega (arith, ap array_vec_len w.found-is),
+      )
     ]

@@ -1,4 +1,4 @@
-use Rattle.std.proofs.Common.{◌≡◌, ℕ, List, ap, sym, ◌∙◌}
+use Rattle.std.proofs.Common.{ℕ, List, ap, sym, ◌∙◌}
 use Rattle.std.proofs.lemmas.Grind.{get_or_default_zero}
 use Rattle.elf_image.specs.Pages.{byte_of}
 use Rattle.elf_image.proofs.PageLaws.{byte_blank, byte_loaded, loaded_in_file}

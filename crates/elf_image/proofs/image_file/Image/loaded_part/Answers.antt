@@ -1,4 +1,4 @@
-use Rattle.std.proofs.Common.{◌≡◌, ◌<◌, ◌+◌, ◌-◌, ℕ, List, [], subst, refl, sym, ap, ◌∙◌, take, drop, arith}
+use Rattle.std.proofs.Common.{◌+◌, ◌-◌, ℕ, List, [], subst, refl, sym}
 use Rattle.std.specs.List.{between}
 use Rattle.elf_image.specs.Loaded.{IsLoadedPart}
 use Rattle.elf_image.proofs.PageLaws.{part_none, part_some}
@@ -16,4 +16,4 @@ returns c =
     let P : List ℕ → Type 0 = λ b. IsLoadedPart b c.args.va (c.max-start.result - c.args.va) (between at upto c.deref.result.now) in
     let Q : List ℕ → Type 0 = λ bytes. IsLoadedPart c.self.inside.bytes.items c.args.va (c.max-start.result - c.args.va) (between at upto bytes) in
     subst P c.self.view_is (subst Q (sym c.deref.ensures.value)
-      (part_some _ _ c.self.invariant c.args.va c.max-start.result c.min-end.result c.max-start.ensures c.min-end.ensures c.if-end-start.false at upto refl refl))
+    (part_some _ _ c.self.invariant c.args.va c.max-start.result c.min-end.result c.max-start.ensures c.min-end.ensures c.if-end-start.false at upto refl refl))

@@ -1,4 +1,4 @@
-use Rattle.std.proofs.Common.{◌≡◌, ◌+◌, ◌*◌, ◌<◌, ◌≤◌, ℕ, List, ap, sym, ◌∙◌, subst, get_or, arith}
+use Rattle.std.proofs.Common.{◌<◌, ℕ, List, ap, sym, ◌∙◌, get_or, arith}
 use Rattle.elf_image.specs.Pages.{is_executable, is_writable, page_count, pages_of}
 use Rattle.elf_image.proofs.PageLaws.{executable_at, writable_at}
 use Rattle.elf_image.proofs.image_file.Image.page.Goals as goal

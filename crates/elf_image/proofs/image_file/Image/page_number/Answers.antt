@@ -1,4 +1,4 @@
-use Rattle.std.proofs.Common.{◌≡◌, ◌+◌, ◌*◌, ◌<◌, ◌≤◌, ℕ, List, ap, sym, ◌∙◌, subst, get_or, arith}
+use Rattle.std.proofs.Common.{◌<◌, ℕ, List, ap, get_or, arith}
 use Rattle.elf_image.specs.Pages.{page_count, pages_of}
 use Rattle.elf_image.proofs.PageLaws.{page_at, page_in_home}
 use Rattle.elf_image.proofs.image_file.Image.page_number.Goals as goal

@@ -1,4 +1,4 @@
-use Rattle.std.proofs.Common.{◌≡◌, ℕ, List, ap, ◌∙◌, subst}
+use Rattle.std.proofs.Common.{ℕ, List, ap, ◌∙◌, subst}
 use Rattle.elf_image.specs.Pages.{IsPageList, page_count, pages_of}
 use Rattle.elf_image.proofs.PageLaws.{count_is, page_list}
 use Rattle.elf_image.proofs.image_file.Image.pages.Goals as goal

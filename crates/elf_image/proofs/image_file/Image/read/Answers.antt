@@ -1,5 +1,4 @@
-use Rattle.std.proofs.Common.{◌≡◌, ◌<◌, ◌≤◌, ℕ, List, length, ap, sym, ◌∙◌, subst, arith, None}
-use Rattle.elf_image.specs.declared.program_header.ProgramHeader.{ProgramHeader}
+use Rattle.std.proofs.Common.{◌≡◌, ◌≤◌, length, ap, sym, ◌∙◌, arith, None}
 use Rattle.elf_image.specs.Elf.{e_phnum, segments}
 use Rattle.elf_image.specs.Rows.{first_fault}
 use Rattle.elf_image.proofs.FormLaws.{loaded_from, some_segment}
