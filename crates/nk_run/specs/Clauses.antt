@@ -8,12 +8,13 @@ use Rattle.nk_host.specs.Taken.{AppendsPrefix}
 use Rattle.nk_host.specs.Told.{IfTold}
 use Rattle.nk_run.specs.declared.lines.TheConstants.{FILE_LIMIT}
 use Rattle.nk_run.specs.declared.words.Command.{Command}
-use Rattle.nk_run.specs.declared.words.Command.TheVariants.{Scan}
+use Rattle.nk_run.specs.declared.words.Command.TheVariants.{Scan, Map}
 use Rattle.nk_run.specs.declared.words.Role.{Role}
 use Rattle.nk_run.specs.declared.words.Role.TheVariants.{Image}
 use Rattle.nk_run.specs.Words.{command_of, name_in, roles_of}
 use Rattle.elf_image.specs.Rows.{first_fault_yet}
 use Rattle.byte_scanner.specs.Found.{first_found}
+use Rattle.boot_map.specs.Division.{need}
 use Rattle.nk_run.specs.Lines.{no_memory_line, unread_line}
 use Rattle.nk_run.specs.Outcome.{Files, Answer, checks_of, outcome, IsReached}
 
@@ -94,8 +95,13 @@ pub record IsGoodImage (b : List ℕ) : Type 0 where
   pub formed : first_fault_yet b ≡ None
   pub clean : first_found b ≡ None
 
--- what was asked of a good image is done: without a fault the status is 0, or that of want of memory
+-- the image has room for its opening, where the command makes one
+abbrev pub HasRoom : Command → List ℕ → Type 0
+HasRoom Scan b = ⊤
+HasRoom (Map frames va) b = need b frames ≤ frames
+
+-- what was asked of a good image that has room is done: without a fault the status is 0, or that of want of memory
 abbrev pub IsDone : List (List ℕ) → Option Files → Counts → Counts → ℕ → ℕ → ℕ → Type 0
 IsDone words told before now sink_before sink_now status = IfTold told (λ files.
-    IsSome (command_of words) → IsSomeAnd (files (name_in words Image)) IsGoodImage →
+    IsSomeAnd (command_of words) (λ command. IsSomeAnd (files (name_in words Image)) (λ image. IsGoodImage image × HasRoom command image)) →
     IsFaultless words before now sink_before sink_now → (status ≡ 0) ⊎ (status ≡ 5))

@@ -1,7 +1,9 @@
 -- The lines that the program writes, byte for byte. Lists of bytes nest to the right, as a format writes them.
-use Rattle.std.specs.Prelude.{ℕ, ◌++◌, ◌-◌, ◌^◌, List, [], false, codes}
+use Rattle.std.specs.Prelude.{ℕ, ◌++◌, ◌-◌, ◌^◌, if◌then◌else◌, List, [], ◌∷◌, false, codes, Result, Ok, Err}
 use Rattle.std.specs.Fmt.{decimal, digits, padded_integral, format_spec}
 use Rattle.hex.specs.Hex.{encode_lower}
+use Rattle.nk_bits.specs.declared.leaf.Leaf.{Leaf}
+use Rattle.nk_bits.specs.declared.leaf.Rights.{Rights}
 use Rattle.nk_run.specs.declared.words.Role.{Role}
 use Rattle.nk_run.specs.declared.words.Role.TheVariants.{Image}
 
@@ -15,7 +17,7 @@ role_text Image = codes "image"
 
 -- the words have none of the forms
 unfoldable pub usage_line : List ℕ
-usage_line = codes "usage: nkrun scan IMAGE\n"
+usage_line = codes "usage: nkrun scan IMAGE | map IMAGE FRAMES VA\n"
 
 -- there was no memory
 unfoldable pub no_memory_line : List ℕ
@@ -40,3 +42,25 @@ protected_line address bytes = codes "protected " ++ (hex_16 address ++ (codes "
 -- the image is admitted: its entry and the number of its executable pages
 unfoldable pub admitted_line : ℕ → ℕ → List ℕ
 admitted_line entry pages = codes "admitted entry " ++ (hex_16 entry ++ (codes " pages " ++ (decimal pages ++ codes "\n")))
+
+-- the opening needs more frames than there are
+unfoldable pub noroom_line : ℕ → ℕ → List ℕ
+noroom_line need have = codes "noroom " ++ (decimal need ++ (codes " " ++ (decimal have ++ codes "\n")))
+
+-- rights, a letter each: read; write; execute; user or supervisor
+unfoldable pub rights_text : Rights → List ℕ
+rights_text rights =
+    (if rights.can_write then codes "rw" else codes "r-")
+    ++ ((if rights.exec then codes "x" else codes "-") ++ (if rights.user then codes "u" else codes "s"))
+
+-- a translation, and the first level whose entry is missing
+unfoldable pub frame_line : ℕ → Rights → List ℕ
+frame_line frame rights = codes "frame " ++ (decimal frame ++ (codes " " ++ (rights_text rights ++ codes "\n")))
+
+unfoldable pub missing_line : ℕ → List ℕ
+missing_line level = codes "missing " ++ (decimal level ++ codes "\n")
+
+-- what a walk finds
+abbrev pub walk_line : Result Leaf ℕ → List ℕ
+walk_line (Ok leaf) = frame_line leaf.frame leaf.rights
+walk_line (Err level) = missing_line level

@@ -1,19 +1,24 @@
 -- The outcome of words and files: status and text without a fault of the outside and without want of memory. It is a
 -- list of checks in order; the first that doesn't pass decides, and where all pass the command's text is written.
-use Rattle.std.specs.Prelude.{◌≡◌, ℕ, List, [], ◌∷◌, length, take, Option, None, Some, if◌then◌else◌, nat_lt, unwrap_or, ⊤}
+use Rattle.std.specs.Prelude.{◌≡◌, ℕ, List, [], ◌∷◌, ◌++◌, length, take, Option, None, Some, Result, if◌then◌else◌, nat_lt, nat_le, unwrap_or, ⊤}
 use Rattle.elf_image.specs.declared.fault.ImageFault.{ImageFault}
 use Rattle.elf_image.specs.Faults.{number_of, name_of}
 use Rattle.elf_image.specs.Rows.{first_fault_yet}
 use Rattle.elf_image.specs.Pages.{entry_of, executable_page_count}
 use Rattle.byte_scanner.specs.declared.encoding.Found.{Found}
 use Rattle.byte_scanner.specs.Found.{first_found}
+use Rattle.nk_bits.specs.declared.leaf.Leaf.{Leaf}
+use Rattle.nk_bits.specs.Paging.{page_of, walk}
+use Rattle.boot_map.specs.Division.{need}
+use Rattle.boot_map.specs.Entries.{entry_at}
 use Rattle.nk_run.specs.declared.lines.TheConstants.{FILE_LIMIT}
+use Rattle.nk_run.specs.declared.opening_walk.TheConstants.{OPENING_ROOT}
 use Rattle.nk_run.specs.declared.words.Command.{Command}
-use Rattle.nk_run.specs.declared.words.Command.TheVariants.{Scan}
+use Rattle.nk_run.specs.declared.words.Command.TheVariants.{Scan, Map}
 use Rattle.nk_run.specs.declared.words.Role.{Role}
 use Rattle.nk_run.specs.declared.words.Role.TheVariants.{Image}
 use Rattle.nk_run.specs.Words.{command_of, name_in}
-use Rattle.nk_run.specs.Lines.{usage_line, longer_line, image_line, protected_line, admitted_line}
+use Rattle.nk_run.specs.Lines.{usage_line, longer_line, image_line, protected_line, admitted_line, noroom_line, walk_line}
 
 -- files, by the bytes of their names
 abbrev pub Files : Type 0
@@ -85,12 +90,22 @@ image_checks files words =
     ∷ test (clean (first_found (file_in files words Image)))
     ∷ []
 
+-- the opening of the image has room in a memory of so many frames
+abbrev pub roomy : ℕ → ℕ → Verdict
+roomy need frames = if nat_le need frames then passes else ends (record { status = 1; text = noroom_line need frames })
+
+-- what the opening tables give for an address, by the walk from the opening's root
+abbrev pub translation_of : List ℕ → ℕ → ℕ → Result Leaf ℕ
+translation_of image frames va = walk (entry_at image frames) frames OPENING_ROOT (page_of va)
+
 -- the checks of a command, in order, and its text where all pass
 abbrev pub checks_of : Command → Files → List (List ℕ) → List Check
 checks_of Scan files words = image_checks files words
+checks_of (Map frames va) files words = image_checks files words ++ test (roomy (need (file_in files words Image) frames) frames) ∷ []
 
 abbrev pub text_of : Command → Files → List (List ℕ) → List ℕ
 text_of Scan files words = let image = file_in files words Image in admitted_line (entry_of image) (executable_page_count image)
+text_of (Map frames va) files words = walk_line (translation_of (file_in files words Image) frames va)
 
 -- the outcome of the words, of which the command is what they spell
 abbrev pub outcome_of : Option Command → List (List ℕ) → Files → Option Answer

@@ -1,13 +1,14 @@
 -- What a call says in the end, before any of it is written, and how it is written.
-use Rattle.std.specs.Prelude.{◌≡◌, ◌≢◌, ℕ, ◌≤◌, ◌⊎◌, List, Option, Some, IsSome}
+use Rattle.std.specs.Prelude.{◌≡◌, ◌≢◌, ℕ, ◌≤◌, ◌⊎◌, List, Option, Some, Result, IsSome}
 use Rattle.std.specs.Io.KnownBytes.{Appends}
+use Rattle.nk_bits.specs.declared.leaf.Leaf.{Leaf}
 use Rattle.nk_host.specs.Faults.{Rose, RoseTo}
 use Rattle.nk_host.specs.Taken.{AppendsPrefix}
 use Rattle.nk_host.specs.Told.{IfTold}
 use Rattle.nk_run.specs.declared.words.Role.{Role}
 use Rattle.nk_run.specs.Words.{command_of, name_in}
-use Rattle.nk_run.specs.Lines.{no_memory_line, unread_line}
-use Rattle.nk_run.specs.Outcome.{Files, Answer, Verdict, ends, outcome}
+use Rattle.nk_run.specs.Lines.{no_memory_line, unread_line, walk_line}
+use Rattle.nk_run.specs.Outcome.{Files, Answer, Verdict, ends, decided, outcome}
 use Rattle.nk_run.specs.Clauses.{Counts, IsUnread}
 
 -- a file couldn't be read
@@ -71,3 +72,13 @@ Stops words told before now role verdict status text =
 abbrev pub Refuses : Verdict → ℕ → List ℕ → Type 0
 Refuses verdict status text =
     IsWant status text ⊎ ((verdict ≡ ends (record { status = status; text = text })) × (status ≡ 1))
+
+-- after the checks on the image, the last check decides and the command's text is written, or there was no memory
+abbrev pub Concludes : Verdict → List ℕ → ℕ → List ℕ → Type 0
+Concludes verdict answer status text =
+    IsWant status text
+    ⊎ ((decided verdict (record { status = 0; text = answer }) ≡ Some (record { status = status; text = text })) × (status ≤ 1))
+
+-- the line for what a walk found, or there was no memory
+abbrev pub ShowsWalk : Result Leaf ℕ → ℕ → List ℕ → Type 0
+ShowsWalk found status text = IsWant status text ⊎ ((status ≡ 0) × (text ≡ walk_line found))

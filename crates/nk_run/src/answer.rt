@@ -5,6 +5,7 @@ ghost use Rattle.nk_run.specs.ReplyText.{text_of};
 ghost use Rattle.nk_run.specs.Replies.{Says};
 
 use crate::lines::usage;
+use crate::opening_walk::map;
 use crate::reply::{Line, Reply};
 use crate::scan::scan;
 use crate::words::Command;
@@ -23,5 +24,6 @@ pub(crate) fn answer<S: Shelf>(alloc: Global, words: &[String], shelf: &mut S) -
             line: Line::Fixed(usage()),
         },
         Some(Command::Scan) => scan(alloc, words, shelf),
+        Some(Command::Map { frames, va }) => map(alloc, words, frames, va, shelf),
     }
 }

@@ -4,6 +4,8 @@
 mod answer;
 mod image;
 mod lines;
+mod numbers;
+mod opening_walk;
 mod reply;
 mod scan;
 mod top;

@@ -2,11 +2,25 @@
 ghost use Rattle.std.specs.Prelude.{◌≡◌, ◌≤◌, IfOk, length, take};
 ghost use Rattle.std.specs.String.{string_bytes};
 ghost use Rattle.elf_image.specs.Faults.{number_of, name_of};
-ghost use Rattle.nk_run.specs.Lines.{usage_line, no_memory_line, unread_line, longer_line, image_line, protected_line, admitted_line};
+ghost use Rattle.nk_run.specs.Lines.{
+  usage_line,
+  no_memory_line,
+  unread_line,
+  longer_line,
+  image_line,
+  protected_line,
+  admitted_line,
+  noroom_line,
+  rights_text,
+  frame_line,
+  missing_line,
+};
 
 use crate::words::Role;
+use boot_map::NoRoom;
 use byte_scanner::Found;
 use elf_image::ImageFault;
+use nk_bits::{Leaf, Rights};
 use std::alloc::{AllocError, Global};
 
 /// The longest file that is read, in bytes.
@@ -17,7 +31,7 @@ pub const FILE_LIMIT: u64 = 67_108_864;
 pub(crate) fn usage() -> &'static str
     ensures { result.now ≡ usage_line }
 {
-    "usage: nkrun scan IMAGE\n"
+    "usage: nkrun scan IMAGE | map IMAGE FRAMES VA\n"
 }
 
 /// There was no memory.
@@ -77,4 +91,49 @@ pub(crate) fn admitted(alloc: Global, entry: u64, pages: u32) -> Result<String, 
     ensures { IfOk result (λ line. string_bytes line ≡ admitted_line entry pages) }
 {
     format!(in alloc; "admitted entry {entry:016x} pages {pages}\n")
+}
+
+/// The opening of the image needs more frames than there are.
+#[tactic(auto, unfolding(crate::specs::Lines::noroom_line))]
+pub(crate) fn noroom(alloc: Global, fault: &NoRoom) -> Result<String, AllocError>
+    ensures { IfOk result (λ line. string_bytes line ≡ noroom_line fault.now.need fault.now.have) }
+{
+    let need = fault.need;
+    let have = fault.have;
+    format!(in alloc; "noroom {need} {have}\n")
+}
+
+/// The four letters of rights.
+#[tactic(auto, unfolding(crate::specs::Lines::rights_text))]
+fn rights(rights: Rights) -> &'static str
+    ensures { result.now ≡ rights_text rights }
+{
+    match (rights.can_write, rights.exec, rights.user) {
+        (false, false, false) => "r--s",
+        (false, false, true) => "r--u",
+        (false, true, false) => "r-xs",
+        (false, true, true) => "r-xu",
+        (true, false, false) => "rw-s",
+        (true, false, true) => "rw-u",
+        (true, true, false) => "rwxs",
+        (true, true, true) => "rwxu",
+    }
+}
+
+/// The frame of a translation, and its rights.
+#[tactic(auto, unfolding(crate::specs::Lines::frame_line))]
+pub(crate) fn frame(alloc: Global, leaf: Leaf) -> Result<String, AllocError>
+    ensures { IfOk result (λ line. string_bytes line ≡ frame_line leaf.frame leaf.rights) }
+{
+    let frame = leaf.frame;
+    let rights = rights(leaf.rights);
+    format!(in alloc; "frame {frame} {rights}\n")
+}
+
+/// The first level whose entry is missing.
+#[tactic(auto, unfolding(crate::specs::Lines::missing_line))]
+pub(crate) fn missing(alloc: Global, level: u8) -> Result<String, AllocError>
+    ensures { IfOk result (λ line. string_bytes line ≡ missing_line level) }
+{
+    format!(in alloc; "missing {level}\n")
 }

@@ -194,17 +194,27 @@ fn a_file_past_the_limit_is_longer(rt: HostRuntime) -> Result<(), Fail> {
 #[test]
 fn other_words_have_no_form(rt: HostRuntime) -> Result<(), Fail> {
     let alloc = rt.alloc();
-    let forms: [&[&str]; 6] = [
+    let forms: [&[&str]; 16] = [
         &[],
         &["scan"],
         &["scan", NAME, NAME],
         &["Scan", NAME],
         &["--help"],
         &["run", NAME, NAME, NAME, "10", "511"],
+        &["map", NAME, "512"],
+        &["map", NAME, "511", "0"],
+        &["map", NAME, "16385", "0"],
+        &["map", NAME, "0512", "0"],
+        &["map", NAME, "+512", "0"],
+        &["map", NAME, "", "0"],
+        &["map", NAME, "512", ""],
+        &["map", NAME, "512", "0x1000"],
+        &["map", NAME, "512", "0000800000000000"],
+        &["map", NAME, "512", "00000000000000000"],
     ];
     for words in forms {
         let ran = run_with(alloc, words, Vec::new(alloc), &[1], &[], 0)?;
-        assert!(rt; gives(&ran, 2, "usage: nkrun scan IMAGE\n"));
+        assert!(rt; gives(&ran, 2, "usage: nkrun scan IMAGE | map IMAGE FRAMES VA\n"));
     }
     Ok(())
 }
@@ -228,5 +238,109 @@ fn a_failing_put_leaves_a_prefix(rt: HostRuntime) -> Result<(), Fail> {
     assert!(rt; gives(&ran, 4, "adm"));
     let refused = run_with(alloc, &["scan"], Vec::new(alloc), &[], &[1], 9)?;
     assert!(rt; gives(&refused, 4, "usage: nk"));
+    Ok(())
+}
+
+/// What `map` writes for an address, over the halting kernel in 512 frames.
+fn map(alloc: Global, va: &str) -> Result<Ran, Fail> {
+    let words = ["map", NAME, "512", va];
+    run_with(alloc, &words, image(alloc, &[0xf4])?, &[], &[], 0)
+}
+
+#[test]
+fn the_image_s_page_may_be_executed(rt: HostRuntime) -> Result<(), Fail> {
+    let alloc = rt.alloc();
+    assert!(rt; gives(&map(alloc, "ffffffff80000000")?, 0, "frame 67 r-xs\n"));
+    assert!(rt; gives(&map(alloc, "FFFFFFFF80000FFF")?, 0, "frame 67 r-xs\n"));
+    assert!(rt; gives(&map(alloc, "ffffffff80001000")?, 0, "missing 1\n"));
+    assert!(rt; gives(&map(alloc, "ffffffff80200000")?, 0, "missing 2\n"));
+    Ok(())
+}
+
+#[test]
+fn the_nested_area_is_mapped_page_by_page(rt: HostRuntime) -> Result<(), Fail> {
+    let alloc = rt.alloc();
+    let pages = [
+        ("ffffff8000000000", "frame 0 r--s\n"),
+        ("ffffff8000001000", "frame 1 r-xs\n"),
+        ("ffffff8000002000", "frame 2 r--s\n"),
+        ("ffffff8000003000", "frame 3 rw-s\n"),
+        ("ffffff8000004000", "frame 4 r--s\n"),
+        ("ffffff8000005000", "missing 1\n"),
+        ("ffffff800000f000", "missing 1\n"),
+        ("ffffff8000010000", "frame 10 r--s\n"),
+        ("ffffff800001f000", "frame 25 r--s\n"),
+        ("ffffff8000020000", "missing 1\n"),
+        ("ffffff8000200000", "missing 2\n"),
+        ("ffffff8040000000", "missing 3\n"),
+    ];
+    for (va, line) in pages {
+        assert!(rt; gives(&map(alloc, va)?, 0, line), "{va}");
+    }
+    Ok(())
+}
+
+#[test]
+fn the_direct_map_shows_each_frame_but_the_hidden_ones(rt: HostRuntime) -> Result<(), Fail> {
+    let alloc = rt.alloc();
+    let pages = [
+        ("ffff800000000000", "frame 0 r--s\n"),
+        ("ffff800000003000", "frame 3 r--s\n"),
+        ("ffff800000005000", "frame 5 r--s\n"),
+        ("ffff800000019000", "frame 25 r--s\n"),
+        ("ffff80000001a000", "missing 1\n"),
+        ("ffff80000003f000", "missing 1\n"),
+        ("ffff800000041000", "missing 1\n"),
+        ("ffff800000042000", "frame 66 r--s\n"),
+        ("ffff800000043000", "frame 67 r--s\n"),
+        ("ffff800000046000", "frame 70 r--s\n"),
+        ("ffff800000047000", "frame 71 rw-s\n"),
+        ("ffff8000001ff000", "frame 511 rw-s\n"),
+        ("ffff800000200000", "missing 2\n"),
+        ("ffff800040000000", "missing 3\n"),
+        ("0", "missing 4\n"),
+        ("7fffffffffff", "missing 4\n"),
+        ("ffff808000000000", "missing 4\n"),
+    ];
+    for (va, line) in pages {
+        assert!(rt; gives(&map(alloc, va)?, 0, line), "{va}");
+    }
+    Ok(())
+}
+
+#[test]
+fn an_image_needs_room_for_its_opening(rt: HostRuntime) -> Result<(), Fail> {
+    let alloc = rt.alloc();
+    let words = ["map", NAME, "512", "0"];
+    let large = image(alloc, &vec![in alloc; 0x90; 2_000_000]?)?;
+    assert!(rt;
+        gives(
+            &run_with(alloc, &words, large, &[], &[], 0)?,
+            1,
+            "noroom 559 512\n"
+        )
+    );
+    let roomy = ["map", NAME, "1024", "ffffffff801e8fff"];
+    let large = image(alloc, &vec![in alloc; 0x90; 2_000_000]?)?;
+    assert!(rt;
+        gives(
+            &run_with(alloc, &roomy, large, &[], &[], 0)?,
+            0,
+            "frame 557 r-xs\n"
+        )
+    );
+    Ok(())
+}
+
+#[test]
+fn map_refuses_what_scan_refuses(rt: HostRuntime) -> Result<(), Fail> {
+    let alloc = rt.alloc();
+    let words = ["map", NAME, "512", "0"];
+    let short = run_with(alloc, &words, Vec::new(alloc), &[], &[], 0)?;
+    assert!(rt; gives(&short, 1, "image 1 Short 0\n"));
+    let refused = run_with(alloc, &words, image(alloc, &[0x0f, 0x30])?, &[], &[], 0)?;
+    assert!(rt; gives(&refused, 1, "protected ffffffff80000000 0f30\n"));
+    let unread = run_with(alloc, &words, Vec::new(alloc), &[1], &[], 0)?;
+    assert!(rt; gives(&unread, 3, "unread image\n"));
     Ok(())
 }

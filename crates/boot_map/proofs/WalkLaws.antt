@@ -1,0 +1,170 @@
+-- The walk from the opening's root: over the entries and over memory it is one.
+use Rattle.std.proofs.Common.{◌≡◌, ◌==◌, ◌⊎◌, ℕ, zero, suc, ◌+◌, ◌*◌, ◌-◌, ◌/◌, ◌%◌, ◌^◌, ◌<◌, ◌≤◌, Bool, true, false, cond, not, List, length, nat_lt, nat_le, Option, Some, None, refl, sym, ap, subst, ◌∙◌, arith, inl, inr}
+use Rattle.std.proofs.lemmas.Bool.{cases_lt, cases_eq, cases_Bool, cond_both, cond-true, cond-false, ltb-true, leb-false, lt-ltb, le-ltb, eq-eqb, ne_eqb, or_parts, not-false, eqb-true, both_ways}
+use Rattle.std.proofs.lemmas.List.Quantifiers.{position-Some}
+use Rattle.std.specs.List.{position}
+use Rattle.nk_bits.specs.declared.leaf.Rights.{Rights}
+use Rattle.nk_bits.specs.Memory.{entry_in}
+use Rattle.nk_bits.specs.Paging.{all_rights, common, frame_of, is_missing, is_present, page_index, rights_of, walk, walk_from}
+use Rattle.nk_bits.proofs.WalkLaws.{walk_alike, walk_by_level}
+use Rattle.elf_image.specs.Pages.{page_count}
+use Rattle.boot_map.specs.declared.part.Part.{Part}
+use Rattle.boot_map.specs.declared.part.Part.TheVariants.{Vectors, GateText, HandlerSlot, TrapStack, NestedStack, Root, SlotTable, AreaDirectory, AreaTable, ImageDirectory, Pool, WriteLog, WrittenBits, RegionBook, Descriptors, RangeTable, ImagePage, MapRoot, MapDirectory, MapTable, Free}
+use Rattle.boot_map.specs.Division.{Division, IsLayout, division_of, free_start, map_start, map_tables, pages_start, tables_start}
+use Rattle.boot_map.specs.Parts.{part_at, sized_part}
+use Rattle.boot_map.specs.Entries.{entry_at, entry_of_part, link, map_directory_entry, range_entry, range_link, root_entry, slot_entry, table_level}
+use Rattle.boot_map.specs.Opening.{IsOpening}
+use Rattle.boot_map.proofs.EntryLaws.{entry_stands}
+
+-- an entry that is 0, or a link to a table of this level
+abbrev pub Leads : Division → ℕ → ℕ → Type 0
+Leads d level e = (e ≡ 0) ⊎ ((f : ℕ) × (e ≡ link f) × (f < 2 ^ 40) × (table_level (part_at d f) ≡ level))
+
+nowhere : (d : Division) (level : ℕ) → Leads d level 0
+nowhere d level = inl refl
+
+leads_to : (d : Division) (level f : ℕ) → f < 2 ^ 40 → table_level (part_at d f) ≡ level → Leads d level (link f)
+leads_to d level f small is = inr (f, refl, small, is)
+
+choice_leads : (d : Division) (level : ℕ) (t : Bool) (x y : ℕ) → Leads d level x → Leads d level y → Leads d level (cond t x y)
+choice_leads d level true x y h g = h
+choice_leads d level false x y h g = g
+
+-- which part some frames belong to
+sized_at : (d : Division) (f : ℕ) → 64 ≤ f → part_at d f ≡ sized_part d f
+unfolding part_at
+sized_at d f from = cond-false (nat_lt f 64) _ _ (le-ltb f 64 from)
+
+range_table_at : (d : Division) (k : ℕ) → k < length d.ranges → table_level (part_at d (tables_start d + k)) ≡ 1
+range_table_at d k small =
+    ap table_level (sized_at d (tables_start d + k) (omega arith)
+    ∙ cond-false (nat_lt (tables_start d + k) (tables_start d)) _ _ (le-ltb _ _ (omega arith))
+    ∙ cond-true (nat_lt (tables_start d + k) (pages_start d)) _ _ (lt-ltb _ _ (omega arith)))
+
+-- the frames from the direct map's first one on
+mapped_at : (d : Division) (f : ℕ) → map_start d ≤ f → part_at d f ≡ cond (f == map_start d) MapRoot (cond (f == map_start d + 1) MapDirectory (cond (nat_lt f (free_start d)) (MapTable (f - (map_start d + 2))) Free))
+mapped_at d f from =
+    sized_at d f (omega arith) ∙ cond-false (nat_lt f (tables_start d)) _ _ (le-ltb _ _ (omega arith))
+    ∙ cond-false (nat_lt f (pages_start d)) _ _ (le-ltb _ _ (omega arith)) ∙ cond-false (nat_lt f (map_start d)) _ _ (le-ltb _ _ from)
+
+map_root_at : (d : Division) → table_level (part_at d (map_start d)) ≡ 3
+map_root_at d = ap table_level (mapped_at d (map_start d) (omega arith) ∙ cond-true (map_start d == map_start d) _ _ (eq-eqb _ _ refl))
+
+map_directory_at : (d : Division) → table_level (part_at d (map_start d + 1)) ≡ 2
+map_directory_at d =
+    ap table_level (mapped_at d (map_start d + 1) (omega arith) ∙ cond-false (map_start d + 1 == map_start d) _ _ (ne_eqb _ _ (λ e. absurd (omega (arith, e))))
+    ∙ cond-true (map_start d + 1 == map_start d + 1) _ _ (eq-eqb _ _ refl))
+
+map_table_at : (d : Division) (i : ℕ) → i < map_tables d → table_level (part_at d (map_start d + 2 + i)) ≡ 1
+map_table_at d i small =
+    ap table_level (mapped_at d (map_start d + 2 + i) (omega arith) ∙ cond-false (map_start d + 2 + i == map_start d) _ _ (ne_eqb _ _ (λ e. absurd (omega (arith, e))))
+    ∙ cond-false (map_start d + 2 + i == map_start d + 1) _ _ (ne_eqb _ _ (λ e. absurd (omega (arith, e))))
+    ∙ cond-true (nat_lt (map_start d + 2 + i) (free_start d)) _ _ (lt-ltb _ _ (omega arith)))
+
+low_at : (d : Division) → (table_level (part_at d 6) ≡ 3) × (table_level (part_at d 7) ≡ 2) × (table_level (part_at d 8) ≡ 1) × (table_level (part_at d 9) ≡ 2)
+unfolding part_at
+low_at d = (refl, refl, refl, refl)
+
+range_leads : (d : Division) (o : Option ℕ) → free_start d ≤ 2 ^ 40 → ((k : ℕ) → o ≡ Some k → k < length d.ranges) → Leads d 1 (range_link d o)
+range_leads d (Some k) most small = leads_to d 1 (tables_start d + k) (omega (arith, small k refl)) (range_table_at d k (small k refl))
+range_leads d None most small = nowhere d 1
+
+map_directory_leads : (d : Division) (i : ℕ) → free_start d ≤ 2 ^ 40 → Leads d 1 (map_directory_entry d i)
+map_directory_leads d i most =
+    cond_both (nat_lt i (map_tables d)) _ _ (Leads d 1)
+    (λ t. leads_to d 1 (map_start d + 2 + i) (omega (arith, ltb-true i (map_tables d) t)) (map_table_at d i (ltb-true i (map_tables d) t))) (λ t. nowhere d 1)
+
+-- the entries of a table of level 2 or more lead to tables one level down
+entry_leads : (b : List ℕ) (d : Division) (part : Part) (level i : ℕ) → free_start d ≤ 2 ^ 40 → table_level part ≡ suc (suc level) → Leads d (suc level) (entry_of_part b d part i)
+entry_leads b d Vectors level i most is = absurd (omega (arith, is))
+entry_leads b d GateText level i most is = absurd (omega (arith, is))
+entry_leads b d HandlerSlot level i most is = absurd (omega (arith, is))
+entry_leads b d TrapStack level i most is = absurd (omega (arith, is))
+entry_leads b d NestedStack level i most is = absurd (omega (arith, is))
+entry_leads b d Root level i most is =
+    let at : 3 ≡ suc level = omega arith in
+    choice_leads d (suc level) _ _ _ (leads_to d (suc level) (map_start d) (omega arith) (map_root_at d ∙ at)) (choice_leads d (suc level) _ _ _ (leads_to d (suc level) 6 (omega arith) ((low_at d).0 ∙ at)) (nowhere d (suc level)))
+entry_leads b d SlotTable level i most is =
+    let at : 2 ≡ suc level = omega arith in
+    choice_leads d (suc level) _ _ _ (leads_to d (suc level) 7 (omega arith) ((low_at d).1 ∙ at)) (choice_leads d (suc level) _ _ _ (leads_to d (suc level) 9 (omega arith) ((low_at d).3 ∙ at)) (nowhere d (suc level)))
+entry_leads b d AreaDirectory level i most is =
+    let at : 1 ≡ suc level = omega arith in
+    choice_leads d (suc level) _ _ _ (leads_to d (suc level) 8 (omega arith) ((low_at d).2 ∙ at)) (nowhere d (suc level))
+entry_leads b d AreaTable level i most is = absurd (omega (arith, is))
+entry_leads b d ImageDirectory level i most is =
+    let at : 1 ≡ suc level = omega arith in
+    subst (λ l. Leads d l (range_entry d i)) at (range_leads d (position (λ r. r == i) d.ranges) most (λ k e. (position-Some (λ r. r == i) d.ranges k 0 e).0))
+entry_leads b d Pool level i most is = absurd (omega (arith, is))
+entry_leads b d WriteLog level i most is = absurd (omega (arith, is))
+entry_leads b d WrittenBits level i most is = absurd (omega (arith, is))
+entry_leads b d RegionBook level i most is = absurd (omega (arith, is))
+entry_leads b d Descriptors level i most is = absurd (omega (arith, is))
+entry_leads b d (RangeTable k) level i most is = absurd (omega (arith, is))
+entry_leads b d (ImagePage k) level i most is = absurd (omega (arith, is))
+entry_leads b d MapRoot level i most is =
+    let at : 2 ≡ suc level = omega arith in
+    choice_leads d (suc level) _ _ _ (leads_to d (suc level) (map_start d + 1) (omega arith) (map_directory_at d ∙ at)) (nowhere d (suc level))
+entry_leads b d MapDirectory level i most is =
+    let at : 1 ≡ suc level = omega arith in
+    subst (λ l. Leads d l (map_directory_entry d i)) at (map_directory_leads d i most)
+entry_leads b d (MapTable k) level i most is = absurd (omega (arith, is))
+entry_leads b d Free level i most is = absurd (omega (arith, is))
+
+-- what an entry that isn't missing is
+missing_zero : (frames level : ℕ) → is_missing frames level 0 ≡ true
+unfolding is_missing is_present
+missing_zero frames level = refl
+
+frame_of_link : (f : ℕ) → f < 2 ^ 40 → frame_of (link f) ≡ f
+unfolding frame_of link
+frame_of_link f small = omega arith
+
+frame_in_memory : (frames level e : ℕ) → is_missing frames level e ≡ false → frame_of e < frames
+unfolding is_missing
+frame_in_memory frames level e there = leb-false frames (frame_of e) (or_parts _ _ (or_parts _ _ there).0).1
+
+led : (d : Division) (frames above level e : ℕ) → Leads d level e → is_missing frames above e ≡ false → table_level (part_at d (frame_of e)) ≡ level
+led d frames above level e (inl none) there = absurd (both_ways true (sym (missing_zero frames above) ∙ subst (λ x. is_missing frames above x ≡ false) none there) refl)
+led d frames above level e (inr (f, is, small, at)) there = ap (λ x. table_level (part_at d (frame_of x))) is ∙ ap (λ g. table_level (part_at d g)) (frame_of_link f small) ∙ at
+
+-- a table of the opening, of this level; at level 0 any frame
+abbrev pub IsTableAt : Division → ℕ → ℕ → Rights → Type 0
+IsTableAt d zero f r = Unit {0}
+IsTableAt d (suc level) f r = (f < d.frames) × (table_level (part_at d f) ≡ suc level)
+
+index_small : (page level : ℕ) → page_index page level < 512
+unfolding page_index
+index_small page level = omega arith
+
+entry_within : (b : List ℕ) (frames f i : ℕ) → i < 512 → entry_at b frames f i ≡ entry_of_part b (division_of b frames) (part_at (division_of b frames) f) i
+unfolding entry_at
+entry_within b frames f i small = cond-true (nat_lt i 512) _ _ (lt-ltb i 512 small)
+
+carries : (b : List ℕ) (frames page : ℕ) → free_start (division_of b frames) ≤ 2 ^ 40 → (level f : ℕ) (r : Rights) → IsTableAt (division_of b frames) (suc level) f r →
+    is_missing frames (suc level) (entry_at b frames f (page_index page (suc level))) ≡ false →
+    IsTableAt (division_of b frames) level (frame_of (entry_at b frames f (page_index page (suc level)))) (common r (rights_of (entry_at b frames f (page_index page (suc level)))))
+carries b frames page most zero f r table there = tt
+carries b frames page most (suc level) f r table there =
+    let d : Division = division_of b frames in
+    let i : ℕ = page_index page (suc (suc level)) in
+    let leads : Leads d (suc level) (entry_at b frames f i) =
+    subst (Leads d (suc level)) (sym (entry_within b frames f i (index_small page (suc (suc level))))) (entry_leads b d (part_at d f) level i most table.1) in
+    (frame_in_memory frames (suc (suc level)) (entry_at b frames f i) there, led d frames (suc (suc level)) (suc level) (entry_at b frames f i) leads there)
+
+root_at : (d : Division) → table_level (part_at d 5) ≡ 4
+unfolding part_at
+root_at d = refl
+
+-- the walk over the opening memory is that over the opening's entries
+pub same_walk : (b m : List ℕ) (frames page : ℕ) → IsOpening b frames m → IsLayout b (division_of b frames) → walk (entry_in m) frames 5 page ≡ walk (entry_at b frames) frames 5 page
+same_walk b m frames page opening layout =
+    let d : Division = division_of b frames in
+    let least : 512 ≤ frames = layout.least in
+    let most : frames ≤ 16384 = layout.most in
+    let room : free_start d ≤ frames = layout.room in
+    let small : free_start d ≤ 2 ^ 40 = omega arith in
+    walk_by_level (entry_in m) frames 5 page
+    ∙ walk_alike (entry_at b frames) frames page (IsTableAt d) (carries b frames page small) (entry_in m)
+    (λ level f r table. entry_stands b m frames f (page_index page (suc level)) opening layout table.0 (index_small page (suc level)) (omega (arith, table.1)))
+    4 5 all_rights (omega arith, root_at d)
+    ∙ sym (walk_by_level (entry_at b frames) frames 5 page)

@@ -1,0 +1,5 @@
+pub mod Division
+pub mod Parts
+pub mod Kinds
+pub mod Entries
+pub mod Opening

@@ -1,0 +1,12 @@
+//! The text of the gates between the outer and the nested kernel: entry, exit and trap, as bytes. It meets the
+//! listing of `specs/Listing.antt`. It reads nothing and changes nothing; where the text stands in memory, and
+//! what its instructions do, others say.
+
+#![tactic(auto)]
+
+mod text;
+
+pub use text::{BODY, GATE, byte, listing_law};
+
+#[cfg(test)]
+mod tests;

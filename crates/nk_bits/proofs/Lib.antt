@@ -1,0 +1,7 @@
+pub mod EntryBits
+pub mod KindLaws
+pub mod MemoryLaws
+pub mod TableLaws
+pub mod TlbLaws
+pub mod WalkLaws
+mod WorkedValues

@@ -1,0 +1,100 @@
+//! The rules that the nested kernel's calls are judged by.
+
+ghost use Rattle.std.specs.Prelude.{◌≡◌};
+ghost use Rattle.nk_bits.specs.Rules.{number_of};
+
+/// A rule that a call may break, in the order of the rules' numbers.
+#[derive(Clone, Copy, Debug, PartialEq, Eq)]
+pub enum Rule {
+    /// The call's number isn't 1 to 9.
+    BadCall,
+    /// The frame isn't in memory.
+    BadFrame,
+    /// The level isn't 1 to 4.
+    BadLevel,
+    /// The frame's kind isn't Data.
+    NotData,
+    /// A leaf of some table that is writable or user names the frame.
+    StillLoose,
+    /// The frame isn't a page table.
+    NotTable,
+    /// The index exceeds 511.
+    BadIndex,
+    /// The entry is the kernel slot of a level 4 table.
+    KernelSlot,
+    /// The value is present and its bits are out of form.
+    BadBits,
+    /// The value is present and names a frame that it may not name.
+    BadTarget,
+    /// The value is a leaf whose rights the kind of its frame forbids.
+    TooFree,
+    /// An entry of some table names the frame, or it is the root.
+    StillLinked,
+    /// An entry of the table is present.
+    NotEmpty,
+    /// The frame isn't a table of level 4.
+    NotRoot,
+    /// The size or the range of pages is out of form.
+    BadRange,
+    /// The policy isn't 1 to 4.
+    BadPolicy,
+    /// As many regions are live as can be.
+    TooManyRegions,
+    /// No room is left for the region.
+    NoRoom,
+    /// No live region has the identifier.
+    BadRegion,
+    /// The region was declared, not allocated.
+    NotAllocated,
+    /// The length is 0, or the range passes the region's end.
+    OutOfBounds,
+    /// A byte of the source can't be read.
+    BadSource,
+    /// The policy admits no write.
+    NoWrite,
+    /// The policy is write-once and a byte of the range was written before.
+    WrittenOnce,
+    /// The policy is append-only and the offset isn't the tail.
+    NotAtEnd,
+    /// The policy is write-log and the log has no room for the record.
+    LogFull,
+    /// The address isn't canonical.
+    NotCanonical,
+}
+
+impl Rule {
+    /// The rule's number, 1 to 27, which is the answer to a call that breaks it.
+    pub fn number(self) -> u64
+        ensures value { result ≡ number_of self }
+    {
+        match self {
+            Rule::BadCall => 1,
+            Rule::BadFrame => 2,
+            Rule::BadLevel => 3,
+            Rule::NotData => 4,
+            Rule::StillLoose => 5,
+            Rule::NotTable => 6,
+            Rule::BadIndex => 7,
+            Rule::KernelSlot => 8,
+            Rule::BadBits => 9,
+            Rule::BadTarget => 10,
+            Rule::TooFree => 11,
+            Rule::StillLinked => 12,
+            Rule::NotEmpty => 13,
+            Rule::NotRoot => 14,
+            Rule::BadRange => 15,
+            Rule::BadPolicy => 16,
+            Rule::TooManyRegions => 17,
+            Rule::NoRoom => 18,
+            Rule::BadRegion => 19,
+            Rule::NotAllocated => 20,
+            Rule::OutOfBounds => 21,
+            Rule::BadSource => 22,
+            Rule::NoWrite => 23,
+            Rule::WrittenOnce => 24,
+            Rule::NotAtEnd => 25,
+            Rule::LogFull => 26,
+            Rule::NotCanonical => 27,
+        }
+    }
+}

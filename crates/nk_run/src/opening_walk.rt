@@ -1,0 +1,75 @@
+//! The command `map IMAGE FRAMES VA`.
+ghost use Rattle.std.specs.Prelude.{◌≡◌, ◌<◌, ◌*◌, ◌/◌, length, map, Some, IsTrue};
+ghost use Rattle.std.specs.String.{string_bytes};
+ghost use Rattle.nk_bits.specs.Memory.{entry_in};
+ghost use Rattle.nk_bits.specs.Paging.{is_canonical, page_of, walk as walk_of};
+ghost use Rattle.boot_map.specs.Division.{need};
+ghost use Rattle.nk_run.specs.Words.{command_of, IsBounded};
+ghost use Rattle.nk_run.specs.Lines.{walk_line};
+ghost use Rattle.nk_run.specs.Outcome.{roomy, translation_of};
+ghost use Rattle.nk_run.specs.ReplyText.{text_of};
+ghost use Rattle.nk_run.specs.Replies.{Concludes, Says, ShowsWalk};
+
+use crate::image::open;
+use crate::lines::{frame, missing, noroom};
+use crate::reply::{Reply, made, want};
+use crate::words::Command;
+use boot_map::{Layout, prepare, tables_law};
+use elf_image::Image;
+use nk_host::Shelf;
+use page_walk::walk;
+use phys_mem::PhysMem;
+use std::alloc::Global;
+
+/// The frame of the opening's table of level 4.
+pub(crate) const OPENING_ROOT: u32 = 5;
+
+/// The line for what the walk over a memory finds.
+fn walk_reply(alloc: Global, memory: &PhysMem, va: u64) -> Reply
+    requires root { 4096 * OPENING_ROOT < length memory.now }
+    requires canonical { IsTrue (is_canonical va) }
+    ensures { let frames = length memory.now / 4096 in
+        ShowsWalk (walk_of (entry_in memory.now) frames OPENING_ROOT (page_of va)) result.status (text_of result.line) }
+{
+    match walk(memory, OPENING_ROOT, va) {
+        Ok(leaf) => made(0, frame(alloc, leaf)),
+        Err(fault) => made(0, missing(alloc, fault.level)),
+    }
+}
+
+/// Opens the image in a memory of so many frames, and walks its tables for an address.
+fn translate(alloc: Global, image: &Image, frames: u32, va: u64) -> Reply
+    requires { IsBounded (Command.Map frames va) }
+    ensures { Concludes (roomy (need image.now frames) frames) (walk_line (translation_of image.now frames va))
+        result.status (text_of result.line) }
+{
+    let layout = match Layout::of(image, frames) {
+        Ok(layout) => layout,
+        Err(fault) => return made(1, noroom(alloc, &fault)),
+    };
+    tables_law();
+    match prepare(alloc, image, &layout) {
+        Ok(memory) => walk_reply(alloc, &memory, va),
+        Err(_) => want(),
+    }
+}
+
+/// Shows the translation of an address by the opening tables.
+pub(crate) fn map<S: Shelf>(
+    alloc: Global,
+    words: &[String],
+    frames: u32,
+    va: u64,
+    shelf: &mut S,
+) -> Reply
+    requires asked { command_of (map string_bytes words.now) ≡ Some (Command.Map frames va) }
+    requires bounds { IsBounded (Command.Map frames va) }
+    ensures files_stay { S.files shelf.new ≡ S.files shelf.old }
+    ensures says { Says (map string_bytes words.now) (S.files shelf.old) (S.faults shelf.old) (S.faults shelf.new)
+        result.status (text_of result.line) }
+{
+    match open(alloc, words, shelf) {
+        Ok(image) => translate(alloc, &image, frames, va),
+        Err(reply) => reply,
+    }
+}

@@ -1,0 +1,45 @@
+-- A number of eight bytes, least significant first: as it is read, and as it is stored.
+use Rattle.std.proofs.Common.{◌≡◌, ℕ, zero, suc, ◌+◌, ◌/◌, ◌%◌, ◌^◌, ◌<◌, ◌≤◌, List, length, take, drop, get_or, set, refl, sym, ap, ◌∙◌, arith, w64, lit<, add-one}
+use Rattle.std.specs.Int.{from_le_bytes, to_le_bytes, bytes_low_first, byte_at}
+use Rattle.std.proofs.lemmas.List.{get_or-take, get_or-drop}
+use Rattle.std.proofs.Math.Nat.{div-div-eq-div-mul, pow-suc, div-one}
+use Rattle.std.proofs.Math.Seq.{sets}
+use Rattle.nk_bits.specs.Memory.{number_at, stores, stored, patched}
+use Rattle.phys_mem.proofs.Patches.{sets-patched}
+
+-- byte i of a run of eight is that of the memory
+byte_of : (m : List ℕ) (p i q : ℕ) → i < 8 → p + i ≡ q → get_or (take 8 (drop p m)) i 0 ≡ get_or m q 0
+byte_of m p i q h e = get_or-take 8 (drop p m) i 0 h ∙ (get_or-drop p m i 0 ∙ ap (λ k. get_or m k 0) e)
+
+pub number_at-le : (m : List ℕ) (p : ℕ) → number_at m 8 p ≡ from_le_bytes w64 (take 8 (drop p m))
+unfolding number_at
+number_at-le m p =
+    omega (
+      arith,
+      byte_of m p 0 p (lit< tt) (omega arith),
+      byte_of m p 1 (p + 1) (lit< tt) refl,
+      byte_of m p 2 (p + 1 + 1) (lit< tt) (omega arith),
+      byte_of m p 3 (p + 1 + 1 + 1) (lit< tt) (omega arith),
+      byte_of m p 4 (p + 1 + 1 + 1 + 1) (lit< tt) (omega arith),
+      byte_of m p 5 (p + 1 + 1 + 1 + 1 + 1) (lit< tt) (omega arith),
+      byte_of m p 6 (p + 1 + 1 + 1 + 1 + 1 + 1) (lit< tt) (omega arith),
+      byte_of m p 7 (p + 1 + 1 + 1 + 1 + 1 + 1 + 1) (lit< tt) (omega arith),
+    )
+
+-- byte i of v
+byte_at-div : (i v : ℕ) → byte_at i v ≡ v / 256 ^ i % 256
+byte_at-div zero v = ap (λ k. k % 256) (sym (div-one v))
+byte_at-div (suc i) v = refl
+
+next : (i v : ℕ) → v / 256 ^ i / 256 ≡ v / 256 ^ suc i
+next i v = div-div-eq-div-mul v (256 ^ i) 256 ∙ ap (λ k. v / k) (sym (pow-suc 256 i))
+
+-- storing n bytes of v, from byte i on, sets them in turn
+stored-sets : (n i p v : ℕ) (m : List ℕ) → stored m (stores n p (v / 256 ^ i)) ≡ sets m p (bytes_low_first i n v)
+unfolding stores stored
+stored-sets zero i p v m = refl
+stored-sets (suc n) i p v m =
+    ap (λ (k : ℕ × ℕ × ℕ). stored (set m p k.0) (stores n k.1 k.2)) (λ j. (sym (byte_at-div i v) j, add-one p j, next i v j)) ∙ stored-sets n (suc i) (suc p) v (set m p (byte_at i v))
+
+pub stored-patched : (m : List ℕ) (p v : ℕ) → p + 8 ≤ length m → stored m (stores 8 p v) ≡ patched m p (to_le_bytes w64 v)
+stored-patched m p v h = ap (λ k. stored m (stores 8 p k)) (sym (div-one v)) ∙ (stored-sets 8 0 p v m ∙ sets-patched m p (to_le_bytes w64 v) h)

@@ -1,0 +1,7 @@
+use Rattle.std.proofs.Common.{rules}
+use Rattle.nk_bits.specs.Memory.{stores, stored}
+use Rattle.phys_mem.proofs.memory.PhysMem.store8.Goals as goal
+
+pub returns-clause-stored : goal.returns-clause-stored
+unfolding stores stored
+returns-clause-stored c = search rules

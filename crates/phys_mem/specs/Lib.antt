@@ -1,0 +1,2 @@
+pub use Rattle.raw_block.specs.Runs
+pub mod Frames

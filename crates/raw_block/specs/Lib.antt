@@ -1,0 +1,4 @@
+pub mod BlockLends
+pub mod CellsLends
+pub mod Ownership
+pub mod Runs
