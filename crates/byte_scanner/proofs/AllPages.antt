@@ -9,7 +9,7 @@ use Rattle.elf_image.specs.Elf.{has_flag, segments}
 use Rattle.elf_image.specs.Segments.{touches}
 use Rattle.elf_image.specs.Pages.{IsPageList, is_executable, is_page, pages_of}
 use Rattle.byte_scanner.specs.declared.encoding.Found.{Found}
-use Rattle.byte_scanner.specs.Protected.{is_protected_at}
+use Rattle.decode_fields.specs.Protected.{is_protected_at}
 use Rattle.byte_scanner.specs.Code.{code_at, IsClean}
 use Rattle.byte_scanner.specs.Found.{IsFirstOn, first_found, found_with, least_from}
 use Rattle.byte_scanner.proofs.Windows.{code_off}

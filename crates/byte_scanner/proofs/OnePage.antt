@@ -2,7 +2,7 @@
 use Rattle.std.proofs.Common.{◌≡◌, ℕ, ◌+◌, ◌*◌, ◌/◌, ◌<◌, ◌≤◌, List, Option, Some, None, slice_get, Bool, true, false, refl, ap, sym, ◌∙◌, subst, arith}
 use Rattle.elf_image.specs.Pages.{is_executable}
 use Rattle.byte_scanner.specs.declared.encoding.Found.{Found}
-use Rattle.byte_scanner.specs.Protected.{length_of_bytes, length_at, is_protected_at}
+use Rattle.decode_fields.specs.Protected.{length_of_bytes, length_at, is_protected_at}
 use Rattle.byte_scanner.specs.Least.{IsNowhere, IsLeastPlace, NoneBelow}
 use Rattle.byte_scanner.specs.Code.{code_at, IsClean, Shows}
 use Rattle.byte_scanner.specs.Found.{IsFirstOn, encoding_from, found_with}

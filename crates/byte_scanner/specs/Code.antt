@@ -4,7 +4,7 @@ use Rattle.std.specs.Prelude.{◌≡◌, ℕ, ◌+◌, ◌/◌, ◌<◌, false, 
 use Rattle.elf_image.specs.declared.elf.TheConstants.{PAGE_SIZE}
 use Rattle.elf_image.specs.Pages.{is_executable, byte_of}
 use Rattle.byte_scanner.specs.declared.window.TheConstants.{WINDOW}
-use Rattle.byte_scanner.specs.Protected.{is_protected_at}
+use Rattle.decode_fields.specs.Protected.{is_protected_at}
 
 -- the byte at an address where an executable page of the image, the file b, holds it
 abbrev pub code_at : List ℕ → ℕ → Option ℕ

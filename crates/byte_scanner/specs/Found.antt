@@ -3,7 +3,7 @@ use Rattle.std.specs.Prelude.{◌≡◌, ℕ, ◌+◌, ◌-◌, ◌<◌, ◌==�
 use Rattle.std.specs.List.{range_with_len}
 use Rattle.elf_image.specs.declared.elf.TheConstants.{PAGE_SIZE, HOME_START, HOME_END}
 use Rattle.byte_scanner.specs.declared.encoding.Found.{Found}
-use Rattle.byte_scanner.specs.Protected.{length_at, is_protected_at}
+use Rattle.decode_fields.specs.Protected.{length_at, is_protected_at}
 use Rattle.byte_scanner.specs.Code.{code_at}
 
 -- the bytes of the encoding at a place, 0 past its length

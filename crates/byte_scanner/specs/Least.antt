@@ -1,6 +1,6 @@
 -- The least place with a protected encoding, and that there is none.
 use Rattle.std.specs.Prelude.{◌≡◌, ℕ, ◌<◌, Option, Bool, true, false}
-use Rattle.byte_scanner.specs.Protected.{is_protected_at}
+use Rattle.decode_fields.specs.Protected.{is_protected_at}
 
 -- no protected encoding stands at a place below the limit
 abbrev pub NoneBelow : (ℕ → Option ℕ) → ℕ → Type 0

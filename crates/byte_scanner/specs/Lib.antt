@@ -1,4 +1,3 @@
-pub mod Protected
 pub mod Least
 pub mod Code
 pub mod Found

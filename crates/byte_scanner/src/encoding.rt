@@ -1,6 +1,6 @@
 //! The encodings that outer code must not hold.
 ghost use Rattle.std.specs.Prelude.{◌≡◌, ℕ, ◌<◌, ◌+◌, length, slice_get, Some, None};
-ghost use Rattle.byte_scanner.specs.Protected.{is_refused_with, length_after_escape, length_at};
+ghost use Rattle.decode_fields.specs.Protected.{is_refused_with, length_after_escape, length_at};
 
 /// A protected encoding in an image.
 #[derive(Clone, Copy, Debug, PartialEq, Eq)]

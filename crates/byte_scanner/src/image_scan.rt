@@ -1,7 +1,7 @@
 //! The scan of an image's code as it is mapped, page by page.
 ghost use Rattle.std.specs.Prelude.{◌≡◌, ◌+◌, ◌<◌, ◌≤◌, ◌*◌, length, slice_index, slice_get, IsTrue, IfSome, MatchOption};
 ghost use Rattle.elf_image.specs.Pages.{page_count, pages_of};
-ghost use Rattle.byte_scanner.specs.Protected.{is_protected_at};
+ghost use Rattle.decode_fields.specs.Protected.{is_protected_at};
 ghost use Rattle.byte_scanner.specs.Code.{code_at, IsClean};
 ghost use Rattle.byte_scanner.specs.Found.{IsFirstOn, first_found, found_with};
 

@@ -1,7 +1,7 @@
 //! The scan of outer code: the least place, or address, at which an encoding stands that outer code must not hold.
 //!
 //! Every offset counts, whether or not an instruction begins there, since outer code may jump to any byte. What is
-//! protected is defined in `specs/Protected.antt`, and what an image maps where is `elf_image`'s. Nothing here takes memory.
+//! protected is defined with the fields of instructions, in `decode_fields`; what an image maps where is `elf_image`'s. Nothing here takes memory.
 #![tactic(auto)]
 
 mod encoding;

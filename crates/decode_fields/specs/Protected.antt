@@ -2,7 +2,7 @@
 -- model-specific register, a descriptor table, a task or the machine status word (SDM volume 2; opcodes after 0F).
 -- Bytes are looked at through a function from places to bytes that has None where no byte stands, so that one
 -- definition serves a slice and the code of an image.
-use Rattle.std.specs.Prelude.{◌≡◌, ℕ, ◌+◌, ◌/◌, ◌%◌, ◌==◌, Bool, true, false, not, ◌&&◌, ◌||◌, if◌then◌else◌, Option, None, Some, List, [], ◌∷◌, IsTrue, nat_lt}
+use Rattle.std.specs.Prelude.{ℕ, ◌+◌, ◌/◌, ◌%◌, ◌==◌, Bool, not, ◌&&◌, ◌||◌, if◌then◌else◌, Option, None, Some, nat_lt}
 
 -- the fields mod and reg of a ModRM byte
 abbrev pub mod_field : ℕ → ℕ

@@ -1,0 +1,4 @@
+pub mod Prefixes
+pub mod Number
+pub mod ModRm
+pub mod Protected
