@@ -1,5 +1,4 @@
-/* A small outer kernel: it greets on the console port, asks the nested kernel to set a trap handler, and halts.
- * It has no writable data of its own: this example is one read-only, executable segment. */
+/* A small outer kernel: it greets on the console port, asks the nested kernel to set a trap handler, and halts. */
 #include <stdint.h>
 
 #define CONSOLE_PORT 0xE9
@@ -9,6 +8,11 @@ typedef uint64_t gate_t(uint64_t number, uint64_t a, uint64_t b, uint64_t c, uin
 #define ENTRY_GATE ((gate_t *)0xFFFFFF8000001000ull)
 
 enum call { SET_TRAP = 1 };
+
+/* Constants, initialized data and data that starts as zeros: one for each segment and for what the file doesn't fill. */
+static const char greeting[] = "outer kernel: ";
+static uint64_t free_frames = 1;
+static uint64_t refusals[512];
 
 static inline void console_byte(char byte)
 {
@@ -43,9 +47,13 @@ __attribute__((noreturn)) static void trap_handler(void)
 
 void kernel_main(uint64_t first_free, uint64_t frames)
 {
-        console("outer kernel: ");
-        console_number(frames - first_free);
+        free_frames += frames - first_free - 1;
+        console(greeting);
+        console_number(free_frames);
         console(" free frames\n");
-        if (ENTRY_GATE(SET_TRAP, (uint64_t)trap_handler, 0, 0, 0) != 0)
-                console("set_trap was refused\n");
+        uint64_t answer = ENTRY_GATE(SET_TRAP, (uint64_t)trap_handler, 0, 0, 0);
+        if (answer != 0 && answer < 512)
+                refusals[answer]++;
+        if (refusals[27] != 0)
+                console("the handler's address is refused\n");
 }

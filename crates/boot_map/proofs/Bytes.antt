@@ -1,8 +1,8 @@
 -- The bytes of a number, least significant first.
-use Rattle.std.proofs.Common.{◌≡◌, ℕ, zero, suc, ◌+◌, ◌*◌, ◌-◌, ◌/◌, ◌%◌, ◌^◌, ◌<◌, ◌≤◌, List, [], ◌∷◌, ◌++◌, length, take, drop, get_or, refl, sym, ap, ◌∙◌, arith, w64}
+use Rattle.std.proofs.Common.{◌≡◌, ℕ, zero, suc, ◌+◌, ◌%◌, ◌<◌, get_or, refl, sym, ap, ◌∙◌, arith, w64}
 use Rattle.std.specs.Int.{to_le_bytes, bytes_low_first, byte_at}
 use Rattle.std.proofs.Math.Nat.{div-one}
-use Rattle.boot_map.specs.Opening.{byte_of_number, entry_byte}
+use Rattle.boot_map.specs.Opening.{byte_of_number}
 
 byte_at-number : (k v : ℕ) → byte_at k v ≡ byte_of_number v k
 unfolding byte_of_number

@@ -1,5 +1,5 @@
 -- The entries of the opening's tables: each fits in eight bytes, and stands in memory as these.
-use Rattle.std.proofs.Common.{◌≡◌, ◌==◌, ◌&&◌, ℕ, zero, suc, ◌+◌, ◌*◌, ◌-◌, ◌/◌, ◌%◌, ◌^◌, ◌<◌, ◌≤◌, Bool, true, false, cond, List, length, get_or, nat_lt, nat_le, Option, Some, None, refl, sym, ap, subst, ◌∙◌, arith}
+use Rattle.std.proofs.Common.{◌≡◌, ◌==◌, ◌&&◌, ℕ, zero, suc, ◌+◌, ◌*◌, ◌/◌, ◌%◌, ◌^◌, ◌<◌, ◌≤◌, Bool, true, false, cond, List, get_or, nat_lt, nat_le, Option, Some, None, refl, sym, ap, ◌∙◌, arith}
 use Rattle.std.proofs.lemmas.Bool.{and_parts, cond_both, ltb-true, lt-ltb, cond-true}
 use Rattle.std.proofs.lemmas.List.Quantifiers.{position-Some}
 use Rattle.std.proofs.Math.Nat.{pow-suc, pow-succ', div-div-eq-div-mul, div-one, mod-one, one-le-pow, mod-eq_of_lt}
@@ -8,10 +8,10 @@ use Rattle.std.specs.List.{position}
 use Rattle.nk_bits.specs.Memory.{byte_at, number_at, entry_in}
 use Rattle.elf_image.specs.Pages.{pages_of, page_count}
 use Rattle.boot_map.specs.declared.part.Part.{Part}
-use Rattle.boot_map.specs.declared.part.Part.TheVariants.{Vectors, GateText, HandlerSlot, TrapStack, NestedStack, Root, SlotTable, AreaDirectory, AreaTable, ImageDirectory, Pool, WriteLog, WrittenBits, RegionBook, Descriptors, RangeTable, ImagePage, MapRoot, MapDirectory, MapTable, Free}
+use Rattle.boot_map.specs.declared.part.Part.TheVariants.{Root, SlotTable, AreaDirectory, AreaTable, ImageDirectory, WriteLog, WrittenBits, RegionBook, Descriptors, RangeTable, ImagePage, MapRoot, MapDirectory, MapTable, Free}
 use Rattle.boot_map.specs.Division.{Division, IsLayout, division_of, free_start, map_start, map_tables, pages_start, tables_start, page_in}
 use Rattle.boot_map.specs.Parts.{part_at}
-use Rattle.boot_map.specs.Entries.{area_entry, entry_at, entry_of_part, leaf, link, map_directory_entry, map_entry, mapped_leaf, page_entry, page_leaf, placed_leaf, range_entry, range_link, root_entry, slot_entry, read_leaf, write_leaf, fetch_leaf, table_level}
+use Rattle.boot_map.specs.Entries.{area_entry, entry_at, entry_of_part, leaf, link, map_directory_entry, map_entry, mapped_leaf, page_leaf, placed_leaf, range_link, read_leaf, write_leaf, fetch_leaf, table_level}
 use Rattle.boot_map.specs.Opening.{IsOpening, byte_in, byte_of_number, byte_of_part, entry_byte}
 use Rattle.boot_map.proofs.FillLaws.{byte_of_frame}
 
@@ -72,27 +72,13 @@ fetch_fits : (f : ℕ) → f < 2 ^ 40 → Fits64 (fetch_leaf f)
 fetch_fits f small = leaf_fits f 33 false small (omega arith)
 
 mapped_leaf_fits : (b : List ℕ) (f : ℕ) (part : Part) → f < 2 ^ 40 → Fits64 (mapped_leaf b f part)
-mapped_leaf_fits b f Vectors small = read_fits f small
-mapped_leaf_fits b f GateText small = read_fits f small
-mapped_leaf_fits b f HandlerSlot small = read_fits f small
-mapped_leaf_fits b f TrapStack small = read_fits f small
-mapped_leaf_fits b f NestedStack small = read_fits f small
-mapped_leaf_fits b f Root small = read_fits f small
-mapped_leaf_fits b f SlotTable small = read_fits f small
-mapped_leaf_fits b f AreaDirectory small = read_fits f small
-mapped_leaf_fits b f AreaTable small = read_fits f small
-mapped_leaf_fits b f ImageDirectory small = read_fits f small
-mapped_leaf_fits b f Pool small = read_fits f small
 mapped_leaf_fits b f WriteLog small = zero_fits
 mapped_leaf_fits b f WrittenBits small = zero_fits
 mapped_leaf_fits b f RegionBook small = zero_fits
 mapped_leaf_fits b f Descriptors small = zero_fits
-mapped_leaf_fits b f (RangeTable k) small = read_fits f small
 mapped_leaf_fits b f (ImagePage k) small = choice_fits _ _ _ (write_fits f small) (read_fits f small)
-mapped_leaf_fits b f MapRoot small = read_fits f small
-mapped_leaf_fits b f MapDirectory small = read_fits f small
-mapped_leaf_fits b f (MapTable k) small = read_fits f small
 mapped_leaf_fits b f Free small = write_fits f small
+mapped_leaf_fits b f _ small = read_fits f small
 
 map_entry_fits : (b : List ℕ) (d : Division) (f : ℕ) → d.frames ≤ 2 ^ 40 → Fits64 (map_entry b d f)
 map_entry_fits b d f most =
@@ -110,54 +96,32 @@ area_entry_fits i =
 
 -- each entry of the opening fits
 entry_fits : (b : List ℕ) (d : Division) (part : Part) (i : ℕ) → d.frames ≤ 2 ^ 40 → free_start d ≤ 2 ^ 40 → d.pages ≡ page_count b → Fits64 (entry_of_part b d part i)
-entry_fits b d Vectors i frames most pages = zero_fits
-entry_fits b d GateText i frames most pages = zero_fits
-entry_fits b d HandlerSlot i frames most pages = zero_fits
-entry_fits b d TrapStack i frames most pages = zero_fits
-entry_fits b d NestedStack i frames most pages = zero_fits
 entry_fits b d Root i frames most pages = choice_fits _ _ _ (link_fits (map_start d) (omega arith)) (choice_fits _ _ _ (link_fits 6 (omega arith)) zero_fits)
 entry_fits b d SlotTable i frames most pages = choice_fits _ _ _ (link_fits 7 (omega arith)) (choice_fits _ _ _ (link_fits 9 (omega arith)) zero_fits)
 entry_fits b d AreaDirectory i frames most pages = choice_fits _ _ _ (link_fits 8 (omega arith)) zero_fits
 entry_fits b d AreaTable i frames most pages = area_entry_fits i
 entry_fits b d ImageDirectory i frames most pages =
     range_link_fits d (position (λ r. r == i) d.ranges) (λ k e. omega (arith, (position-Some (λ r. r == i) d.ranges k 0 e).0))
-entry_fits b d Pool i frames most pages = zero_fits
-entry_fits b d WriteLog i frames most pages = zero_fits
-entry_fits b d WrittenBits i frames most pages = zero_fits
-entry_fits b d RegionBook i frames most pages = zero_fits
-entry_fits b d Descriptors i frames most pages = zero_fits
 entry_fits b d (RangeTable t) i frames most pages =
     let n : ℕ = page_in (get_or d.ranges t 0) i in
     placed_leaf_fits b d n (position (λ m. m == n) (pages_of b)) (λ k e. omega (arith, pages, (position-Some (λ m. m == n) (pages_of b) k 0 e).0))
-entry_fits b d (ImagePage k) i frames most pages = zero_fits
 entry_fits b d MapRoot i frames most pages = choice_fits _ _ _ (link_fits (map_start d + 1) (omega arith)) zero_fits
 entry_fits b d MapDirectory i frames most pages = map_directory_entry_fits d i most
 entry_fits b d (MapTable k) i frames most pages = map_entry_fits b d (512 * k + i) frames
-entry_fits b d Free i frames most pages = zero_fits
+entry_fits b d _ i frames most pages = zero_fits
 
 -- the bytes of a table are those of its entries
 table_byte : (b : List ℕ) (d : Division) (part : Part) (o : ℕ) → 0 < table_level part → byte_of_part b d part o ≡ entry_byte (entry_of_part b d part) o
-table_byte b d Vectors o is = absurd (omega (arith, is))
-table_byte b d GateText o is = absurd (omega (arith, is))
-table_byte b d HandlerSlot o is = absurd (omega (arith, is))
-table_byte b d TrapStack o is = absurd (omega (arith, is))
-table_byte b d NestedStack o is = absurd (omega (arith, is))
 table_byte b d Root o is = refl
 table_byte b d SlotTable o is = refl
 table_byte b d AreaDirectory o is = refl
 table_byte b d AreaTable o is = refl
 table_byte b d ImageDirectory o is = refl
-table_byte b d Pool o is = absurd (omega (arith, is))
-table_byte b d WriteLog o is = absurd (omega (arith, is))
-table_byte b d WrittenBits o is = absurd (omega (arith, is))
-table_byte b d RegionBook o is = absurd (omega (arith, is))
-table_byte b d Descriptors o is = absurd (omega (arith, is))
 table_byte b d (RangeTable k) o is = refl
-table_byte b d (ImagePage k) o is = absurd (omega (arith, is))
 table_byte b d MapRoot o is = refl
 table_byte b d MapDirectory o is = refl
 table_byte b d (MapTable k) o is = refl
-table_byte b d Free o is = absurd (omega (arith, is))
+table_byte b d _ o is = absurd (omega (arith, is))
 
 -- in an opening memory each entry of a table stands as eight bytes
 pub entry_stands : (b m : List ℕ) (frames f i : ℕ) → IsOpening b frames m → IsLayout b (division_of b frames) → f < frames → i < 512 → 0 < table_level (part_at (division_of b frames) f) → entry_in m f i ≡ entry_at b frames f i

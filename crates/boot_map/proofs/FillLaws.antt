@@ -1,12 +1,12 @@
 -- Frames that are filled entry by entry, and a memory that is filled frame by frame.
-use Rattle.std.proofs.Common.{◌≡◌, ◌==◌, ℕ, zero, suc, ◌+◌, ◌*◌, ◌-◌, ◌/◌, ◌%◌, ◌^◌, ◌<◌, ◌≤◌, List, [], ◌∷◌, ◌++◌, length, take, drop, get_or, nat_lt, refl, sym, ap, subst, ◌∙◌, arith, w64, inl, inr, rules, length-append, length-drop, append_assoc}
+use Rattle.std.proofs.Common.{◌≡◌, ◌==◌, ℕ, ◌+◌, ◌*◌, ◌-◌, ◌/◌, ◌%◌, ◌<◌, ◌≤◌, List, ◌++◌, length, take, drop, get_or, nat_lt, refl, sym, ap, ◌∙◌, arith, w64, inl, inr, length-append, length-drop, append_assoc}
 use Rattle.std.specs.Int.{to_le_bytes}
 use Rattle.std.proofs.lemmas.Bool.{cases_lt, le-ltb, ne_eqb, cond-false}
 use Rattle.std.proofs.lemmas.List.{get_or_append_left, get_or-append_right, get_or-take, get_or-drop, length-take}
 use Rattle.std.proofs.Math.Seq.{take-length}
 use borrow.Rule.Slice.PartMut.{put_mid}
 use Rattle.nk_bits.specs.Memory.{byte_at}
-use Rattle.phys_mem.specs.Runs.{with_run}
+use Rattle.phys_mem.specs.Frames.{with_frame}
 use Rattle.boot_map.specs.declared.part.Part.TheVariants.{Free}
 use Rattle.boot_map.specs.Division.{Division, division_of, free_start, map_start, pages_start, tables_start}
 use Rattle.boot_map.specs.Parts.{part_at}
@@ -52,9 +52,10 @@ pub record IsFilledBelow (b : List ℕ) (frames f : ℕ) (m : List ℕ) : Type 0
   pub below : (p : ℕ) → p < 4096 * f → byte_at m p ≡ byte_in b frames p
   pub above : (p : ℕ) → 4096 * f ≤ p → byte_at m p ≡ 0
 
--- a run of bytes that fits, put into a memory
-with_run_is : (m : List ℕ) (p : ℕ) (bs : List ℕ) → p + length bs ≤ length m → with_run m p bs ≡ take p m ++ (bs ++ drop (p + length bs) m)
-with_run_is m p bs fits =
+-- the bytes of a frame in memory, put into it
+with_frame_is : (m : List ℕ) (f : ℕ) (bs : List ℕ) → 4096 * f + length bs ≤ length m → with_frame m f bs ≡ take (4096 * f) m ++ (bs ++ drop (4096 * f + length bs) m)
+with_frame_is m f bs fits =
+    let p : ℕ = 4096 * f in
     let size : length (take p m ++ bs ++ drop (p + length bs) m) ≡ length m = simp (length-append, length-take, length-drop) (omega arith) in
     ap (λ n. take n (take p m ++ bs ++ drop (p + length bs) m)) (sym size) ∙ take-length (take p m ++ bs ++ drop (p + length bs) m)
     ∙ append_assoc (take p m) bs (drop (p + length bs) m)
@@ -71,14 +72,14 @@ byte_of_frame b d frames f o division small =
 
 -- one frame more is filled
 pub frame_more : (b m bs : List ℕ) (d : Division) (frames f : ℕ) → d ≡ division_of b frames → f < frames → IsFilledBelow b frames f m
-    → IsFilled (byte_of_part b d (part_at d f)) bs → IsFilledBelow b frames (f + 1) (with_run m (4096 * f) bs)
+    → IsFilled (byte_of_part b d (part_at d f)) bs → IsFilledBelow b frames (f + 1) (with_frame m f bs)
 frame_more b m bs d frames f division small so_far filled =
     let full : length bs ≡ 4096 = filled.full in
     let size : length m ≡ 4096 * frames = so_far.length in
     let fits : 4096 * f + length bs ≤ length m = omega arith in
     let starts : 4096 * f ≤ length m = omega arith in
     let rest : List ℕ = drop (4096 * f + length bs) m in
-    let same : with_run m (4096 * f) bs ≡ take (4096 * f) m ++ (bs ++ rest) = with_run_is m (4096 * f) bs fits in
+    let same : with_frame m f bs ≡ take (4096 * f) m ++ (bs ++ rest) = with_frame_is m f bs fits in
     record {
       length = ap length same ∙ simp (length-append, length-take, length-drop) (omega arith);
       below = λ p h. elim (cases_lt p (4096 * f)) [

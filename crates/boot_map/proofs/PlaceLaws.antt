@@ -1,6 +1,6 @@
 -- The places of pages in the ascending list of an image's pages, and the ranges that they touch.
-use Rattle.std.proofs.Common.{◌≡◌, ◌==◌, ℕ, ◌+◌, ◌*◌, ◌-◌, ◌<◌, ◌≤◌, ◌≢◌, Bool, true, false, cond, List, [], ◌∷◌, ◌++◌, length, get_or, Option, Some, None, refl, sym, ap, ◌∙◌, subst, arith, inl, inr, append-nil, nat_lt, zero, suc, add-one, zero-add}
-use Rattle.std.proofs.lemmas.Bool.{cases_lt, cases_order, cases_Bool, lt-ltb, le-ltb, eq-eqb, ne_eqb, cond-true, cond-false, false_from_ne_true}
+use Rattle.std.proofs.Common.{◌≡◌, ◌==◌, ℕ, ◌+◌, ◌-◌, ◌<◌, ◌≤◌, ◌≢◌, Bool, true, false, cond, List, [], ◌∷◌, ◌++◌, length, get_or, Some, None, sym, ap, ◌∙◌, subst, arith, inl, inr, append-nil, nat_lt, zero, suc, add-one, zero-add}
+use Rattle.std.proofs.lemmas.Bool.{cases_lt, cases_order, lt-ltb, le-ltb, eq-eqb, ne_eqb, cond-true, cond-false, false_from_ne_true}
 use Rattle.std.proofs.lemmas.List.Sums.{position_or_len_is}
 use Rattle.std.proofs.lemmas.List.Folds.{Any-from_list_any, list_any_at}
 use Rattle.std.proofs.lemmas.List.FromFn.{length-range_with_len, get_or-range_with_len}
@@ -8,7 +8,7 @@ use Rattle.std.proofs.lemmas.List.Elements.{filter-append}
 use Rattle.std.specs.Prelude.{filter}
 use Rattle.std.specs.List.{position, position_or_len, list_any, range_with_len}
 use Rattle.elf_image.specs.Pages.{is_page, pages_of, IsPageList}
-use Rattle.boot_map.specs.Division.{is_touched, page_in}
+use Rattle.boot_map.specs.Division.{page_in}
 
 -- in an ascending list a number stands at the place before which all are less, if it stands there at all
 pub placed_at : (xs : List ℕ) (n k : ℕ) → k < length xs → ((i : ℕ) → i < k → get_or xs i 0 < n) → get_or xs k 0 ≡ n → Some k ≡ position (λ m. m == n) xs

@@ -1,18 +1,17 @@
 -- The walk from the opening's root: over the entries and over memory it is one.
-use Rattle.std.proofs.Common.{◌≡◌, ◌==◌, ◌⊎◌, ℕ, zero, suc, ◌+◌, ◌*◌, ◌-◌, ◌/◌, ◌%◌, ◌^◌, ◌<◌, ◌≤◌, Bool, true, false, cond, not, List, length, nat_lt, nat_le, Option, Some, None, refl, sym, ap, subst, ◌∙◌, arith, inl, inr}
-use Rattle.std.proofs.lemmas.Bool.{cases_lt, cases_eq, cases_Bool, cond_both, cond-true, cond-false, ltb-true, leb-false, lt-ltb, le-ltb, eq-eqb, ne_eqb, or_parts, not-false, eqb-true, both_ways}
+use Rattle.std.proofs.Common.{◌≡◌, ◌==◌, ◌⊎◌, ℕ, zero, suc, ◌+◌, ◌-◌, ◌^◌, ◌<◌, ◌≤◌, Bool, true, false, cond, List, length, nat_lt, Option, Some, None, refl, sym, ap, subst, ◌∙◌, arith, inl, inr}
+use Rattle.std.proofs.lemmas.Bool.{cond_both, cond-true, cond-false, ltb-true, leb-false, lt-ltb, le-ltb, eq-eqb, ne_eqb, or_parts, both_ways}
 use Rattle.std.proofs.lemmas.List.Quantifiers.{position-Some}
 use Rattle.std.specs.List.{position}
 use Rattle.nk_bits.specs.declared.leaf.Rights.{Rights}
 use Rattle.nk_bits.specs.Memory.{entry_in}
-use Rattle.nk_bits.specs.Paging.{all_rights, common, frame_of, is_missing, is_present, page_index, rights_of, walk, walk_from}
+use Rattle.nk_bits.specs.Paging.{all_rights, common, frame_of, is_missing, is_present, page_index, rights_of, walk}
 use Rattle.nk_bits.proofs.WalkLaws.{walk_alike, walk_by_level}
-use Rattle.elf_image.specs.Pages.{page_count}
 use Rattle.boot_map.specs.declared.part.Part.{Part}
-use Rattle.boot_map.specs.declared.part.Part.TheVariants.{Vectors, GateText, HandlerSlot, TrapStack, NestedStack, Root, SlotTable, AreaDirectory, AreaTable, ImageDirectory, Pool, WriteLog, WrittenBits, RegionBook, Descriptors, RangeTable, ImagePage, MapRoot, MapDirectory, MapTable, Free}
+use Rattle.boot_map.specs.declared.part.Part.TheVariants.{Root, SlotTable, AreaDirectory, ImageDirectory, RangeTable, MapRoot, MapDirectory, MapTable, Free}
 use Rattle.boot_map.specs.Division.{Division, IsLayout, division_of, free_start, map_start, map_tables, pages_start, tables_start}
 use Rattle.boot_map.specs.Parts.{part_at, sized_part}
-use Rattle.boot_map.specs.Entries.{entry_at, entry_of_part, link, map_directory_entry, range_entry, range_link, root_entry, slot_entry, table_level}
+use Rattle.boot_map.specs.Entries.{entry_at, entry_of_part, link, map_directory_entry, range_entry, range_link, table_level}
 use Rattle.boot_map.specs.Opening.{IsOpening}
 use Rattle.boot_map.proofs.EntryLaws.{entry_stands}
 
@@ -35,11 +34,12 @@ sized_at : (d : Division) (f : ℕ) → 64 ≤ f → part_at d f ≡ sized_part 
 unfolding part_at
 sized_at d f from = cond-false (nat_lt f 64) _ _ (le-ltb f 64 from)
 
-range_table_at : (d : Division) (k : ℕ) → k < length d.ranges → table_level (part_at d (tables_start d + k)) ≡ 1
-range_table_at d k small =
-    ap table_level (sized_at d (tables_start d + k) (omega arith)
+pub range_table_part : (d : Division) (k : ℕ) → k < length d.ranges → part_at d (tables_start d + k) ≡ RangeTable k
+range_table_part d k small =
+    let place : tables_start d + k - tables_start d ≡ k = omega arith in
+    sized_at d (tables_start d + k) (omega arith)
     ∙ cond-false (nat_lt (tables_start d + k) (tables_start d)) _ _ (le-ltb _ _ (omega arith))
-    ∙ cond-true (nat_lt (tables_start d + k) (pages_start d)) _ _ (lt-ltb _ _ (omega arith)))
+    ∙ cond-true (nat_lt (tables_start d + k) (pages_start d)) _ _ (lt-ltb _ _ (omega arith)) ∙ ap RangeTable place
 
 -- the frames from the direct map's first one on
 mapped_at : (d : Division) (f : ℕ) → map_start d ≤ f → part_at d f ≡ cond (f == map_start d) MapRoot (cond (f == map_start d + 1) MapDirectory (cond (nat_lt f (free_start d)) (MapTable (f - (map_start d + 2))) Free))
@@ -66,7 +66,7 @@ unfolding part_at
 low_at d = (refl, refl, refl, refl)
 
 range_leads : (d : Division) (o : Option ℕ) → free_start d ≤ 2 ^ 40 → ((k : ℕ) → o ≡ Some k → k < length d.ranges) → Leads d 1 (range_link d o)
-range_leads d (Some k) most small = leads_to d 1 (tables_start d + k) (omega (arith, small k refl)) (range_table_at d k (small k refl))
+range_leads d (Some k) most small = leads_to d 1 (tables_start d + k) (omega (arith, small k refl)) (ap table_level (range_table_part d k (small k refl)))
 range_leads d None most small = nowhere d 1
 
 map_directory_leads : (d : Division) (i : ℕ) → free_start d ≤ 2 ^ 40 → Leads d 1 (map_directory_entry d i)
@@ -76,11 +76,6 @@ map_directory_leads d i most =
 
 -- the entries of a table of level 2 or more lead to tables one level down
 entry_leads : (b : List ℕ) (d : Division) (part : Part) (level i : ℕ) → free_start d ≤ 2 ^ 40 → table_level part ≡ suc (suc level) → Leads d (suc level) (entry_of_part b d part i)
-entry_leads b d Vectors level i most is = absurd (omega (arith, is))
-entry_leads b d GateText level i most is = absurd (omega (arith, is))
-entry_leads b d HandlerSlot level i most is = absurd (omega (arith, is))
-entry_leads b d TrapStack level i most is = absurd (omega (arith, is))
-entry_leads b d NestedStack level i most is = absurd (omega (arith, is))
 entry_leads b d Root level i most is =
     let at : 3 ≡ suc level = omega arith in
     choice_leads d (suc level) _ _ _ (leads_to d (suc level) (map_start d) (omega arith) (map_root_at d ∙ at)) (choice_leads d (suc level) _ _ _ (leads_to d (suc level) 6 (omega arith) ((low_at d).0 ∙ at)) (nowhere d (suc level)))
@@ -90,32 +85,23 @@ entry_leads b d SlotTable level i most is =
 entry_leads b d AreaDirectory level i most is =
     let at : 1 ≡ suc level = omega arith in
     choice_leads d (suc level) _ _ _ (leads_to d (suc level) 8 (omega arith) ((low_at d).2 ∙ at)) (nowhere d (suc level))
-entry_leads b d AreaTable level i most is = absurd (omega (arith, is))
 entry_leads b d ImageDirectory level i most is =
     let at : 1 ≡ suc level = omega arith in
     subst (λ l. Leads d l (range_entry d i)) at (range_leads d (position (λ r. r == i) d.ranges) most (λ k e. (position-Some (λ r. r == i) d.ranges k 0 e).0))
-entry_leads b d Pool level i most is = absurd (omega (arith, is))
-entry_leads b d WriteLog level i most is = absurd (omega (arith, is))
-entry_leads b d WrittenBits level i most is = absurd (omega (arith, is))
-entry_leads b d RegionBook level i most is = absurd (omega (arith, is))
-entry_leads b d Descriptors level i most is = absurd (omega (arith, is))
-entry_leads b d (RangeTable k) level i most is = absurd (omega (arith, is))
-entry_leads b d (ImagePage k) level i most is = absurd (omega (arith, is))
 entry_leads b d MapRoot level i most is =
     let at : 2 ≡ suc level = omega arith in
     choice_leads d (suc level) _ _ _ (leads_to d (suc level) (map_start d + 1) (omega arith) (map_directory_at d ∙ at)) (nowhere d (suc level))
 entry_leads b d MapDirectory level i most is =
     let at : 1 ≡ suc level = omega arith in
     subst (λ l. Leads d l (map_directory_entry d i)) at (map_directory_leads d i most)
-entry_leads b d (MapTable k) level i most is = absurd (omega (arith, is))
-entry_leads b d Free level i most is = absurd (omega (arith, is))
+entry_leads b d _ level i most is = absurd (omega (arith, is))
 
 -- what an entry that isn't missing is
-missing_zero : (frames level : ℕ) → is_missing frames level 0 ≡ true
+pub missing_zero : (frames level : ℕ) → is_missing frames level 0 ≡ true
 unfolding is_missing is_present
 missing_zero frames level = refl
 
-frame_of_link : (f : ℕ) → f < 2 ^ 40 → frame_of (link f) ≡ f
+pub frame_of_link : (f : ℕ) → f < 2 ^ 40 → frame_of (link f) ≡ f
 unfolding frame_of link
 frame_of_link f small = omega arith
 
@@ -132,11 +118,11 @@ abbrev pub IsTableAt : Division → ℕ → ℕ → Rights → Type 0
 IsTableAt d zero f r = Unit {0}
 IsTableAt d (suc level) f r = (f < d.frames) × (table_level (part_at d f) ≡ suc level)
 
-index_small : (page level : ℕ) → page_index page level < 512
+pub index_small : (page level : ℕ) → page_index page level < 512
 unfolding page_index
 index_small page level = omega arith
 
-entry_within : (b : List ℕ) (frames f i : ℕ) → i < 512 → entry_at b frames f i ≡ entry_of_part b (division_of b frames) (part_at (division_of b frames) f) i
+pub entry_within : (b : List ℕ) (frames f i : ℕ) → i < 512 → entry_at b frames f i ≡ entry_of_part b (division_of b frames) (part_at (division_of b frames) f) i
 unfolding entry_at
 entry_within b frames f i small = cond-true (nat_lt i 512) _ _ (lt-ltb i 512 small)
 

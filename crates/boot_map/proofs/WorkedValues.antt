@@ -1,13 +1,11 @@
 -- The definitions at worked values: an image of one page, or of 489 pages in one range, and a memory of 512 frames.
-use Rattle.std.proofs.Common.{◌≡◌, ℕ, ◌+◌, ◌*◌, ◌^◌, List, [], ◌∷◌, true, false, refl, Some, None, length, ap, subst, sym, ◌∙◌}
-use Rattle.elf_image.specs.Pages.{page_count, pages_of, is_executable, is_writable}
-use Rattle.nk_bits.specs.declared.kind.Kind.TheVariants.{Data, Code, Table, Fixed, Trap, Guarded, Hidden}
-use Rattle.boot_map.specs.declared.part.Part.TheVariants.{ImagePage, MapRoot, MapDirectory, MapTable, Free, Pool, RangeTable, Descriptors}
+use Rattle.std.proofs.Common.{◌≡◌, ℕ, ◌*◌, List, [], ◌∷◌, refl, length, ap}
+use Rattle.elf_image.specs.Pages.{page_count}
+use Rattle.boot_map.specs.declared.part.Part.TheVariants.{ImagePage, MapRoot, MapDirectory, MapTable, Free, RangeTable, Descriptors}
 use Rattle.boot_map.specs.Division.{page_in, ranges_of, division_of, free_start, need}
 use Rattle.boot_map.specs.Parts.{part_at}
-use Rattle.boot_map.specs.Kinds.{kind_at}
 use Rattle.boot_map.specs.Entries.{entry_at, entry_of_part, link, leaf}
-use Rattle.boot_map.specs.Opening.{vectors_byte, gate_of, handler_byte, byte_of_number, byte_in}
+use Rattle.boot_map.specs.Opening.{vectors_byte, gate_of, handler_byte, byte_of_number}
 
 -- the first page of the home is that of its first address
 first_page : 4096 * page_in 0 0 ≡ 0xFFFFFFFF80000000

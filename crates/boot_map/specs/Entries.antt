@@ -3,7 +3,7 @@ use Rattle.std.specs.Prelude.{ℕ, ◌+◌, ◌-◌, ◌*◌, ◌^◌, Bool, tru
 use Rattle.std.specs.List.{position}
 use Rattle.elf_image.specs.Pages.{is_executable, is_writable, pages_of}
 use Rattle.boot_map.specs.declared.part.Part.{Part}
-use Rattle.boot_map.specs.declared.part.Part.TheVariants.{Vectors, GateText, HandlerSlot, TrapStack, NestedStack, Root, SlotTable, AreaDirectory, AreaTable, ImageDirectory, Pool, WriteLog, WrittenBits, RegionBook, Descriptors, RangeTable, ImagePage, MapRoot, MapDirectory, MapTable, Free}
+use Rattle.boot_map.specs.declared.part.Part.TheVariants.{Root, SlotTable, AreaDirectory, AreaTable, ImageDirectory, WriteLog, WrittenBits, RegionBook, Descriptors, RangeTable, ImagePage, MapRoot, MapDirectory, MapTable, Free}
 use Rattle.boot_map.specs.Division.{Division, division_of, page_in, tables_start, pages_start, map_start, map_tables}
 use Rattle.boot_map.specs.Parts.{part_at}
 
@@ -79,27 +79,13 @@ map_directory_entry d i = if nat_lt i (map_tables d) then link (map_start d + 2 
 -- the direct map's leaf of frame f, by the part that f belongs to: none of a hidden frame; writable for a free frame
 -- and for a writable page of the image
 abbrev pub mapped_leaf : List ℕ → ℕ → Part → ℕ
-mapped_leaf b f Vectors = read_leaf f
-mapped_leaf b f GateText = read_leaf f
-mapped_leaf b f HandlerSlot = read_leaf f
-mapped_leaf b f TrapStack = read_leaf f
-mapped_leaf b f NestedStack = read_leaf f
-mapped_leaf b f Root = read_leaf f
-mapped_leaf b f SlotTable = read_leaf f
-mapped_leaf b f AreaDirectory = read_leaf f
-mapped_leaf b f AreaTable = read_leaf f
-mapped_leaf b f ImageDirectory = read_leaf f
-mapped_leaf b f Pool = read_leaf f
 mapped_leaf b f WriteLog = 0
 mapped_leaf b f WrittenBits = 0
 mapped_leaf b f RegionBook = 0
 mapped_leaf b f Descriptors = 0
-mapped_leaf b f (RangeTable k) = read_leaf f
 mapped_leaf b f (ImagePage k) = if is_writable b (slice_index (pages_of b) k) then write_leaf f else read_leaf f
-mapped_leaf b f MapRoot = read_leaf f
-mapped_leaf b f MapDirectory = read_leaf f
-mapped_leaf b f (MapTable k) = read_leaf f
 mapped_leaf b f Free = write_leaf f
+mapped_leaf b f _ = read_leaf f
 
 -- the direct map's entry for frame f: none past the end of memory
 abbrev pub map_entry : List ℕ → Division → ℕ → ℕ
@@ -107,51 +93,29 @@ map_entry b d f = if nat_lt f d.frames then mapped_leaf b f (part_at d f) else 0
 
 -- the level of the page tables that the part's frames are; 0 where they are none
 abbrev pub table_level : Part → ℕ
-table_level Vectors = 0
-table_level GateText = 0
-table_level HandlerSlot = 0
-table_level TrapStack = 0
-table_level NestedStack = 0
 table_level Root = 4
 table_level SlotTable = 3
 table_level AreaDirectory = 2
 table_level AreaTable = 1
 table_level ImageDirectory = 2
-table_level Pool = 0
-table_level WriteLog = 0
-table_level WrittenBits = 0
-table_level RegionBook = 0
-table_level Descriptors = 0
 table_level (RangeTable k) = 1
-table_level (ImagePage k) = 0
 table_level MapRoot = 3
 table_level MapDirectory = 2
 table_level (MapTable k) = 1
-table_level Free = 0
+table_level _ = 0
 
 -- entry i, below 512, of a frame of this part; 0 where the part is no table
 abbrev pub entry_of_part : List ℕ → Division → Part → ℕ → ℕ
-entry_of_part b d Vectors i = 0
-entry_of_part b d GateText i = 0
-entry_of_part b d HandlerSlot i = 0
-entry_of_part b d TrapStack i = 0
-entry_of_part b d NestedStack i = 0
 entry_of_part b d Root i = root_entry d i
 entry_of_part b d SlotTable i = slot_entry i
 entry_of_part b d AreaDirectory i = if i == 0 then link 8 else 0
 entry_of_part b d AreaTable i = area_entry i
 entry_of_part b d ImageDirectory i = range_entry d i
-entry_of_part b d Pool i = 0
-entry_of_part b d WriteLog i = 0
-entry_of_part b d WrittenBits i = 0
-entry_of_part b d RegionBook i = 0
-entry_of_part b d Descriptors i = 0
 entry_of_part b d (RangeTable k) i = page_entry b d k i
-entry_of_part b d (ImagePage k) i = 0
 entry_of_part b d MapRoot i = if i == 0 then link (map_start d + 1) else 0
 entry_of_part b d MapDirectory i = map_directory_entry d i
 entry_of_part b d (MapTable k) i = map_entry b d (512 * k + i)
-entry_of_part b d Free i = 0
+entry_of_part b d _ i = 0
 
 -- entry i of frame f; 0 where the frame is no table, and past a table's 512 entries
 unfoldable pub entry_at : List ℕ → ℕ → ℕ → ℕ → ℕ

@@ -3,3 +3,4 @@ pub mod Parts
 pub mod Kinds
 pub mod Entries
 pub mod Opening
+pub mod Slot

@@ -1,14 +1,14 @@
 -- The bytes of memory at the opening of the image b.
-use Rattle.std.specs.Prelude.{◌≡◌, ℕ, ◌+◌, ◌-◌, ◌*◌, ◌/◌, ◌%◌, ◌^◌, ◌<◌, Bool, ◌==◌, ◌&&◌, ◌||◌, nat_le, nat_lt, if◌then◌else◌, List, [], ◌∷◌, length, slice_index}
+use Rattle.std.specs.Prelude.{◌≡◌, ℕ, ◌+◌, ◌-◌, ◌*◌, ◌/◌, ◌%◌, ◌^◌, ◌<◌, ◌==◌, ◌&&◌, ◌||◌, nat_le, nat_lt, if◌then◌else◌, List, [], ◌∷◌, length, slice_index}
 use Rattle.nk_bits.specs.Memory.{byte_at}
 use Rattle.elf_image.specs.Pages.{byte_of, pages_of}
 use Rattle.gate_text.specs.declared.text.TheConstants.{GATE}
 use Rattle.gate_text.specs.Listing.{gate_byte}
 use Rattle.boot_map.specs.declared.part.Part.{Part}
-use Rattle.boot_map.specs.declared.part.Part.TheVariants.{Vectors, GateText, HandlerSlot, TrapStack, NestedStack, Root, SlotTable, AreaDirectory, AreaTable, ImageDirectory, Pool, WriteLog, WrittenBits, RegionBook, Descriptors, RangeTable, ImagePage, MapRoot, MapDirectory, MapTable, Free}
+use Rattle.boot_map.specs.declared.part.Part.TheVariants.{Vectors, GateText, HandlerSlot, ImagePage}
 use Rattle.boot_map.specs.Division.{Division, division_of}
 use Rattle.boot_map.specs.Parts.{part_at}
-use Rattle.boot_map.specs.Entries.{entry_of_part}
+use Rattle.boot_map.specs.Entries.{entry_of_part, table_level}
 
 -- byte k of a number, least significant first
 unfoldable pub byte_of_number : ℕ → ℕ → ℕ
@@ -55,29 +55,13 @@ handler_byte o = if nat_lt o 8 then byte_of_number halt_loop o else 0
 abbrev pub entry_byte : (ℕ → ℕ) → ℕ → ℕ
 entry_byte entries o = byte_of_number (entries (o / 8)) (o % 8)
 
--- byte o of a frame of this part
+-- byte o of a frame of this part; 0 where it holds none of these, and no table
 abbrev pub byte_of_part : List ℕ → Division → Part → ℕ → ℕ
 byte_of_part b d Vectors o = vectors_byte o
 byte_of_part b d GateText o = gate_byte o
 byte_of_part b d HandlerSlot o = handler_byte o
-byte_of_part b d TrapStack o = 0
-byte_of_part b d NestedStack o = 0
-byte_of_part b d Root o = entry_byte (entry_of_part b d Root) o
-byte_of_part b d SlotTable o = entry_byte (entry_of_part b d SlotTable) o
-byte_of_part b d AreaDirectory o = entry_byte (entry_of_part b d AreaDirectory) o
-byte_of_part b d AreaTable o = entry_byte (entry_of_part b d AreaTable) o
-byte_of_part b d ImageDirectory o = entry_byte (entry_of_part b d ImageDirectory) o
-byte_of_part b d Pool o = 0
-byte_of_part b d WriteLog o = 0
-byte_of_part b d WrittenBits o = 0
-byte_of_part b d RegionBook o = 0
-byte_of_part b d Descriptors o = 0
-byte_of_part b d (RangeTable k) o = entry_byte (entry_of_part b d (RangeTable k)) o
 byte_of_part b d (ImagePage k) o = byte_of b (4096 * slice_index (pages_of b) k + o)
-byte_of_part b d MapRoot o = entry_byte (entry_of_part b d MapRoot) o
-byte_of_part b d MapDirectory o = entry_byte (entry_of_part b d MapDirectory) o
-byte_of_part b d (MapTable k) o = entry_byte (entry_of_part b d (MapTable k)) o
-byte_of_part b d Free o = 0
+byte_of_part b d part o = if table_level part == 0 then 0 else entry_byte (entry_of_part b d part) o
 
 -- these are the 4,096 bytes of a frame that has this byte at each offset
 pub record IsFilled (byte : ℕ → ℕ) (bytes : List ℕ) : Type 0 where

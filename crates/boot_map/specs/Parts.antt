@@ -37,26 +37,9 @@ sized_part d f =
 unfoldable pub part_at : Division → ℕ → Part
 part_at d f = if nat_lt f 64 then common_part f else sized_part d f
 
--- the part is one that the division has
+-- the part is one that the division has: an index counts below the number of its kind
 abbrev pub IsPartOf : Division → Part → Type 0
-IsPartOf d Vectors = Unit {0}
-IsPartOf d GateText = Unit {0}
-IsPartOf d HandlerSlot = Unit {0}
-IsPartOf d TrapStack = Unit {0}
-IsPartOf d NestedStack = Unit {0}
-IsPartOf d Root = Unit {0}
-IsPartOf d SlotTable = Unit {0}
-IsPartOf d AreaDirectory = Unit {0}
-IsPartOf d AreaTable = Unit {0}
-IsPartOf d ImageDirectory = Unit {0}
-IsPartOf d Pool = Unit {0}
-IsPartOf d WriteLog = Unit {0}
-IsPartOf d WrittenBits = Unit {0}
-IsPartOf d RegionBook = Unit {0}
-IsPartOf d Descriptors = Unit {0}
 IsPartOf d (RangeTable k) = k < length d.ranges
 IsPartOf d (ImagePage k) = k < d.pages
-IsPartOf d MapRoot = Unit {0}
-IsPartOf d MapDirectory = Unit {0}
 IsPartOf d (MapTable k) = k < map_tables d
-IsPartOf d Free = Unit {0}
+IsPartOf d _ = Unit {0}

@@ -5,16 +5,21 @@
 
 #![tactic(auto)]
 
-mod entries;
+// The image's pages, and the part of each frame.
 mod image_pages;
-mod kinds;
-mod laws;
 mod layout;
-mod opening;
 mod part;
+
+// What the parts hold.
+mod entries;
+mod kinds;
 mod vectors;
 
-pub use laws::tables_law;
+// The memory, and what follows for those who read it.
+mod laws;
+mod opening;
+
+pub use laws::{slot_law, tables_law};
 pub use layout::{Layout, NoRoom};
 pub use opening::{NoMemory, prepare};
 

@@ -68,13 +68,15 @@ fn fill(layout: &Layout, image: &Image, part: Part, bytes: &mut [u8])
         Part::Vectors => fill_vectors(bytes),
         Part::GateText => fill_gate_text(bytes),
         Part::HandlerSlot => fill_handler_slot(bytes),
-        Part::Root | Part::SlotTable | Part::AreaDirectory | Part::AreaTable => {
-            fill_table(layout, image, part, bytes)
-        }
-        Part::ImageDirectory | Part::RangeTable(_) => fill_table(layout, image, part, bytes),
-        Part::MapRoot | Part::MapDirectory | Part::MapTable(_) => {
-            fill_table(layout, image, part, bytes)
-        }
+        Part::Root
+        | Part::SlotTable
+        | Part::AreaDirectory
+        | Part::AreaTable
+        | Part::ImageDirectory
+        | Part::RangeTable(_)
+        | Part::MapRoot
+        | Part::MapDirectory
+        | Part::MapTable(_) => fill_table(layout, image, part, bytes),
         Part::ImagePage(place) => image.copy_page(place, bytes),
         _ => bytes.fill(0),
     }

@@ -14,6 +14,9 @@ const IST1: usize = 1024 + 36;
 
 const IST1_END: usize = IST1 + 8;
 
+/// The linear address of the first vector's stub in the gates' text; the stubs of the others follow, 8 bytes each.
+const STUBS: u64 = GATE + 64;
+
 /// The linear address of the trap stack's end, where every delivery begins to push.
 const TRAP_STACK_TOP: u64 = 0xFFFF_FF80_0000_4000;
 
@@ -46,7 +49,7 @@ fn gate(vector: u64) -> [u8; 16]
     requires { vector < 48 }
     ensures { result ≡ gate_of vector }
 {
-    let at = GATE + 64 + 8 * vector;
+    let at = STUBS + 8 * vector;
     [
         number_byte(at, 0),
         number_byte(at, 1),

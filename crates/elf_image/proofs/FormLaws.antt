@@ -1,29 +1,28 @@
 -- What follows where no row stands.
-use Rattle.std.proofs.Common.{◌≡◌, ℕ, ◌<◌, ◌≤◌, Bool, true, false, cond, not, List, [], ◌∷◌, length, get_or, Option, Some, None, refl, sym, ap, subst, arith, inl, inr}
-use Rattle.std.proofs.lemmas.Bool.{ltb-false, le-ltb, or_cases, false≢true, or_parts, not-false, and_parts, ltb-true}
-use Rattle.std.proofs.lemmas.List.Elements.{All-nil, All-cons, All-get_or, filter_passes}
-use Rattle.std.proofs.lemmas.List.Sums.{sum_by-cons}
-use Rattle.std.proofs.lemmas.List.Filters.{length-filter_both}
-use Rattle.std.proofs.lemmas.List.FromFn.{length-map-range_with_len}
-use Rattle.std.specs.Prelude.{find, option_map, nat_lt}
-use Rattle.std.specs.List.{All, list_any}
-use Rattle.elf_image.specs.declared.row.Row.{Row}
-use Rattle.elf_image.specs.declared.row.RowFault.{RowFault}
+use Rattle.std.proofs.Common.{◌≡◌, ℕ, ◌+◌, ◌&&◌, ◌∙◌, map, zero, suc, ◌<◌, ◌≤◌, Bool, true, false, cond, List, [], ◌∷◌, leb, length, get_or, Option, Some, None, refl, sym, arith, inl, inr}
+use Rattle.std.proofs.lemmas.Bool.{ltb-false, lt-ltb, false≢true, cases_Bool, cases_lt, and_from, cond_both, or_parts, not-false, and_parts, ltb-true}
+use Rattle.std.proofs.lemmas.List.Elements.{All-nil, All-cons, All-weaker, filter_passes}
+use Rattle.std.proofs.lemmas.List.Folds.{list_any_at}
+use Rattle.std.specs.Prelude.{filter, find, option_map, nat_lt}
+use Rattle.std.specs.List.{All, AllPairs, list_any, range_with_len}
+use Rattle.elf_image.specs.declared.fault.FaultKind.{FaultKind}
+use Rattle.elf_image.specs.declared.fault.ImageFault.{ImageFault}
 use Rattle.elf_image.specs.declared.program_header.ProgramHeader.{ProgramHeader}
-use Rattle.elf_image.specs.Elf.{e_entry, e_phnum, header_at, headers, is_segment, segments}
-use Rattle.elf_image.specs.Segments.{passes_end, is_misaligned, leaves_home, shares_with_earlier, is_writable_code, is_code_at, total_pages, pages_touched}
-use Rattle.elf_image.specs.Rows.{row_if, row_at, or_later, segment_fault, whole_fault, first_fault, IsForm}
-use Rattle.elf_image.specs.Loaded.{IsPlaced, IsLoaded}
+use Rattle.elf_image.specs.Elf.{e_entry, e_phnum, header_at, headers, is_segment, program_header_at, segments}
+use Rattle.elf_image.specs.Segments.{passes_end, is_misaligned, leaves_home, shares_with_earlier, is_writable_code, is_code_at, first_page, last_page, shares_page, total_pages}
+use Rattle.elf_image.specs.Rows.{row_if, row_at, or_later, file_fault, segment_fault, whole_fault, first_fault}
+use Rattle.elf_image.specs.Loaded.{IsPlaced}
+use Rattle.elf_image.proofs.Pairs.{EachPair}
 
-row_at-None : (o : Option ℕ) (k : Row) (later : Option RowFault) → row_at o k later ≡ None → (o ≡ None) × (later ≡ None)
+row_at-None : (o : Option ℕ) (k : FaultKind) (later : Option ImageFault) → row_at o k later ≡ None → (o ≡ None) × (later ≡ None)
 row_at-None (Some v) k later h = cc
 row_at-None None k later h = (refl, h)
 
-row_if-None : (c : Bool) (k : Row) (v : ℕ) (later : Option RowFault) → row_if c k v later ≡ None → (c ≡ false) × (later ≡ None)
+row_if-None : (c : Bool) (k : FaultKind) (v : ℕ) (later : Option ImageFault) → row_if c k v later ≡ None → (c ≡ false) × (later ≡ None)
 row_if-None true k v later h = cc
 row_if-None false k v later h = (refl, h)
 
-or_later-None : (a later : Option RowFault) → or_later a later ≡ None → (a ≡ None) × (later ≡ None)
+or_later-None : (a later : Option ImageFault) → or_later a later ≡ None → (a ≡ None) × (later ≡ None)
 or_later-None (Some f) later h = cc
 or_later-None None later h = (refl, h)
 
@@ -42,6 +41,15 @@ find-None p (x ∷ xs) h =
     let parts = cond-None (p x) x (find p xs) h in
     All-cons (λ x. p x ≡ false) x xs parts.0 (find-None p xs parts.1)
 
+some_if_any : {X : Type 0} (p : X → Bool) (xs : List X) → list_any p xs ≡ true → 0 < length xs
+some_if_any p [] h = absurd (false≢true h)
+some_if_any p (x ∷ xs) h = omega arith
+
+pub AllPairs-cons : {X : Type 0} (R : X → X → Type 0) (x : X) (xs : List X) → All (R x) xs → AllPairs R xs → AllPairs R (x ∷ xs)
+AllPairs-cons R x xs first rest i zero d low high = absurd (omega arith)
+AllPairs-cons R x xs first rest zero (suc j) d low high = first j d (omega arith)
+AllPairs-cons R x xs first rest (suc i) (suc j) d low high = rest i j d (omega arith) (omega arith)
+
 -- what the rows say of the segments of a file in form
 pub record IsLawful (b : List ℕ) : Type 0 where
   pub ends : All (λ s. passes_end (length b) s ≡ false) (segments b)
@@ -53,7 +61,7 @@ pub record IsLawful (b : List ℕ) : Type 0 where
   pub few : total_pages (segments b) ≤ 8192
 
 pub lawful : (b : List ℕ) → first_fault b ≡ None → IsLawful b
-unfolding segment_fault whole_fault
+unfolding first_fault segment_fault whole_fault
 lawful b h =
     let groups = or_later-None _ _ h in
     let later = or_later-None _ _ groups.1 in
@@ -74,16 +82,12 @@ lawful b h =
       few = ltb-false 8192 _ r13.0;
     }
 
--- a list of at most one element, of which one passes, is that element
-one_of : {X : Type 0} (p : X → Bool) (xs : List X) (d : X) → list_any p xs ≡ true → length xs ≤ 1 → (xs ≡ get_or xs 0 d ∷ []) × (p (get_or xs 0 d) ≡ true)
-one_of p [] d h few = cc
-one_of p (x ∷ []) d h few = (refl, elim (or_cases (p x) false h) [ inl e ↦ e | inr e ↦ absurd (false≢true e) ])
-one_of p (x ∷ (y ∷ xs)) d h few = absurd (omega arith)
-
-in_form : (b : List ℕ) → 64 ≤ length b → first_fault b ≡ None → e_phnum b ≡ 1 → IsForm b
-in_form b long none one =
-    let a : nat_lt (length b) 64 ≡ false = le-ltb (length b) 64 long in
-    rw (a, none, one) refl
+-- a file in form has a file header
+pub has_header : (b : List ℕ) → first_fault b ≡ None → 64 ≤ length b
+unfolding first_fault file_fault
+has_header b none =
+    let header = or_later-None _ _ none in
+    ltb-false (length b) 64 (row_if-None _ _ _ _ header.0).0
 
 -- a segment that the rows let pass lies in the file and in the home
 pub placed : (n : ℕ) (s : ProgramHeader) → is_segment s ≡ true → passes_end n s ≡ false → leaves_home s ≡ false → IsPlaced n s
@@ -98,43 +102,69 @@ placed n s counts ends home =
       below = ltb-false _ _ h.1;
     }
 
-few_segments : (b : List ℕ) → e_phnum b ≡ 1 → length (segments b) ≤ 1
-unfolding segments
-few_segments b one = omega (arith, length-filter_both is_segment (λ h. not (is_segment h)) (λ _. refl) (headers b), length-map-range_with_len (header_at b) 0 (e_phnum b))
-
 passes : (b : List ℕ) → All (λ s. is_segment s ≡ true) (segments b)
 unfolding segments
 passes b = filter_passes is_segment (headers b)
 
--- a table of one header, in form, has one segment
-pub one_segment : (b : List ℕ) → first_fault b ≡ None → e_phnum b ≡ 1 → (d : ProgramHeader) → segments b ≡ get_or (segments b) 0 d ∷ []
-one_segment b none one d = (one_of (is_code_at (e_entry b)) (segments b) d (lawful b none).entry (few_segments b one)).0
-
-total_of_one : (s : ProgramHeader) (segs : List ProgramHeader) → segs ≡ s ∷ [] → total_pages segs ≤ 8192 → pages_touched s ≤ 8192
-total_of_one s segs e h =
-    let P : List ProgramHeader → Type 0 = λ xs. total_pages xs ≤ 8192 in
-    let k : total_pages (s ∷ []) ≤ 8192 = subst P e h in
-    omega (arith, sum_by-cons pages_touched s [], k)
-
-loaded : (b : List ℕ) (d : ProgramHeader) → 64 ≤ length b → first_fault b ≡ None → e_phnum b ≡ 1 → IsLoaded b (get_or (segments b) 0 d)
-loaded b d long none one =
+pub all_placed : (b : List ℕ) → first_fault b ≡ None → All (IsPlaced (length b)) (segments b)
+all_placed b none i d h =
     let law = lawful b none in
-    let single = one_of (is_code_at (e_entry b)) (segments b) d law.entry (few_segments b one) in
-    let some : 0 < length (segments b) = omega (arith, ap length single.0) in
-    record {
-      form = in_form b long none one;
-      only = single.0;
-      placed = placed (length b) _ (All-get_or (λ x. is_segment x ≡ true) (segments b) 0 d some (passes b))
-          (All-get_or (λ x. passes_end (length b) x ≡ false) (segments b) 0 d some law.ends) (All-get_or (λ x. leaves_home x ≡ false) (segments b) 0 d some law.home);
-      few = total_of_one _ (segments b) single.0 law.few;
-      code = (and_parts _ _ single.1).0;
-    }
+    placed (length b) _ (passes b i d h) (law.ends i d h) (law.home i d h)
 
--- there is a first segment, and the image is loaded from it
-pub some_segment : (b : List ℕ) → first_fault b ≡ None → e_phnum b ≡ 1 → (segs : List ProgramHeader) → segs ≡ segments b → 0 < length segs
-some_segment b none one segs e = omega (arith, ap length (one_segment b none one (header_at b 0)), ap length e)
+-- there is a segment: the one of the entry
+pub some_segment : (b : List ℕ) → first_fault b ≡ None → 0 < length (segments b)
+some_segment b none = some_if_any (is_code_at (e_entry b)) (segments b) (lawful b none).entry
 
-pub loaded_from : (b : List ℕ) (d : ProgramHeader) → 64 ≤ length b → first_fault b ≡ None → e_phnum b ≡ 1 → (segs : List ProgramHeader) → segs ≡ segments b → IsLoaded b (get_or segs 0 d)
-loaded_from b d long none one segs e =
-    let P : List ProgramHeader → Type 0 = λ xs. IsLoaded b (get_or xs 0 d) in
-    subst P (sym e) (loaded b d long none one)
+-- the headers that count, from one index on: none has a lower index
+index_above : (b : List ℕ) (a n : ℕ) → All (λ s. a ≤ s.index) (filter is_segment (map (header_at b) (range_with_len a n)))
+unfolding program_header_at
+index_above b a zero = All-nil (λ s. a ≤ s.index)
+index_above b a (suc n) =
+    let rest = All-weaker (λ s. a + 1 ≤ s.index) (λ s. a ≤ s.index) (λ s h. omega arith) _ (index_above b (a + 1) n) in
+    let P : List ProgramHeader → Type 0 = λ xs. All (λ s. a ≤ s.index) xs in
+    cond_both (is_segment (header_at b a)) _ _ P
+    (λ _. All-cons (λ s. a ≤ s.index) (header_at b a) _ (omega arith) rest)
+    (λ _. rest)
+
+-- and they ascend
+index_rises : (b : List ℕ) (a n : ℕ) → AllPairs (λ s t. s.index < t.index) (filter is_segment (map (header_at b) (range_with_len a n)))
+unfolding program_header_at
+index_rises b a zero = λ i j d low high. absurd (omega arith)
+index_rises b a (suc n) =
+    let rest = index_rises b (a + 1) n in
+    let P : List ProgramHeader → Type 0 = λ xs. AllPairs (λ s t. s.index < t.index) xs in
+    cond_both (is_segment (header_at b a)) _ _ P
+    (λ _. AllPairs-cons (λ s t. s.index < t.index) (header_at b a) _
+    (All-weaker (λ s. a + 1 ≤ s.index) (λ s. a < s.index) (λ s h. omega arith) _ (index_above b (a + 1) n)) rest)
+    (λ _. rest)
+
+in_table_order : (b : List ℕ) → AllPairs (λ s t. s.index < t.index) (segments b)
+unfolding segments
+in_table_order b = index_rises b 0 (e_phnum b)
+
+not_shared : (b : List ℕ) → first_fault b ≡ None → (i j : ℕ) (d : ProgramHeader) → i < j → j < length (segments b)
+    → shares_page (get_or (segments b) i d) (get_or (segments b) j d) ≡ false
+not_shared b none i j d low high =
+    let alone = (lawful b none).apart j d high in
+    let before : nat_lt (get_or (segments b) i d).index (get_or (segments b) j d).index ≡ true = lt-ltb _ _ (in_table_order b i j d low high) in
+    elim (cases_Bool (shares_page (get_or (segments b) i d) (get_or (segments b) j d))) [
+      | inl e ↦ absurd (false≢true (sym alone ∙ list_any_at (λ t. nat_lt t.index (get_or (segments b) j d).index && shares_page t (get_or (segments b) j d)) (segments b) i d (omega arith) (and_from _ _ before e)))
+      | inr e ↦ e
+    ]
+
+and_swapped : (x y : Bool) → (x && y) ≡ false → (y && x) ≡ false
+and_swapped true true h = h
+and_swapped true false h = refl
+and_swapped false true h = refl
+and_swapped false false h = refl
+
+shares_either : (s t : ProgramHeader) → shares_page s t ≡ false → shares_page t s ≡ false
+shares_either s t h = and_swapped (leb (first_page s) (last_page t)) (leb (first_page t) (last_page s)) h
+
+-- no two segments share a page
+pub segments_apart : (b : List ℕ) → first_fault b ≡ None → EachPair (λ s t. shares_page s t ≡ false) (segments b)
+segments_apart b none i j d hi hj n =
+    elim (cases_lt i j) [
+      | inl low ↦ not_shared b none i j d low hj
+      | inr high ↦ shares_either (get_or (segments b) j d) (get_or (segments b) i d) (not_shared b none j i d (omega arith) hi)
+    ]

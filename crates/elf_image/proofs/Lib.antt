@@ -1,2 +1,5 @@
 pub mod FormLaws
+pub mod Pairs
+pub mod Ranges
+pub mod SegmentLaws
 pub mod PageLaws

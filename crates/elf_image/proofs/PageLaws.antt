@@ -1,253 +1,237 @@
--- The pages of an image of one segment: the range from its first page to its last.
-use Rattle.std.proofs.Common.{◌≡◌, ℕ, ◌+◌, ◌-◌, ◌*◌, ◌<◌, ◌≤◌, Bool, true, false, ◌&&◌, ◌||◌, List, [], ◌∷◌, ◌++◌, length, length-append, get_or, max, min, leb, replicate, inl, inr, refl, sym, ap, ◌∙◌, subst, arith, zero, suc, add-zero, append-nil, zero-add}
-use Rattle.std.proofs.lemmas.Bool.{lt-ltb, le-ltb, cases_lt, and_parts, and_left, and_right, and_from, lt-leb, le-leb, leb-true, ltb-true}
-use Rattle.std.proofs.lemmas.List.Elements.{filter-append, All-head, All-tail, All-from_get_or}
-use Rattle.std.proofs.lemmas.List.FromFn.{length-range_with_len, get_or-range_with_len}
-use Rattle.std.proofs.lemmas.List.{get_or_append_left, get_or-append_right, length-replicate, get_or-replicate}
-use Rattle.std.proofs.lemmas.List.Edits.{get_or-between, length-between}
-use Rattle.std.specs.Prelude.{filter, find}
-use Rattle.std.specs.List.{All, between, list_any, range_with_len}
-use Rattle.elf_image.specs.declared.elf.TheConstants.{HOME_START, HOME_END, PAGE_SIZE, PF_X, PF_W}
+-- The pages and bytes of an image by its segments in the order of their addresses.
+use Rattle.std.proofs.Common.{◌≡◌, ℕ, ◌+◌, ◌*◌, ◌/◌, ◌<◌, ◌≤◌, Bool, true, false, not, ◌&&◌, cond, leb, List, [], ◌∷◌, length, get_or, Option, Some, None, refl, sym, ap, ◌∙◌, subst, arith, inl, inr}
+use Rattle.std.proofs.lemmas.Bool.{and_parts, and_left, and_right, and_from, le-leb, leb-true, cases_Bool, cases_eq, false≢true, false_from_ne_true, cond-true, cond-false}
+use Rattle.std.proofs.lemmas.List.Elements.{All-from_get_or, All-contains, All-weaker, Contains-get_or, filter_agree, filter_passes}
+use Rattle.std.proofs.lemmas.List.Folds.{list_any_none, list_any_at, Any-from_list_any}
+use Rattle.std.proofs.lemmas.List.Sorted.{All-permutation, Contains-permutation, IsPermutation-sym, length_permutation, list_any-IsPermutation, sum_by-IsPermutation}
+use Rattle.std.proofs.lemmas.List.Sums.{sum_by-cons}
+use Rattle.std.proofs.lemmas.List.Filters.{sum_by-filter_both}
+use Rattle.std.specs.Prelude.{filter, find, sum_by}
+use Rattle.std.specs.List.{All, Contains, flat_map, list_any, range_with_len}
+use Rattle.elf_image.specs.declared.elf.TheConstants.{HOME_START, HOME_END, MOST_PAGES, PAGE_SIZE, PF_X, PF_W}
 use Rattle.elf_image.specs.declared.program_header.ProgramHeader.{ProgramHeader}
-use Rattle.elf_image.specs.Elf.{has_flag, segments}
-use Rattle.elf_image.specs.Segments.{first_page, last_page, pages_touched, touches, loads}
-use Rattle.elf_image.specs.Loaded.{IsLoaded, IsLoadedPart}
-use Rattle.elf_image.specs.Pages.{IsBytesOfPage, IsPageList, byte_from, byte_of, executable_page_count, home_pages, is_executable, is_page, is_writable, numbers_from, page_count, pages_of}
+use Rattle.elf_image.specs.Elf.{e_entry, has_flag, header_at, segments}
+use Rattle.elf_image.specs.Segments.{covers, first_page, is_code_at, is_writable_code, last_page, loads, pages_of_segment, pages_touched, shares_page, total_pages, touches}
+use Rattle.elf_image.specs.Loaded.{IsLoaded, IsPlaced, Supplies}
+use Rattle.elf_image.specs.Pages.{IsPageList, byte_from, byte_of, executable_page_count, home_pages, is_executable, is_in_memory, is_page, is_writable, numbers_from, page_count, pages_of}
+use Rattle.elf_image.proofs.FormLaws.{all_placed, lawful, segments_apart, some_segment}
+use Rattle.elf_image.proofs.Pairs.{AtMostOne, EachPair, EachPair-permutation, found_alone, found_at, found_is}
+use Rattle.elf_image.proofs.Ranges.{kept_all, kept_ascending, kept_within}
+use Rattle.elf_image.proofs.SegmentLaws.{count_in_turn, count_kept, covers_touches, in_order, loads_touches, touches_covers, rising, touch_apart, touched_once, touched_pages}
 
--- a range in two parts
-range-append : (a m n : ℕ) → range_with_len a (m + n) ≡ range_with_len a m ++ range_with_len (a + m) n
-range-append a zero n = rw (zero-add, add-zero) refl
-range-append a (suc m) n =
-    let e : suc m + n ≡ suc (m + n) = omega arith in
-    let s : a + suc m ≡ a + 1 + m = omega arith in
-    rw (e, s) (ap (λ (r : List ℕ). a ∷ r) (range-append (a + 1) m n))
+at_least_one : (segs : List ProgramHeader) → 0 < length segs → 0 < total_pages segs
+at_least_one [] h = absurd (omega arith)
+at_least_one (s ∷ rest) h = omega (arith, sum_by-cons pages_touched s rest)
 
--- two tests that agree on a range keep the same of it
-filter_range-agree : (p q : ℕ → Bool) (a m : ℕ) → ((n : ℕ) → a ≤ n → n < a + m → p n ≡ q n) → filter p (range_with_len a m) ≡ filter q (range_with_len a m)
-filter_range-agree p q a zero h = refl
-filter_range-agree p q a (suc m) h =
-    let here : p a ≡ q a = h a (omega arith) (omega arith) in
-    let rest = filter_range-agree p q (a + 1) m (λ n low high. h n (omega arith) (omega arith)) in
-    rw (here, rest) refl
+-- where no element passes, none is found
+none_found : {X : Type 0} (p : X → Bool) (xs : List X) → list_any p xs ≡ false → find p xs ≡ None
+none_found p [] h = refl
+none_found p (x ∷ xs) h =
+    elim (cases_Bool (p x)) [
+      | inl e ↦ absurd (false≢true (sym h ∙ rw e refl))
+      | inr e ↦ cond-false (p x) (Some x) (find p xs) e ∙ none_found p xs (rw e at h)
+    ]
 
-filter_all : (xs : List ℕ) → filter (λ _. true) xs ≡ xs
-filter_all [] = refl
-filter_all (x ∷ xs) = ap (λ (r : List ℕ). x ∷ r) (filter_all xs)
+weaker_any : {X : Type 0} (p q : X → Bool) (xs : List X) → ((x : X) → p x ≡ true → q x ≡ true) → list_any p xs ≡ true → list_any q xs ≡ true
+weaker_any p q xs w h =
+    let a = Any-from_list_any p xs h in
+    list_any_at q xs a.0 a.1 a.2 (ap q a.3 ∙ w a.1 a.4)
 
-filter_none : (xs : List ℕ) → filter (λ _. false) xs ≡ []
-filter_none [] = refl
-filter_none (x ∷ xs) = filter_none xs
+kept_some : {X : Type 0} (p : X → Bool) (xs : List X) → list_any p xs ≡ true → 0 < length (filter p xs)
+kept_some p [] h = absurd (false≢true h)
+kept_some p (x ∷ xs) h =
+    elim (cases_Bool (p x)) [
+      | inl e ↦ rw e (omega arith)
+      | inr e ↦ rw e (kept_some p xs (rw e at h))
+    ]
 
--- a test that holds exactly on the middle part of a range keeps that part
-middle : (p : ℕ → Bool) (a k c r : ℕ)
-    → ((n : ℕ) → n < a + k → p n ≡ false) → ((n : ℕ) → a + k ≤ n → n < a + k + c → p n ≡ true) → ((n : ℕ) → a + k + c ≤ n → p n ≡ false)
-    → filter p (range_with_len a (k + (c + r))) ≡ range_with_len (a + k) c
-middle p a k c r below within above =
-    let one = filter_range-agree p (λ _. false) a k (λ n _ h. below n h) ∙ filter_none (range_with_len a k) in
-    let two = filter_range-agree p (λ _. true) (a + k) c (λ n l h. within n l h) ∙ filter_all (range_with_len (a + k) c) in
-    let three = filter_range-agree p (λ _. false) (a + k + c) r (λ n l _. above n l) ∙ filter_none (range_with_len (a + k + c) r) in
-    rw (range-append a k (c + r), range-append (a + k) c r, filter-append, filter-append, one, two, three) (append-nil _)
+second_false : (x y : Bool) → x ≡ true → (x && y) ≡ false → y ≡ false
+second_false true y h e = e
+second_false false y h e = absurd (false≢true h)
 
--- a test that holds exactly from f to below f + c keeps that range
-pub filter_range : (p : ℕ → Bool) (a m f c : ℕ) → a ≤ f → f + c ≤ a + m
-    → ((n : ℕ) → n < f → p n ≡ false) → ((n : ℕ) → f ≤ n → n < f + c → p n ≡ true) → ((n : ℕ) → f + c ≤ n → p n ≡ false)
-    → filter p (range_with_len a m) ≡ range_with_len f c
-filter_range p a m f c low high below within above =
-    let e : (f - a) + (c + (a + m - (f + c))) ≡ m = omega arith in
-    let s : a + (f - a) ≡ f = omega arith in
-    let P : ℕ → Type 0 = λ x. filter p (range_with_len a x) ≡ range_with_len f c in
-    let Q : ℕ → Type 0 = λ x. filter p (range_with_len a ((f - a) + (c + (a + m - (f + c))))) ≡ range_with_len x c in
-    subst P e (subst Q s (middle p a (f - a) c (a + m - (f + c))
-    (λ n h. below n (omega arith)) (λ n l h. within n (omega arith) (omega arith)) (λ n l. above n (omega arith))))
+-- an image with its segments in the order of their addresses
+module _ (b : List ℕ) (segs : List ProgramHeader) (image : IsLoaded b segs) where
+  placed : All (IsPlaced (length b)) segs
+  placed = All-permutation (IsPlaced (length b)) (segments b) segs image.same (all_placed b image.form)
 
-or_no_more : (x : Bool) → (x || false) ≡ x
-or_no_more true = refl
-or_no_more false = refl
+  apart : EachPair (λ s t. shares_page s t ≡ false) segs
+  apart = EachPair-permutation (λ s t. shares_page s t ≡ false) (segments b) segs image.same (segments_apart b image.form)
 
-one_any : {X : Type 0} (p : X → Bool) (xs : List X) (x : X) → xs ≡ x ∷ [] → list_any p xs ≡ p x
-one_any {X = X} p xs x e =
-    let P : List X → Type 0 = λ ys. list_any p ys ≡ p x in
-    subst P (sym e) (or_no_more (p x))
-
--- the pages of an image that this segment alone makes
-module _ (b : List ℕ) (s : ProgramHeader) (image : IsLoaded b s) where
-  is_page_one : (n : ℕ) → is_page b n ≡ touches s n
+  touched_by : (n : ℕ) → is_page b n ≡ list_any (λ s. touches s n) segs
   unfolding is_page
-  is_page_one n = one_any (λ t. touches t n) (segments b) s image.only
+  touched_by n = list_any-IsPermutation (λ s. touches s n) (segments b) segs image.same
 
-  executable_one : (n : ℕ) → is_executable b n ≡ (touches s n && has_flag s PF_X)
+  pub executable_by : (n : ℕ) → is_executable b n ≡ list_any (λ s. touches s n && has_flag s PF_X) segs
   unfolding is_executable
-  executable_one n = one_any (λ t. touches t n && has_flag t PF_X) (segments b) s image.only
+  executable_by n = list_any-IsPermutation (λ s. touches s n && has_flag s PF_X) (segments b) segs image.same
 
-  -- a page that the segment touches may be executed where the segment may, and no other page
-  pub executable_touched : (n : ℕ) → touches s n ≡ true → is_executable b n ≡ has_flag s PF_X
-  executable_touched n h = executable_one n ∙ ap (λ (x : Bool). x && has_flag s PF_X) h
-
-  pub executable_untouched : (n : ℕ) → touches s n ≡ false → is_executable b n ≡ false
-  executable_untouched n h = executable_one n ∙ ap (λ (x : Bool). x && has_flag s PF_X) h
-
-  in_order : first_page s ≤ last_page s
-  in_order = omega (arith, image.placed.takes)
-
-  untouched_below : (n : ℕ) → n < first_page s → is_page b n ≡ false
-  untouched_below n h = is_page_one n ∙ and_left _ _ (lt-leb _ _ h)
-
-  touched_within : (n : ℕ) → first_page s ≤ n → n < first_page s + pages_touched s → is_page b n ≡ true
-  touched_within n low high =
-      let upto : n ≤ last_page s = omega (arith, in_order) in
-      is_page_one n ∙ and_from _ _ (le-leb _ _ low) (le-leb _ _ upto)
-
-  untouched_above : (n : ℕ) → first_page s + pages_touched s ≤ n → is_page b n ≡ false
-  untouched_above n h =
-      let past : last_page s < n = omega (arith, in_order) in
-      is_page_one n ∙ and_right _ _ (lt-leb _ _ past)
-
-  pages_in : (a m : ℕ) → a ≤ first_page s → first_page s + pages_touched s ≤ a + m → filter (is_page b) (numbers_from a m) ≡ range_with_len (first_page s) (pages_touched s)
-  unfolding numbers_from
-  pages_in a m low high = filter_range (is_page b) a m (first_page s) (pages_touched s) low high untouched_below touched_within untouched_above
-
-  pages_are : pages_of b ≡ range_with_len (first_page s) (pages_touched s)
-  unfolding pages_of home_pages
-  pages_are = pages_in _ _ (omega (arith, image.placed.above)) (omega (arith, in_order, image.placed.below, image.placed.takes))
-
-  pub count_is : pages_touched s ≡ page_count b
-  count_is = sym (ap length pages_are ∙ length-range_with_len (first_page s) (pages_touched s))
-
-  pub page_at : (i : ℕ) → i < page_count b → get_or (pages_of b) i 0 ≡ first_page s + i
-  page_at i h = ap (λ (ps : List ℕ). get_or ps i 0) pages_are ∙ get_or-range_with_len (first_page s) (pages_touched s) i 0 (omega (arith, count_is))
-
-  within_page : (i : ℕ) → i < page_count b → touches s (first_page s + i) ≡ true
-  within_page i h =
-      let low : first_page s ≤ first_page s + i = omega arith in
-      let upto : first_page s + i ≤ last_page s = omega (arith, in_order, count_is) in
-      and_from _ _ (le-leb _ _ low) (le-leb _ _ upto)
-
-  pub page_in_home : (i : ℕ) → i < page_count b → (HOME_START ≤ PAGE_SIZE * get_or (pages_of b) i 0) × (PAGE_SIZE * get_or (pages_of b) i 0 + PAGE_SIZE ≤ HOME_END)
-  page_in_home i h = (omega (arith, page_at i h, image.placed.above), omega (arith, page_at i h, count_is, in_order, image.placed.below, image.placed.takes))
-
-  pub executable_at : (i : ℕ) → i < page_count b → is_executable b (get_or (pages_of b) i 0) ≡ has_flag s PF_X
-  unfolding is_executable
-  executable_at i h =
-      let here = within_page i h in
-      rw (page_at i h) (one_any (λ t. touches t (first_page s + i) && has_flag t PF_X) (segments b) s image.only ∙ rw here refl)
-
-  pub writable_at : (i : ℕ) → i < page_count b → is_writable b (get_or (pages_of b) i 0) ≡ has_flag s PF_W
+  pub writable_by : (n : ℕ) → is_writable b n ≡ list_any (λ s. touches s n && has_flag s PF_W) segs
   unfolding is_writable
-  writable_at i h =
-      let here = within_page i h in
-      rw (page_at i h) (one_any (λ t. touches t (first_page s + i) && has_flag t PF_W) (segments b) s image.only ∙ rw here refl)
+  writable_by n = list_any-IsPermutation (λ s. touches s n && has_flag s PF_W) (segments b) segs image.same
 
-  executable_is_page : (n : ℕ) → is_executable b n ≡ true → is_page b n ≡ true
-  unfolding is_executable
-  executable_is_page n h = is_page_one n ∙ (and_parts _ _ (sym (one_any (λ t. touches t n && has_flag t PF_X) (segments b) s image.only) ∙ h)).0
+  pages_in : (low m : ℕ) → low * PAGE_SIZE ≡ HOME_START → (low + m) * PAGE_SIZE ≡ HOME_END → filter (is_page b) (numbers_from low m) ≡ flat_map pages_of_segment segs
+  unfolding numbers_from
+  pages_in low m starts ends =
+      let above : All (λ s. low ≤ first_page s) segs = All-weaker (IsPlaced (length b)) (λ s. low ≤ first_page s) (λ s h. omega (arith, h.above)) segs placed in
+      let takes : All (λ s. 0 < s.memory_size) segs = All-weaker (IsPlaced (length b)) (λ s. 0 < s.memory_size) (λ s h. h.takes) segs placed in
+      let below : All (λ s. last_page s < low + m) segs = All-weaker (IsPlaced (length b)) (λ s. last_page s < low + m) (λ s h. omega (arith, h.below, h.takes)) segs placed in
+      filter_agree (is_page b) (λ n. list_any (λ s. touches s n) segs) touched_by (range_with_len low m)
+      ∙ touched_pages segs low m (rising segs low above takes image.ascending apart) below
 
-  from_touched : (n : ℕ) → is_page b n ≡ true → (first_page s ≤ n) × (n ≤ last_page s)
-  from_touched n h =
-      let parts = and_parts _ _ (sym (is_page_one n) ∙ h) in
-      (leb-true _ _ parts.0, leb-true _ _ parts.1)
+  pub pages_are : pages_of b ≡ flat_map pages_of_segment segs
+  unfolding pages_of home_pages
+  pages_are = pages_in _ _ refl refl
+
+  pub count_is : total_pages segs ≡ page_count b
+  count_is = sym (ap length pages_are ∙ count_in_turn segs)
+
+  pub few_pages : total_pages segs ≤ MOST_PAGES
+  few_pages = omega (arith, sum_by-IsPermutation pages_touched (segments b) segs image.same, (lawful b image.form).few)
+
+  pub some_page : 0 < total_pages segs
+  some_page = at_least_one segs (omega (arith, length_permutation (segments b) segs image.same, some_segment b image.form))
+
+  in_home : (low m n : ℕ) → low * PAGE_SIZE ≡ HOME_START → (low + m) * PAGE_SIZE ≡ HOME_END → is_page b n ≡ true → (low ≤ n) × (n < low + m)
+  in_home low m n starts ends h =
+      let a = Any-from_list_any (λ s. touches s n) segs (sym (touched_by n) ∙ h) in
+      let s : ProgramHeader = get_or segs a.0 a.1 in
+      let p : IsPlaced (length b) s = placed a.0 a.1 a.2 in
+      let parts = and_parts (leb (first_page s) n) (leb n (last_page s)) (ap (λ (t : ProgramHeader). touches t n) a.3 ∙ a.4) in
+      let low_end : first_page s ≤ n = leb-true _ _ parts.0 in
+      let high_end : n ≤ last_page s = leb-true _ _ parts.1 in
+      (omega (arith, low_end, p.above, starts), omega (arith, high_end, p.below, p.takes, ends))
+
+  covered_by : (va : ℕ) → is_in_memory b va ≡ list_any (λ s. covers s va) segs
+  unfolding is_in_memory
+  covered_by va = list_any-IsPermutation (λ s. covers s va) (segments b) segs image.same
+
+  covered : (va : ℕ) → is_in_memory b va ≡ true → is_page b (va / PAGE_SIZE) ≡ true
+  covered va h = touched_by (va / PAGE_SIZE) ∙ weaker_any (λ s. covers s va) (λ s. touches s (va / PAGE_SIZE)) segs (λ s e. covers_touches s va e) (sym (covered_by va) ∙ h)
+
+  covering : (n : ℕ) → is_page b n ≡ true → (va : ℕ) × (va / PAGE_SIZE ≡ n) × (is_in_memory b va ≡ true)
+  covering n h =
+      let a = Any-from_list_any (λ s. touches s n) segs (sym (touched_by n) ∙ h) in
+      let w = touches_covers (get_or segs a.0 a.1) n (placed a.0 a.1 a.2).takes (ap (λ (t : ProgramHeader). touches t n) a.3 ∙ a.4) in
+      (w.0, w.1, covered_by w.0 ∙ list_any_at (λ s. covers s w.0) segs a.0 a.1 a.2 w.2)
+
+  unwritable : (n : ℕ) → is_executable b n ≡ true → is_writable b n ≡ false
+  unwritable n h =
+      let a = Any-from_list_any (λ s. touches s n && has_flag s PF_X) segs (sym (executable_by n) ∙ h) in
+      let here = and_parts (touches (get_or segs a.0 a.1) n) (has_flag (get_or segs a.0 a.1) PF_X) (ap (λ (t : ProgramHeader). touches t n && has_flag t PF_X) a.3 ∙ a.4) in
+      writable_by n ∙ list_any_none (λ s. touches s n && has_flag s PF_W) segs (All-from_get_or (λ s. (touches s n && has_flag s PF_W) ≡ false) segs a.1 (λ j hj.
+      elim (cases_eq a.0 j) [
+        | inl same ↦
+            let rights : is_writable_code (get_or segs j a.1) ≡ false = All-permutation (λ s. is_writable_code s ≡ false) (segments b) segs image.same (lawful b image.form).rights j a.1 hj in
+            let code : has_flag (get_or segs j a.1) PF_X ≡ true = ap (λ (k : ℕ). has_flag (get_or segs k a.1) PF_X) (sym same) ∙ here.1 in
+            and_right (touches (get_or segs j a.1) n) (has_flag (get_or segs j a.1) PF_W) (second_false _ _ code rights)
+        | inr other ↦ and_left (touches (get_or segs j a.1) n) (has_flag (get_or segs j a.1) PF_W) (touched_once segs apart n a.0 j a.1 a.2 hj other here.0)
+      ]))
+
+  -- the page of the entry may be executed
+  pub entry_page : is_executable b (e_entry b / PAGE_SIZE) ≡ true
+  entry_page =
+      executable_by (e_entry b / PAGE_SIZE)
+      ∙ weaker_any (is_code_at (e_entry b)) (λ s. touches s (e_entry b / PAGE_SIZE) && has_flag s PF_X) segs
+      (λ s e. let parts = and_parts (has_flag s PF_X) (covers s (e_entry b)) e in and_from (touches s (e_entry b / PAGE_SIZE)) (has_flag s PF_X) (covers_touches s (e_entry b) parts.1) parts.0)
+      (sym (list_any-IsPermutation (is_code_at (e_entry b)) (segments b) segs image.same) ∙ (lawful b image.form).entry)
+
+  list_in : (low m : ℕ) → low * PAGE_SIZE ≡ HOME_START → (low + m) * PAGE_SIZE ≡ HOME_END → IsPageList b (filter (is_page b) (numbers_from low m))
+  unfolding numbers_from
+  list_in low m starts ends = record {
+    ascending = λ i j below within. kept_ascending (is_page b) low m i j 0 below within;
+    home = λ i h. let k = kept_within (is_page b) low m i 0 h in (omega (arith, k.0), omega (arith, k.1));
+    touched = λ i h. filter_passes (is_page b) (range_with_len low m) i 0 h;
+    complete = λ n h. let inside = in_home low m n starts ends h in kept_all (is_page b) low m n h inside.0 inside.1;
+    holds = covering;
+    held = covered;
+    unwritable = unwritable;
+    executable = λ n h. touched_by n ∙ weaker_any (λ s. touches s n && has_flag s PF_X) (λ s. touches s n) segs (λ s e. (and_parts (touches s n) (has_flag s PF_X) e).0) (sym (executable_by n) ∙ h);
+  }
 
   pub page_list : IsPageList b (pages_of b)
-  page_list = record {
-    ascending = λ i j low high. omega (arith, page_at i (omega arith), page_at j high);
-    home = page_in_home;
-    touched = λ i h. rw (page_at i h) (touched_within _ (omega arith) (omega (arith, count_is)));
-    complete = λ n h.
-        let inside : n - first_page s < page_count b = omega (arith, from_touched n h, count_is, in_order) in
-        (n - first_page s, inside, omega (arith, page_at (n - first_page s) inside, from_touched n h));
-    executable = executable_is_page;
-  }
+  unfolding pages_of home_pages
+  page_list = list_in _ _ refl refl
 
-  filter_executable : (ps : List ℕ) → All (λ n. is_executable b n ≡ true) ps → filter (is_executable b) ps ≡ ps
-  filter_executable [] h = refl
-  filter_executable (n ∷ ps) h =
-      let here = All-head (λ m. is_executable b m ≡ true) n ps h in
-      let rest = filter_executable ps (All-tail (λ m. is_executable b m ≡ true) n ps h) in
-      rw (here, rest) refl
+  -- where a segment touches a page, the page has the segment's rights
+  pub same_rights : (i : ℕ) (d : ProgramHeader) → i < length segs → (n : ℕ) → touches (get_or segs i d) n ≡ true → is_executable b n ≡ has_flag (get_or segs i d) PF_X
+  same_rights i d h n here =
+      elim (cases_Bool (has_flag (get_or segs i d) PF_X)) [
+        | inl e ↦ executable_by n ∙ list_any_at (λ s. touches s n && has_flag s PF_X) segs i d h (and_from _ _ here e) ∙ sym e
+        | inr e ↦ executable_by n ∙ list_any_none (λ s. touches s n && has_flag s PF_X) segs (All-from_get_or (λ s. (touches s n && has_flag s PF_X) ≡ false) segs d (λ j hj.
+            elim (cases_eq i j) [
+              | inl same ↦ and_right (touches (get_or segs j d) n) (has_flag (get_or segs j d) PF_X) (ap (λ (k : ℕ). has_flag (get_or segs k d) PF_X) (sym same) ∙ e)
+              | inr other ↦ and_left (touches (get_or segs j d) n) (has_flag (get_or segs j d) PF_X) (touched_once segs apart n i j d h hj other here)
+            ])) ∙ sym e
+      ]
 
-  pub executable_count : page_count b ≡ executable_page_count b
-  executable_count = sym (ap length (filter_executable (pages_of b)
-      (All-from_get_or (λ n. is_executable b n ≡ true) (pages_of b) 0 (λ i h. executable_at i h ∙ image.code))))
+  pub executable_count : sum_by pages_touched (filter (λ s. has_flag s PF_X) segs) ≡ executable_page_count b
+  executable_count =
+      let P : List ℕ → Type 0 = λ ps. length (filter (is_executable b) ps) ≡ sum_by pages_touched (filter (λ s. has_flag s PF_X) segs) in
+      sym (subst P (sym pages_are) (count_kept (is_executable b) (λ s. has_flag s PF_X) segs (λ i d h n low high.
+      let upto : n ≤ last_page (get_or segs i d) = omega (arith, high, in_order (get_or segs i d) (placed i d h).takes) in
+      same_rights i d h n (and_from (leb (first_page (get_or segs i d)) n) (leb n (last_page (get_or segs i d))) (le-leb _ _ low) (le-leb _ _ upto)))))
 
-  pub loaded_in_file : (va : ℕ) → loads s va ≡ true → s.offset + (va - s.address) < length b
-  loaded_in_file va h =
-      let from : s.address ≤ va = leb-true _ _ (and_parts _ _ h).0 in
-      let upto : va < s.address + s.file_size = ltb-true _ _ (and_parts _ _ h).1 in
-      omega (arith, from, upto, image.placed.inside)
+  lone_loader : (va : ℕ) → AtMostOne (λ s. loads s va) (segments b)
+  lone_loader va i j d hi hj ne h =
+      let s : ProgramHeader = get_or (segments b) i d in
+      let t : ProgramHeader = get_or (segments b) j d in
+      let first : touches s (va / PAGE_SIZE) ≡ true = loads_touches s va (all_placed b image.form i d hi).backed h in
+      let second : touches t (va / PAGE_SIZE) ≡ false = touch_apart s t (va / PAGE_SIZE) (segments_apart b image.form i j d hi hj ne) first in
+      false_from_ne_true (loads t va) (λ e. false≢true (sym second ∙ loads_touches t va (all_placed b image.form j d hj).backed e))
 
-  pub byte_loaded : (va : ℕ) → loads s va ≡ true → get_or b (s.offset + (va - s.address)) 0 ≡ byte_of b va
+  in_table : (s : ProgramHeader) → Contains segs s → Contains (segments b) s
+  in_table s held = Contains-permutation segs (segments b) s (IsPermutation-sym (segments b) segs image.same) held
+
+  -- a segment that loads an address is the one that touches its page
+  loader_touches : (d : ProgramHeader) (va : ℕ) → list_any (λ t. loads t va) (segments b) ≡ true → (t : ProgramHeader) × (Contains segs t) × (loads t va ≡ true) × (touches t (va / PAGE_SIZE) ≡ true)
+  loader_touches d va h =
+      let f = found_at (λ t. loads t va) (segments b) d h in
+      let t : ProgramHeader = get_or (segments b) f.0 d in
+      (t, Contains-permutation (segments b) segs t image.same (Contains-get_or (segments b) f.0 d f.1), f.2, loads_touches t va (all_placed b image.form f.0 d f.1).backed f.2)
+
+  loaded_by : (s : ProgramHeader) → Contains segs s → (va : ℕ) → touches s (va / PAGE_SIZE) ≡ true → byte_of b va ≡ byte_from b va (cond (loads s va) (Some s) None)
   unfolding byte_of
-  byte_loaded va h =
-      let P : List ProgramHeader → Type 0 = λ segs. get_or b (s.offset + (va - s.address)) 0 ≡ byte_from b va (find (λ t. loads t va) segs) in
-      subst P (sym image.only) (rw h refl)
+  loaded_by s held va here =
+      elim (cases_Bool (loads s va)) [
+        | inl e ↦
+            ap (λ (o : Option ProgramHeader). byte_from b va o) (found_alone (λ t. loads t va) (segments b) (lone_loader va) s (in_table s held) e
+            ∙ sym (cond-true (loads s va) (Some s) None e))
+        | inr e ↦
+            let nobody : list_any (λ t. loads t va) (segments b) ≡ false = false_from_ne_true _ (λ some.
+            let l = loader_touches s va some in
+            let one = found_alone (λ t. touches t (va / PAGE_SIZE)) segs (touched_once segs apart (va / PAGE_SIZE)) s held here in
+            let two = found_alone (λ t. touches t (va / PAGE_SIZE)) segs (touched_once segs apart (va / PAGE_SIZE)) l.0 l.1 l.3 in
+            let same : l.0 ≡ s = cc (sym two ∙ one) in
+            false≢true (sym e ∙ ap (λ (t : ProgramHeader). loads t va) (sym same) ∙ l.2)) in
+            ap (λ (o : Option ProgramHeader). byte_from b va o) (none_found (λ t. loads t va) (segments b) nobody ∙ sym (cond-false (loads s va) (Some s) None e))
+      ]
 
-  pub byte_blank : (va : ℕ) → loads s va ≡ false → 0 ≡ byte_of b va
+  blank : (va : ℕ) → find (λ s. touches s (va / PAGE_SIZE)) segs ≡ None → byte_of b va ≡ 0
   unfolding byte_of
-  byte_blank va h =
-      let P : List ProgramHeader → Type 0 = λ segs. 0 ≡ byte_from b va (find (λ t. loads t va) segs) in
-      subst P (sym image.only) (rw h refl)
+  blank va h =
+      let nobody : list_any (λ t. loads t va) (segments b) ≡ false = false_from_ne_true _ (λ some.
+      let l = loader_touches (header_at b 0) va some in
+      let one = found_alone (λ t. touches t (va / PAGE_SIZE)) segs (touched_once segs apart (va / PAGE_SIZE)) l.0 l.1 l.3 in
+      cc (sym h ∙ one)) in
+      ap (λ (o : Option ProgramHeader). byte_from b va o) (none_found (λ t. loads t va) (segments b) nobody)
 
-  -- what the segment loads into the page at va, where its part of the file meets the page
-  pub part_some : (va start end : ℕ) → start ≡ max va s.address → end ≡ min (va + PAGE_SIZE) (s.address + s.file_size) → start < end
-      → (at upto : ℕ) → at ≡ s.offset + (start - s.address) → upto ≡ at + (end - start) → IsLoadedPart b va (start - va) (between at upto b)
-  part_some va start end first last some at upto here there =
-      let in_file : upto ≤ length b = omega (arith, image.placed.inside) in
-      let long : length (between at upto b) ≡ end - start = omega (arith, length-between b at upto, in_file) in
-      record {
-        fits = omega (arith, long);
-        within = λ k h.
-            let low : s.address ≤ va + (start - va + k) = omega arith in
-            let high : va + (start - va + k) < s.address + s.file_size = omega (arith, long) in
-            let is_loaded = and_from (leb s.address (va + (start - va + k))) _ (le-leb _ _ low) (lt-ltb _ _ high) in
-            let same : at + k ≡ s.offset + (va + (start - va + k) - s.address) = omega arith in
-            get_or-between b at upto k 0 (omega (arith, long)) ∙ ap (λ (i : ℕ). get_or b i 0) same ∙ byte_loaded (va + (start - va + k)) is_loaded;
-        before = λ k h.
-            let below : va + k < s.address = omega arith in
-            sym (byte_blank (va + k) (and_left _ _ (lt-leb _ _ below)));
-        after = λ k h inside.
-            let above : s.address + s.file_size ≤ va + k = omega (arith, long) in
-            sym (byte_blank (va + k) (and_right _ _ (le-ltb _ _ above)));
-      }
+  -- what the segment that touches a page says of its bytes
+  pub supplies : (n : ℕ) (o : Option ProgramHeader) → find (λ s. touches s n) segs ≡ o → Supplies b n o
+  supplies n None h = λ va at. blank va (ap (λ (m : ℕ). find (λ s. touches s m) segs) at ∙ h)
+  supplies n (Some s) h =
+      let f = found_is (λ t. touches t n) segs s h in (
+        All-contains (IsPlaced (length b)) segs s placed f.0,
+        λ va at. loaded_by s f.0 va (ap (λ (m : ℕ). touches s m) at ∙ f.1),
+      )
 
-  -- and where it doesn't
-  pub part_none : (va start end : ℕ) → start ≡ max va s.address → end ≡ min (va + PAGE_SIZE) (s.address + s.file_size) → end ≤ start → (part : List ℕ) → length part ≡ 0 → IsLoadedPart b va 0 part
-  part_none va start end first last none part empty = record {
-    fits = omega (arith, empty);
-    within = λ k h. absurd (omega (arith, empty));
-    before = λ k h. absurd (omega arith);
-    after = λ k h inside.
-        elim (cases_lt (va + k) s.address) [
-          | inl below ↦ sym (byte_blank (va + k) (and_left _ _ (lt-leb _ _ below)))
-          | inr above ↦
-              let past : s.address + s.file_size ≤ va + k = omega arith in
-              sym (byte_blank (va + k) (and_right _ _ (le-ltb _ _ past)))
-        ];
-  }
+  pub page_in_home : (i : ℕ) → i < page_count b → (HOME_START ≤ PAGE_SIZE * get_or (pages_of b) i 0) × (PAGE_SIZE * get_or (pages_of b) i 0 + PAGE_SIZE ≤ HOME_END)
+  page_in_home i h = page_list.home i h
 
--- a page of zeros but for that part
-pub page_laid : (b : List ℕ) (n place : ℕ) (part bytes : List ℕ) → IsLoadedPart b (PAGE_SIZE * n) place part
-    → bytes ≡ replicate place 0 ++ (part ++ replicate (PAGE_SIZE - (place + length part)) 0) → IsBytesOfPage b n bytes
-page_laid b n place part bytes l e =
-    let rest : List ℕ = replicate (PAGE_SIZE - (place + length part)) 0 in
-    let long : length (replicate place 0 ++ (part ++ rest)) ≡ PAGE_SIZE = omega (arith, length-append (replicate place 0) (part ++ rest), length-append part rest, length-replicate {A = ℕ} place 0, length-replicate {A = ℕ} (PAGE_SIZE - (place + length part)) 0, l.fits) in
-    let P : List ℕ → Type 0 = λ xs. IsBytesOfPage b n xs in
-    subst P (sym e) (record {
-      full = long;
-      each = λ k h.
-          elim (cases_lt k place) [
-            | inl front ↦
-                get_or_append_left (replicate place 0) (part ++ rest) 0 k (omega (arith, length-replicate {A = ℕ} place 0))
-                ∙ get_or-replicate place k 0 0 front ∙ sym (l.before k front)
-            | inr past ↦
-                let moved = get_or-append_right (replicate place 0) (part ++ rest) place k 0 (length-replicate place 0) past in
-                elim (cases_lt (k - place) (length part)) [
-                  | inl inside ↦
-                      let here : place + (k - place) ≡ k = omega arith in
-                      moved ∙ get_or_append_left part rest 0 (k - place) inside ∙ l.within (k - place) inside
-                      ∙ ap (λ (i : ℕ). byte_of b (PAGE_SIZE * n + i)) here
-                  | inr after ↦
-                      let up : place + length part ≤ k = omega arith in
-                      moved ∙ get_or-append_right part rest (length part) (k - place) 0 refl after
-                      ∙ get_or-replicate (PAGE_SIZE - (place + length part)) (k - place - length part) 0 0 (omega arith) ∙ sym (l.after k up h)
-                ]
-          ];
-    })
+  some_executable : 0 < sum_by pages_touched (filter (λ s. has_flag s PF_X) segs)
+  some_executable =
+      let code : list_any (is_code_at (e_entry b)) segs ≡ true = sym (list_any-IsPermutation (is_code_at (e_entry b)) (segments b) segs image.same) ∙ (lawful b image.form).entry in
+      let flagged : list_any (λ s. has_flag s PF_X) segs ≡ true = weaker_any (is_code_at (e_entry b)) (λ s. has_flag s PF_X) segs (λ s e. (and_parts _ _ e).0) code in
+      at_least_one _ (kept_some (λ s. has_flag s PF_X) segs flagged)
+
+  pub executable_bounds : (n : ℕ) → n ≡ sum_by pages_touched (filter (λ s. has_flag s PF_X) segs) → (0 < n) × (n ≤ MOST_PAGES)
+  executable_bounds n e = (omega (arith, some_executable), omega (arith, few_pages, sum_by-filter_both (λ s. has_flag s PF_X) (λ s. not (has_flag s PF_X)) (λ _. refl) pages_touched segs))

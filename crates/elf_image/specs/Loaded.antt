@@ -1,11 +1,12 @@
 -- What a reader may rely on once an image, the file b, is in form.
-use Rattle.std.specs.Prelude.{◌≡◌, ℕ, ◌+◌, ◌*◌, ◌<◌, ◌≤◌, List, [], ◌∷◌, length, slice_index, true}
-use Rattle.elf_image.specs.declared.elf.TheConstants.{EHDR_SIZE, PHDR_SIZE, MOST_HEADERS, MOST_PAGES, HOME_START, HOME_END, PAGE_SIZE, PF_X}
+use Rattle.std.specs.Prelude.{◌≡◌, ℕ, ◌+◌, ◌*◌, ◌<◌, ◌≤◌, ◌-◌, ◌/◌, false, if◌then◌else◌, Option, Some, None, List, length, slice_index, true}
+use Rattle.std.specs.List.Sorted.{IsNonDecreasingBy, IsPermutation}
+use Rattle.elf_image.specs.declared.elf.TheConstants.{EHDR_SIZE, PHDR_SIZE, MOST_HEADERS, HOME_START, HOME_END, PAGE_SIZE}
 use Rattle.elf_image.specs.declared.program_header.ProgramHeader.{ProgramHeader}
-use Rattle.elf_image.specs.Elf.{e_phnum, e_phoff, has_flag, segments}
-use Rattle.elf_image.specs.Segments.{pages_touched}
+use Rattle.elf_image.specs.Elf.{e_phnum, e_phoff, segments}
+use Rattle.elf_image.specs.Segments.{loads}
 use Rattle.elf_image.specs.Rows.{IsForm}
-use Rattle.elf_image.specs.Pages.{byte_of}
+use Rattle.elf_image.specs.Pages.{byte_from, byte_of}
 
 -- the program header table is in the file, and has 1 to 64 entries
 pub record HasTable (b : List ℕ) : Type 0 where
@@ -22,17 +23,20 @@ pub record IsPlaced (file_length : ℕ) (s : ProgramHeader) : Type 0 where
   pub above : HOME_START ≤ s.address
   pub below : s.address + s.memory_size ≤ HOME_END
 
--- the image is in form, and this is its one segment
-pub record IsLoaded (b : List ℕ) (s : ProgramHeader) : Type 0 where
+-- the image is in form, and these are its segments in the order of their addresses
+pub record IsLoaded (b : List ℕ) (segs : List ProgramHeader) : Type 0 where
   pub form : IsForm b
-  pub only : segments b ≡ s ∷ []
-  pub placed : IsPlaced (length b) s
-  pub few : pages_touched s ≤ MOST_PAGES
-  pub code : has_flag s PF_X ≡ true
+  pub same : IsPermutation (segments b) segs
+  pub ascending : IsNonDecreasingBy (λ s. s.address) segs
 
--- of the page at address va these bytes, from this place on, are those of the image, and the others are 0
-pub record IsLoadedPart (b : List ℕ) (va place : ℕ) (part : List ℕ) : Type 0 where
+-- what the image's segment that touches page n, or that there is none, says of the bytes of that page
+abbrev pub Supplies : List ℕ → ℕ → Option ProgramHeader → Type 0
+Supplies b n None = (va : ℕ) → va / PAGE_SIZE ≡ n → byte_of b va ≡ 0
+Supplies b n (Some s) = IsPlaced (length b) s × ((va : ℕ) → va / PAGE_SIZE ≡ n → byte_of b va ≡ byte_from b va (if loads s va then Some s else None))
+
+-- of the page at address va the segment loads these bytes, from this place on, and no others
+pub record IsPartOf (b : List ℕ) (s : ProgramHeader) (va place : ℕ) (part : List ℕ) : Type 0 where
   pub fits : place + length part ≤ PAGE_SIZE
-  pub within : (k : ℕ) → k < length part → slice_index part k ≡ byte_of b (va + (place + k))
-  pub before : (k : ℕ) → k < place → byte_of b (va + k) ≡ 0
-  pub after : (k : ℕ) → place + length part ≤ k → k < PAGE_SIZE → byte_of b (va + k) ≡ 0
+  pub within : (k : ℕ) → k < length part → (loads s (va + (place + k)) ≡ true) × (slice_index part k ≡ slice_index b (s.offset + (va + (place + k) - s.address)))
+  pub before : (k : ℕ) → k < place → loads s (va + k) ≡ false
+  pub after : (k : ℕ) → place + length part ≤ k → k < PAGE_SIZE → loads s (va + k) ≡ false

@@ -1,14 +1,18 @@
 -- What an image, the file b, loads: its entry, its pages and their bytes. Page n begins at address 4096 * n.
-use Rattle.std.specs.Prelude.{◌≡◌, ℕ, ◌+◌, ◌-◌, ◌*◌, ◌/◌, ◌<◌, ◌≤◌, Bool, true, ◌&&◌, List, length, slice_index, filter, find, Option, Some, None}
+use Rattle.std.specs.Prelude.{◌≡◌, ℕ, ◌+◌, ◌-◌, ◌*◌, ◌/◌, ◌<◌, ◌≤◌, Bool, true, false, ◌&&◌, List, length, slice_index, filter, find, Option, Some, None}
 use Rattle.std.specs.List.{list_any, range_with_len}
 use Rattle.elf_image.specs.declared.elf.TheConstants.{PF_X, PF_W, PAGE_SIZE, HOME_START, HOME_END}
 use Rattle.elf_image.specs.declared.program_header.ProgramHeader.{ProgramHeader}
 use Rattle.elf_image.specs.Elf.{e_entry, has_flag, segments}
-use Rattle.elf_image.specs.Segments.{touches, loads}
+use Rattle.elf_image.specs.Segments.{covers, touches, loads}
 
 -- the address of the first instruction
 unfoldable pub entry_of : List ℕ → ℕ
 entry_of b = e_entry b
+
+-- the memory of a segment covers address va
+unfoldable pub is_in_memory : List ℕ → ℕ → Bool
+is_in_memory b va = list_any (λ s. covers s va) (segments b)
 
 -- page n is one of the image's: a segment touches it
 unfoldable pub is_page : List ℕ → ℕ → Bool
@@ -55,10 +59,14 @@ pub record IsBytesOfPage (b : List ℕ) (n : ℕ) (bytes : List ℕ) : Type 0 wh
   pub full : length bytes ≡ PAGE_SIZE
   pub each : (k : ℕ) → k < PAGE_SIZE → slice_index bytes k ≡ byte_of b (PAGE_SIZE * n + k)
 
--- what holds of an image's pages: they ascend, lie in the home, and are all that a segment touches; a page that may be executed is one of them
+-- what holds of an image's pages: they ascend, lie in the home, and are all pages that a segment touches, which are those
+-- that hold an address of its memory. A page that may be executed is one of them, and may not be written.
 pub record IsPageList (b : List ℕ) (pages : List ℕ) : Type 0 where
   pub ascending : (i j : ℕ) → i < j → j < length pages → slice_index pages i < slice_index pages j
   pub home : (i : ℕ) → i < length pages → (HOME_START ≤ PAGE_SIZE * slice_index pages i) × (PAGE_SIZE * slice_index pages i + PAGE_SIZE ≤ HOME_END)
   pub touched : (i : ℕ) → i < length pages → is_page b (slice_index pages i) ≡ true
   pub complete : (n : ℕ) → is_page b n ≡ true → (i : ℕ) × (i < length pages) × (slice_index pages i ≡ n)
+  pub holds : (n : ℕ) → is_page b n ≡ true → (va : ℕ) × (va / PAGE_SIZE ≡ n) × (is_in_memory b va ≡ true)
+  pub held : (va : ℕ) → is_in_memory b va ≡ true → is_page b (va / PAGE_SIZE) ≡ true
   pub executable : (n : ℕ) → is_executable b n ≡ true → is_page b n ≡ true
+  pub unwritable : (n : ℕ) → is_executable b n ≡ true → is_writable b n ≡ false

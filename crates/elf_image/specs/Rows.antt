@@ -1,27 +1,25 @@
 -- The form of an image: thirteen rows in order, each with its condition and its value, judged over the whole file b.
-use Rattle.std.specs.Prelude.{◌≡◌, ℕ, ◌+◌, ◌*◌, ◌==◌, Bool, not, ◌&&◌, ◌||◌, if◌then◌else◌, List, length, slice_index, find, nat_lt, Option, Some, None, option_map, is_some}
+use Rattle.std.specs.Prelude.{◌≡◌, ℕ, ◌+◌, ◌*◌, ◌==◌, Bool, not, ◌&&◌, ◌||◌, if◌then◌else◌, List, length, slice_index, find, nat_lt, Option, Some, None, option_map}
 use Rattle.std.specs.List.{list_any}
 use Rattle.elf_image.specs.declared.elf.TheConstants.{EHDR_SIZE, PHDR_SIZE, MOST_HEADERS, MOST_PAGES, EI_MAG0, EI_MAG1, EI_MAG2, EI_MAG3, EI_CLASS, EI_DATA, EI_VERSION, ELFMAG0, ELFMAG1, ELFMAG2, ELFMAG3, ELFCLASS64, ELFDATA2LSB, EV_CURRENT, ET_EXEC, EM_X86_64, E_TYPE, E_MACHINE, E_ENTRY, E_PHOFF, E_PHENTSIZE, E_PHNUM}
-use Rattle.elf_image.specs.declared.row.Row.{Row}
-use Rattle.elf_image.specs.declared.row.Row.TheVariants.{Short as RowShort, Magic, Class, FileType, Machine, Table, SegmentRange, Align, OutsideHome, SharedPage, WritableCode, BadEntry, TooLarge}
-use Rattle.elf_image.specs.declared.row.RowFault.{RowFault}
-use Rattle.elf_image.specs.declared.fault.FaultKind.TheVariants.{Short, NotYet}
+use Rattle.elf_image.specs.declared.fault.FaultKind.{FaultKind}
+use Rattle.elf_image.specs.declared.fault.FaultKind.TheVariants.{Short, Magic, Class, FileType, Machine, Table, SegmentRange, Align, OutsideHome, SharedPage, WritableCode, BadEntry, TooLarge}
 use Rattle.elf_image.specs.declared.fault.ImageFault.{ImageFault}
 use Rattle.elf_image.specs.declared.program_header.ProgramHeader.{ProgramHeader}
 use Rattle.elf_image.specs.Elf.{e_type, e_machine, e_entry, e_phoff, e_phentsize, e_phnum, segments}
 use Rattle.elf_image.specs.Segments.{passes_end, is_misaligned, leaves_home, shares_with_earlier, is_writable_code, is_code_at, total_pages}
 
 -- a row: the fault where its condition stands, else what the later rows give
-abbrev pub row_if : Bool → Row → ℕ → Option RowFault → Option RowFault
+abbrev pub row_if : Bool → FaultKind → ℕ → Option ImageFault → Option ImageFault
 row_if stands kind value later = if stands then Some (record { kind = kind; value = value }) else later
 
 -- a row whose condition stands where there is a value
-abbrev pub row_at : Option ℕ → Row → Option RowFault → Option RowFault
+abbrev pub row_at : Option ℕ → FaultKind → Option ImageFault → Option ImageFault
 row_at (Some value) kind later = Some (record { kind = kind; value = value })
 row_at None kind later = later
 
 -- the first of two groups of rows that gives a fault
-abbrev pub or_later : Option RowFault → Option RowFault → Option RowFault
+abbrev pub or_later : Option ImageFault → Option ImageFault → Option ImageFault
 or_later (Some fault) later = Some fault
 or_later None later = later
 
@@ -50,9 +48,9 @@ abbrev pub first_index : (ProgramHeader → Bool) → List ProgramHeader → Opt
 first_index test segs = option_map (λ s. s.index) (find test segs)
 
 -- the rows on the file header
-unfoldable pub file_fault : List ℕ → Option RowFault
+unfoldable pub file_fault : List ℕ → Option ImageFault
 file_fault b =
-    row_if (nat_lt (length b) EHDR_SIZE) RowShort (length b) (
+    row_if (nat_lt (length b) EHDR_SIZE) Short (length b) (
     row_if (not (has_magic b)) Magic 0 (
     row_at (wrong_class b) Class (
     row_if (not (e_type b == ET_EXEC)) FileType E_TYPE (
@@ -60,7 +58,7 @@ file_fault b =
     row_at (wrong_table b) Table None)))))
 
 -- the rows on each segment of a file of this length
-unfoldable pub segment_fault : ℕ → List ProgramHeader → Option RowFault
+unfoldable pub segment_fault : ℕ → List ProgramHeader → Option ImageFault
 segment_fault file_length segs =
     row_at (first_index (passes_end file_length) segs) SegmentRange (
     row_at (first_index is_misaligned segs) Align (
@@ -69,25 +67,18 @@ segment_fault file_length segs =
     row_at (first_index is_writable_code segs) WritableCode None))))
 
 -- the rows on all segments together
-unfoldable pub whole_fault : ℕ → List ProgramHeader → Option RowFault
+unfoldable pub whole_fault : ℕ → List ProgramHeader → Option ImageFault
 whole_fault entry segs =
     row_if (not (list_any (is_code_at entry) segs)) BadEntry E_ENTRY (
     row_if (nat_lt MOST_PAGES (total_pages segs)) TooLarge (total_pages segs) None)
 
 -- the first row that stands
-abbrev pub first_fault : List ℕ → Option RowFault
+unfoldable pub first_fault : List ℕ → Option ImageFault
 first_fault b =
     or_later (file_fault b) (
     or_later (segment_fault (length b) (segments b)) (
     whole_fault (e_entry b) (segments b)))
 
--- the first fault of a reader that as yet names the first row alone, and reads tables of one header
-abbrev pub first_fault_yet : List ℕ → Option ImageFault
-first_fault_yet b =
-    if nat_lt (length b) EHDR_SIZE then Some (record { kind = Short; value = length b })
-    else if is_some (first_fault b) || not (e_phnum b == 1) then Some (record { kind = NotYet; value = 0 })
-    else None
-
--- the file is an image that the reader takes
+-- the file is in form
 abbrev pub IsForm : List ℕ → Type 0
-IsForm b = first_fault_yet b ≡ None
+IsForm b = first_fault b ≡ None

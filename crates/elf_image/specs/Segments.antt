@@ -1,6 +1,6 @@
 -- Where a segment lies in the file, in memory and among the pages. Sums are of numbers without bound.
 use Rattle.std.specs.Prelude.{ℕ, ◌+◌, ◌-◌, ◌/◌, ◌%◌, ◌==◌, Bool, not, ◌&&◌, ◌||◌, List, sum_by, nat_lt, nat_le}
-use Rattle.std.specs.List.{list_any}
+use Rattle.std.specs.List.{list_any, range_with_len}
 use Rattle.elf_image.specs.declared.elf.TheConstants.{PF_X, PF_W, PAGE_SIZE, HOME_START, HOME_END}
 use Rattle.elf_image.specs.declared.program_header.ProgramHeader.{ProgramHeader}
 use Rattle.elf_image.specs.Elf.{has_flag}
@@ -27,6 +27,10 @@ touches s n = nat_le (first_page s) n && nat_le n (last_page s)
 -- how many pages it touches
 abbrev pub pages_touched : ProgramHeader → ℕ
 pages_touched s = last_page s - first_page s + 1
+
+-- the pages that it touches, ascending
+abbrev pub pages_of_segment : ProgramHeader → List ℕ
+pages_of_segment s = range_with_len (first_page s) (pages_touched s)
 
 -- how many pages the segments have, each counted by itself
 abbrev pub total_pages : List ProgramHeader → ℕ

@@ -3,13 +3,36 @@
 ghost use Rattle.std.specs.Prelude.{◌≡◌};
 ghost use Rattle.elf_image.specs.Faults.{name_of, number_of};
 
-/// The kinds of fault that the reader names.
+/// The rows by which the form of an image is judged, in order, and the value of each.
 #[derive(Clone, Copy, Debug, PartialEq, Eq)]
 pub enum FaultKind {
-    /// The file is shorter than a file header. The value is its length.
+    /// The file is shorter than a file header: its length.
     Short,
-    /// The reader does not take this file yet. The value is 0.
-    NotYet,
+    /// The file does not begin as ELF files do: 0.
+    Magic,
+    /// It is not of 64 bits, least byte first and version 1: the place of the first byte that says so.
+    Class,
+    /// It is no executable file: the place of `e_type`.
+    FileType,
+    /// It is not for x86-64: the place of `e_machine`.
+    Machine,
+    /// The program header table has entries of another size, none or more than 64, or passes the file's end: the
+    /// place of `e_phentsize`, `e_phnum` or `e_phoff`.
+    Table,
+    /// A segment's part of the file is longer than its memory or passes the file's end: the header's index.
+    SegmentRange,
+    /// A segment's address and offset differ within a page, and it takes bytes of the file: the header's index.
+    Align,
+    /// A segment lies outside the home: the header's index.
+    OutsideHome,
+    /// A segment touches a page of an earlier one: the later header's index.
+    SharedPage,
+    /// A segment may be written and executed: the header's index.
+    WritableCode,
+    /// The entry lies in no segment that may be executed: the place of `e_entry`.
+    BadEntry,
+    /// The segments have more than 8,192 pages: their number.
+    TooLarge,
 }
 
 impl FaultKind {
@@ -19,7 +42,18 @@ impl FaultKind {
     {
         match self {
             FaultKind::Short => 1,
-            FaultKind::NotYet => 0,
+            FaultKind::Magic => 2,
+            FaultKind::Class => 3,
+            FaultKind::FileType => 4,
+            FaultKind::Machine => 5,
+            FaultKind::Table => 6,
+            FaultKind::SegmentRange => 7,
+            FaultKind::Align => 8,
+            FaultKind::OutsideHome => 9,
+            FaultKind::SharedPage => 10,
+            FaultKind::WritableCode => 11,
+            FaultKind::BadEntry => 12,
+            FaultKind::TooLarge => 13,
         }
     }
 
@@ -29,7 +63,18 @@ impl FaultKind {
     {
         match self {
             FaultKind::Short => "Short",
-            FaultKind::NotYet => "NotYet",
+            FaultKind::Magic => "Magic",
+            FaultKind::Class => "Class",
+            FaultKind::FileType => "FileType",
+            FaultKind::Machine => "Machine",
+            FaultKind::Table => "Table",
+            FaultKind::SegmentRange => "SegmentRange",
+            FaultKind::Align => "Align",
+            FaultKind::OutsideHome => "OutsideHome",
+            FaultKind::SharedPage => "SharedPage",
+            FaultKind::WritableCode => "WritableCode",
+            FaultKind::BadEntry => "BadEntry",
+            FaultKind::TooLarge => "TooLarge",
         }
     }
 }
@@ -40,4 +85,12 @@ pub struct ImageFault {
     pub kind: FaultKind,
     /// What the kind says: a length, a place in the file, the index of a program header, or a number of pages.
     pub value: u64,
+}
+
+impl ImageFault {
+    pub(crate) fn new(kind: FaultKind, value: u64) -> Self
+        ensures { result ≡ record { kind = kind; value = value } }
+    {
+        ImageFault { kind, value }
+    }
 }

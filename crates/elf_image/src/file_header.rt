@@ -10,8 +10,8 @@ use crate::elf::{
     EI_MAG1, EI_MAG2, EI_MAG3, EI_VERSION, ELFCLASS64, ELFDATA2LSB, ELFMAG0, ELFMAG1, ELFMAG2,
     ELFMAG3, EM_X86_64, ET_EXEC, EV_CURRENT, MOST_HEADERS, PHDR_SIZE,
 };
+use crate::fault::{FaultKind, ImageFault};
 use crate::fields::{half, xword};
-use crate::row::{Row, RowFault};
 
 fn has_magic(bytes: &[u8]) -> bool
     requires { EHDR_SIZE ≤ length bytes.now }
@@ -63,38 +63,29 @@ fn wrong_table(bytes: &[u8]) -> Option<usize>
     }
 }
 
-fn at(kind: Row, place: usize) -> Option<RowFault>
-    ensures { result ≡ Some (record { kind = kind; value = place }) }
-{
-    Some(RowFault {
-        kind,
-        value: place as u64,
-    })
-}
-
 /// The first row on the file header that stands.
 #[tactic(auto, unfolding(crate::specs::Rows::file_fault))]
-pub fn file_fault(bytes: &[u8]) -> Option<RowFault>
+pub fn file_fault(bytes: &[u8]) -> Option<ImageFault>
     ensures fault { result ≡ file_fault bytes.now }
     ensures none { IfNone result (HasTable bytes.now) }
 {
     if bytes.len() < EHDR_SIZE {
-        return at(Row::Short, bytes.len());
+        return Some(ImageFault::new(FaultKind::Short, bytes.len() as u64));
     }
     if !has_magic(bytes) {
-        return at(Row::Magic, 0);
+        return Some(ImageFault::new(FaultKind::Magic, 0));
     }
     if let Some(place) = wrong_class(bytes) {
-        return at(Row::Class, place);
+        return Some(ImageFault::new(FaultKind::Class, place as u64));
     }
     if half(bytes, E_TYPE) != ET_EXEC {
-        return at(Row::FileType, E_TYPE);
+        return Some(ImageFault::new(FaultKind::FileType, E_TYPE as u64));
     }
     if half(bytes, E_MACHINE) != EM_X86_64 {
-        return at(Row::Machine, E_MACHINE);
+        return Some(ImageFault::new(FaultKind::Machine, E_MACHINE as u64));
     }
     if let Some(place) = wrong_table(bytes) {
-        return at(Row::Table, place);
+        return Some(ImageFault::new(FaultKind::Table, place as u64));
     }
     None
 }

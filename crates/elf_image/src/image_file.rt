@@ -1,16 +1,21 @@
 //! The image: a file in form, and what it loads.
 
-ghost use Rattle.std.specs.Prelude.{◌≡◌, ◌+◌, ◌*◌, ◌/◌, ◌<◌, ◌≤◌, length, slice_index, IfOk, OnOk, IfErr, IsErrOf, Some};
-ghost use Rattle.elf_image.specs.Loaded.{IsLoadedPart};
+ghost use Rattle.std.specs.Prelude.{◌≡◌, ◌+◌, ◌*◌, ◌/◌, ◌<◌, ◌≤◌, length, slice_index, IsTrue, IfOk, OnOk, IfErr, Some};
+ghost use Rattle.elf_image.specs.Loaded.{IsPartOf, IsPlaced, Supplies};
 ghost use Rattle.elf_image.specs.Pages.{IsBytesOfPage, IsPageList, byte_of, entry_of, executable_page_count, is_executable, is_writable, page_count, pages_of};
-ghost use Rattle.elf_image.specs.Rows.{IsForm, first_fault_yet};
+ghost use Rattle.elf_image.specs.Rows.{IsForm, first_fault};
 
-use crate::elf::{E_ENTRY, E_PHNUM, EHDR_SIZE, HOME_END, HOME_START, MOST_PAGES, PAGE_SIZE};
-use crate::fault::{FaultKind, ImageFault};
-use crate::fields::{half, xword};
+use crate::elf::{E_ENTRY, HOME_END, HOME_START, MOST_HEADERS, MOST_PAGES, PAGE_SIZE};
+use crate::fault::ImageFault;
+use crate::fields::xword;
 use crate::form::read_form;
 use crate::page_bytes::lay;
+use crate::page_list::{
+    executable_pages, is_executable, is_writable, nth_page, sort_by_address, touching,
+};
 use crate::program_header::ProgramHeader;
+use crate::whole_rows::total_pages;
+use arrayvec::ArrayVec;
 use std::marker::Model;
 
 /// A page of an image: the address of its first byte, and what may be done with it besides reading.
@@ -25,7 +30,8 @@ pub struct PageInfo {
 #[derive(Drop)]
 pub struct Image {
     bytes: Vec<u8>,
-    segment: ProgramHeader,
+    // In the order of their addresses.
+    segments: ArrayVec<ProgramHeader, MOST_HEADERS>,
 }
 
 impl Model for Image {
@@ -36,16 +42,7 @@ impl Model for Image {
 
     ghost view = { λ i. i.bytes.items };
 
-    ghost invariant = { λ i. IsLoaded i.bytes.items i.segment };
-}
-
-fn not_yet() -> Result<Image, ImageFault>
-    ensures { IsErrOf result (record { kind = FaultKind.NotYet; value = 0 }) }
-{
-    Err(ImageFault {
-        kind: FaultKind::NotYet,
-        value: 0,
-    })
+    ghost invariant = { λ i. IsLoaded i.bytes.items i.segments.items };
 }
 
 impl Image {
@@ -55,28 +52,21 @@ impl Image {
     pub fn read(bytes: Vec<u8>) -> Result<Image, ImageFault>
         ensures ok { IfOk result (λ image. image ≡ bytes.items) }
         ensures form { OnOk result (IsForm bytes.items) }
-        ensures err { IfErr result (λ fault. first_fault_yet bytes.items ≡ Some fault) }
+        ensures err { IfErr result (λ fault. first_fault bytes.items ≡ Some fault) }
     {
-        if bytes.len() < EHDR_SIZE {
-            return Err(ImageFault {
-                kind: FaultKind::Short,
-                value: bytes.len() as u64,
-            });
-        }
-        if half(&bytes, E_PHNUM) != 1 {
-            return not_yet();
-        }
-        let Ok(segments) = read_form(&bytes) else {
-            return not_yet();
+        let mut segments = match read_form(&bytes) {
+            Ok(segments) => segments,
+            Err(fault) => return Err(fault),
         };
-        let segment = segments.as_slice()[0];
-        Ok(Image { bytes, segment })
+        sort_by_address(&mut segments);
+        Ok(Image { bytes, segments })
     }
 
     /// The address of the first instruction.
     #[tactic(auto, unfolding(crate::specs::Pages::entry_of))]
     pub fn entry(&self) -> u64
         ensures entry { result ≡ entry_of self.now }
+        ensures code { IsTrue (is_executable self.now (result / PAGE_SIZE)) }
         ensures form { IsForm self.now }
     {
         xword(&self.bytes, E_ENTRY)
@@ -90,7 +80,7 @@ impl Image {
         ensures list { IsPageList self.now (pages_of self.now) }
         ensures form { IsForm self.now }
     {
-        self.segment.pages_touched() as u32
+        total_pages(self.segments.as_slice()) as u32
     }
 
     fn page_number(&self, i: u32) -> u64
@@ -99,7 +89,19 @@ impl Image {
         ensures above { HOME_START ≤ PAGE_SIZE * result }
         ensures below { PAGE_SIZE * result + PAGE_SIZE ≤ HOME_END }
     {
-        self.segment.first_page() + i as u64
+        nth_page(self.segments.as_slice(), i as u64)
+    }
+
+    fn is_writable(&self, page: u64) -> bool
+        ensures { result ≡ is_writable self.now page }
+    {
+        is_writable(self.segments.as_slice(), page)
+    }
+
+    fn is_executable(&self, page: u64) -> bool
+        ensures { result ≡ is_executable self.now page }
+    {
+        is_executable(self.segments.as_slice(), page)
     }
 
     /// The page number `i` of the image, in ascending order of their addresses.
@@ -111,37 +113,46 @@ impl Image {
         ensures can_write { result.can_write ≡ is_writable self.now (slice_index (pages_of self.now) i) }
         ensures exec { result.exec ≡ is_executable self.now (slice_index (pages_of self.now) i) }
     {
+        let page = self.page_number(i);
         PageInfo {
-            va: PAGE_SIZE * self.page_number(i),
-            can_write: self.segment.is_writable(),
-            exec: self.segment.is_executable(),
+            va: PAGE_SIZE * page,
+            can_write: self.is_writable(page),
+            exec: self.is_executable(page),
         }
+    }
+
+    // The segment that touches a page.
+    fn segment_at(&self, page: u64) -> Option<ProgramHeader>
+        ensures { Supplies self.now page result }
+    {
+        touching(self.segments.as_slice(), page)
     }
 
     /// The byte at `va`, which is 0 where no segment loads one.
     pub fn byte(&self, va: u64) -> u8
         ensures { result ≡ byte_of self.now va }
     {
-        if self.segment.loads(va) {
-            self.bytes[(self.segment.offset + (va - self.segment.address)) as usize]
-        } else {
-            0
+        match self.segment_at(va / PAGE_SIZE) {
+            Some(s) if s.loads(va) => self.bytes[(s.offset + (va - s.address)) as usize],
+            _ => 0,
         }
     }
 
-    // What the segment loads into the page at `va`, and the place in the page where that begins.
-    fn loaded_part(&self, va: u64) -> (usize, &[u8])
-        requires { va + PAGE_SIZE ≤ HOME_END }
-        ensures { IsLoadedPart self.now va result.0 result.1.now }
+    // What a segment loads into the page at `va`, and the place in the page where that begins.
+    fn loaded_part(&self, va: u64, segment: &ProgramHeader) -> (usize, &[u8])
+        requires placed { IsPlaced (length self.now) segment.now }
+        requires home { va + PAGE_SIZE ≤ HOME_END }
+        ensures { IsPartOf self.now segment.now va result.0 result.1.now }
     {
-        let start = va.max(self.segment.address);
-        let end = (va + PAGE_SIZE).min(self.segment.address + self.segment.file_size);
+        let bytes = self.bytes.as_slice();
+        let start = va.max(segment.address);
+        let end = (va + PAGE_SIZE).min(segment.address + segment.file_size);
         if end <= start {
             return (0, &[]);
         }
-        let at = (self.segment.offset + (start - self.segment.address)) as usize;
+        let at = (segment.offset + (start - segment.address)) as usize;
         let upto = at + (end - start) as usize;
-        ((start - va) as usize, &self.bytes[at..upto])
+        ((start - va) as usize, &bytes[at..upto])
     }
 
     /// Writes the bytes of page number `i` into `into`.
@@ -151,15 +162,19 @@ impl Image {
         ensures { IsBytesOfPage self.now (slice_index (pages_of self.now) i) into.new }
     {
         let page = self.page_number(i);
-        let (place, part) = self.loaded_part(PAGE_SIZE * page);
-        lay(into, place, part);
+        if let Some(segment) = self.segment_at(page) {
+            let (place, part) = self.loaded_part(PAGE_SIZE * page, &segment);
+            lay(into, place, part);
+        } else {
+            into.fill(0);
+        }
     }
 
     /// Whether the page that holds an address is one of the image's and may be executed.
     pub fn is_code(&self, va: u64) -> bool
         ensures { result ≡ is_executable self.now (va / PAGE_SIZE) }
     {
-        self.segment.touches(va / PAGE_SIZE) && self.segment.is_executable()
+        self.is_executable(va / PAGE_SIZE)
     }
 
     /// The number of pages that may be executed.
@@ -168,7 +183,6 @@ impl Image {
         ensures some { 0 < result }
         ensures few { result ≤ MOST_PAGES }
     {
-        let _ = &self.segment;
-        self.pages()
+        executable_pages(self.segments.as_slice()) as u32
     }
 }

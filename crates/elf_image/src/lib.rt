@@ -1,9 +1,8 @@
 //! Reads an ELF64 executable for x86-64: judges its form by thirteen rows, in order and over the whole file, and shows
 //! what a file in form loads, which is its entry, its pages in ascending order with their rights, and their bytes. The
 //! rows are `first_fault` in `specs/Rows.antt`, the pages and bytes `pages_of`, `is_executable`, `is_writable` and
-//! `byte_of` in `specs/Pages.antt`. As yet `Image::read` names the first row alone, takes files whose program header
-//! table has one entry, and answers `NotYet` for every other file that is not short. It touches nothing but its
-//! arguments and takes no memory. Fetching the file, looking through its code and placing its pages are left to others.
+//! `byte_of` in `specs/Pages.antt`. It touches nothing but its arguments and takes no memory. Fetching the file, looking
+//! through its code and placing its pages are left to others.
 #![tactic(auto)]
 
 mod elf;
@@ -13,8 +12,8 @@ mod file_header;
 mod form;
 mod image_file;
 mod page_bytes;
+mod page_list;
 mod program_header;
-mod row;
 mod segment_rows;
 mod table;
 #[cfg(test)]

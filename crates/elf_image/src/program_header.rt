@@ -122,7 +122,8 @@ impl ProgramHeader {
 
     /// The page of its first byte.
     pub fn first_page(&self) -> u64
-        ensures { result ≡ first_page self.now }
+        ensures page { result ≡ first_page self.now }
+        ensures small { result < 2 ^ 52 }
     {
         self.address / PAGE_SIZE
     }

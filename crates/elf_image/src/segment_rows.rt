@@ -4,8 +4,8 @@ ghost use Rattle.std.specs.Prelude.{◌≡◌};
 ghost use Rattle.elf_image.specs.Rows.{first_index, segment_fault};
 ghost use Rattle.elf_image.specs.Segments.{is_misaligned, is_writable_code, leaves_home, passes_end, shares_with_earlier};
 
+use crate::fault::{FaultKind, ImageFault};
 use crate::program_header::ProgramHeader;
-use crate::row::{Row, RowFault};
 
 fn first_past_end(segments: &[ProgramHeader], file_length: usize) -> Option<u64>
     ensures { result ≡ first_index (passes_end file_length) segments.now }
@@ -50,31 +50,25 @@ fn first_sharing(segments: &[ProgramHeader]) -> Option<u64>
     Some(first.index)
 }
 
-fn of(kind: Row, index: u64) -> Option<RowFault>
-    ensures { result ≡ Some (record { kind = kind; value = index }) }
-{
-    Some(RowFault { kind, value: index })
-}
-
 /// The first row on the segments of a file of this length that stands.
 #[tactic(auto, unfolding(crate::specs::Rows::segment_fault))]
-pub fn segment_fault(segments: &[ProgramHeader], file_length: usize) -> Option<RowFault>
+pub fn segment_fault(segments: &[ProgramHeader], file_length: usize) -> Option<ImageFault>
     ensures { result ≡ segment_fault file_length segments.now }
 {
     if let Some(index) = first_past_end(segments, file_length) {
-        return of(Row::SegmentRange, index);
+        return Some(ImageFault::new(FaultKind::SegmentRange, index));
     }
     if let Some(index) = first_misaligned(segments) {
-        return of(Row::Align, index);
+        return Some(ImageFault::new(FaultKind::Align, index));
     }
     if let Some(index) = first_outside_home(segments) {
-        return of(Row::OutsideHome, index);
+        return Some(ImageFault::new(FaultKind::OutsideHome, index));
     }
     if let Some(index) = first_sharing(segments) {
-        return of(Row::SharedPage, index);
+        return Some(ImageFault::new(FaultKind::SharedPage, index));
     }
     if let Some(index) = first_writable_code(segments) {
-        return of(Row::WritableCode, index);
+        return Some(ImageFault::new(FaultKind::WritableCode, index));
     }
     None
 }

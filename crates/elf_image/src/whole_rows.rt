@@ -6,8 +6,8 @@ ghost use Rattle.elf_image.specs.Rows.{whole_fault};
 ghost use Rattle.elf_image.specs.Segments.{is_code_at, total_pages};
 
 use crate::elf::{E_ENTRY, MOST_HEADERS, MOST_PAGES};
+use crate::fault::{FaultKind, ImageFault};
 use crate::program_header::ProgramHeader;
-use crate::row::{Row, RowFault};
 
 fn is_code_at(segments: &[ProgramHeader], va: u64) -> bool
     ensures { result ≡ list_any (is_code_at va) segments.now }
@@ -23,24 +23,18 @@ pub fn total_pages(segments: &[ProgramHeader]) -> u64
     segments.iter().map(|s| s.pages_touched()).sum()
 }
 
-fn of(kind: Row, value: u64) -> Option<RowFault>
-    ensures { result ≡ Some (record { kind = kind; value = value }) }
-{
-    Some(RowFault { kind, value })
-}
-
 /// The first row on all segments together that stands.
 #[tactic(auto, unfolding(crate::specs::Rows::whole_fault))]
-pub fn whole_fault(segments: &[ProgramHeader], entry: u64) -> Option<RowFault>
+pub fn whole_fault(segments: &[ProgramHeader], entry: u64) -> Option<ImageFault>
     requires { length segments.now ≤ MOST_HEADERS }
     ensures { result ≡ whole_fault entry segments.now }
 {
     if !is_code_at(segments, entry) {
-        return of(Row::BadEntry, E_ENTRY as u64);
+        return Some(ImageFault::new(FaultKind::BadEntry, E_ENTRY as u64));
     }
     let pages = total_pages(segments);
     if pages > MOST_PAGES {
-        return of(Row::TooLarge, pages);
+        return Some(ImageFault::new(FaultKind::TooLarge, pages));
     }
     None
 }

@@ -1,7 +1,8 @@
 -- What reads find after stores and patches: elsewhere, and at the same place.
 use Rattle.std.proofs.Common.{◌≡◌, ◌≢◌, ◌⊎◌, ℕ, zero, suc, ◌+◌, ◌*◌, ◌/◌, ◌%◌, ◌^◌, ◌<◌, ◌≤◌, List, [], ◌∷◌, ◌++◌, length, set, All, arith, rules, refl, sym, ap, ◌∙◌, inl, inr}
 use Rattle.std.proofs.lemmas.Grind.{common_steps}
-use Rattle.std.proofs.lemmas.List.{places, get_or-set_same, get_or-set_other, length-set}
+use Rattle.std.proofs.lemmas.List.{places, get_or-set_same, get_or-set_other, length-set, set_past}
+use Rattle.std.proofs.lemmas.Bool.{cases_lt, cases_eq}
 use Rattle.std.proofs.lemmas.List.Elements.{All-head, All-tail, All-cons, All-nil, All-weaker}
 use Rattle.std.proofs.Math.Nat.{pow-suc, pow-succ', div-div-eq-div-mul, div-one, mod-one, one-le-pow}
 use Rattle.std.proofs.Math.Arith.{mod-mul}
@@ -88,6 +89,34 @@ pub number_bound : (m : List ℕ) (n p : ℕ) → ((q : ℕ) → byte_at m q < 2
 unfolding number_at
 number_bound m zero p bytes = omega arith
 number_bound m (suc n) p bytes = omega (arith, bytes p, number_bound m n (p + 1) bytes, pow-suc 256 n)
+
+-- a store of one byte, made last, is read back
+pub byte_last : (m : List ℕ) (ws : List (ℕ × ℕ)) (q b : ℕ) → q < length m → byte_at (stored m (ws ++ (q, b) ∷ [])) q ≡ b
+unfolding stored
+byte_last m ws q b fits =
+    ap (λ l. byte_at l q) (stored-append m ws ((q, b) ∷ [])) ∙ get_or-set_same (stored m ws) q b 0 (omega (arith, length-stored m ws))
+
+-- the stores of a number are of bytes, and memory goes on being made of bytes
+pub stores_bytes : (n p v : ℕ) → All (λ w. w.1 < 256) (stores n p v)
+unfolding stores
+stores_bytes zero p v = All-nil (λ w. w.1 < 256)
+stores_bytes (suc n) p v = All-cons (λ w. w.1 < 256) (p, v % 256) (stores n (p + 1) (v / 256)) (omega arith) (stores_bytes n (p + 1) (v / 256))
+
+set_bytes : (m : List ℕ) (p b : ℕ) → b < 256 → ((q : ℕ) → byte_at m q < 256) → (q : ℕ) → byte_at (set m p b) q < 256
+set_bytes m p b small bytes q =
+    elim (cases_eq q p) [
+      | inl same ↦ elim (cases_lt p (length m)) [
+        | inl inside ↦ omega (arith, ap (λ x. byte_at (set m p b) x) same, get_or-set_same m p b 0 inside)
+        | inr past ↦ omega (arith, bytes q, ap (λ l. byte_at l q) (set_past m p b past))
+      ]
+      | inr other ↦ omega (arith, bytes q, get_or-set_other m p q b 0 other)
+    ]
+
+pub stored_bytes : (m : List ℕ) (ws : List (ℕ × ℕ)) → All (λ w. w.1 < 256) ws → ((q : ℕ) → byte_at m q < 256) → (q : ℕ) → byte_at (stored m ws) q < 256
+unfolding stored
+stored_bytes m [] small bytes q = bytes q
+stored_bytes m (w ∷ ws) small bytes q =
+    stored_bytes (set m w.0 w.1) ws (All-tail (λ w. w.1 < 256) w ws small) (set_bytes m w.0 w.1 (All-head (λ w. w.1 < 256) w ws small) bytes) q
 
 -- a patch changes no length where it fits
 pub length-patched : (m : List ℕ) (p : ℕ) (bs : List ℕ) → p + length bs ≤ length m → length (patched m p bs) ≡ length m

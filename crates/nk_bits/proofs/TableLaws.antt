@@ -7,12 +7,17 @@ use Rattle.std.proofs.lemmas.Bool.{cases_lt, cases_eq, cases_order}
 use Rattle.std.proofs.Math.Nat.{mod-eq_of_lt}
 use Rattle.nk_bits.specs.Memory.{byte_at, number_at, entry_in, stores, stored, patched, frame_zeroed, frame_bytes}
 use Rattle.nk_bits.specs.Paging.{replaced, zeroed, emptied, is_slot_entry, slot_value}
-use Rattle.nk_bits.proofs.MemoryLaws.{length-stored, byte_elsewhere, number_same, number_stored, number_elsewhere, stores_within, patched_below, patched_in, patched_above, length-patched}
+use Rattle.nk_bits.proofs.MemoryLaws.{length-stored, byte_elsewhere, number_same, number_bound, number_stored, number_elsewhere, stores_within, patched_below, patched_in, patched_above, length-patched}
 
 -- the stores of a number that lies within a frame are in that frame
 pub stores_in_frame : (n p v f : ℕ) → 4096 * f ≤ p → p + n ≤ 4096 * f + 4096 → All (λ w. w.0 / 4096 ≡ f) (stores n p v)
 stores_in_frame n p v f low high =
     All-weaker (λ w. (p ≤ w.0) × (w.0 < p + n)) (λ w. w.0 / 4096 ≡ f) (λ w h. omega (arith, h.0, h.1)) (stores n p v) (stores_within n p v)
+
+-- an entry is a number of 64 bits
+pub entry_bound : (m : List ℕ) (f i : ℕ) → ((q : ℕ) → byte_at m q < 256) → entry_in m f i < 2 ^ 64
+unfolding entry_in
+entry_bound m f i bytes = number_bound m 8 (4096 * f + 8 * i) bytes
 
 -- an entry stays where no store is in its frame
 pub entry_elsewhere : (m : List ℕ) (ws : List (ℕ × ℕ)) (f i : ℕ) → i < 512 → All (λ w. w.0 / 4096 ≢ f) ws → entry_in (stored m ws) f i ≡ entry_in m f i

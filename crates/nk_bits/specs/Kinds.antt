@@ -18,7 +18,7 @@ level_of Trap = 0
 level_of Guarded = 0
 level_of Hidden = 0
 
--- the frame is the outer kernel's own
+-- the frame is data of the outer kernel, or free
 abbrev pub is_data : Kind → Bool
 is_data Data = true
 is_data Code = false
@@ -28,7 +28,7 @@ is_data Trap = false
 is_data Guarded = false
 is_data Hidden = false
 
--- the kind whose frames a writable leaf may name: Data and Trap
+-- a writable leaf may name a frame of this kind: Data or Trap
 abbrev pub is_storable : Kind → Bool
 is_storable Data = true
 is_storable Code = false
@@ -38,7 +38,7 @@ is_storable Trap = true
 is_storable Guarded = false
 is_storable Hidden = false
 
--- the frame holds protected bytes
+-- the frame holds bytes of protected regions
 abbrev pub is_guarded : Kind → Bool
 is_guarded Data = false
 is_guarded Code = false
@@ -48,7 +48,7 @@ is_guarded Trap = false
 is_guarded Guarded = true
 is_guarded Hidden = false
 
--- the frame is mapped by no leaf
+-- no leaf may name a frame of this kind
 abbrev pub is_hidden : Kind → Bool
 is_hidden Data = false
 is_hidden Code = false

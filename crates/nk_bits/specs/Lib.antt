@@ -5,3 +5,4 @@ pub mod Rules
 pub mod Kinds
 pub mod Access
 pub mod Tlb
+pub mod Accesses

@@ -8,6 +8,7 @@
 mod address;
 mod call;
 mod entry;
+mod fault;
 mod kind;
 mod leaf;
 mod rule;
@@ -17,6 +18,7 @@ mod tests;
 pub use address::{canonical, index};
 pub use call::{Answer, CallWords, Delivery};
 pub use entry::{Entry, EntryFlags};
+pub use fault::AccessFault;
 pub use kind::Kind;
 pub use leaf::{Leaf, Rights, Target};
 pub use rule::Rule;

@@ -8,13 +8,13 @@ ghost use Rattle.nk_bits.specs.Rules.{number_of};
 pub enum Rule {
     /// The call's number isn't 1 to 9.
     BadCall,
-    /// The frame isn't in memory.
+    /// The frame isn't below the number of frames.
     BadFrame,
     /// The level isn't 1 to 4.
     BadLevel,
     /// The frame's kind isn't Data.
     NotData,
-    /// A leaf of some table that is writable or user names the frame.
+    /// A writable or user leaf of some table names the frame.
     StillLoose,
     /// The frame isn't a page table.
     NotTable,
@@ -24,23 +24,24 @@ pub enum Rule {
     KernelSlot,
     /// The value is present and its bits are out of form.
     BadBits,
-    /// The value is present and names a frame that it may not name.
+    /// The value is present and names a frame outside memory, a leaf's frame that is Hidden, or a table of another level
+    /// than the next lower one.
     BadTarget,
-    /// The value is a leaf whose rights the kind of its frame forbids.
+    /// The value is a present leaf whose rights the kind of its frame forbids.
     TooFree,
-    /// An entry of some table names the frame, or it is the root.
+    /// An entry of some table names the table, or it is the current root.
     StillLinked,
-    /// An entry of the table is present.
+    /// An entry of the table is present, other than the kernel slot's.
     NotEmpty,
-    /// The frame isn't a table of level 4.
+    /// The frame isn't a page table of level 4.
     NotRoot,
-    /// The size or the range of pages is out of form.
+    /// The size is out of bounds, or the range isn't one of whole, mapped pages that are distinct.
     BadRange,
     /// The policy isn't 1 to 4.
     BadPolicy,
-    /// As many regions are live as can be.
+    /// 256 regions are live.
     TooManyRegions,
-    /// No room is left for the region.
+    /// No place in the pool fits, or more than 128 pages would be declared.
     NoRoom,
     /// No live region has the identifier.
     BadRegion,
@@ -56,7 +57,7 @@ pub enum Rule {
     WrittenOnce,
     /// The policy is append-only and the offset isn't the tail.
     NotAtEnd,
-    /// The policy is write-log and the log has no room for the record.
+    /// The policy is write-log and the record exceeds what is left of the log.
     LogFull,
     /// The address isn't canonical.
     NotCanonical,

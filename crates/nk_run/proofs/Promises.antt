@@ -5,7 +5,7 @@ use Rattle.std.proofs.lemmas.List.Elements.{Contains-get_or}
 use Rattle.std.specs.Prelude.{unwrap_or, ⊤}
 use Rattle.std.specs.Io.KnownBytes.{Appends}
 use Rattle.nk_host.specs.Faults.{Rose, RoseTo}
-use Rattle.elf_image.specs.Rows.{first_fault_yet}
+use Rattle.elf_image.specs.Rows.{first_fault}
 use Rattle.byte_scanner.specs.Found.{first_found}
 use Rattle.boot_map.specs.Division.{need}
 use Rattle.nk_run.specs.declared.lines.TheConstants.{FILE_LIMIT}
@@ -48,8 +48,8 @@ module _ (words : List (List ℕ)) (files : Files) (image : List ℕ) (held : fi
   file_is : file_in files words Image ≡ image
   file_is = rw held refl
 
-  form_passes : formed (first_fault_yet (file_in files words Image)) ≡ passes
-  form_passes = ap (λ (b : List ℕ). formed (first_fault_yet b)) file_is ∙ ap formed good.formed
+  form_passes : formed (first_fault (file_in files words Image)) ≡ passes
+  form_passes = ap (λ (b : List ℕ). formed (first_fault b)) file_is ∙ ap formed good.formed
 
   code_passes : clean (first_found (file_in files words Image)) ≡ passes
   code_passes = ap (λ (b : List ℕ). clean (first_found b)) file_is ∙ ap clean good.clean

@@ -12,7 +12,7 @@ use Rattle.nk_run.specs.declared.words.Command.TheVariants.{Scan, Map}
 use Rattle.nk_run.specs.declared.words.Role.{Role}
 use Rattle.nk_run.specs.declared.words.Role.TheVariants.{Image}
 use Rattle.nk_run.specs.Words.{command_of, name_in, roles_of}
-use Rattle.elf_image.specs.Rows.{first_fault_yet}
+use Rattle.elf_image.specs.Rows.{first_fault}
 use Rattle.byte_scanner.specs.Found.{first_found}
 use Rattle.boot_map.specs.Division.{need}
 use Rattle.nk_run.specs.Lines.{no_memory_line, unread_line}
@@ -92,7 +92,7 @@ IsComplete words told before now sink_before sink_now status = IfTold told (λ f
 -- the image is held within the limit, has no fault, and holds no protected encoding in its code
 pub record IsGoodImage (b : List ℕ) : Type 0 where
   pub within : length b ≤ FILE_LIMIT
-  pub formed : first_fault_yet b ≡ None
+  pub formed : first_fault b ≡ None
   pub clean : first_found b ≡ None
 
 -- the image has room for its opening, where the command makes one

@@ -3,7 +3,7 @@
 use Rattle.std.specs.Prelude.{◌≡◌, ℕ, List, [], ◌∷◌, ◌++◌, length, take, Option, None, Some, Result, if◌then◌else◌, nat_lt, nat_le, unwrap_or, ⊤}
 use Rattle.elf_image.specs.declared.fault.ImageFault.{ImageFault}
 use Rattle.elf_image.specs.Faults.{number_of, name_of}
-use Rattle.elf_image.specs.Rows.{first_fault_yet}
+use Rattle.elf_image.specs.Rows.{first_fault}
 use Rattle.elf_image.specs.Pages.{entry_of, executable_page_count}
 use Rattle.byte_scanner.specs.declared.encoding.Found.{Found}
 use Rattle.byte_scanner.specs.Found.{first_found}
@@ -86,7 +86,7 @@ clean (Some found) = ends (record { status = 1; text = protected_line found.at (
 abbrev pub image_checks : Files → List (List ℕ) → List Check
 image_checks files words =
     fetch files words Image
-    ∷ test (formed (first_fault_yet (file_in files words Image)))
+    ∷ test (formed (first_fault (file_in files words Image)))
     ∷ test (clean (first_found (file_in files words Image)))
     ∷ []
 

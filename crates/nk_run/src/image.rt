@@ -6,7 +6,7 @@ ghost use Rattle.nk_run.specs.Words.{name_in, place_of};
 ghost use Rattle.nk_run.specs.Outcome.{fetched, formed, clean, first_verdict, image_checks, file_in, passes};
 ghost use Rattle.nk_run.specs.ReplyText.{text_of};
 ghost use Rattle.nk_run.specs.Replies.{Refuses, Stops};
-ghost use Rattle.elf_image.specs.Rows.{first_fault_yet};
+ghost use Rattle.elf_image.specs.Rows.{first_fault};
 ghost use Rattle.byte_scanner.specs.Found.{first_found};
 
 use crate::lines::{FILE_LIMIT, image_fault, longer, protected, unread};
@@ -49,8 +49,8 @@ fn fetch<S: Shelf>(
 /// The image that the file is, or the reply to its first fault.
 fn form(alloc: Global, bytes: Vec<u8>) -> Result<Image, Reply>
     ensures { MatchResult result
-        (λ image. (image ≡ bytes.items) × (formed (first_fault_yet bytes.items) ≡ passes))
-        (λ reply. Refuses (formed (first_fault_yet bytes.items)) reply.status (text_of reply.line)) }
+        (λ image. (image ≡ bytes.items) × (formed (first_fault bytes.items) ≡ passes))
+        (λ reply. Refuses (formed (first_fault bytes.items)) reply.status (text_of reply.line)) }
 {
     match Image::read(bytes) {
         Ok(image) => Ok(image),

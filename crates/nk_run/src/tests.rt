@@ -1,4 +1,6 @@
 //! Worked cases of the command line, over a shelf and a sink in memory.
+mod compiled;
+
 use crate::nk_main;
 use nk_host::{MemShelf, MemSink};
 use std::alloc::{AllocError, Global};
@@ -7,8 +9,15 @@ use std::test::Fail;
 /// The name of the file that holds the image.
 const NAME: &str = "kernel.elf";
 
-/// The flags of a segment that may be read and executed.
+/// Where images under test are linked.
+const HOME: u64 = 0xffff_ffff_8000_0000;
+
+/// The flags of a segment: what may be done with it.
+const READ: u32 = 4;
+
 const READ_EXECUTE: u32 = 5;
+
+const READ_WRITE: u32 = 6;
 
 /// What a call gave and wrote.
 #[derive(Drop)]
@@ -17,25 +26,59 @@ struct Ran {
     text: Vec<u8>,
 }
 
-/// An ELF file with one program header, which loads the text from file offset 4,096 to FFFFFFFF80000000, the entry there.
-fn image_with_flags(alloc: Global, flags: u32, text: &[u8]) -> Result<Vec<u8>, AllocError> {
-    let home = 0xffff_ffff_8000_0000u64;
-    let size = text.len() as u64;
+/// A segment of an image under test, and where its bytes stand in the file.
+#[derive(Clone, Copy)]
+struct Segment<'a> {
+    flags: u32,
+    offset: u64,
+    address: u64,
+    memory: u64,
+    bytes: &'a [u8],
+}
+
+/// An ELF file with these segments, in table order, whose bytes stand in the file in that order too. The entry is FFFFFFFF80000000.
+fn image_of(alloc: Global, segments: &[Segment]) -> Result<Vec<u8>, AllocError> {
     let mut file = Vec::new(alloc);
     file.extend_from_slice(b"\x7fELF\x02\x01\x01\0\0\0\0\0\0\0\0\0")?;
     file.extend_from_slice(&[2, 0, 62, 0, 1, 0, 0, 0])?;
-    for number in [home, 64, 0] {
+    for number in [HOME, 64, 0] {
         file.extend_from_slice(&u64::to_le_bytes(number))?;
     }
-    file.extend_from_slice(&[0, 0, 0, 0, 64, 0, 56, 0, 1, 0, 0, 0, 0, 0, 0, 0])?;
-    file.extend_from_slice(&u32::to_le_bytes(1))?;
-    file.extend_from_slice(&u32::to_le_bytes(flags))?;
-    for number in [4096, home, home, size, size, 4096] {
-        file.extend_from_slice(&u64::to_le_bytes(number))?;
+    file.extend_from_slice(&[0, 0, 0, 0, 64, 0, 56, 0])?;
+    file.extend_from_slice(&u64::to_le_bytes(segments.len() as u64))?;
+    for segment in segments {
+        file.extend_from_slice(&u32::to_le_bytes(1))?;
+        file.extend_from_slice(&u32::to_le_bytes(segment.flags))?;
+        let size = segment.bytes.len() as u64;
+        for number in [
+            segment.offset,
+            segment.address,
+            segment.address,
+            size,
+            segment.memory,
+            4096,
+        ] {
+            file.extend_from_slice(&u64::to_le_bytes(number))?;
+        }
     }
-    file.resize(4096, 0)?;
-    file.extend_from_slice(text)?;
+    for segment in segments {
+        file.resize(segment.offset as usize, 0)?;
+        file.extend_from_slice(segment.bytes)?;
+    }
     Ok(file)
+}
+
+/// An ELF file with one program header, which loads the text from file offset 4,096 to FFFFFFFF80000000, the entry there.
+fn image_with_flags(alloc: Global, flags: u32, text: &[u8]) -> Result<Vec<u8>, AllocError> {
+    let memory = text.len() as u64;
+    let segment = Segment {
+        flags,
+        offset: 4096,
+        address: HOME,
+        memory,
+        bytes: text,
+    };
+    image_of(alloc, &[segment])
 }
 
 fn image(alloc: Global, text: &[u8]) -> Result<Vec<u8>, AllocError> {
@@ -179,7 +222,7 @@ fn the_operand_byte_decides_after_0f_01(rt: HostRuntime) -> Result<(), Fail> {
 fn the_form_is_judged_before_the_code(rt: HostRuntime) -> Result<(), Fail> {
     let alloc = rt.alloc();
     let ran = scan(alloc, image_with_flags(alloc, 7, &[0x0f, 0x30])?)?;
-    assert!(rt; gives(&ran, 1, "image 0 NotYet 0\n"));
+    assert!(rt; gives(&ran, 1, "image 11 WritableCode 0\n"));
     Ok(())
 }
 
@@ -342,5 +385,152 @@ fn map_refuses_what_scan_refuses(rt: HostRuntime) -> Result<(), Fail> {
     assert!(rt; gives(&refused, 1, "protected ffffffff80000000 0f30\n"));
     let unread = run_with(alloc, &words, Vec::new(alloc), &[1], &[], 0)?;
     assert!(rt; gives(&unread, 3, "unread image\n"));
+    Ok(())
+}
+
+/// The halting kernel's file with some bytes changed.
+fn changed(alloc: Global, changes: &[(usize, u8)]) -> Result<Vec<u8>, AllocError> {
+    let mut file = image(alloc, &[0xf4])?;
+    for (place, value) in changes {
+        if let Some(byte) = file.get_mut(*place) {
+            *byte = *value;
+        }
+    }
+    Ok(file)
+}
+
+#[test]
+fn each_fault_has_its_line(rt: HostRuntime) -> Result<(), Fail> {
+    let alloc = rt.alloc();
+    let cases: [(&[(usize, u8)], &str); 11] = [
+        (&[(3, 0x47)], "image 2 Magic 0\n"),
+        (&[(5, 2)], "image 3 Class 5\n"),
+        (&[(16, 3)], "image 4 FileType 16\n"),
+        (&[(18, 3)], "image 5 Machine 18\n"),
+        (&[(56, 65)], "image 6 Table 56\n"),
+        (&[(96, 2)], "image 7 SegmentRange 0\n"),
+        (&[(80, 1)], "image 8 Align 0\n"),
+        (&[(104, 0), (111, 0x80)], "image 9 OutsideHome 0\n"),
+        (&[(68, 7)], "image 11 WritableCode 0\n"),
+        (&[(68, 4)], "image 12 BadEntry 24\n"),
+        (&[(107, 2)], "image 13 TooLarge 8193\n"),
+    ];
+    for (changes, line) in cases {
+        assert!(rt;
+            gives(&scan(alloc, changed(alloc, changes)?)?, 1, line),
+            "{line}"
+        );
+    }
+    let full = scan(alloc, changed(alloc, &[(104, 0), (107, 2)])?)?;
+    assert!(rt; gives(&full, 0, "admitted entry ffffffff80000000 pages 8192\n"));
+    Ok(())
+}
+
+const CODE: Segment = Segment {
+    flags: READ_EXECUTE,
+    offset: 4096,
+    address: HOME,
+    memory: 2,
+    bytes: &[0x90, 0xf4],
+};
+
+#[test]
+fn segments_become_pages_by_address(rt: HostRuntime) -> Result<(), Fail> {
+    let alloc = rt.alloc();
+    // Data first in the table, with a page that the file doesn't fill; constants; code.
+    let data = Segment {
+        flags: READ_WRITE,
+        offset: 4096,
+        address: HOME + 0x2000,
+        memory: 0x1001,
+        bytes: &[1],
+    };
+    let constants = Segment {
+        flags: READ,
+        offset: 8192,
+        address: HOME + 0x1000,
+        memory: 3,
+        bytes: &[0x0f, 0x30, 0],
+    };
+    let code = Segment {
+        offset: 12_288,
+        ..CODE
+    };
+    let segments = [data, constants, code];
+    let admitted = scan(alloc, image_of(alloc, &segments)?)?;
+    assert!(rt; gives(&admitted, 0, "admitted entry ffffffff80000000 pages 1\n"));
+    let pages = [
+        ("ffffffff80000000", "frame 67 r-xs\n"),
+        ("ffffffff80001000", "frame 68 r--s\n"),
+        ("ffffffff80002000", "frame 69 rw-s\n"),
+        ("ffffffff80003000", "frame 70 rw-s\n"),
+        ("ffffffff80004000", "missing 1\n"),
+        ("ffff800000043000", "frame 67 r--s\n"),
+        ("ffff800000044000", "frame 68 r--s\n"),
+        ("ffff800000045000", "frame 69 rw-s\n"),
+        ("ffff800000047000", "frame 71 r--s\n"),
+        ("ffff80000004a000", "frame 74 rw-s\n"),
+    ];
+    for (va, line) in pages {
+        let ran = run_with(
+            alloc,
+            &["map", NAME, "512", va],
+            image_of(alloc, &segments)?,
+            &[],
+            &[],
+            0,
+        )?;
+        assert!(rt; gives(&ran, 0, line), "{va}");
+    }
+    Ok(())
+}
+
+#[test]
+fn adjacent_code_pages_of_two_segments_are_one_run(rt: HostRuntime) -> Result<(), Fail> {
+    let alloc = rt.alloc();
+    let end = nops_with(alloc, 4095, &[0x0f], 0)?;
+    let first = Segment {
+        memory: 4096,
+        bytes: &end,
+        ..CODE
+    };
+    let second = Segment {
+        offset: 8192,
+        address: HOME + 0x1000,
+        bytes: &[0x22, 0xf4],
+        ..CODE
+    };
+    let joined = scan(alloc, image_of(alloc, &[first, second])?)?;
+    assert!(rt; gives(&joined, 1, "protected ffffffff80000fff 0f22f4\n"));
+    let data = Segment {
+        flags: READ,
+        ..second
+    };
+    let apart = scan(alloc, image_of(alloc, &[first, data])?)?;
+    assert!(rt; gives(&apart, 0, "admitted entry ffffffff80000000 pages 1\n"));
+    let shared = scan(alloc, image_of(alloc, &[first, first])?)?;
+    assert!(rt; gives(&shared, 1, "image 10 SharedPage 1\n"));
+    Ok(())
+}
+
+/// What gcc and ld built from examples/outer: admitted, with code, constants and data on pages of their own.
+#[test]
+fn a_compiled_kernel_is_admitted(rt: HostRuntime) -> Result<(), Fail> {
+    let alloc = rt.alloc();
+    let mut file = Vec::new(alloc);
+    file.extend_from_slice(&compiled::HEADERS)?;
+    file.resize(0x1000, 0)?;
+    file.extend_from_slice(&compiled::CODE)?;
+    file.resize(0x2000, 0)?;
+    file.extend_from_slice(&compiled::CONSTANTS)?;
+    file.resize(0x3000, 0)?;
+    file.extend_from_slice(&compiled::DATA)?;
+    assert!(rt;
+        gives(
+            &scan(alloc, file)?,
+            0,
+            "admitted entry ffffffff80000000 pages 1\n"
+        )
+    );
     Ok(())
 }

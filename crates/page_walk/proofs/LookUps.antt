@@ -1,11 +1,9 @@
 -- One look-up of the code against one of the walk.
 use Rattle.std.proofs.Common.{◌≡◌, ℕ, ◌-◌, ◌≤◌, Bool, true, false, sym, ap, ◌∙◌}
-use Rattle.std.specs.Prelude.{Result, Ok, Err, MatchResult}
+use Rattle.std.specs.Prelude.{Err}
 use Rattle.nk_bits.specs.declared.leaf.Rights.{Rights}
-use Rattle.nk_bits.specs.declared.leaf.Leaf.{Leaf}
 use Rattle.nk_bits.specs.Paging.{page_index, frame_of, rights_of, common, is_missing, walk_from}
 use Rattle.nk_bits.proofs.WalkLaws.{walk_past, walk_missing}
-use Rattle.page_walk.specs.declared.levels.Missing.{Missing}
 
 -- the entry e that was read is that of the walk, whose tables have as many frames as the memory
 module _ (t : ℕ → ℕ → ℕ) (most frames page level f e : ℕ) (r : Rights) (b : Bool)
@@ -23,10 +21,3 @@ module _ (t : ℕ → ℕ → ℕ) (most frames page level f e : ℕ) (r : Right
       ∙ ap (λ x. walk_from t most page (level - 1) (frame_of x) (common r (rights_of x))) (sym read)
       ∙ ap (λ x. walk_from t most page (level - 1) x (common r (rights_of e))) (sym to)
       ∙ ap (λ x. walk_from t most page (level - 1) g x) (sym with_rights)
-
--- what is left of the walk gives its answer
-pub carried : (result : Result Leaf Missing) (whole rest : Result Leaf ℕ) → whole ≡ rest →
-    MatchResult result (λ leaf. rest ≡ Ok leaf) (λ missing. rest ≡ Err missing.level) →
-    MatchResult result (λ leaf. whole ≡ Ok leaf) (λ missing. whole ≡ Err missing.level)
-carried (Ok leaf) whole rest same is = same ∙ is
-carried (Err missing) whole rest same is = same ∙ is

@@ -1,8 +1,9 @@
 //! The look-ups of a walk, one a level.
 
-ghost use Rattle.std.specs.Prelude.{◌≡◌, ◌+◌, ◌*◌, ◌/◌, ◌<◌, ◌≤◌, false, Ok, Err, IsTrue, IfOk, IfErr, MatchResult, length};
+ghost use Rattle.std.specs.Prelude.{◌≡◌, ◌+◌, ◌*◌, ◌/◌, ◌<◌, ◌≤◌, false, IsTrue, IfOk, IfErr, length};
 ghost use Rattle.nk_bits.specs.Memory.{entry_in};
 ghost use Rattle.nk_bits.specs.Paging.{page_of, page_index, is_canonical, is_missing as is_missing_entry, frame_of, common as granted_by_both, walk as walk_of, walk_from};
+ghost use Rattle.page_walk.specs.Outcomes.{leaf_or_level};
 
 use nk_bits::{Entry, Leaf, Rights, index};
 use phys_mem::PhysMem;
@@ -37,7 +38,7 @@ const ALL: Rights = Rights {
 pub fn walk(mem: &PhysMem, root: u32, va: u64) -> Result<Leaf, Missing>
     requires root { 4096 * root < length mem.now }
     requires canonical { IsTrue (is_canonical va) }
-    ensures result { MatchResult result (λ leaf. walk_of (entry_in mem.now) (length mem.now / 4096) root (page_of va) ≡ Ok leaf) (λ missing. walk_of (entry_in mem.now) (length mem.now / 4096) root (page_of va) ≡ Err missing.level) }
+    ensures result { leaf_or_level result ≡ walk_of (entry_in mem.now) (length mem.now / 4096) root (page_of va) }
     ensures frame { IfOk result (λ leaf. 4096 * leaf.frame < length mem.now) }
     ensures level { IfErr result (λ missing. (1 ≤ missing.level) × (missing.level ≤ 4)) }
 {
@@ -52,7 +53,7 @@ pub fn walk(mem: &PhysMem, root: u32, va: u64) -> Result<Leaf, Missing>
 fn descend(mem: &PhysMem, level: u8, reached: Reached, va: u64) -> Result<Leaf, Missing>
     requires level { level ≤ 4 }
     requires frame { 4096 * reached.frame < length mem.now }
-    ensures result { MatchResult result (λ leaf. walk_from (entry_in mem.now) (length mem.now / 4096) (page_of va) level reached.frame reached.rights ≡ Ok leaf) (λ missing. walk_from (entry_in mem.now) (length mem.now / 4096) (page_of va) level reached.frame reached.rights ≡ Err missing.level) }
+    ensures result { leaf_or_level result ≡ walk_from (entry_in mem.now) (length mem.now / 4096) (page_of va) level reached.frame reached.rights }
     ensures frame { IfOk result (λ leaf. 4096 * leaf.frame < length mem.now) }
     ensures level { IfErr result (λ missing. (1 ≤ missing.level) × (missing.level ≤ level)) }
 {

@@ -1,2 +1,3 @@
+pub mod FrameLaws
 mod Patches
 mod Words

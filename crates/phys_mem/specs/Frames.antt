@@ -8,6 +8,6 @@ use Rattle.phys_mem.specs.contracts.memory.PhysMem.{the_row}
 abbrev pub with_frame : List ℕ → ℕ → List ℕ → List ℕ
 with_frame m f bs = with_run m (4096 * f) bs
 
--- once r has ended, frame f of s has the last bytes behind r
+-- once r has ended, s is as it was, but for the last bytes behind r from the start of frame f on
 abbrev pub LendsFrame : MutBor (List ℕ) → ℕ → MutBor (List ℕ) → Fml
 LendsFrame s f r = Lends the_row (Array u8 0) s r (with_frame s.now f)

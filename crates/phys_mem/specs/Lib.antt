@@ -1,2 +1,1 @@
-pub use Rattle.raw_block.specs.Runs
 pub mod Frames

@@ -1,4 +1,7 @@
+ghost use Rattle.std.specs.Prelude.{◌+◌, ◌≤◌, length};
+
 use super::*;
+use std::process::Abort;
 use std::test::Fail;
 
 #[test]
@@ -51,5 +54,81 @@ fn zeroed_frame_leaves_its_neighbours(rt: HostRuntime) -> Result<(), Fail> {
     assert_eq!(rt; memory.load64(4092), 0xffff_ffff);
     assert_eq!(rt; memory.load64(8188), 0xffff_ffff_0000_0000);
     assert!(rt; memory.frame(1).iter().all(|byte| *byte == 0));
+    Ok(())
+}
+
+/// A step on both programs: a byte, a word, a frame of zeros, or a byte of a lent frame.
+#[derive(Clone, Copy)]
+enum Step {
+    Byte(u16, u8),
+    Word(u16, u64),
+    Zero(u16),
+    Lent(u16, u16, u8),
+}
+
+/// The plain program: the bytes one by one.
+fn plain_store(plain: &mut [u8], at: usize, value: u64)
+    requires { at + 8 ≤ length plain.old }
+{
+    let bytes = value.to_le_bytes();
+    for i in 0..8 {
+        plain[at + i] = bytes[i];
+    }
+}
+
+fn apply(rt: &impl Abort, memory: &mut PhysMem, plain: &mut [u8], step: Step) {
+    assert_eq!(rt; 4096 * memory.frames() as usize, plain.len());
+    match step {
+        Step::Byte(at, value) => {
+            assert!(rt; (at as usize) < plain.len());
+            memory.store8(at as u64, value);
+            plain[at as usize] = value;
+        }
+        Step::Word(at, value) => {
+            assert!(rt; at as usize + 8 <= plain.len());
+            memory.store64(at as u64, value);
+            plain_store(plain, at as usize, value);
+        }
+        Step::Zero(frame) => {
+            assert!(rt; 4096 * frame as usize + 4096 <= plain.len());
+            memory.zero_frame(frame as u32);
+            for i in 0..4096 {
+                plain[4096 * frame as usize + i] = 0;
+            }
+        }
+        Step::Lent(frame, at, value) => {
+            assert!(rt; at < 4096 && 4096 * frame as usize + 4096 <= plain.len());
+            memory.frame_mut(frame as u32)[at as usize] = value;
+            plain[4096 * frame as usize + at as usize] = value;
+        }
+    }
+}
+
+fn compare(rt: &impl Abort, memory: &PhysMem, plain: &[u8]) {
+    assert_eq!(rt; 4096 * memory.frames() as usize, plain.len());
+    for at in 0..plain.len() {
+        assert_eq!(rt; memory.load8(at as u64), plain[at]);
+    }
+}
+
+#[test]
+fn memory_is_as_the_plain_program(rt: HostRuntime) -> Result<(), Fail> {
+    let steps = [
+        Step::Word(0, 0x0102_0304_0506_0708),
+        Step::Word(4090, 0xa1a2_a3a4_a5a6_a7a8),
+        Step::Byte(4095, 0x5a),
+        Step::Lent(1, 0, 0xfe),
+        Step::Word(8184, u64::MAX),
+        Step::Zero(0),
+        Step::Lent(0, 4095, 0x7f),
+        Step::Word(4089, 1),
+        Step::Byte(8191, 0),
+    ];
+    let mut memory = PhysMem::new(rt.alloc(), 2)?;
+    let mut plain = Vec::from_elem(rt.alloc(), 0u8, 8192)?;
+    for step in steps {
+        apply(&rt, &mut memory, plain.as_mut_slice(), step);
+        compare(&rt, &memory, plain.as_slice());
+    }
     Ok(())
 }

@@ -1,6 +1,6 @@
 -- Bytes side by side in a block, cut and put together again. Assumes `Logic`.
 use Rattle.std.proofs.Common.{◌≡◌, ℕ, zero, suc, ◌+◌, ◌≤◌, List, [], ◌∷◌, ◌++◌, length, take, drop, refl, sym, ap, subst, ◌∙◌, arith}
-use Rattle.std.proofs.lemmas.List.{length-take, take-append-drop, drop-drop}
+use Rattle.std.proofs.lemmas.List.{length-take, take-append-drop, drop-drop, append_assoc}
 use seplogic.Ra.Ura.{Ura}
 use base.Logic.{ent, sep, via, snd∗, id⊢, mono_r}
 use base.Fraction.{full_share}
@@ -57,7 +57,7 @@ module _ {M : Type 1} {𝓤 : Ura M} (𝓛 : Logic 𝓤) (b : ℕ) where
     pub run_in : p + n ≤ length m → (bs : List ℕ) → length bs ≡ n → ent 𝓤 (sep 𝓤 (sem 𝓛 (Row (p + o) bs)) (sem 𝓛 Around)) (sem 𝓛 (Row o (with_run m p bs)))
     run_in h bs long =
         let rest = drop (p + n) m in
-        let whole : take p m ++ (bs ++ rest) ≡ with_run m p bs = ap (λ k. take p m ++ (bs ++ drop (p + k) m)) (sym long) ∙ sym (with_run-fits m p bs (omega arith)) in
+        let whole : take p m ++ (bs ++ rest) ≡ with_run m p bs = ap (λ k. take p m ++ (bs ++ drop (p + k) m)) (sym long) ∙ sym (with_run-fits m p bs (omega arith) ∙ append_assoc (take p m) bs (drop (p + length bs) m)) in
         qed 𝓛 (‵ (Row (p + o) bs) ∷ ‵ Around ∷ []) ∵ move ! (1 ∷ []) $ fsplit ! $ move ! (2 ∷ 1 ∷ []) $
         use2 𝓛 (‵ (Row (p + o) (bs ++ rest))) (glue bs rest (p + o) (n + (p + o)) (omega arith)) $ move ! (1 ∷ 0 ∷ []) $
         use2 𝓛 (‵ (Row o (take p m ++ (bs ++ rest)))) (glue (take p m) (bs ++ rest) o (p + o) (omega (arith, length-take p m))) $

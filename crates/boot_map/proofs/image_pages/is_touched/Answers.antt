@@ -1,6 +1,6 @@
-use Rattle.std.proofs.Common.{◌≡◌, ◌<◌, ◌≤◌, ◌+◌, ℕ, length, get_or, sym, ◌∙◌, ap, subst}
+use Rattle.std.proofs.Common.{◌<◌, ◌≤◌, ◌+◌, get_or, subst}
 use Rattle.elf_image.specs.Pages.{pages_of}
-use Rattle.boot_map.specs.Division.{is_touched, page_in}
+use Rattle.boot_map.specs.Division.{is_touched}
 use Rattle.boot_map.proofs.PlaceLaws.{touched_by_counts}
 use Rattle.boot_map.proofs.image_pages.is_touched.Goals as goal
 

@@ -1,4 +1,4 @@
-use Rattle.std.proofs.Common.{◌≡◌, ◌<◌, ◌≢◌, ℕ, length, get_or, sym, ◌∙◌, arith}
+use Rattle.std.proofs.Common.{◌<◌, ◌≢◌, length, get_or, sym, ◌∙◌, arith}
 use Rattle.elf_image.specs.Pages.{pages_of}
 use Rattle.boot_map.proofs.PlaceLaws.{placed_at, placed_nowhere}
 use Rattle.boot_map.proofs.image_pages.place_of.Goals as goal

@@ -1,4 +1,4 @@
-use Rattle.std.proofs.Common.{◌≡◌, ◌+◌, ◌*◌, ◌<◌, ◌≤◌, ◌∙◌, ap, length, arith}
+use Rattle.std.proofs.Common.{◌+◌, ◌*◌, ◌≤◌, ◌∙◌, length, arith}
 use Rattle.boot_map.specs.Entries.{entry_of_part}
 use Rattle.boot_map.proofs.FillLaws.{entry_more}
 use Rattle.boot_map.proofs.opening.fill_table.Goals as goal

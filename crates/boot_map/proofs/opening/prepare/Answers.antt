@@ -1,5 +1,5 @@
-use Rattle.std.proofs.Common.{◌≡◌, ◌<◌, ◌≤◌, ◌∙◌, subst, ap, arith}
-use Rattle.boot_map.specs.Division.{free_start, need}
+use Rattle.std.proofs.Common.{◌<◌, ◌≤◌, subst, ap, arith}
+use Rattle.boot_map.specs.Division.{free_start}
 use Rattle.boot_map.specs.Parts.{part_at}
 use Rattle.boot_map.specs.Opening.{IsFilled, byte_of_part}
 use Rattle.boot_map.proofs.FillLaws.{all_filled, frame_more}

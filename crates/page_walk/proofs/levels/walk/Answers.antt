@@ -1,11 +1,10 @@
-use Rattle.std.proofs.Common.{◌/◌, length}
+use Rattle.std.proofs.Common.{sym, ◌∙◌, ◌/◌, length}
 use Rattle.nk_bits.specs.Memory.{entry_in}
 use Rattle.nk_bits.specs.Paging.{page_of}
 use Rattle.nk_bits.proofs.WalkLaws.{walk_by_level}
-use Rattle.page_walk.proofs.LookUps.{carried}
 use Rattle.page_walk.proofs.levels.walk.Goals as goal
 
 pub returns-clause-result : goal.returns-clause-result
 returns-clause-result c =
     let a = c.args in
-    carried c.descend.result _ _ (walk_by_level (entry_in a.mem.now) (length a.mem.now / 4096) a.root (page_of a.va)) c.descend.ensures.result
+    c.descend.ensures.result ∙ sym (walk_by_level (entry_in a.mem.now) (length a.mem.now / 4096) a.root (page_of a.va))

@@ -1,9 +1,29 @@
-use Rattle.std.proofs.Common.{◌≡◌, ◌∙◌, ℕ, List, subst}
-use Rattle.elf_image.specs.Pages.{executable_page_count, page_count}
-use Rattle.elf_image.proofs.PageLaws.{executable_count}
+use Rattle.std.proofs.Common.{ℕ, List, ap, ◌∙◌, arith}
+use Rattle.elf_image.specs.declared.program_header.ProgramHeader.{ProgramHeader}
+use Rattle.std.specs.Prelude.{filter, sum_by}
+use Rattle.elf_image.specs.declared.elf.TheConstants.{PF_X}
+use Rattle.elf_image.specs.Elf.{has_flag}
+use Rattle.elf_image.specs.Pages.{executable_page_count}
+use Rattle.elf_image.specs.Segments.{pages_touched}
+use Rattle.elf_image.proofs.PageLaws.{executable_bounds, executable_count}
 use Rattle.elf_image.proofs.image_file.Image.executable_pages.Goals as goal
 
+-- the pages of the segments that may be executed
+code_pages : List ProgramHeader → ℕ
+code_pages segs = sum_by pages_touched (filter (λ s. has_flag s PF_X) segs)
+
+pub overflow_cast-result : goal.overflow_cast-result
+unfolding code_pages
+overflow_cast-result c = omega (arith, executable_bounds _ _ c.self.invariant c.executable_pages.result (c.executable_pages.ensures ∙ ap code_pages c.as_slice.ensures.value))
+
 pub returns-clause-count : goal.returns-clause-count
-returns-clause-count c =
-    let P : List ℕ → Type 0 = λ b. page_count b ≡ executable_page_count b in
-    c.pages.ensures.count ∙ subst P c.self.view_is (executable_count _ _ c.self.invariant)
+unfolding code_pages
+returns-clause-count c = c.executable_pages.ensures ∙ ap code_pages c.as_slice.ensures.value ∙ executable_count _ _ c.self.invariant ∙ ap executable_page_count c.self.view_is
+
+pub returns-clause-some : goal.returns-clause-some
+unfolding code_pages
+returns-clause-some c = (executable_bounds _ _ c.self.invariant c.executable_pages.result (c.executable_pages.ensures ∙ ap code_pages c.as_slice.ensures.value)).0
+
+pub returns-clause-few : goal.returns-clause-few
+unfolding code_pages
+returns-clause-few c = (executable_bounds _ _ c.self.invariant c.executable_pages.result (c.executable_pages.ensures ∙ ap code_pages c.as_slice.ensures.value)).1

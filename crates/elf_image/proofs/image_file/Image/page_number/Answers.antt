@@ -1,19 +1,38 @@
-use Rattle.std.proofs.Common.{◌<◌, ℕ, List, ap, get_or, arith}
+use Rattle.std.proofs.Common.{◌≡◌, ◌+◌, ◌*◌, ◌<◌, ◌≤◌, ℕ, List, get_or, ap, sym, ◌∙◌, subst, arith}
+use Rattle.elf_image.specs.declared.program_header.ProgramHeader.{ProgramHeader}
+use Rattle.std.specs.List.{flat_map}
+use Rattle.elf_image.specs.declared.elf.TheConstants.{HOME_START, HOME_END, PAGE_SIZE}
 use Rattle.elf_image.specs.Pages.{page_count, pages_of}
-use Rattle.elf_image.proofs.PageLaws.{page_at, page_in_home}
+use Rattle.elf_image.specs.Segments.{pages_of_segment, total_pages}
+use Rattle.elf_image.proofs.PageLaws.{count_is, page_in_home, pages_are}
 use Rattle.elf_image.proofs.image_file.Image.page_number.Goals as goal
+
+pub nth_page-requires : goal.nth_page-requires
+nth_page-requires c = omega (arith, c.requires, ap total_pages c.as_slice.ensures.value, count_is _ _ c.self.invariant, ap page_count c.self.view_is)
 
 pub returns-clause-number : goal.returns-clause-number
 returns-clause-number c =
-    let h : c.args.i < page_count c.self.inside.bytes.items = omega (arith, ap page_count c.self.view_is) in
-    omega (arith, page_at _ _ c.self.invariant c.args.i h, ap (λ (b : List ℕ). get_or (pages_of b) c.args.i 0) c.self.view_is)
+    c.nth_page.ensures
+    ∙ ap (λ (segs : List ProgramHeader). get_or (flat_map pages_of_segment segs) c.args.i 0) c.as_slice.ensures.value
+    ∙ ap (λ (ps : List ℕ). get_or ps c.args.i 0) (sym (pages_are _ _ c.self.invariant))
+    ∙ ap (λ (b : List ℕ). get_or (pages_of b) c.args.i 0) c.self.view_is
 
 pub returns-clause-above : goal.returns-clause-above
 returns-clause-above c =
-    let h : c.args.i < page_count c.self.inside.bytes.items = omega (arith, ap page_count c.self.view_is) in
-    omega (arith, page_at _ _ c.self.invariant c.args.i h, page_in_home _ _ c.self.invariant c.args.i h)
+    let inside : c.args.i < page_count c.self.inside.bytes.items = omega (arith, c.requires, ap page_count c.self.view_is) in
+    let same : c.nth_page.result ≡ get_or (pages_of c.self.inside.bytes.items) c.args.i 0 =
+    c.nth_page.ensures
+    ∙ ap (λ (segs : List ProgramHeader). get_or (flat_map pages_of_segment segs) c.args.i 0) c.as_slice.ensures.value
+    ∙ ap (λ (ps : List ℕ). get_or ps c.args.i 0) (sym (pages_are _ _ c.self.invariant)) in
+    let P : ℕ → Type 0 = λ n. HOME_START ≤ PAGE_SIZE * n in
+    subst P (sym same) (page_in_home _ _ c.self.invariant c.args.i inside).0
 
 pub returns-clause-below : goal.returns-clause-below
 returns-clause-below c =
-    let h : c.args.i < page_count c.self.inside.bytes.items = omega (arith, ap page_count c.self.view_is) in
-    omega (arith, page_at _ _ c.self.invariant c.args.i h, page_in_home _ _ c.self.invariant c.args.i h)
+    let inside : c.args.i < page_count c.self.inside.bytes.items = omega (arith, c.requires, ap page_count c.self.view_is) in
+    let same : c.nth_page.result ≡ get_or (pages_of c.self.inside.bytes.items) c.args.i 0 =
+    c.nth_page.ensures
+    ∙ ap (λ (segs : List ProgramHeader). get_or (flat_map pages_of_segment segs) c.args.i 0) c.as_slice.ensures.value
+    ∙ ap (λ (ps : List ℕ). get_or ps c.args.i 0) (sym (pages_are _ _ c.self.invariant)) in
+    let P : ℕ → Type 0 = λ n. PAGE_SIZE * n + PAGE_SIZE ≤ HOME_END in
+    subst P (sym same) (page_in_home _ _ c.self.invariant c.args.i inside).1

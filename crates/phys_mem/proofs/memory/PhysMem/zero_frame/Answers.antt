@@ -1,6 +1,6 @@
 use Rattle.std.proofs.Common.{◌+◌, ◌*◌, ◌≤◌, length, replicate, arith, ◌∙◌, ap}
 use Rattle.nk_bits.specs.Memory.{frame_zeroed}
-use Rattle.phys_mem.proofs.Patches.{with_run-zeroed, length-with_run}
+use Rattle.phys_mem.proofs.Patches.{with_run-zeroed, length-put}
 use Rattle.phys_mem.proofs.memory.PhysMem.zero_frame.Goals as goal
 
 pub returns-clause-zeroed : goal.returns-clause-zeroed
@@ -14,4 +14,4 @@ returns-clause-zeroed c =
 pub returns-clause-length : goal.returns-clause-length
 returns-clause-length c =
     let starts : c.start_of.result ≤ length c.args.self.now = omega arith in
-    length-with_run _ c.args.self.now c.start_of.result _ c.self.view_is starts
+    length-put _ c.args.self.now c.start_of.result _ c.self.view_is starts

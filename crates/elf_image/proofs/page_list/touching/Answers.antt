@@ -1,0 +1,12 @@
+use Rattle.std.proofs.Common.{rules, tests, ◌∙◌}
+use Rattle.std.proofs.lemmas.Iterator.{YieldsList-from_slice}
+use Rattle.std.proofs.lemmas.Iterator.Search.{find_from_yields_List}
+use Rattle.elf_image.specs.declared.program_header.ProgramHeader.{ProgramHeader}
+use Rattle.elf_image.specs.Segments.{touches}
+use Rattle.elf_image.proofs.page_list.touching.Goals as goal
+
+pub returns : goal.returns
+returns c =
+    c.copied.ensures
+    ∙ find_from_yields_List (λ (s : ProgramHeader). touches s c.args.page) _ _ c.find.result c.find.ensures.ran
+    (YieldsList-from_slice c.args.segments.now cc) (λ x b q k. search (rules, tests))

@@ -1,0 +1,4 @@
+mod Judgements
+mod Numbers
+mod Spans
+mod Steps

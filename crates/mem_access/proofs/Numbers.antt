@@ -1,0 +1,97 @@
+-- Numbers by their bytes: one byte more, two parts, and stores one by one.
+use Rattle.std.proofs.Common.{◌≡◌, ℕ, zero, suc, ◌+◌, ◌-◌, ◌*◌, ◌/◌, ◌%◌, ◌^◌, ◌<◌, ◌≤◌, List, [], ◌∷◌, ◌++◌, set, arith, refl, sym, ap, ◌∙◌}
+use Rattle.std.proofs.Math.Nat.{pow-suc, pow-le-pow_right, mul-le-mul_left}
+use Rattle.std.proofs.lemmas.Nat.{pow-add}
+use Rattle.nk_bits.specs.declared.leaf.Target.{Target}
+use Rattle.nk_bits.specs.Memory.{byte_at, number_at, stores, stored}
+use Rattle.nk_bits.specs.Accesses.{first_part, value_at, stores_at}
+use Rattle.nk_bits.proofs.MemoryLaws.{stored-append}
+
+-- a number of one byte more
+pub number_first : (m : List ℕ) (n k p q : ℕ) → n ≡ suc k → q ≡ p + 1 → number_at m n p ≡ byte_at m p + 256 * number_at m k q
+unfolding number_at
+number_first m n k p q e f = ap (λ x. number_at m x p) e ∙ ap (λ x. byte_at m p + 256 * number_at m k x) (sym f)
+
+pub number_none : (m : List ℕ) (n p : ℕ) → n ≡ 0 → number_at m n p ≡ 0
+unfolding number_at
+number_none m n p e = ap (λ x. number_at m x p) e
+
+-- a byte below a number of k bytes, in a number of n
+pub digits_bound : (n k b v : ℕ) → n ≡ suc k → b < 256 → v < 256 ^ k → b + 256 * v < 256 ^ n
+digits_bound n k b v e byte rest = let power : 256 ^ n ≡ 256 ^ k * 256 = ap (λ x. 256 ^ x) e ∙ pow-suc 256 k in omega (arith, byte, rest, power)
+
+-- a number of at most eight bytes fits 64 bits
+pub eight_bytes : (n v : ℕ) → n ≤ 8 → v < 256 ^ n → v < 2 ^ 64
+eight_bytes n v few bound = let most : 256 ^ n ≤ 256 ^ 8 = pow-le-pow_right (omega arith) few in omega (arith, bound, most)
+
+-- eight bits a byte
+pub bits_of_bytes : (k : ℕ) → 2 ^ (8 * k) ≡ 256 ^ k
+bits_of_bytes zero = refl
+bits_of_bytes (suc k) =
+    let more : 8 * suc k ≡ 8 * k + 8 = omega arith in
+    ap (λ x. 2 ^ x) more ∙ pow-add 2 (8 * k) 8 ∙ ap (λ x. x * 256) (bits_of_bytes k) ∙ sym (pow-suc 256 k)
+
+-- two parts, of k and of n bytes, fit where both are at most eight bytes
+pub parts_fit : (low k high n : ℕ) → k + n ≤ 8 → low < 256 ^ k → high < 256 ^ n → low + 256 ^ k * high < 2 ^ 64
+parts_fit low k high n few below above =
+    let power : 256 ^ k * (high + 1) ≤ 256 ^ k * 256 ^ n = mul-le-mul_left (256 ^ k) (omega (arith, above)) in
+    let whole : 256 ^ (k + n) ≡ 256 ^ k * 256 ^ n = pow-add 256 k n in
+    let most : 256 ^ (k + n) ≤ 256 ^ 8 = pow-le-pow_right (omega arith) few in
+    let split : 256 ^ k * (high + 1) ≡ 256 ^ k * high + 256 ^ k = omega arith in
+    omega (arith, power, whole, most, split, below)
+
+pub shifted : (low k high n : ℕ) → k + n ≤ 8 → low < 256 ^ k → high < 256 ^ n → low + high * 2 ^ (8 * k) % 2 ^ 64 ≡ low + 256 ^ k * high
+shifted low k high n few below above =
+    let fits : low + 256 ^ k * high < 2 ^ 64 = parts_fit low k high n few below above in
+    let same : high * 2 ^ (8 * k) ≡ 256 ^ k * high = ap (λ x. high * x) (bits_of_bytes k) ∙ omega arith in
+    omega (arith, fits, same)
+
+-- the first of the stores of a number is made
+pub store_first : (m l : List ℕ) (n k p q v w u : ℕ) → n ≡ suc k → q ≡ p + 1 → w ≡ v % 256 → u ≡ v / 256 → l ≡ stored m (stores 1 p w) → stored l (stores k q u) ≡ stored m (stores n p v)
+unfolding stores stored
+store_first m l n k p q v w u e f byte rest same =
+    let cut : w % 256 ≡ v % 256 = omega (arith, byte) in
+    ap (λ x. stored x (stores k q u)) (same ∙ ap (λ x. set m p x) cut)
+    ∙ ap (λ (x : ℕ × ℕ). stored (set m p (v % 256)) (stores k x.0 x.1)) (λ j. (f j, rest j))
+    ∙ sym (ap (λ x. stored m (stores x p v)) e)
+
+pub store_none : (m : List ℕ) (n p v : ℕ) → n ≡ 0 → stored m (stores n p v) ≡ m
+unfolding stores stored
+store_none m n p v e = ap (λ x. stored m (stores x p v)) e
+
+pub store_start : (m : List ℕ) (n k p q v : ℕ) → n ≡ k → p ≡ q → stored m (stores n p v) ≡ stored m (stores k q v)
+store_start m n k p q v e f = ap (λ (x : ℕ × ℕ). stored m (stores x.0 x.1 v)) (λ j. (e j, f j))
+
+-- a byte more below a number, in a count from the top down
+pub next_bound : (count offset b v : ℕ) → 0 < offset → offset ≤ count → b < 256 → v < 256 ^ (count - offset) → 256 * v + b < 256 ^ (count - (offset - 1))
+next_bound count offset b v some within byte rest =
+    omega (arith, digits_bound (count - (offset - 1)) (count - offset) b v (omega (arith, some, within)) byte rest)
+
+pub next_value : (m : List ℕ) (at count offset b v : ℕ) → 0 < offset → offset ≤ count → b ≡ byte_at m (at + (offset - 1)) → v ≡ number_at m (count - offset) (at + offset) →
+    256 * v + b ≡ number_at m (count - (offset - 1)) (at + (offset - 1))
+next_value m at count offset b v some within byte rest =
+    let first = number_first m (count - (offset - 1)) (count - offset) (at + (offset - 1)) (at + offset) (omega (arith, some, within)) (omega (arith, some)) in
+    omega (arith, first, byte, rest)
+
+-- an access on one page, and on two: the number that is read, and the stores that are made
+module _ (m : List ℕ) (va width part : ℕ) (target : Target) (is : part ≡ first_part va width) where
+  pub whole_value : (low : ℕ) → part ≡ width → low ≡ number_at m part target.first → low ≡ value_at m va width target
+  whole_value low all read =
+      let none : number_at m (width - first_part va width) target.second ≡ 0 = number_none m (width - first_part va width) target.second (omega (arith, all, is)) in
+      let nothing : 256 ^ first_part va width * number_at m (width - first_part va width) target.second ≡ 0 = ap (λ x. 256 ^ first_part va width * x) none ∙ omega arith in
+      let first : low ≡ number_at m (first_part va width) target.first = read ∙ ap (λ x. number_at m x target.first) is in
+      omega (arith, first, nothing)
+
+  pub one_part : (l : List ℕ) (value : ℕ) → part ≡ width → l ≡ stored m (stores part target.first value) → l ≡ stored m (stores_at va width target value)
+  one_part l value all put =
+      put ∙ ap (λ x. stored m (stores x target.first value)) is
+      ∙ sym (stored-append m (stores (first_part va width) target.first value) (stores (width - first_part va width) target.second (value / 256 ^ first_part va width))
+        ∙ store_none (stored m (stores (first_part va width) target.first value)) (width - first_part va width) target.second (value / 256 ^ first_part va width) (omega (arith, all, is)))
+
+  pub two_parts : (l n : List ℕ) (value rest : ℕ) → rest ≡ value / 256 ^ part → l ≡ stored m (stores part target.first value) → n ≡ stored l (stores (width - part) target.second rest) →
+      n ≡ stored m (stores_at va width target value)
+  two_parts l n value rest left put then_put =
+      then_put
+      ∙ ap (λ (x : List ℕ × ℕ). stored x.0 (stores (width - part) target.second x.1)) (λ j. (put j, left j))
+      ∙ ap (λ x. stored (stored m (stores x target.first value)) (stores (width - x) target.second (value / 256 ^ x))) is
+      ∙ sym (stored-append m (stores (first_part va width) target.first value) (stores (width - first_part va width) target.second (value / 256 ^ first_part va width)))

@@ -1,0 +1,41 @@
+-- How the bytes of an access lie on its pages, and that the places found are those of a target.
+use Rattle.std.proofs.Common.{◌≡◌, ℕ, ◌+◌, ◌-◌, ◌%◌, ◌<◌, ◌≤◌, ◌⊎◌, true, false, arith, refl, sym, inl, inr}
+use Rattle.std.proofs.Math.Nat.{min-le_left, min-le_right, min-eq_left}
+use borrow.Author.Tests.{ltb-false}
+use Rattle.nk_bits.specs.Accesses.{IsTarget, first_part, crosses}
+use Rattle.mem_access.specs.Views.{IsWidth}
+
+-- the first page has room for its part
+pub part_room : (va width : ℕ) → first_part va width ≤ 4096 - va % 4096
+unfolding first_part
+part_room va width = min-le_right width (4096 - va % 4096)
+
+-- on one page lie all bytes
+pub part_whole : (va width : ℕ) → crosses va width ≡ false → first_part va width ≡ width
+unfolding first_part crosses
+part_whole va width one = let within : va % 4096 + width ≤ 4096 = ltb-false 4096 (va % 4096 + width) one in min-eq_left (omega (arith, within))
+
+pub target_of_one : (size va width first : ℕ) → first % 4096 ≡ va % 4096 → first + (4096 - va % 4096) ≤ size → crosses va width ≡ false →
+    IsTarget size va width (record { first = first; second = 0 })
+target_of_one size va width first agrees inside one = record {
+  first_agrees = agrees;
+  second_agrees = refl;
+  first_fits = omega (arith, part_room va width, inside);
+  second_fits = λ less. absurd (omega (arith, part_whole va width one, less));
+}
+
+-- a second page begins at a multiple of 4,096
+pub target_of_two : (size va width first second next : ℕ) → first % 4096 ≡ va % 4096 → first + (4096 - va % 4096) ≤ size →
+    next % 4096 ≡ 0 → second % 4096 ≡ next % 4096 → second + (4096 - next % 4096) ≤ size → width ≤ 8 →
+    IsTarget size va width (record { first = first; second = second })
+target_of_two size va width first second next agrees inside start second_agrees second_inside few = record {
+  first_agrees = agrees;
+  second_agrees = omega (arith, start, second_agrees);
+  first_fits = omega (arith, part_room va width, inside);
+  second_fits = λ less. omega (arith, start, second_inside, few);
+}
+
+-- one byte lies on the first page
+pub part_of_one : (va : ℕ) → first_part va 1 ≡ 1
+unfolding first_part
+part_of_one va = min-eq_left (omega arith)

@@ -1,0 +1,9 @@
+use Rattle.std.proofs.Common.{◌≡◌, ◌+◌, ◌-◌, ◌^◌, ◌<◌}
+use Rattle.nk_bits.specs.Memory.{number_at}
+use Rattle.mem_access.proofs.bytes.number.Given as goal
+
+abbrev pub invariant-loop-offset : goal.invariant-loop-offset
+invariant-loop-offset l = record {
+  value : l.value ≡ number_at l.mem (l.count - l.offset) (l.at + l.offset);
+  bound : l.value < 256 ^ (l.count - l.offset);
+}

@@ -1,0 +1,44 @@
+//! The bytes of an access by address: whether each is canonical, and how they lie on pages.
+
+ghost use Rattle.std.specs.Prelude.{◌≡◌, ◌+◌, ◌-◌, ◌*◌, ◌/◌, ◌%◌, ◌^◌, ◌<◌, ◌≤◌};
+ghost use Rattle.nk_bits.specs.Accesses.{has_canonical_bytes as all_canonical, crosses as has_second_page, first_part as part_of, next_page as page_after};
+
+use nk_bits::canonical;
+
+const PAGE_BYTES: u64 = 4096;
+
+/// Whether each byte's address is canonical; addresses wrap at 2^64.
+#[tactic(auto, unfolding(nk_bits::specs::Accesses::has_canonical_bytes))]
+pub fn has_canonical_bytes(va: u64, width: u8) -> bool
+    ensures { result ≡ all_canonical va width }
+{
+    (0..width).all(|k| canonical(va.wrapping_add(u64::from(k))))
+}
+
+/// Whether the access has a second page.
+#[tactic(auto, unfolding(nk_bits::specs::Accesses::crosses))]
+pub fn crosses(va: u64, width: u8) -> bool
+    ensures { result ≡ has_second_page va width }
+{
+    va % PAGE_BYTES + u64::from(width) > PAGE_BYTES
+}
+
+/// How many of the bytes lie on the first page.
+#[tactic(auto, unfolding(nk_bits::specs::Accesses::first_part))]
+pub fn first_part(va: u64, width: u8) -> u8
+    ensures part { result ≡ part_of va width }
+    ensures bound { result ≤ width }
+    ensures room { result ≤ 4096 - va % 4096 }
+{
+    let room = PAGE_BYTES - va % PAGE_BYTES;
+    u64::from(width).min(room) as u8
+}
+
+/// The address of the first byte of the next page.
+#[tactic(auto, unfolding(nk_bits::specs::Accesses::next_page))]
+pub fn next_page(va: u64) -> u64
+    ensures page { result ≡ page_after va }
+    ensures start { result % 4096 ≡ 0 }
+{
+    (va / PAGE_BYTES * PAGE_BYTES).wrapping_add(PAGE_BYTES)
+}

@@ -1,0 +1,12 @@
+//! The translations that the processor keeps (SDM volume 3, 4.10.2): a list of at most 1,024 pairs of a page number
+//! and its leaf, youngest last, with the operations that `nk_bits` defines on such lists. Its room is taken when it is
+//! made; no later call takes memory. When a translation is filled, used or dropped is left to the access and to the
+//! instructions.
+#![tactic(auto)]
+
+mod translations;
+
+pub use translations::{CAPACITY, NoMemory, Tlb};
+
+#[cfg(test)]
+mod tests;

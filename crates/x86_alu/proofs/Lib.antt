@@ -1,0 +1,3 @@
+pub mod FlagBits
+pub mod Turns
+pub mod FirstSet

@@ -1,0 +1,3 @@
+mod products;
+mod shifts;
+mod sums;

@@ -1,0 +1,11 @@
+pub mod Maps
+pub mod Slots
+pub mod Operands
+pub mod Rows
+pub mod Examples
+pub mod RowReading
+pub mod RowFinding
+pub mod Reading
+pub mod Finding
+pub mod Law
+pub mod Answers

@@ -1,0 +1,7 @@
+pub mod Forms
+pub mod Table
+pub mod Grid
+pub mod Meaning
+pub mod Spelling
+pub mod Decoding
+pub mod Reader
