@@ -104,7 +104,7 @@ modrm_length-within bytes more there =
     let whole : List ℕ = bytes ++ more in
     let one : modrm_byte whole ≡ modrm_byte bytes = modrm_byte-append bytes more (omega (arith, modrm_length-above whole)) in
     let sib : has_sib (modrm_byte whole) ≡ true → sib_byte bytes ≡ sib_byte whole =
-        λ h. sym (get_or-append bytes more 0 1 (omega (arith, sib_above whole h))) in
+    λ h. sym (get_or-append bytes more 0 1 (omega (arith, sib_above whole h))) in
     let P : ℕ → Type 0 = λ m. front_size m + displacement_size m (sib_byte bytes) ≡ modrm_length whole in
     subst P one (ap (λ n. front_size (modrm_byte whole) + n) (size_same (modrm_byte whole) (sib_byte bytes) (sib_byte whole) sib))
 
@@ -116,11 +116,12 @@ zero_read (suc n) (suc i) = zero_read n i
 -- zeros behind the end change no byte that is read
 pub zeros_read : (bytes : List ℕ) (n i : ℕ) → slice_index (bytes ++ replicate n 0) i ≡ slice_index bytes i
 zeros_read bytes n i = elim (cases_lt i (length bytes)) [
-    inl within ↦ get_or-append bytes (replicate n 0) 0 i within
+  | inl within ↦ get_or-append bytes (replicate n 0) 0 i within
   | inr past ↦
       let at : length bytes + (i - length bytes) ≡ i = omega arith in
       let P : ℕ → Type 0 = λ k. get_or (bytes ++ replicate n 0) k 0 ≡ get_or bytes i 0 in
-      subst P at (get_or-append-add bytes (replicate n 0) (i - length bytes) 0 ∙ (zero_read n (i - length bytes) ∙ sym (get_or_past bytes i 0 past))) ]
+      subst P at (get_or-append-add bytes (replicate n 0) (i - length bytes) 0 ∙ (zero_read n (i - length bytes) ∙ sym (get_or_past bytes i 0 past)))
+]
 
 pub modrm_length-zeros : (bytes : List ℕ) (n : ℕ) → modrm_length (bytes ++ replicate n 0) ≡ modrm_length bytes
 unfolding modrm_length

@@ -86,7 +86,7 @@ module _ (m : List ℕ) (va width part : ℕ) (target : Target) (is : part ≡ f
   one_part l value all put =
       put ∙ ap (λ x. stored m (stores x target.first value)) is
       ∙ sym (stored-append m (stores (first_part va width) target.first value) (stores (width - first_part va width) target.second (value / 256 ^ first_part va width))
-        ∙ store_none (stored m (stores (first_part va width) target.first value)) (width - first_part va width) target.second (value / 256 ^ first_part va width) (omega (arith, all, is)))
+      ∙ store_none (stored m (stores (first_part va width) target.first value)) (width - first_part va width) target.second (value / 256 ^ first_part va width) (omega (arith, all, is)))
 
   pub two_parts : (l n : List ℕ) (value rest : ℕ) → rest ≡ value / 256 ^ part → l ≡ stored m (stores part target.first value) → n ≡ stored l (stores (width - part) target.second rest) →
       n ≡ stored m (stores_at va width target value)

@@ -20,7 +20,14 @@ use tlb_model::Tlb;
 /// Reads the number of `width` bytes from `va` on, least significant first.
 ///
 /// Fails where a byte's address isn't canonical, or where a page has no translation that serves the read.
-pub fn load(mem: &PhysMem, tlb: &mut Tlb, control: &Control, cpl: u8, va: u64, width: u8) -> Result<u64, AccessFault>
+pub fn load(
+    mem: &PhysMem,
+    tlb: &mut Tlb,
+    control: &Control,
+    cpl: u8,
+    va: u64,
+    width: u8,
+) -> Result<u64, AccessFault>
     requires cpl { (cpl ≡ 0) ⊎ (cpl ≡ 3) }
     requires width { IsWidth width }
     requires root { 4096 * control.now.root < length mem.now }
@@ -39,7 +46,14 @@ pub fn load(mem: &PhysMem, tlb: &mut Tlb, control: &Control, cpl: u8, va: u64, w
 /// Judges a write of `width` bytes from `va` on, and finds the places of its bytes in memory, for `commit`.
 ///
 /// Fails where a byte's address isn't canonical, or where a page has no translation that serves the write.
-pub fn check_store(mem: &PhysMem, tlb: &mut Tlb, control: &Control, cpl: u8, va: u64, width: u8) -> Result<Target, AccessFault>
+pub fn check_store(
+    mem: &PhysMem,
+    tlb: &mut Tlb,
+    control: &Control,
+    cpl: u8,
+    va: u64,
+    width: u8,
+) -> Result<Target, AccessFault>
     requires cpl { (cpl ≡ 0) ⊎ (cpl ≡ 3) }
     requires width { IsWidth width }
     requires root { 4096 * control.now.root < length mem.now }
@@ -67,7 +81,15 @@ pub fn commit(mem: &mut PhysMem, target: &Target, va: u64, width: u8, value: u64
 ///
 /// Fails where a byte's address isn't canonical, or where a page has no translation that serves the write; then no byte
 /// of memory changes.
-pub fn store(mem: &mut PhysMem, tlb: &mut Tlb, control: &Control, cpl: u8, va: u64, width: u8, value: u64) -> Result<(), AccessFault>
+pub fn store(
+    mem: &mut PhysMem,
+    tlb: &mut Tlb,
+    control: &Control,
+    cpl: u8,
+    va: u64,
+    width: u8,
+    value: u64,
+) -> Result<(), AccessFault>
     requires cpl { (cpl ≡ 0) ⊎ (cpl ≡ 3) }
     requires width { IsWidth width }
     requires root { 4096 * control.now.root < length mem.old }
@@ -91,7 +113,13 @@ pub fn store(mem: &mut PhysMem, tlb: &mut Tlb, control: &Control, cpl: u8, va: u
 /// Fetches the byte at `va` for execution.
 ///
 /// Fails where the address isn't canonical, or where its page has no translation that serves the fetch.
-pub fn fetch_byte(mem: &PhysMem, tlb: &mut Tlb, control: &Control, cpl: u8, va: u64) -> Result<u8, AccessFault>
+pub fn fetch_byte(
+    mem: &PhysMem,
+    tlb: &mut Tlb,
+    control: &Control,
+    cpl: u8,
+    va: u64,
+) -> Result<u8, AccessFault>
     requires cpl { (cpl ≡ 0) ⊎ (cpl ≡ 3) }
     requires root { 4096 * control.now.root < length mem.now }
     requires frames { NamesFramesIn (length mem.now) tlb.old }
@@ -107,7 +135,13 @@ pub fn fetch_byte(mem: &PhysMem, tlb: &mut Tlb, control: &Control, cpl: u8, va: 
 }
 
 /// The places of an access, once each of its pages is found and judged.
-fn access(mem: &PhysMem, tlb: &mut Tlb, request: &Request, va: u64, width: u8) -> Result<Target, AccessFault>
+fn access(
+    mem: &PhysMem,
+    tlb: &mut Tlb,
+    request: &Request,
+    va: u64,
+    width: u8,
+) -> Result<Target, AccessFault>
     requires width { (1 ≤ width) × (width ≤ 8) }
     requires root { 4096 * request.now.root < length mem.now }
     requires frames { NamesFramesIn (length mem.now) tlb.old }
@@ -126,7 +160,14 @@ fn access(mem: &PhysMem, tlb: &mut Tlb, request: &Request, va: u64, width: u8) -
 }
 
 /// The rest of an access whose first byte has this place: its second page, if it has one.
-fn complete(mem: &PhysMem, tlb: &mut Tlb, request: &Request, va: u64, width: u8, first: u64) -> Result<Target, AccessFault>
+fn complete(
+    mem: &PhysMem,
+    tlb: &mut Tlb,
+    request: &Request,
+    va: u64,
+    width: u8,
+    first: u64,
+) -> Result<Target, AccessFault>
     requires width { (1 ≤ width) × (width ≤ 8) }
     requires root { 4096 * request.now.root < length mem.now }
     requires frames { NamesFramesIn (length mem.now) tlb.old }

@@ -4,12 +4,12 @@
 //! call takes memory. When an access is made, and what its fault leads to, is left to the instructions.
 #![tactic(auto)]
 
-mod control;
-mod request;
-mod pages;
-mod span;
-mod bytes;
 mod access;
+mod bytes;
+mod control;
+mod pages;
+mod request;
+mod span;
 #[cfg(test)]
 mod tests;
 

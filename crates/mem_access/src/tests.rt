@@ -13,8 +13,11 @@ use tlb_model::Tlb;
 
 /// Flags of an entry: P, R/W and U/S.
 const ALL: u64 = 0x7;
+
 const READ_ONLY: u64 = 0x5;
+
 const SUPERVISOR: u64 = 0x3;
+
 const ABSENT: u64 = 0x6;
 
 /// WP and SMEP are set.
@@ -58,7 +61,10 @@ fn supervisor_executes_no_user_page(rt: HostRuntime) -> Result<(), Fail> {
     let mut mem = memory(rt.alloc(), READ_ONLY, ALL)?;
     let mut tlb = Tlb::new(rt.alloc())?;
     mem.store8(0x9000, 0xF4);
-    assert_eq!(rt; fetch_byte(&mem, &mut tlb, &CONTROL, 0, 0x1000), fault(0x11, 0x1000));
+    assert_eq!(rt;
+        fetch_byte(&mem, &mut tlb, &CONTROL, 0, 0x1000),
+        fault(0x11, 0x1000)
+    );
     assert_eq!(rt; fetch_byte(&mem, &mut tlb, &CONTROL, 3, 0x1000), Ok(0xF4));
     Ok(())
 }
@@ -69,7 +75,10 @@ fn stale_translation_is_used_until_it_faults(rt: HostRuntime) -> Result<(), Fail
     let mut tlb = Tlb::new(rt.alloc())?;
     assert_eq!(rt; load(&mem, &mut tlb, &CONTROL, 0, 0x10, 8), Ok(0));
     mem.store64(0x4000, 0x8007);
-    assert_eq!(rt; store(&mut mem, &mut tlb, &CONTROL, 0, 0x10, 8, 5), fault(3, 0x10));
+    assert_eq!(rt;
+        store(&mut mem, &mut tlb, &CONTROL, 0, 0x10, 8, 5),
+        fault(3, 0x10)
+    );
     assert_eq!(rt; mem.load64(0x8010), 0);
     assert_eq!(rt; store(&mut mem, &mut tlb, &CONTROL, 0, 0x10, 8, 5), Ok(()));
     assert_eq!(rt; mem.load64(0x8010), 5);
@@ -87,14 +96,34 @@ fn store_over_the_end_of_a_page(rt: HostRuntime) -> Result<(), Fail> {
         first: 0x8FFD,
         second: 0x9000,
     };
-    assert_eq!(rt; check_store(&mem, &mut tlb, &CONTROL, 3, 0xFFD, 8), Ok(target));
-    assert_eq!(rt; store(&mut mem, &mut tlb, &CONTROL, 3, 0xFFD, 8, 0x8877_6655_4433_2211), Ok(()));
+    assert_eq!(rt;
+        check_store(&mem, &mut tlb, &CONTROL, 3, 0xFFD, 8),
+        Ok(target)
+    );
+    assert_eq!(rt;
+        store(
+            &mut mem,
+            &mut tlb,
+            &CONTROL,
+            3,
+            0xFFD,
+            8,
+            0x8877_6655_4433_2211
+        ),
+        Ok(())
+    );
     assert_eq!(rt; mem.load64(0x8FFC), 0x7766_5544_3322_1100);
     assert_eq!(rt; mem.load64(0x9000), 0x88_7766_5544);
-    assert_eq!(rt; load(&mem, &mut tlb, &CONTROL, 3, 0xFFD, 8), Ok(0x8877_6655_4433_2211));
+    assert_eq!(rt;
+        load(&mem, &mut tlb, &CONTROL, 3, 0xFFD, 8),
+        Ok(0x8877_6655_4433_2211)
+    );
     assert_eq!(rt; load(&mem, &mut tlb, &CONTROL, 3, 0xFFF, 2), Ok(0x4433));
     assert_eq!(rt; load(&mem, &mut tlb, &CONTROL, 3, 0xFFD, 1), Ok(0x11));
-    assert_eq!(rt; load(&mem, &mut tlb, &CONTROL, 3, 0x1000, 4), Ok(0x7766_5544));
+    assert_eq!(rt;
+        load(&mem, &mut tlb, &CONTROL, 3, 0x1000, 4),
+        Ok(0x7766_5544)
+    );
     Ok(())
 }
 
@@ -112,7 +141,14 @@ fn write_that_was_judged_needs_no_translation(rt: HostRuntime) -> Result<(), Fai
 }
 
 /// How many stores of `width` bytes over the end of page 0 are refused with this code at page 1, and write nothing.
-fn refusals(mem: &mut PhysMem, tlb: &mut Tlb, control: &Control, cpl: u8, width: u8, code: u64) -> u8
+fn refusals(
+    mem: &mut PhysMem,
+    tlb: &mut Tlb,
+    control: &Control,
+    cpl: u8,
+    width: u8,
+    code: u64,
+) -> u8
     requires cpl { (cpl ≡ 0) ⊎ (cpl ≡ 3) }
     requires width { IsWidth width }
     requires length { length mem.old ≡ 65536 }
@@ -123,7 +159,15 @@ fn refusals(mem: &mut PhysMem, tlb: &mut Tlb, control: &Control, cpl: u8, width:
 {
     let mut count = 0;
     for part in 1..width {
-        let result = store(mem, tlb, control, cpl, 0x1000 - u64::from(part), width, u64::MAX);
+        let result = store(
+            mem,
+            tlb,
+            control,
+            cpl,
+            0x1000 - u64::from(part),
+            width,
+            u64::MAX,
+        );
         let is_refused = result == fault(code, 0x1000);
         let is_kept = mem.load64(0x8FF8) == 0;
         if is_refused & is_kept {
@@ -159,8 +203,14 @@ fn addresses_wrap(rt: HostRuntime) -> Result<(), Fail> {
     mem.store64(0xAFF8, 0x1234_5678_0000_0000);
     mem.store64(0x8000, 0x9ABC_DEF0);
     let last = 0xFFFF_FFFF_FFFF_FFFC;
-    assert_eq!(rt; load(&mem, &mut tlb, &CONTROL, 3, last, 8), Ok(0x9ABC_DEF0_1234_5678));
-    assert_eq!(rt; store(&mut mem, &mut tlb, &CONTROL, 3, last, 8, 0), fault(7, last));
+    assert_eq!(rt;
+        load(&mem, &mut tlb, &CONTROL, 3, last, 8),
+        Ok(0x9ABC_DEF0_1234_5678)
+    );
+    assert_eq!(rt;
+        store(&mut mem, &mut tlb, &CONTROL, 3, last, 8, 0),
+        fault(7, last)
+    );
     mem.store64(0x4000, 0x8000 + ABSENT);
     tlb.drop_page(0);
     assert_eq!(rt; load(&mem, &mut tlb, &CONTROL, 3, last, 8), fault(4, 0));
@@ -172,11 +222,23 @@ fn no_byte_may_lie_between_the_canonical_halves(rt: HostRuntime) -> Result<(), F
     let mem = memory(rt.alloc(), ALL, ALL)?;
     let mut tlb = Tlb::new(rt.alloc())?;
     let end = 0x7FFF_FFFF_FFFF;
-    assert_eq!(rt; load(&mem, &mut tlb, &CONTROL, 0, end, 2), Err(AccessFault::NonCanonical));
-    assert_eq!(rt; load(&mem, &mut tlb, &CONTROL, 0, end + 1, 1), Err(AccessFault::NonCanonical));
+    assert_eq!(rt;
+        load(&mem, &mut tlb, &CONTROL, 0, end, 2),
+        Err(AccessFault::NonCanonical)
+    );
+    assert_eq!(rt;
+        load(&mem, &mut tlb, &CONTROL, 0, end + 1, 1),
+        Err(AccessFault::NonCanonical)
+    );
     assert_eq!(rt; load(&mem, &mut tlb, &CONTROL, 0, end, 1), fault(0, end));
-    assert_eq!(rt; fetch_byte(&mem, &mut tlb, &CONTROL, 0, 0xFFFF_7FFF_FFFF_FFFF), Err(AccessFault::NonCanonical));
-    assert_eq!(rt; fetch_byte(&mem, &mut tlb, &CONTROL, 0, 0xFFFF_8000_0000_0000), fault(0x10, 0xFFFF_8000_0000_0000));
+    assert_eq!(rt;
+        fetch_byte(&mem, &mut tlb, &CONTROL, 0, 0xFFFF_7FFF_FFFF_FFFF),
+        Err(AccessFault::NonCanonical)
+    );
+    assert_eq!(rt;
+        fetch_byte(&mem, &mut tlb, &CONTROL, 0, 0xFFFF_8000_0000_0000),
+        fault(0x10, 0xFFFF_8000_0000_0000)
+    );
     Ok(())
 }
 
@@ -215,7 +277,10 @@ fn fill_may_drop_the_first_translation(rt: HostRuntime) -> Result<(), Fail> {
         first: 0x1FFE,
         second: 0x1000,
     };
-    assert_eq!(rt; check_store(&mem, &mut tlb, &CONTROL, 0, 0xFFE, 8), Ok(target));
+    assert_eq!(rt;
+        check_store(&mem, &mut tlb, &CONTROL, 0, 0xFFE, 8),
+        Ok(target)
+    );
     assert!(rt; tlb.look(0).is_none());
     assert!(rt; tlb.look(1).is_some());
     commit(&mut mem, &target, 0xFFE, 8, 0x8877_6655_4433_2211);

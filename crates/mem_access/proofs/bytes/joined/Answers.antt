@@ -4,8 +4,11 @@ use Rattle.mem_access.proofs.bytes.joined.Goals as goal
 
 pub overflow_add-result : goal.overflow_add-result
 overflow_add-result c =
-    omega (arith, parts_fit c.args.low c.args.part c.args.high c.args.count c.requires.count.1 c.requires.low c.requires.high,
-      shifted c.args.low c.args.part c.args.high c.args.count c.requires.count.1 c.requires.low c.requires.high)
+    omega (
+      arith,
+      parts_fit c.args.low c.args.part c.args.high c.args.count c.requires.count.1 c.requires.low c.requires.high,
+      shifted c.args.low c.args.part c.args.high c.args.count c.requires.count.1 c.requires.low c.requires.high,
+    )
 
 pub returns : goal.returns
 returns c = shifted c.args.low c.args.part c.args.high c.args.count c.requires.count.1 c.requires.low c.requires.high
