@@ -1,11 +1,13 @@
 -- A list that holds all bytes of a field gives the same field where more bytes follow.
 use Rattle.std.proofs.lemmas.List.{get_or-append-add, get_or_past}
-use Rattle.std.proofs.Common.{slice_index, get_or, replicate, ◌≡◌, ℕ, zero, suc, ◌+◌, ◌-◌, ◌*◌, ◌/◌, ◌%◌, ◌<◌, ◌≤◌, Bool, true, false, ◌&&◌, cond, List, [], ◌∷◌, ◌++◌, length, drop, refl, ap, sym, ◌∙◌, subst, arith, inl, inr, nat_eq}
+use Rattle.std.proofs.Common.{slice_index, get_or, replicate, ◌≡◌, ℕ, zero, suc, ◌+◌, ◌-◌, ◌*◌, ◌/◌, ◌%◌, ◌<◌, ◌≤◌, Bool, true, false, nat_lt, Option, Some, None, ◌&&◌, cond, List, [], ◌∷◌, ◌++◌, length, drop, refl, ap, sym, ◌∙◌, subst, arith, inl, inr, nat_eq}
 use Rattle.std.proofs.Math.ListN.{get_or-append}
-use Rattle.std.proofs.lemmas.Bool.{cases_Bool, cases_lt, cond-true, cond-false}
-use Rattle.std.proofs.lemmas.List.{drop-append-le, length-drop}
-use Rattle.decode_fields.specs.Number.{number_of, sign_extended}
-use Rattle.decode_fields.specs.ModRm.{displacement_from, displacement_size, front_size, has_sib, high_field, is_register, lacks_base, low_field, modrm_byte, modrm_length, place_by, place_of, plain_address, reg_by, reg_of, sib_address, sib_byte}
+use Rattle.std.proofs.lemmas.Bool.{cases_Bool, cases_lt, cond-true, cond-false, le-ltb}
+use Rattle.std.proofs.lemmas.List.{drop-append-le, length-append, length-drop}
+use Rattle.decode_fields.specs.declared.parts.ModRm.{ModRm}
+use Rattle.decode_fields.specs.declared.place.Place.{Place}
+use Rattle.decode_fields.specs.Number.{immediate_of, number_of, sign_extended, signed_number}
+use Rattle.decode_fields.specs.ModRm.{displacement_from, displacement_size, front_size, has_sib, high_field, is_register, lacks_base, low_field, modrm_byte, modrm_length, modrm_of, place_by, place_of, plain_address, reg_by, reg_of, sib_address, sib_byte}
 use Rattle.decode_fields.specs.declared.place.Place.TheVariants.{Reg, Mem}
 
 pub number_of-append : (n : ℕ) (bytes more : List ℕ) → n ≤ length bytes → number_of n (bytes ++ more) ≡ number_of n bytes
@@ -128,3 +130,25 @@ unfolding modrm_length
 modrm_length-zeros bytes n =
     ap (λ m. front_size m + displacement_size m (sib_byte (bytes ++ replicate n 0))) (zeros_read bytes n 0)
     ∙ ap (λ s. front_size (modrm_byte bytes) + displacement_size (modrm_byte bytes) s) (zeros_read bytes n 1)
+
+abbrev modrm_by : ℕ → Place → ℕ → ModRm
+modrm_by reg place length = record { reg = reg; place = place; length = length }
+
+-- more bytes behind the fields of ModRM change none of them
+pub modrm_of-append : (bytes more : List ℕ) (rex : ℕ) → modrm_length bytes ≤ length bytes → modrm_of (bytes ++ more) rex ≡ modrm_of bytes rex
+modrm_of-append bytes more rex there =
+    let whole : List ℕ = bytes ++ more in
+    let enough : modrm_length whole ≤ length whole = omega (arith, modrm_length-append bytes more there, length-append bytes more) in
+    cond-false {A = Option ModRm} (nat_lt (length whole) (modrm_length whole)) None (Some (modrm_by (reg_of whole rex) (place_of whole rex) (modrm_length whole))) (le-ltb (length whole) (modrm_length whole) enough)
+    ∙ (ap (λ n. Some (modrm_by n (place_of whole rex) (modrm_length whole))) (reg_of-append bytes more rex (omega (arith, modrm_length-above bytes)))
+    ∙ (ap (λ p. Some (modrm_by (reg_of bytes rex) p (modrm_length whole))) (place_of-append bytes more rex there)
+    ∙ (ap (λ n. Some (modrm_by (reg_of bytes rex) (place_of bytes rex) n)) (modrm_length-append bytes more there)
+    ∙ sym (cond-false {A = Option ModRm} (nat_lt (length bytes) (modrm_length bytes)) None (Some (modrm_by (reg_of bytes rex) (place_of bytes rex) (modrm_length bytes))) (le-ltb (length bytes) (modrm_length bytes) there)))))
+
+pub immediate_of-append : (bytes more : List ℕ) (width : ℕ) → width / 8 ≤ length bytes → immediate_of (bytes ++ more) width ≡ immediate_of bytes width
+immediate_of-append bytes more width there =
+    let whole : List ℕ = bytes ++ more in
+    let enough : width / 8 ≤ length whole = omega (arith, length-append bytes more) in
+    cond-false {A = Option ℕ} (nat_lt (length whole) (width / 8)) None (Some (signed_number width whole)) (le-ltb (length whole) (width / 8) enough)
+    ∙ (ap (λ n. Some (sign_extended width n)) (number_of-append (width / 8) bytes more there)
+    ∙ sym (cond-false {A = Option ℕ} (nat_lt (length bytes) (width / 8)) None (Some (signed_number width bytes)) (le-ltb (length bytes) (width / 8) there)))

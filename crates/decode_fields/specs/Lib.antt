@@ -1,4 +1,5 @@
 pub mod Prefixes
 pub mod Number
 pub mod ModRm
+pub mod Bounds
 pub mod Protected

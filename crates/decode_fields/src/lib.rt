@@ -5,12 +5,14 @@
 #![tactic(auto)]
 
 mod front;
+mod law;
 mod number;
 mod operand;
 mod parts;
 mod place;
 
 pub use front::prefixes;
+pub use law::longer_law;
 pub use number::immediate;
 pub use operand::modrm;
 pub use parts::{ModRm, Prefixes, Rep};

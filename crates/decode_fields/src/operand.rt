@@ -1,6 +1,7 @@
 //! ModRM, SIB and displacement (SDM volume 2, tables 2-2 and 2-3).
 
 ghost use Rattle.std.specs.Prelude.{◌≡◌, ◌≤◌, ◌<◌, ◌+◌, ◌⊎◌, length, slice_index, IfNone, IfSome};
+ghost use Rattle.decode_fields.specs.Bounds.{IsPlace};
 ghost use Rattle.decode_fields.specs.ModRm.{IsModRm, IsRex, displacement_from, displacement_size, front_size, has_sib, index_of, is_register, is_rip_relative, lacks_base, modrm_length, modrm_of, place_by, plain_address, reg_by, scale_of, sib_address};
 
 use crate::number::immediate;
@@ -152,6 +153,8 @@ pub fn modrm(bytes: &[u8], rex: u8) -> Option<ModRm>
     ensures value { result ≡ modrm_of bytes.now rex }
     ensures none { IfNone result (length bytes.now < modrm_length bytes.now) }
     ensures some { IfSome result (λ modrm. IsModRm modrm bytes.now rex) }
+    ensures reg { IfSome result (λ modrm. modrm.reg < 16) }
+    ensures place { IfSome result (λ modrm. IsPlace modrm.place) }
 {
     let modrm = byte_at(bytes, 0);
     let sib = byte_at(bytes, 1);

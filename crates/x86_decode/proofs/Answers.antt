@@ -16,7 +16,9 @@ use Rattle.x86_decode.specs.Meaning.{operand_length}
 use Rattle.x86_decode.specs.Reader.{answer_of, chosen, read_choice, read_escaped, read_of, read_rest, read_row}
 use Rattle.x86_decode.proofs.RowReading.{finished_cut, finished_whole}
 use Rattle.x86_decode.specs.Spelling.{IsCut, SameSpelling, Spells}
+use Rattle.x86_decode.specs.WellFormed.{IsWellFormed}
 use Rattle.x86_decode.proofs.Finding.{read_front, short_cut}
+use Rattle.x86_decode.proofs.Forms.{well_formed}
 use Rattle.x86_decode.proofs.Law.{law}
 use Rattle.x86_decode.proofs.Reading.{cut_read, spelled_read}
 
@@ -132,12 +134,22 @@ law_of_short : (b : Bool) (P : Instr → ℕ → Type 0) → IfWhole (cond b Sho
 law_of_short true P = tt
 law_of_short false P = tt
 
-law_by : (bytes : List ℕ) (read : Decoded) → read_of bytes ≡ read → IfWhole (answer_of read (length bytes)) (λ instr size. is_protected instr.op ≡ true → HasProtected (take size bytes))
-law_by bytes (Whole instr size) is = λ protected. law instr (take size bytes) (read_front bytes instr size is).spells protected
-law_by bytes Short is = law_of_short (nat_lt (length bytes) 15) (λ instr size. is_protected instr.op ≡ true → HasProtected (take size bytes))
-law_by bytes TooLong is = tt
-law_by bytes Unknown is = tt
+whole_by : (P : Instr → ℕ → Type 0) (bytes : List ℕ) → ((instr : Instr) (size : ℕ) → IsFront instr bytes size → P instr size) → (read : Decoded) → read_of bytes ≡ read → IfWhole (answer_of read (length bytes)) P
+whole_by P bytes holds (Whole instr size) is = holds instr size (read_front bytes instr size is)
+whole_by P bytes holds Short is = law_of_short (nat_lt (length bytes) 15) P
+whole_by P bytes holds TooLong is = tt
+whole_by P bytes holds Unknown is = tt
+
+-- what holds of each spelling in front holds of the answer's
+pub answer_whole : (P : Instr → ℕ → Type 0) (bytes : List ℕ) (answer : Decoded) → answer ≡ answer_of (read_of bytes) (length bytes) → ((instr : Instr) (size : ℕ) → IsFront instr bytes size → P instr size) → IfWhole answer P
+answer_whole P bytes answer is holds =
+    let Q : Decoded → Type 0 = λ d. IfWhole d P in
+    subst Q (sym is) (whole_by P bytes holds (read_of bytes) refl)
 
 -- a protected load stands on a protected encoding
-pub answer_law : (bytes : List ℕ) → IfWhole (answer_of (read_of bytes) (length bytes)) (λ instr size. is_protected instr.op ≡ true → HasProtected (take size bytes))
-answer_law bytes = law_by bytes (read_of bytes) refl
+pub answer_law : (bytes : List ℕ) (answer : Decoded) → answer ≡ answer_of (read_of bytes) (length bytes) → IfWhole answer (λ instr size. is_protected instr.op ≡ true → HasProtected (take size bytes))
+answer_law bytes answer is =
+    answer_whole (λ instr size. is_protected instr.op ≡ true → HasProtected (take size bytes)) bytes answer is (λ instr size f protected. law instr (take size bytes) f.spells protected)
+
+pub answer_formed : (bytes : List ℕ) (answer : Decoded) → answer ≡ answer_of (read_of bytes) (length bytes) → IfWhole answer (λ instr size. IsWellFormed instr)
+answer_formed bytes answer is = answer_whole (λ instr size. IsWellFormed instr) bytes answer is (λ instr size f. well_formed instr (take size bytes) f.spells)

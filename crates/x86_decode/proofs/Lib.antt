@@ -9,3 +9,4 @@ pub mod Reading
 pub mod Finding
 pub mod Law
 pub mod Answers
+pub mod Forms

@@ -81,7 +81,7 @@ at_group by place (slot.Row op' shape' ∷ slots) (suc k) op shape h =
     inr (subst P at (at_group by (place + 1) slots k op shape h))
 
 -- the operand size is one of three
-size_cases : (prefixes : Prefixes) → (operand_size prefixes ≡ 16) ⊎ ((operand_size prefixes ≡ 32) ⊎ (operand_size prefixes ≡ 64))
+pub size_cases : (prefixes : Prefixes) → (operand_size prefixes ≡ 16) ⊎ ((operand_size prefixes ≡ 32) ⊎ (operand_size prefixes ≡ 64))
 size_cases prefixes = elim (cases_Bool (nat_eq (rex_w (rex_number prefixes)) 1)) [
   | inl wide ↦ inr (inr (cond-true {A = ℕ} (nat_eq (rex_w (rex_number prefixes)) 1) 64 (cond prefixes.narrow 16 32) wide))
   | inr not_wide ↦ elim (cases_Bool prefixes.narrow) [

@@ -5,3 +5,4 @@ pub mod Meaning
 pub mod Spelling
 pub mod Decoding
 pub mod Reader
+pub mod WellFormed

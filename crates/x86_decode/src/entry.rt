@@ -5,21 +5,21 @@ use crate::operation::Op::*;
 use crate::shape::*;
 
 /// A row of a group, or none.
-#[derive(Clone, Copy, Debug, PartialEq, Eq)]
+#[derive(Clone, Copy)]
 pub(crate) enum Slot {
     Empty,
     Row(Op, Shape),
 }
 
 /// What tells the rows of a group apart: reg of ModRM, REX.B, or the operand size (16, 32 and 64 bits from 0 on).
-#[derive(Clone, Copy, Debug, PartialEq, Eq)]
+#[derive(Clone, Copy)]
 pub(crate) enum Selector {
     Digit,
     RexB,
     OperandSize,
 }
 
-#[derive(Clone, Copy, Debug, PartialEq, Eq)]
+#[derive(Clone, Copy)]
 pub(crate) enum Entry {
     Absent,
     One(Op, Shape),

@@ -18,3 +18,6 @@ mod two_byte;
 pub use instruction::{Decoded, Instr};
 pub use operation::Op;
 pub use reader::{decode, spelling_law};
+
+#[cfg(test)]
+mod tests;

@@ -6,6 +6,7 @@ ghost use Rattle.decode_fields.specs.ModRm.{IsRex};
 ghost use Rattle.x86_decode.specs.Decoding.{Decodes, HasProtected, IfWhole, is_protected};
 ghost use Rattle.x86_decode.specs.declared.instruction.Decoded.{Decoded};
 ghost use Rattle.x86_decode.specs.declared.instruction.Instr.{Instr};
+ghost use Rattle.x86_decode.specs.WellFormed.{IsWellFormed};
 ghost use Rattle.x86_decode.specs.Spelling.{SameSpelling, Spells};
 ghost use Rattle.x86_decode.specs.Grid.{entry_at};
 ghost use Rattle.x86_decode.specs.Meaning.{rex_number};
@@ -23,6 +24,9 @@ use decode_fields::{Prefixes, prefixes};
 
 /// The escape to the two-byte opcodes.
 const ESCAPE: u8 = 0x0F;
+
+/// The bytes of the longest spelling that is lawful.
+const LONGEST: usize = 15;
 
 /// A map of opcodes.
 #[derive(Clone, Copy)]
@@ -117,9 +121,6 @@ fn read(bytes: &[u8]) -> Decoded
     )
 }
 
-/// The longest spelling that is lawful.
-const LONGEST: usize = 15;
-
 fn answer(read: Decoded, length: usize) -> Decoded
     ensures { result ≡ answer_of read length }
 {
@@ -139,6 +140,7 @@ pub fn decode(bytes: &[u8]) -> Decoded
     requires { length bytes.now ≤ 15 }
     ensures right { Decodes bytes.now result }
     ensures only { (other : Decoded) → Decodes bytes.now other → other ≡ result }
+    ensures formed { IfWhole result (λ instr size. IsWellFormed instr) }
 
     // The law on spellings: a load of a protected register stands on a protected encoding.
     ensures law { IfWhole result (λ instr size. is_protected instr.op ≡ true → HasProtected (take size bytes.now)) }
@@ -146,7 +148,11 @@ pub fn decode(bytes: &[u8]) -> Decoded
     answer(read(bytes), bytes.len())
 }
 
-/// No spelling is a proper prefix of another, and bytes spell at most one instruction.
+/// No spelling is a proper prefix of another, and bytes spell at most one instruction, which is well formed and, where it
+/// loads a protected register, stands on a protected encoding.
 pub fn spelling_law()
-    ensures { (instr other : Instr) (bytes more : List ℕ) → Spells instr bytes → Spells other (bytes ++ more) → SameSpelling instr other more }
+    ensures one { (instr other : Instr) (bytes more : List ℕ)
+        → Spells instr bytes → Spells other (bytes ++ more) → SameSpelling instr other more }
+    ensures formed { (instr : Instr) (bytes : List ℕ) → Spells instr bytes → IsWellFormed instr }
+    ensures protected { (instr : Instr) (bytes : List ℕ) → Spells instr bytes → is_protected instr.op ≡ true → HasProtected bytes }
 {}

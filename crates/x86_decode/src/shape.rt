@@ -3,7 +3,7 @@
 //! rm, Z one by the opcode's low bits, I an immediate, J a displacement; b is a byte, v the operand size.
 
 /// An operand of a row.
-#[derive(Clone, Copy, Debug, PartialEq, Eq)]
+#[derive(Clone, Copy)]
 pub(crate) enum Operand {
     Absent,
     Eb,
@@ -20,7 +20,7 @@ pub(crate) enum Operand {
 
 /// Where the row's number comes from: 0 or 1, bytes with a sign (I, J) or without (U), or reg, which numbers a control or
 /// debug register (C). Iz and Jz have 16 or 32 bits and 32 bits, Iv has the operand size.
-#[derive(Clone, Copy, Debug, PartialEq, Eq)]
+#[derive(Clone, Copy)]
 pub(crate) enum Number {
     Zero,
     One,
@@ -35,7 +35,7 @@ pub(crate) enum Number {
 
 /// Which width counts: the operand size (64 bits with REX.W, else 16 with 66, else 32), that of the stack (16 with 66 and
 /// without REX.W, else 64), or always one.
-#[derive(Clone, Copy, Debug, PartialEq, Eq)]
+#[derive(Clone, Copy)]
 pub(crate) enum Width {
     Byte,
     Word,
@@ -46,7 +46,7 @@ pub(crate) enum Width {
 
 /// What follows the opcode: no ModRM; ModRM of any form, of a memory form, or of a register form; or a ModRM byte whose mod
 /// is taken as 3.
-#[derive(Clone, Copy, Debug, PartialEq, Eq)]
+#[derive(Clone, Copy)]
 pub(crate) enum Layout {
     Plain,
     ModRm,
@@ -56,7 +56,7 @@ pub(crate) enum Layout {
 }
 
 /// The form of a row.
-#[derive(Clone, Copy, Debug, PartialEq, Eq)]
+#[derive(Clone, Copy)]
 pub(crate) struct Shape {
     pub layout: Layout,
     pub to: Operand,
