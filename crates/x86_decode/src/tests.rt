@@ -1,5 +1,8 @@
 ghost use Rattle.std.specs.Prelude.{◌≤◌, length};
 
+mod golden;
+mod opcodes;
+
 use super::*;
 use decode_fields::{Address, Place, Rep};
 use std::process::Abort;
