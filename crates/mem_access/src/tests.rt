@@ -190,6 +190,19 @@ fn second_page_refuses_each_crossing_store(rt: HostRuntime) -> Result<(), Fail> 
 }
 
 #[test]
+fn second_page_refuses_each_width(rt: HostRuntime) -> Result<(), Fail> {
+    let mut mem = memory(rt.alloc(), ALL, ABSENT)?;
+    let mut tlb = Tlb::new(rt.alloc())?;
+    assert_eq!(rt; refusals(&mut mem, &mut tlb, &CONTROL, 0, 4, 2), 3);
+    mem.store64(0x4008, 0x9000 + READ_ONLY);
+    assert_eq!(rt; refusals(&mut mem, &mut tlb, &CONTROL, 3, 2, 7), 1);
+    mem.store64(0x4008, 0x9000 + SUPERVISOR);
+    assert_eq!(rt; refusals(&mut mem, &mut tlb, &CONTROL, 3, 2, 7), 1);
+    assert_eq!(rt; refusals(&mut mem, &mut tlb, &CONTROL, 3, 8, 7), 7);
+    Ok(())
+}
+
+#[test]
 fn addresses_wrap(rt: HostRuntime) -> Result<(), Fail> {
     let mut mem = memory(rt.alloc(), ALL, ALL)?;
     let mut tlb = Tlb::new(rt.alloc())?;
