@@ -5,7 +5,7 @@ use Rattle.std.proofs.lemmas.List.{length-map}
 use Rattle.std.proofs.lemmas.Bool.{cases_eq, false≢true}
 use Rattle.std.proofs.lemmas.List.Quantifiers.{position-Some}
 use Rattle.std.proofs.lemmas.Slice.Eq.{bytes_eq-Decides}
-use Rattle.nk_host.specs.Faults.{raised, NeverFalls, OnlyAt}
+use Rattle.nk_host.specs.FaultCounts.{raised, NeverFalls, OnlyAt}
 use Rattle.nk_host.specs.ShelfInMemory.{NamedFile, Stock, at_place, place_of, file_of, count_of, with_fault, fetch_fails, after_fetch}
 
 abbrev no_file : NamedFile

@@ -1,4 +1,5 @@
--- What a shelf that tells its files answers to a fetch. Files are a function from a name's bytes to the file's, None where no file is held.
+-- What a shelf that tells its files answers to a fetch. Files are a function from a name's bytes to the file's, None
+-- where no file is held.
 use Rattle.std.specs.Prelude.{◌≡◌, ℕ, ◌<◌, List, length, Option, Some, IsSomeAnd}
 
 -- the bytes are the whole file of the name

@@ -1,8 +1,11 @@
-pub mod Faults
+-- What a reader must believe.
+pub mod FaultCounts
 pub mod Told
 pub mod Files
 pub mod Taken
-pub mod Calls
-pub mod SinkInMemory
+pub mod CountedStream
+pub mod Attempts
 pub mod ShelfInMemory
+pub mod SinkInMemory
+-- Words of private clauses and proofs.
 pub mod Streams

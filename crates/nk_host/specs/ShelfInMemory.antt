@@ -3,15 +3,16 @@ use Rattle.std.specs.Prelude.{ℕ, Bool, ◌||◌, List, position, slice_get, sl
 use Rattle.std.specs.String.{string_bytes}
 use Rattle.std.specs.declared.alloc.Global.{Global}
 use Rattle.std.specs.Str.{bytes_eq}
-use Rattle.nk_host.specs.Calls.{is_due}
-use Rattle.nk_host.specs.Faults.{raised}
+use Rattle.nk_host.specs.Attempts.{is_due}
+use Rattle.nk_host.specs.FaultCounts.{raised}
 
 -- a file under a name, both as bytes
 pub record NamedFile : Type 0 where
   pub name : List ℕ
   pub bytes : List ℕ
 
--- the files, the count of faults beside each of them and that of all names not held, which fetches fail, and the fetches so far
+-- the files, the count of faults beside each of them and that of all names not held, which fetches fail, and the
+-- fetches so far
 pub record Stock : Type 0 where
   pub files : List NamedFile
   pub counts : List ℕ

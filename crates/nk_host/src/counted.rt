@@ -1,21 +1,22 @@
-//! A reader or a writer whose faults are counted.
+//! A reader or a writer whose faults are counted. Such a writer is a sink.
 ghost use Rattle.std.specs.Prelude.{◌≡◌, ◌≢◌, ◌<◌, ◌≤◌, [], length, take, IfOk, OnErr, IfErr};
 ghost use Rattle.std.specs.Io.KnownBytes.{Appends, Keeps, ReadConsumes};
-ghost use Rattle.nk_host.specs.Faults.{RoseTo, raised};
+ghost use Rattle.nk_host.specs.FaultCounts.{RoseTo, raised};
 
-use crate::{FetchFault, SinkFault};
+use crate::whole::write_whole;
+use crate::{FetchFault, Sink, SinkFault};
 use std::io::{Read, Write};
 
 /// A reader or a writer, and the count of its faults.
 #[derive(Drop)]
-pub(crate) struct Counted<T> {
+pub struct Counted<T> {
     inner: T,
     faults: u64,
 }
 
 impl<T> Counted<T> {
     /// A reader or a writer that had so many faults before.
-    pub(crate) fn new(inner: T, faults: u64) -> Counted<T>
+    pub(crate) fn after(inner: T, faults: u64) -> Counted<T>
         ensures inner { result.inner ≡ inner }
         ensures faults { result.faults ≡ faults }
     {
@@ -63,7 +64,8 @@ impl<W: Write> Counted<W> {
         requires { 0 < length bytes.now }
         ensures some { IfOk result (λ n. 0 < n) }
         ensures bound { IfOk result (λ n. n ≤ length bytes.now) }
-        ensures ok { IfOk result (λ n. Appends (W.contents self.old.inner) (W.contents self.new.inner) (take n bytes.now)) }
+        ensures ok { IfOk result
+            (λ n. Appends (W.contents self.old.inner) (W.contents self.new.inner) (take n bytes.now)) }
         ensures err { OnErr result (Appends (W.contents self.old.inner) (W.contents self.new.inner) []) }
         ensures never_falls { self.old.faults ≤ self.new.faults }
         ensures failed { OnErr result (RoseTo self.old.faults self.new.faults) }
@@ -75,5 +77,18 @@ impl<W: Write> Counted<W> {
                 Err(SinkFault)
             }
         }
+    }
+}
+
+impl<W: Write> Sink for Counted<W> {
+    ghost use Rattle.nk_host.specs.CountedStream.{faults_of, stream_of};
+
+    ghost taken = { λ s. W.contents (stream_of s) };
+
+    ghost faults = { λ s. faults_of s };
+
+    /// A write that fails, is interrupted, or takes no byte is a fault.
+    fn put(&mut self, bytes: &[u8]) -> Result<(), SinkFault> {
+        write_whole(self, bytes)
     }
 }

@@ -47,7 +47,7 @@ impl<R: Files> Shelf for FileShelf<'_, R> {
             self.count = self.count.saturating_add(1);
             return Err(FetchFault::Failed);
         };
-        let mut from = Counted::new(file, self.count);
+        let mut from = Counted::after(file, self.count);
         let result = read_whole(alloc, &mut from, most);
         self.count = from.faults();
         result

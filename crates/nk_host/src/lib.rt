@@ -1,24 +1,34 @@
 //! Files to read and a place to write to, as two traits with a count of faults each: the whole of
 //! what the program asks of the outside. `Shelf` and `Sink` meet the definitions of `specs/Files`,
-//! `specs/Taken` and `specs/Faults`. `MemShelf` and `MemSink` lie in memory, tell their content, and
-//! fail where they are told to; `FileShelf` and `StdSink` reach the machine's files and its standard
-//! output, and tell no content. This crate alone touches the machine; what files hold and what is
-//! written it leaves to the crates above.
+//! `specs/Taken` and `specs/FaultCounts`. `MemShelf` and `MemSink` lie in memory, tell their content,
+//! and fail where they are told to; `FileShelf` and `StdSink` reach the machine's files and its
+//! standard output, and tell no content. This crate alone touches the machine; what files hold and
+//! what is written it leaves to the crates above. Floor: outside.
 #![tactic(auto)]
 
-mod counted;
+// What is asked of the outside, and what is answered where it fails.
 mod fault;
-mod file_shelf;
-mod mem_shelf;
-mod mem_sink;
-mod pieces;
 mod shelf;
 mod sink;
-mod std_sink;
-#[cfg(test)]
-mod tests;
+
+// A text of any length, put in pieces.
+mod pieces;
+
+// Readers and writers, with their faults counted.
+mod counted;
 mod whole;
 
+// The machine's files and its standard output.
+mod file_shelf;
+mod std_sink;
+
+// Files and output in memory.
+mod mem_shelf;
+mod mem_sink;
+#[cfg(test)]
+mod tests;
+
+pub use counted::Counted;
 pub use fault::{FetchFault, NoMemory, SinkFault};
 pub use file_shelf::FileShelf;
 pub use mem_shelf::MemShelf;

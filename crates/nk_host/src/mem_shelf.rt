@@ -4,8 +4,8 @@ ghost use Rattle.std.specs.Option.{option_copied};
 ghost use Rattle.nk_host.specs.Files.{IsFile, IsLonger};
 ghost use Rattle.std.specs.Str.{bytes_eq};
 ghost use Rattle.std.specs.String.{string_bytes};
-ghost use Rattle.nk_host.specs.Calls.{is_due};
-ghost use Rattle.nk_host.specs.Faults.{NeverFalls, OnlyAt, Rose, raised};
+ghost use Rattle.nk_host.specs.Attempts.{is_due};
+ghost use Rattle.nk_host.specs.FaultCounts.{NeverFalls, OnlyAt, Rose, raised};
 ghost use Rattle.nk_host.specs.ShelfInMemory.{after_fetch, count_of, fetch_fails, file_of, named_files, place_of, with_fault};
 
 use crate::{FetchFault, NoMemory, Shelf};

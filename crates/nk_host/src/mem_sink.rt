@@ -1,9 +1,9 @@
 //! A sink in memory.
 ghost use Rattle.std.specs.Prelude.{◌≡◌, ◌≢◌, ◌+◌, ◌≤◌, ◌↔◌, [], ◌++◌, length, min, if◌then◌else◌, IfOk, IsErr, IsOk, OnOk, OnErr, IsTrue, Some};
 ghost use Rattle.nk_host.specs.SinkInMemory.{after_put, put_fails, room_left};
-ghost use Rattle.nk_host.specs.Calls.{is_due};
+ghost use Rattle.nk_host.specs.Attempts.{is_due};
 ghost use Rattle.std.specs.Io.KnownBytes.{Appends};
-ghost use Rattle.nk_host.specs.Faults.{RoseTo, raised};
+ghost use Rattle.nk_host.specs.FaultCounts.{RoseTo, raised};
 ghost use Rattle.nk_host.specs.Taken.{AppendsPrefix};
 
 use crate::{NoMemory, Sink, SinkFault};

@@ -1,6 +1,6 @@
 //! Files under names.
 ghost use Rattle.std.specs.Prelude.{◌≡◌, ℕ, ◌≤◌, List, Option, IfOk, vec_len};
-ghost use Rattle.nk_host.specs.Faults.{NeverFalls, OnlyAt, Rose};
+ghost use Rattle.nk_host.specs.FaultCounts.{NeverFalls, OnlyAt, Rose};
 ghost use Rattle.nk_host.specs.Files.{IsFile, IsLonger};
 ghost use Rattle.nk_host.specs.Told.{IfTold};
 
@@ -16,7 +16,7 @@ pub trait Shelf {
     ghost faults: { Self → List ℕ → ℕ };
 
     /// The file of that name, where it has at most `most` bytes. Want of memory has no clause: it
-    /// may come at any call.
+    /// may come at any fetch.
     fn fetch(&mut self, alloc: Global, name: &str, most: u64) -> Result<Vec<u8>, FetchFault>
         ensures files_stay { files self.new ≡ files self.old }
 

@@ -1,48 +1,19 @@
 //! Standard output.
 ghost use Rattle.std.specs.Prelude.{◌≡◌};
+ghost use Rattle.nk_host.specs.CountedStream.{faults_of};
 
 use crate::counted::Counted;
-use crate::whole::write_whole;
-use crate::{Sink, SinkFault};
-use std::io;
-use std::marker::Model;
+use std::io::{self, Printer};
 
-/// Standard output. Contracts see the count of its faults, and nothing of what was written.
-#[derive(Drop)]
-pub struct StdSink<'a, R> {
-    rt: &'a R,
-    count: u64,
-}
+/// Standard output, with the count of its faults. It tells no content, since no clause can say what
+/// a terminal or a pipe takes: what is proved of a put is what is proved over every writer.
+pub type StdSink<'a, R> = Counted<Printer<'a, R>>;
 
-impl<'a, R> Model for StdSink<'a, R> {
-    ghost use Rattle.std.specs.Prelude.{ℕ};
-
-    ghost Value = { ℕ };
-
-    ghost view = { λ s. s.count };
-}
-
-impl<'a, R: Print> StdSink<'a, R> {
+impl<'a, R: Print> Counted<Printer<'a, R>> {
     /// Standard output, with no fault yet.
     pub fn new(rt: &'a R) -> StdSink<'a, R>
-        ensures { result ≡ 0 }
+        ensures { faults_of result ≡ 0 }
     {
-        StdSink { rt, count: 0 }
-    }
-}
-
-impl<R: Print> Sink for StdSink<'_, R> {
-    ghost use Rattle.std.specs.Prelude.{None};
-
-    ghost taken = { λ _. None };
-
-    ghost faults = { λ s. s };
-
-    /// A write that fails, is interrupted, or takes no byte is a fault.
-    fn put(&mut self, bytes: &[u8]) -> Result<(), SinkFault> {
-        let mut to = Counted::new(io::writer(self.rt), self.count);
-        let result = write_whole(&mut to, bytes);
-        self.count = to.faults();
-        result
+        Counted::after(io::writer(rt), 0)
     }
 }

@@ -5,7 +5,8 @@ use crate::{
     FetchFault, FileShelf, MemShelf, MemSink, PIECE, Shelf, Sink, SinkFault, StdSink, put_all,
 };
 use std::alloc::Global;
-use std::fs;
+use std::fmt::Display;
+use std::fs::{self, File};
 use std::io::{Error, ErrorKind, Read, Result as IoResult, Write};
 use std::test::Fail;
 
@@ -155,7 +156,7 @@ impl Write for Halting {
 }
 
 fn halting_after(left: u64, kind: ErrorKind) -> Counted<Halting> {
-    Counted::new(Halting { left, kind }, 5)
+    Counted::after(Halting { left, kind }, 5)
 }
 
 fn read_fault(alloc: Global, from: &mut Counted<Halting>, most: u64) -> Option<FetchFault> {
@@ -225,4 +226,42 @@ fn standard_output_takes_bytes(rt: HostRuntime) {
     let mut out = StdSink::new(&rt);
     assert_eq!(rt; put(&mut out, b""), Ok(()));
     assert_eq!(rt; put_all(&mut out, b"a line\n"), Ok(()));
+}
+
+// A runtime whose standard output is an open file.
+#[derive(Drop)]
+struct Redirected<'a> {
+    output: &'a File,
+}
+
+impl Print for Redirected<'_> {
+    fn print<D: Display + Drop>(&self, _value: D) -> IoResult<()> {
+        Err(Error::from(ErrorKind::Unsupported))
+    }
+
+    fn println<D: Display + Drop>(&self, _value: D) -> IoResult<()> {
+        Err(Error::from(ErrorKind::Unsupported))
+    }
+
+    fn write_all(&self, bytes: &[u8]) -> IoResult<()> {
+        let mut output = self.output;
+        output.write_all(bytes)
+    }
+
+    fn write_some(&self, bytes: &[u8]) -> IoResult<usize> {
+        let mut output = self.output;
+        output.write(bytes)
+    }
+}
+
+#[test]
+fn a_full_device_is_a_fault(rt: HostRuntime) -> Result<(), Fail> {
+    let device = File::options().write(true).open(&rt, "/dev/full")?;
+    let full = Redirected { output: &device };
+    let mut out = StdSink::new(&full);
+    assert_eq!(rt; put(&mut out, b""), Ok(()));
+    assert_eq!(rt; put(&mut out, b"a line\n"), Err(SinkFault));
+    assert_eq!(rt; put_all(&mut out, b"a line\n"), Err(SinkFault));
+    assert_eq!(rt; out.faults(), 2);
+    Ok(())
 }

@@ -1,7 +1,7 @@
 //! A reader read to its end, and bytes written whole.
 ghost use Rattle.std.specs.Prelude.{◌≡◌, ◌≢◌, ◌+◌, ◌-◌, ◌<◌, ◌≤◌, [], length, min, vec_len, IfOk, IsOk, OnOk, OnErr, IfErr};
 ghost use Rattle.std.specs.Io.KnownBytes.{Appends};
-ghost use Rattle.nk_host.specs.Faults.{RoseTo};
+ghost use Rattle.nk_host.specs.FaultCounts.{RoseTo};
 ghost use Rattle.nk_host.specs.Streams.{GivesAtMost, GivesMore, HadMore, IsWhole};
 ghost use Rattle.nk_host.specs.Taken.{AppendsPrefix};
 

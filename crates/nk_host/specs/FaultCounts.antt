@@ -19,4 +19,5 @@ NeverFalls before now = (name : List ℕ) → before name ≤ now name
 
 -- each other name that a file is held under has the count that it had
 abbrev pub OnlyAt : (List ℕ → Option (List ℕ)) → (List ℕ → ℕ) → (List ℕ → ℕ) → List ℕ → Type 0
-OnlyAt files before now name = (other : List ℕ) → IsSome (files other) → other ≢ name → now other ≡ before other
+OnlyAt files before now name =
+    (other : List ℕ) → IsSome (files other) → other ≢ name → now other ≡ before other
