@@ -1,13 +1,12 @@
 -- A list that holds all bytes of a field gives the same field where more bytes follow.
-use Rattle.std.proofs.lemmas.List.{get_or-append-add, get_or_past}
-use Rattle.std.proofs.Common.{slice_index, get_or, replicate, ◌≡◌, ℕ, zero, suc, ◌+◌, ◌-◌, ◌*◌, ◌/◌, ◌%◌, ◌<◌, ◌≤◌, Bool, true, false, nat_lt, Option, Some, None, ◌&&◌, cond, List, [], ◌∷◌, ◌++◌, length, drop, refl, ap, sym, ◌∙◌, subst, arith, inl, inr, nat_eq}
+use Rattle.std.proofs.Common.{◌≡◌, ℕ, zero, suc, ◌+◌, ◌*◌, ◌/◌, ◌%◌, ◌≤◌, Bool, true, false, nat_lt, Option, Some, None, ◌&&◌, cond, List, [], ◌∷◌, ◌++◌, length, drop, refl, ap, sym, ◌∙◌, subst, arith, inl, inr, nat_eq}
 use Rattle.std.proofs.Math.ListN.{get_or-append}
-use Rattle.std.proofs.lemmas.Bool.{cases_Bool, cases_lt, cond-true, cond-false, le-ltb}
+use Rattle.std.proofs.lemmas.Bool.{cases_Bool, cond-true, cond-false, le-ltb}
 use Rattle.std.proofs.lemmas.List.{drop-append-le, length-append, length-drop}
 use Rattle.decode_fields.specs.declared.parts.ModRm.{ModRm}
 use Rattle.decode_fields.specs.declared.place.Place.{Place}
-use Rattle.decode_fields.specs.Number.{immediate_of, number_of, sign_extended, signed_number}
-use Rattle.decode_fields.specs.ModRm.{displacement_from, displacement_size, front_size, has_sib, high_field, is_register, lacks_base, low_field, modrm_byte, modrm_length, modrm_of, place_by, place_of, plain_address, reg_by, reg_of, sib_address, sib_byte}
+use Rattle.decode_fields.specs.Immediates.{immediate_of, number_of, sign_extended, signed_number}
+use Rattle.decode_fields.specs.ModRm.{displacement_from, displacement_size, front_size, has_sib, mod_field, is_register, lacks_base, rm_field, modrm_byte, modrm_length, modrm_of, place_by, place_of, plain_address, reg_by, reg_of, sib_address, sib_byte}
 use Rattle.decode_fields.specs.declared.place.Place.TheVariants.{Reg, Mem}
 
 pub number_of-append : (n : ℕ) (bytes more : List ℕ) → n ≤ length bytes → number_of n (bytes ++ more) ≡ number_of n bytes
@@ -33,7 +32,7 @@ cond_same false x y z same = refl
 -- an SIB byte counts where ModRM asks for one
 lacks_base_same : (modrm sib sib' : ℕ) → (has_sib modrm ≡ true → sib ≡ sib') → lacks_base modrm sib ≡ lacks_base modrm sib'
 lacks_base_same modrm sib sib' same =
-    and_same (has_sib modrm) (nat_eq (high_field modrm) 0) (nat_eq (low_field sib) 5) (nat_eq (low_field sib') 5) (λ h. ap (λ s. nat_eq (low_field s) 5) (same h))
+    and_same (has_sib modrm) (nat_eq (mod_field modrm) 0) (nat_eq (rm_field sib) 5) (nat_eq (rm_field sib') 5) (λ h. ap (λ s. nat_eq (rm_field s) 5) (same h))
 
 size_same : (modrm sib sib' : ℕ) → (has_sib modrm ≡ true → sib ≡ sib') → displacement_size modrm sib ≡ displacement_size modrm sib'
 size_same modrm sib sib' same = rw (lacks_base_same modrm sib sib' same) refl
@@ -41,7 +40,7 @@ size_same modrm sib sib' same = rw (lacks_base_same modrm sib sib' same) refl
 -- the place differs by the SIB byte where ModRM asks for one
 place_same : (modrm sib sib' rex disp : ℕ) → (has_sib modrm ≡ true → sib ≡ sib') → place_by modrm sib rex disp ≡ place_by modrm sib' rex disp
 place_same modrm sib sib' rex disp same =
-    ap (λ address. cond (is_register modrm) (Reg (low_field modrm + 8 * (rex % 2))) (Mem address))
+    ap (λ address. cond (is_register modrm) (Reg (rm_field modrm + 8 * (rex % 2))) (Mem address))
     (cond_same (has_sib modrm) (sib_address modrm sib rex disp) (sib_address modrm sib' rex disp) (plain_address modrm rex disp)
     (λ h. ap (λ s. sib_address modrm s rex disp) (same h)))
 
@@ -92,13 +91,6 @@ place_of-append bytes more rex there =
 pub reg_of-append : (bytes more : List ℕ) (rex : ℕ) → 1 ≤ length bytes → reg_of (bytes ++ more) rex ≡ reg_of bytes rex
 reg_of-append bytes more rex there = ap (λ m. reg_by m rex) (modrm_byte-append bytes more there)
 
--- bytes that end within a field end within it whatever follows
-pub modrm_length-cut : (bytes more : List ℕ) → length bytes < modrm_length (bytes ++ more) → length bytes < modrm_length bytes
-modrm_length-cut bytes more cut = elim (cases_lt (length bytes) (modrm_length bytes)) [
-  | inl short ↦ short
-  | inr whole ↦ absurd (omega (arith, modrm_length-append bytes more whole))
-]
-
 -- bytes that hold what the longer list needs hold what they need themselves
 pub modrm_length-within : (bytes more : List ℕ) → modrm_length (bytes ++ more) ≤ length bytes → modrm_length bytes ≡ modrm_length (bytes ++ more)
 unfolding modrm_length
@@ -109,27 +101,6 @@ modrm_length-within bytes more there =
     λ h. sym (get_or-append bytes more 0 1 (omega (arith, sib_above whole h))) in
     let P : ℕ → Type 0 = λ m. front_size m + displacement_size m (sib_byte bytes) ≡ modrm_length whole in
     subst P one (ap (λ n. front_size (modrm_byte whole) + n) (size_same (modrm_byte whole) (sib_byte bytes) (sib_byte whole) sib))
-
-zero_read : (n i : ℕ) → slice_index (replicate n 0) i ≡ 0
-zero_read zero i = refl
-zero_read (suc n) zero = refl
-zero_read (suc n) (suc i) = zero_read n i
-
--- zeros behind the end change no byte that is read
-pub zeros_read : (bytes : List ℕ) (n i : ℕ) → slice_index (bytes ++ replicate n 0) i ≡ slice_index bytes i
-zeros_read bytes n i = elim (cases_lt i (length bytes)) [
-  | inl within ↦ get_or-append bytes (replicate n 0) 0 i within
-  | inr past ↦
-      let at : length bytes + (i - length bytes) ≡ i = omega arith in
-      let P : ℕ → Type 0 = λ k. get_or (bytes ++ replicate n 0) k 0 ≡ get_or bytes i 0 in
-      subst P at (get_or-append-add bytes (replicate n 0) (i - length bytes) 0 ∙ (zero_read n (i - length bytes) ∙ sym (get_or_past bytes i 0 past)))
-]
-
-pub modrm_length-zeros : (bytes : List ℕ) (n : ℕ) → modrm_length (bytes ++ replicate n 0) ≡ modrm_length bytes
-unfolding modrm_length
-modrm_length-zeros bytes n =
-    ap (λ m. front_size m + displacement_size m (sib_byte (bytes ++ replicate n 0))) (zeros_read bytes n 0)
-    ∙ ap (λ s. front_size (modrm_byte bytes) + displacement_size (modrm_byte bytes) s) (zeros_read bytes n 1)
 
 abbrev modrm_by : ℕ → Place → ℕ → ModRm
 modrm_by reg place length = record { reg = reg; place = place; length = length }

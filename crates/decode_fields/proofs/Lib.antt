@@ -1,4 +1,4 @@
 pub mod NumberLemmas
 pub mod PrefixLaws
 pub mod FieldLaws
-pub mod BoundLaws
+pub mod ProtectedLaws

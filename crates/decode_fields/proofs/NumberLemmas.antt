@@ -3,7 +3,7 @@ use Rattle.std.proofs.Common.{◌≡◌, ℕ, suc, ◌+◌, ◌-◌, ◌*◌, �
 use Rattle.std.proofs.Math.Nat.{pow-le-pow_right}
 use Rattle.std.proofs.Math.Seq.{drop-cons}
 use Rattle.std.proofs.lemmas.Nat.{pow-add}
-use Rattle.decode_fields.specs.Number.{number_of}
+use Rattle.decode_fields.specs.Immediates.{number_of}
 
 -- the byte at i - 1 joins those from i on
 pub number_step : (bytes : List ℕ) (size i number : ℕ) → 0 < i → i ≤ size → size ≤ length bytes → number ≡ number_of (size - i) (drop i bytes) → 256 * number + get_or bytes (i - 1) 0 ≡ number_of (size - (i - 1)) (drop (i - 1) bytes)

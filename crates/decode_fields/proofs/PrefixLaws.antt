@@ -21,13 +21,6 @@ prefix_bytes-append (x ∷ front) byte rest all ends =
     let parts : (is_prefix x ≡ true) × (list_all is_prefix front ≡ true) = and_parts _ _ all in
     prefix_bytes-cons x (front ++ (byte ∷ rest)) parts.0 ∙ ap (λ xs. x ∷ xs) (prefix_bytes-append front byte rest parts.1 ends)
 
--- the prefix bytes of prefix bytes are all of them
-pub prefix_bytes-all : (front : List ℕ) → list_all is_prefix front ≡ true → prefix_bytes front ≡ front
-prefix_bytes-all [] all = refl
-prefix_bytes-all (x ∷ front) all =
-    let parts : (is_prefix x ≡ true) × (list_all is_prefix front ≡ true) = and_parts _ _ all in
-    prefix_bytes-cons x front parts.0 ∙ ap (λ xs. x ∷ xs) (prefix_bytes-all front parts.1)
-
 -- what the list splits into: prefix bytes, and a rest that begins with none
 pub record Splits (bytes front rest : List ℕ) : Type 0 where
   pub parts : bytes ≡ front ++ rest

@@ -1,5 +1,7 @@
+-- What a reader must believe.
+pub mod Widths
 pub mod Prefixes
-pub mod Number
+pub mod Immediates
 pub mod ModRm
 pub mod Bounds
 pub mod Protected

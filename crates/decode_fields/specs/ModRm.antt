@@ -5,17 +5,17 @@ use Rattle.decode_fields.specs.declared.parts.ModRm.{ModRm}
 use Rattle.decode_fields.specs.declared.place.Address.{Address}
 use Rattle.decode_fields.specs.declared.place.Place.{Place}
 use Rattle.decode_fields.specs.declared.place.Place.TheVariants.{Reg, Mem}
-use Rattle.decode_fields.specs.Number.{signed_number}
+use Rattle.decode_fields.specs.Immediates.{signed_number}
 
--- the three fields of a ModRM byte; those of an SIB byte (scale, index, base) have the same places
-abbrev pub high_field : ℕ → ℕ
-high_field byte = byte / 64
+-- the fields mod, reg and rm of a ModRM byte; scale, index and base of an SIB byte have the same places
+abbrev pub mod_field : ℕ → ℕ
+mod_field byte = byte / 64
 
-abbrev pub middle_field : ℕ → ℕ
-middle_field byte = byte / 8 % 8
+abbrev pub reg_field : ℕ → ℕ
+reg_field byte = byte / 8 % 8
 
-abbrev pub low_field : ℕ → ℕ
-low_field byte = byte % 8
+abbrev pub rm_field : ℕ → ℕ
+rm_field byte = byte % 8
 
 -- a REX byte, or 0 for none
 abbrev pub IsRex : ℕ → Type 0
@@ -43,25 +43,25 @@ sib_byte bytes = slice_index bytes 1
 
 -- mod 3 names a register
 abbrev pub is_register : ℕ → Bool
-is_register modrm = high_field modrm == 3
+is_register modrm = mod_field modrm == 3
 
 -- rm 4 of a memory form stands for an SIB byte
 abbrev pub has_sib : ℕ → Bool
-has_sib modrm = not (is_register modrm) && low_field modrm == 4
+has_sib modrm = not (is_register modrm) && rm_field modrm == 4
 
 -- mod 0 with rm 5 is relative to the next instruction
 abbrev pub is_rip_relative : ℕ → Bool
-is_rip_relative modrm = high_field modrm == 0 && low_field modrm == 5
+is_rip_relative modrm = mod_field modrm == 0 && rm_field modrm == 5
 
 -- mod 0 with base 5 in the SIB byte has no base
 abbrev pub lacks_base : ℕ → ℕ → Bool
-lacks_base modrm sib = has_sib modrm && high_field modrm == 0 && low_field sib == 5
+lacks_base modrm sib = has_sib modrm && mod_field modrm == 0 && rm_field sib == 5
 
 -- the bytes of the displacement: one for mod 1, four for mod 2 and where mod 0 has no base, else none
 abbrev pub displacement_size : ℕ → ℕ → ℕ
 displacement_size modrm sib =
-    if high_field modrm == 1 then 1
-    else if high_field modrm == 2 || is_rip_relative modrm || lacks_base modrm sib then 4
+    if mod_field modrm == 1 then 1
+    else if mod_field modrm == 2 || is_rip_relative modrm || lacks_base modrm sib then 4
     else 0
 
 -- the bytes of ModRM and SIB
@@ -82,16 +82,16 @@ displacement bytes = displacement_from (front_size (modrm_byte bytes)) (displace
 
 -- the register that an SIB byte adds: index 4 stands for none
 abbrev pub index_of : ℕ → ℕ → Option ℕ
-index_of sib rex = let number = middle_field sib + 8 * rex_x rex in if number == 4 then None else Some number
+index_of sib rex = let number = reg_field sib + 8 * rex_x rex in if number == 4 then None else Some number
 
 -- an index is scaled by 1, 2, 4 or 8
 abbrev pub scale_of : ℕ → ℕ → ℕ
-scale_of sib rex = if middle_field sib + 8 * rex_x rex == 4 then 1 else 2 ^ high_field sib
+scale_of sib rex = if reg_field sib + 8 * rex_x rex == 4 then 1 else 2 ^ mod_field sib
 
 -- the place by an SIB byte: base, index and displacement
 abbrev pub sib_address : ℕ → ℕ → ℕ → ℕ → Address
 sib_address modrm sib rex disp = record {
-  base = if lacks_base modrm sib then None else Some (low_field sib + 8 * rex_b rex);
+  base = if lacks_base modrm sib then None else Some (rm_field sib + 8 * rex_b rex);
   index = index_of sib rex;
   scale = scale_of sib rex;
   disp = disp;
@@ -101,7 +101,7 @@ sib_address modrm sib rex disp = record {
 -- the place by rm alone: a register, or the next instruction, and displacement
 abbrev pub plain_address : ℕ → ℕ → ℕ → Address
 plain_address modrm rex disp = record {
-  base = if is_rip_relative modrm then None else Some (low_field modrm + 8 * rex_b rex);
+  base = if is_rip_relative modrm then None else Some (rm_field modrm + 8 * rex_b rex);
   index = None;
   scale = 1;
   disp = disp;
@@ -111,7 +111,7 @@ plain_address modrm rex disp = record {
 -- the register or the place in memory by these fields
 abbrev pub place_by : ℕ → ℕ → ℕ → ℕ → Place
 place_by modrm sib rex disp =
-    if is_register modrm then Reg (low_field modrm + 8 * rex_b rex)
+    if is_register modrm then Reg (rm_field modrm + 8 * rex_b rex)
     else Mem (if has_sib modrm then sib_address modrm sib rex disp else plain_address modrm rex disp)
 
 -- the place that ModRM names, with REX
@@ -120,7 +120,7 @@ place_of bytes rex = place_by (modrm_byte bytes) (sib_byte bytes) rex (displacem
 
 -- the register that reg names, with REX
 abbrev pub reg_by : ℕ → ℕ → ℕ
-reg_by modrm rex = middle_field modrm + 8 * rex_r rex
+reg_by modrm rex = reg_field modrm + 8 * rex_r rex
 
 abbrev pub reg_of : List ℕ → ℕ → ℕ
 reg_of bytes rex = reg_by (modrm_byte bytes) rex

@@ -2,14 +2,8 @@
 -- model-specific register, a descriptor table, a task or the machine status word (SDM volume 2; opcodes after 0F).
 -- Bytes are looked at through a function from places to bytes that has None where no byte stands, so that one
 -- definition serves a slice and the code of an image.
-use Rattle.std.specs.Prelude.{ℕ, ◌+◌, ◌/◌, ◌%◌, ◌==◌, Bool, not, ◌&&◌, ◌||◌, if◌then◌else◌, Option, None, Some, nat_lt}
-
--- the fields mod and reg of a ModRM byte
-abbrev pub mod_field : ℕ → ℕ
-mod_field byte = byte / 64
-
-abbrev pub reg_field : ℕ → ℕ
-reg_field byte = byte / 8 % 8
+use Rattle.std.specs.Prelude.{ℕ, ◌+◌, ◌==◌, Bool, not, ◌&&◌, ◌||◌, if◌then◌else◌, Option, None, Some, nat_lt}
+use Rattle.decode_fields.specs.ModRm.{mod_field, reg_field}
 
 -- reg is 2 or 3
 abbrev pub is_reg_2_or_3 : ℕ → Bool

@@ -14,6 +14,15 @@ const REPNE: u8 = 0xF2;
 
 const REP: u8 = 0xF3;
 
+/// What no prefix bytes say.
+const NONE: Prefixes = Prefixes {
+    length: 0,
+    narrow: false,
+    lock: false,
+    rep: Rep::No,
+    rex: None,
+};
+
 fn is_rex_byte(byte: u8) -> bool
     ensures { result ≡ is_rex byte }
 {
@@ -80,13 +89,16 @@ fn rex(byte: Option<u8>) -> Option<u8>
     }
 }
 
-/// What the prefix bytes at the front say. Those behind the opcode don't count.
+/// What the prefix bytes at the front say (SDM volume 2, 2.1.1 and 2.2.1). Those behind the opcode don't count.
 pub fn prefixes(bytes: &[u8]) -> Prefixes
     requires { length bytes.now ≤ 15 }
     ensures value { result ≡ prefixes_of (prefix_bytes bytes.now) }
     ensures rex { IfSome result.rex (λ rex. (0x40 ≤ rex) × (rex < 0x50)) }
 {
     let front = front(bytes);
+    if front.is_empty() {
+        return NONE;
+    }
     Prefixes {
         length: front.len() as u8,
         narrow: front.contains(&OPERAND_SIZE),

@@ -1,7 +1,8 @@
 //! Numbers in an instruction: least byte first, extended by their sign.
 
 ghost use Rattle.std.specs.Prelude.{◌≡◌, ◌≤◌, ◌-◌, ◌^◌, ◌*◌, ◌<◌, ◌/◌, length, IfNone, IfSome};
-ghost use Rattle.decode_fields.specs.Number.{IsWidth, immediate_of, number_of, sign_extended, signed_number};
+ghost use Rattle.decode_fields.specs.Immediates.{immediate_of, number_of, sign_extended, signed_number};
+ghost use Rattle.decode_fields.specs.Widths.{IsWidth};
 
 /// The number of the first bytes.
 pub(crate) fn number(bytes: &[u8], size: usize) -> u64
@@ -17,7 +18,7 @@ pub(crate) fn number(bytes: &[u8], size: usize) -> u64
     number
 }
 
-/// The bits above a width.
+/// The bits above a width in bits.
 fn bits_above(width: u8) -> u64
     requires { IsWidth width }
     ensures { result ≡ 2 ^ 64 - 2 ^ width }
@@ -30,7 +31,7 @@ fn bits_above(width: u8) -> u64
     }
 }
 
-/// A number of this width, extended by its sign.
+/// A number of this width in bits, extended by its sign.
 fn extended(number: u64, width: u8) -> u64
     requires known { IsWidth width }
     requires fits { number < 2 ^ width }
@@ -43,7 +44,8 @@ fn extended(number: u64, width: u8) -> u64
     }
 }
 
-/// The first bytes of the width as a number, extended to 64 bits by its sign.
+/// The first bytes as a number of this width in bits, extended to 64 bits by its sign; None where fewer bytes are there
+/// than the width has.
 pub fn immediate(bytes: &[u8], width: u8) -> Option<u64>
     requires few { length bytes.now ≤ 15 }
     requires known { IsWidth width }

@@ -145,7 +145,8 @@ fn register(modrm: u8, rex: u8) -> u8
     (modrm >> 3 & 7) + 8 * (rex >> 2 & 1)
 }
 
-/// The operands that ModRM names, where the bytes begin with it. `rex` is the REX byte, or 0 for none.
+/// The operands that ModRM names, where the bytes begin with it (SDM volume 2, 2.1.5 and 2.2.1); None where they end
+/// before the last that ModRM, SIB and displacement need. `rex` is the REX byte, or 0 for none.
 #[tactic(auto, unfolding(crate::specs::ModRm::modrm_length, crate::specs::ModRm::place_of))]
 pub fn modrm(bytes: &[u8], rex: u8) -> Option<ModRm>
     requires few { length bytes.now ≤ 15 }

@@ -1,3 +1,5 @@
+//! What prefix bytes and ModRM say.
+
 use crate::place::Place;
 
 /// How often a string instruction is repeated.
@@ -15,15 +17,19 @@ pub enum Rep {
 /// What the prefix bytes in front of an opcode say.
 #[derive(Clone, Copy, Debug, PartialEq, Eq)]
 pub struct Prefixes {
-    /// The number of prefix bytes.
+    /// The number of prefix bytes, 0 to 15.
     pub length: u8,
 
     /// Whether the operand size is 16 bits, unless REX.W asks for 64.
     pub narrow: bool,
+
+    /// Whether F0 stands among them.
     pub lock: bool,
+
+    /// By the last of F2 and F3.
     pub rep: Rep,
 
-    /// The REX byte, 40 to 4F.
+    /// The REX byte, 40 to 4F, where it is the last prefix byte.
     pub rex: Option<u8>,
 }
 

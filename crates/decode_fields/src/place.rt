@@ -1,3 +1,5 @@
+//! Where an operand stands.
+
 /// A place in memory: the sum of its parts, which wraps at 2^64. With `rip` the sum starts at the next instruction.
 #[derive(Clone, Copy, Debug, PartialEq, Eq)]
 pub struct Address {
@@ -12,6 +14,8 @@ pub struct Address {
 
     /// The displacement, extended to 64 bits by its sign.
     pub disp: u64,
+
+    /// Whether the sum starts at the next instruction; then neither base nor index is there.
     pub rip: bool,
 }
 
@@ -26,6 +30,8 @@ pub enum Place {
 
     /// AH, CH, DH or BH, 0 to 3.
     High(u8),
+
+    /// A place in memory.
     Mem(Address),
 
     /// A number, which the instruction holds beside.

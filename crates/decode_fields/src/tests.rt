@@ -1,67 +1,90 @@
-use super::*;
+//! Prefixes, forms of ModRM and immediates. The bytes of a form are an assembler's, whose notation stands beside them.
 
-// The bytes are an assembler's.
-#[test]
-fn base_index_scale_and_displacement(rt: HostRuntime) {
-    // mov rax, [rbp + r12 * 4 - 8]
-    let fields = modrm(&[0x44, 0xA5, 0xF8], 0x4A);
-    let place = Place::Mem(Address {
-        base: Some(5),
-        index: Some(12),
-        scale: 4,
-        disp: 0xFFFF_FFFF_FFFF_FFF8,
-        rip: false,
-    });
-    assert!(rt;
-        fields
-            == Some(ModRm {
-                reg: 0,
-                place,
-                length: 3
-            })
+use super::*;
+use std::process::Abort;
+
+/// ModRM, SIB and displacement; REX; and what they name: reg, base, index, scale and displacement.
+type Form = (&'static [u8], u8, u8, Option<u8>, Option<u8>, u8, u64);
+
+#[rattlefmt::skip]
+static FORMS: [Form; 13] = [
+    (&[0x03], 0, 0, Some(3), None, 1, 0),                                                // mov eax, [rbx]
+    (&[0x0B], 0x45, 9, Some(11), None, 1, 0),                                            // mov r9d, [r11]
+    (&[0x04, 0x24], 0, 0, Some(4), None, 1, 0),                                          // mov eax, [rsp]
+    (&[0x0C, 0x24], 0x49, 1, Some(12), None, 1, 0),                                      // mov rcx, [r12]
+    (&[0x45, 0x80], 0, 0, Some(5), None, 1, 0xFFFF_FFFF_FFFF_FF80),                      // mov eax, [rbp-128]
+    (&[0x5D, 0], 0x45, 11, Some(13), None, 1, 0),                                        // mov r11d, [r13]
+    (&[0xB7, 0, 0, 0, 0x80], 0x41, 6, Some(15), None, 1, 0xFFFF_FFFF_8000_0000),         // mov esi, [r15-0x80000000]
+    (&[0x04, 0x48], 0, 0, Some(0), Some(1), 2, 0),                                       // mov eax, [rax+rcx*2]
+    (&[0x44, 0xA5, 0xF8], 0x42, 0, Some(5), Some(12), 4, 0xFFFF_FFFF_FFFF_FFF8),         // mov eax, [rbp+r12*4-8]
+    (&[0x84, 0xD5, 0xFF, 0xFF, 0xFF, 0x7F], 0x41, 0, Some(13), Some(2), 8, 0x7FFF_FFFF), // mov eax, [r13+rdx*8+2^31-1]
+    (&[0x0C, 0xDD, 0, 1, 0, 0], 0, 1, None, Some(3), 8, 0x100),                          // mov ecx, [rbx*8+0x100]
+    (&[0x34, 0x0D, 0xF0, 0xFF, 0xFF, 0xFF], 0x46, 14, None, Some(9), 1, 0xFFFF_FFFF_FFFF_FFF0), // mov r14d, [r9*1-16]
+    (&[0x7C, 0x2C, 1], 0, 7, Some(4), Some(5), 1, 1),                                    // mov edi, [rsp+rbp*1+1]
+];
+
+/// The bytes are this form to their last, and each cut of them is none.
+fn compare(rt: &impl Abort, bytes: &[u8], rex: u8, reg: u8, place: Place) {
+    assert!(rt; bytes.len() <= 15);
+    assert!(rt; (rex == 0) | ((0x40 <= rex) & (rex < 0x50)));
+    let length = bytes.len() as u8;
+    assert_eq!(rt;
+        modrm(bytes, rex),
+        Some(ModRm { reg, place, length }),
+        "{bytes:?}"
     );
+    for size in 0..bytes.len() {
+        assert!(rt; modrm(&bytes[..size], rex) == None, "{size} of {bytes:?}");
+    }
 }
 
 #[test]
-fn relative_to_the_next_instruction(rt: HostRuntime) {
-    // mov eax, [rip + 0x12345678], and the same cut by a byte
-    let bytes = [0x05, 0x78, 0x56, 0x34, 0x12];
-    let place = Place::Mem(Address {
+fn base_index_scale_and_displacement(rt: HostRuntime) {
+    for (bytes, rex, reg, base, index, scale, disp) in FORMS {
+        let rip = false;
+        let address = Address {
+            base,
+            index,
+            scale,
+            disp,
+            rip,
+        };
+        compare(&rt, bytes, rex, reg, Place::Mem(address));
+    }
+}
+
+#[test]
+fn registers_and_relative_to_the_next_instruction(rt: HostRuntime) {
+    let relative = |disp: u64| Place::Mem(Address {
         base: None,
         index: None,
         scale: 1,
-        disp: 0x1234_5678,
+        disp,
         rip: true,
     });
-    assert!(rt;
-        modrm(&bytes, 0)
-            == Some(ModRm {
-                reg: 0,
-                place,
-                length: 5
-            })
+    // mov eax, ebx; mov r15, r8; mov eax, [rip+0x12345678]; mov r10d, [rip-2], with and without REX.B
+    compare(&rt, &[0xC3], 0, 0, Place::Reg(3));
+    compare(&rt, &[0xF8], 0x4D, 15, Place::Reg(8));
+    compare(
+        &rt,
+        &[0x05, 0x78, 0x56, 0x34, 0x12],
+        0,
+        0,
+        relative(0x1234_5678),
     );
-    assert!(rt; modrm(&bytes[..4], 0) == None);
-}
-
-#[test]
-fn index_without_base(rt: HostRuntime) {
-    // mov ecx, [rbx * 8 + 0x100]
-    let fields = modrm(&[0x0C, 0xDD, 0x00, 0x01, 0x00, 0x00], 0);
-    let place = Place::Mem(Address {
-        base: None,
-        index: Some(3),
-        scale: 8,
-        disp: 256,
-        rip: false,
-    });
-    assert!(rt;
-        fields
-            == Some(ModRm {
-                reg: 1,
-                place,
-                length: 6
-            })
+    compare(
+        &rt,
+        &[0x15, 0xFE, 0xFF, 0xFF, 0xFF],
+        0x44,
+        10,
+        relative(0xFFFF_FFFF_FFFF_FFFE),
+    );
+    compare(
+        &rt,
+        &[0x15, 0xFE, 0xFF, 0xFF, 0xFF],
+        0x45,
+        10,
+        relative(0xFFFF_FFFF_FFFF_FFFE),
     );
 }
 
@@ -85,5 +108,8 @@ fn prefixes_before_an_opcode(rt: HostRuntime) {
 fn immediates_keep_their_sign(rt: HostRuntime) {
     assert!(rt; immediate(&[0x80], 8) == Some(0xFFFF_FFFF_FFFF_FF80));
     assert!(rt; immediate(&[0x34, 0x12, 0xFF], 16) == Some(0x1234));
+    assert!(rt; immediate(&[0x34, 0x92], 16) == Some(0xFFFF_FFFF_FFFF_9234));
+    assert!(rt; immediate(&[0, 0, 0, 0x80], 32) == Some(0xFFFF_FFFF_8000_0000));
+    assert!(rt; immediate(&[1, 2, 3, 4, 5, 6, 7, 0x88], 64) == Some(0x8807_0605_0403_0201));
     assert!(rt; immediate(&[0, 0, 0], 32) == None);
 }

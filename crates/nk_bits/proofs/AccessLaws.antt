@@ -1,108 +1,162 @@
 -- What holds of the translations and of the places after an access.
-use Rattle.std.proofs.Common.{◌≡◌, ℕ, zero, suc, ◌+◌, ◌-◌, ◌*◌, ◌/◌, ◌%◌, ◌^◌, ◌<◌, ◌≤◌, Bool, true, false, List, length, All, arith, refl, sym, ap, subst, ◌∙◌}
+use Rattle.std.proofs.Common.{◌≡◌, ℕ, ◌*◌, ◌/◌, ◌^◌, ◌<◌, ◌≤◌, Bool, true, false, All, arith, refl, sym, ap, ◌∙◌}
 use Rattle.std.specs.Prelude.{IfOk, IfSome, Option, Some, None, Result, Ok, Err, if◌then◌else◌}
+use Rattle.std.proofs.lemmas.Bool.{false≢true}
+use Rattle.std.proofs.lemmas.Result.{IfOk-at_ok}
+use Rattle.nk_bits.specs.declared.access.Access.{Access}
 use Rattle.nk_bits.specs.declared.leaf.Leaf.{Leaf}
-use Rattle.nk_bits.specs.declared.leaf.Target.{Target}
 use Rattle.nk_bits.specs.declared.fault.AccessFault.{AccessFault}
+use Rattle.nk_bits.specs.declared.fault.AccessFault.TheVariants.{Page}
 use Rattle.nk_bits.specs.Paging.{page_of, is_canonical, walk}
-use Rattle.nk_bits.specs.Access.{Access}
-use Rattle.nk_bits.specs.Tlb.{look, translation, tlb_after, or_walked}
-use Rattle.nk_bits.specs.Accesses.{View, Outcome, reached, judged, kept_after, then_by, and_then, completed, accessed, crosses, next_page, has_canonical_bytes, address_of, answered, NamesFramesIn}
-use Rattle.nk_bits.proofs.TlbLaws.{All-tlb_after, All-dropped, look_has}
+use Rattle.nk_bits.specs.AccessRights.{may}
+use Rattle.nk_bits.specs.Translations.{Translations, NamesFramesIn, look, translation, tlb_after, or_walked, fill_walked, filled}
+use Rattle.nk_bits.specs.Outcomes.{Outcome, answered, then_by, then_on}
+use Rattle.nk_bits.specs.Accesses.{View, IsWalked, Serves, IsKept, reached, judged, kept_after, completed, accessed, crosses, next_page, has_canonical_bytes, place_in, fault_code}
+use Rattle.nk_bits.proofs.TranslationLaws.{All-tlb_after, All-dropped, look_has, look_filled}
 use Rattle.nk_bits.proofs.WalkLaws.{leaf_in_memory}
-use Rattle.std.specs.List.{range_with_len}
-use Rattle.std.proofs.lemmas.List.Elements.{All-head, All-tail}
-use Rattle.std.proofs.lemmas.List.Sums.{AllPass-from_list_all}
-use borrow.Author.Tests.{ltb-true}
+use Rattle.nk_bits.proofs.SpanLaws.{canonical_first, canonical_next}
 
--- What holds of each translation kept, and of each that a walk finds, goes on holding.
+-- a choice, by what each branch has where it is taken
+chosen_on : {F A : Type 0} (P : ℕ × Leaf → Type 0) (b : Bool) (one other : Outcome F A) →
+    (b ≡ true → All P one.tlb) → All P other.tlb → All P (if b then one else other).tlb
+chosen_on P true one other all none = all refl
+chosen_on P false one other all none = none
+
+chosen_ok : {F A : Type 0} (Q : A → Type 0) (b : Bool) (one other : Outcome F A) →
+    (b ≡ true → IfOk one.answer Q) → (b ≡ false → IfOk other.answer Q) → IfOk (if b then one else other).answer Q
+chosen_ok Q true one other first second = first refl
+chosen_ok Q false one other first second = second refl
+
+-- a step after an answer
+then_ok : {F A B : Type 0} (Q : B → Type 0) (answer : Result A F) (tlb : Translations) (next : A → Translations → Outcome F B) →
+    ((x : A) → answer ≡ Ok x → IfOk (next x tlb).answer Q) → IfOk (then_by answer tlb next).answer Q
+then_ok Q (Ok x) tlb next later = later x refl
+then_ok Q (Err fault) tlb next later = tt
+
+-- What holds of each translation kept, and of each that the walk of a canonical page finds, goes on holding.
 module _ (P : ℕ × Leaf → Type 0) (view : View) (access : Access)
-    (walked : (page : ℕ) (leaf : Leaf) → walk view.entries view.frames view.root page ≡ Ok leaf → P (page, leaf)) where
+    (walked : (va : ℕ) (leaf : Leaf) → is_canonical va ≡ true → walk view.entries view.frames view.root (page_of va) ≡ Ok leaf → P (page_of va, leaf)) where
   -- of the translation that a page is judged by
-  pub translation_has : (tlb : List (ℕ × Leaf)) (page : ℕ) → All P tlb → IfSome (translation view.entries view.frames view.root tlb page) (λ leaf. P (page, leaf))
-  translation_has tlb page all = go (look tlb page) (walk view.entries view.frames view.root page) refl (look_has P tlb page all)
+  translation_has : (tlb : Translations) (va : ℕ) → is_canonical va ≡ true → All P tlb →
+      IfSome (translation view.entries view.frames view.root tlb (page_of va)) (λ leaf. P (page_of va, leaf))
+  translation_has tlb va canonical all = go (look tlb (page_of va)) (walk view.entries view.frames view.root (page_of va)) refl (look_has P tlb (page_of va) all)
     where
-      go : (kept : Option Leaf) (walk_result : Result Leaf ℕ) → walk view.entries view.frames view.root page ≡ walk_result →
-          IfSome kept (λ leaf. P (page, leaf)) → IfSome (or_walked kept walk_result) (λ leaf. P (page, leaf))
+      go : (kept : Option Leaf) (walk_result : Result Leaf ℕ) → walk view.entries view.frames view.root (page_of va) ≡ walk_result →
+          IfSome kept (λ leaf. P (page_of va, leaf)) → IfSome (or_walked kept walk_result) (λ leaf. P (page_of va, leaf))
       go (Some leaf) result is has = has
-      go None (Ok leaf) is has = walked page leaf is
+      go None (Ok leaf) is has = walked va leaf canonical is
       go None (Err level) is has = tt
 
-  kept_has : (judgement : Result ℕ AccessFault) (tlb : List (ℕ × Leaf)) (va : ℕ) → All P tlb → All P (kept_after judgement tlb va)
+  kept_has : (judgement : Result ℕ AccessFault) (tlb : Translations) (va : ℕ) → All P tlb → All P (kept_after judgement tlb va)
   kept_has (Ok place) tlb va all = all
   kept_has (Err fault) tlb va all = All-dropped P tlb (page_of va) all
 
-  pub reached_keeps : (tlb : List (ℕ × Leaf)) (va : ℕ) → All P tlb → All P (reached view access tlb va).tlb
+  pub reached_keeps : (tlb : Translations) (va : ℕ) → is_canonical va ≡ true → All P tlb → All P (reached view access tlb va).tlb
   unfolding reached
-  reached_keeps tlb va all =
+  reached_keeps tlb va canonical all =
       kept_has (judged view access va (translation view.entries view.frames view.root tlb (page_of va))) (tlb_after view.entries view.frames view.root tlb (page_of va)) va
-      (All-tlb_after P view.entries view.frames view.root tlb (page_of va) all (walked (page_of va)))
+      (All-tlb_after P view.entries view.frames view.root tlb (page_of va) all (λ leaf. walked va leaf canonical))
 
-  next_keeps : {A B : Type 0} (answer : Result A AccessFault) (tlb : List (ℕ × Leaf)) (next : A → List (ℕ × Leaf) → Outcome B) →
-      All P tlb → ((x : A) → All P (next x tlb).tlb) → All P (then_by answer tlb next).tlb
-  next_keeps (Ok x) tlb next all later = later x
-  next_keeps (Err fault) tlb next all later = all
-
-  choice_keeps : {A : Type 0} (b : Bool) (one other : Outcome A) → All P one.tlb → All P other.tlb → All P (if b then one else other).tlb
-  choice_keeps true one other yes_ no_ = yes_
-  choice_keeps false one other yes_ no_ = no_
-
-  pub completed_keeps : (va width first : ℕ) (tlb : List (ℕ × Leaf)) → All P tlb → All P (completed view access va width first tlb).tlb
+  completed_keeps : (va width first : ℕ) (tlb : Translations) → has_canonical_bytes va width ≡ true → All P tlb → All P (completed view access va width first tlb).tlb
   unfolding completed
-  completed_keeps va width first tlb all =
+  completed_keeps va width first tlb canonical all =
+      chosen_on P (crosses va width) _ _
+      (λ two.
       let second = reached view access tlb (next_page va) in
-      let kept = reached_keeps tlb (next_page va) all in
-      choice_keeps (crosses va width) _ _
-      (next_keeps second.answer second.tlb (λ second after. answered (record { first = first; second = second }) after) kept (λ x. kept))
+      let kept = reached_keeps tlb (next_page va) (canonical_next va width canonical two) all in
+      then_on P second.answer second.tlb (λ second after. answered (record { first = first; second = second }) after) kept (λ x. kept))
       all
 
-  pub accessed_keeps : (tlb : List (ℕ × Leaf)) (va width : ℕ) → All P tlb → All P (accessed view access tlb va width).tlb
+  pub accessed_keeps : (tlb : Translations) (va width : ℕ) → va < 2 ^ 64 → 1 ≤ width → All P tlb → All P (accessed view access tlb va width).tlb
   unfolding accessed
-  accessed_keeps tlb va width all =
+  accessed_keeps tlb va width fits some all =
+      chosen_on P (has_canonical_bytes va width) _ _
+      (λ canonical.
       let first = reached view access tlb va in
-      let kept = reached_keeps tlb va all in
-      choice_keeps (has_canonical_bytes va width) _ _
-      (next_keeps first.answer first.tlb (completed view access va width) kept (λ x. completed_keeps va width x first.tlb kept))
+      let kept = reached_keeps tlb va (canonical_first va width fits some canonical) all in
+      then_on P first.answer first.tlb (completed view access va width) kept (λ x. completed_keeps va width x first.tlb canonical kept))
       all
 
--- a test of each number from a on, at one of them
-all_at : (p : ℕ → Bool) (a n k : ℕ) → All (λ x. p x ≡ true) (range_with_len a n) → k < n → p (a + k) ≡ true
-all_at p a zero k all h = absurd (omega (arith, h))
-all_at p a (suc n) zero all h =
-    let place : a ≡ a + 0 = omega arith in
-    subst (λ x. p x ≡ true) place (All-head (λ x. p x ≡ true) a (range_with_len (a + 1) n) all)
-all_at p a (suc n) (suc k) all h =
-    let place : a + 1 + k ≡ a + suc k = omega arith in
-    subst (λ x. p x ≡ true) place (all_at p (a + 1) n k (All-tail (λ x. p x ≡ true) a (range_with_len (a + 1) n) all) (omega (arith, h)))
+-- Where an access finds its places, a translation that passes the test serves each.
+module _ (test : ℕ × Leaf → Bool) (view : View) (access : Access) (walked : IsWalked view test) where
+  judged_serves : (va : ℕ) (leaf : Leaf) (b : Bool) → test (page_of va, leaf) ≡ true → may access leaf.rights view.cpl view.wp view.smep ≡ b →
+      IfOk (if b then Ok (place_in leaf va) else Err (Page (fault_code access view.cpl true) va)) (Serves view access test va)
+  judged_serves va leaf true passes is = record { leaf = leaf; passes = passes; may_access = is; place_is = refl }
+  judged_serves va leaf false passes is = tt
 
--- where each byte's address is canonical, so is that of byte k
-pub canonical_at : (va width k : ℕ) → has_canonical_bytes va width ≡ true → k < width → is_canonical (address_of va k) ≡ true
-unfolding has_canonical_bytes
-canonical_at va width k all h =
-    let place : 0 + k ≡ k = omega arith in
-    subst (λ x. is_canonical (address_of va x) ≡ true) place
-    (all_at (λ x. is_canonical (address_of va x)) 0 width k (AllPass-from_list_all (λ x. is_canonical (address_of va x)) (range_with_len 0 width) all) h)
+  pub reached_serves : (tlb : Translations) (va : ℕ) → is_canonical va ≡ true → All (λ pair. test pair ≡ true) tlb →
+      IfOk (reached view access tlb va).answer (Serves view access test va)
+  unfolding reached
+  reached_serves tlb va canonical all =
+      go (translation view.entries view.frames view.root tlb (page_of va)) (translation_has (λ pair. test pair ≡ true) view access walked tlb va canonical all)
+    where
+      go : (found : Option Leaf) → IfSome found (λ leaf. test (page_of va, leaf) ≡ true) → IfOk (judged view access va found) (Serves view access test va)
+      go None has = tt
+      go (Some leaf) has = judged_serves va leaf (may access leaf.rights view.cpl view.wp view.smep) has refl
 
-pub canonical_first : (va width : ℕ) → va < 2 ^ 64 → 1 ≤ width → has_canonical_bytes va width ≡ true → is_canonical va ≡ true
-canonical_first va width fits some all =
-    let place : address_of va 0 ≡ va = omega (arith, fits) in
-    subst (λ x. is_canonical x ≡ true) place (canonical_at va width 0 all (omega (arith, some)))
+  completed_serves : (va width first : ℕ) (tlb : Translations) → has_canonical_bytes va width ≡ true → All (λ pair. test pair ≡ true) tlb → Serves view access test va first →
+      IfOk (completed view access va width first tlb).answer (λ target. Serves view access test va target.first × (crosses va width ≡ true → Serves view access test (next_page va) target.second))
+  unfolding completed
+  completed_serves va width first tlb canonical all serves =
+      chosen_ok (λ target. Serves view access test va target.first × (crosses va width ≡ true → Serves view access test (next_page va) target.second)) (crosses va width) _ _
+      (λ two.
+      let second = reached view access tlb (next_page va) in
+      then_ok (λ target. Serves view access test va target.first × (crosses va width ≡ true → Serves view access test (next_page va) target.second)) second.answer second.tlb (λ second after. answered (record { first = first; second = second }) after)
+      (λ x is. (serves, λ _. IfOk-at_ok (Serves view access test (next_page va)) is (reached_serves tlb (next_page va) (canonical_next va width canonical two) all))))
+      (λ one. (serves, λ two. absurd (false≢true (sym one ∙ two))))
 
--- and so is that of the first byte on the second page
-pub canonical_next : (va width : ℕ) → has_canonical_bytes va width ≡ true → crosses va width ≡ true → is_canonical (next_page va) ≡ true
-unfolding crosses next_page
-canonical_next va width all two =
-    let over : 4096 < va % 4096 + width = ltb-true 4096 (va % 4096 + width) two in
-    let place : va + (4096 - va % 4096) ≡ (va / 4096 + 1) * 4096 = omega arith in
-    subst (λ x. is_canonical (x % 2 ^ 64) ≡ true) place (canonical_at va width (4096 - va % 4096) all (omega (arith, over)))
+  pub accessed_serves : (tlb : Translations) (va width : ℕ) → va < 2 ^ 64 → 1 ≤ width → All (λ pair. test pair ≡ true) tlb →
+      IfOk (accessed view access tlb va width).answer (λ target. Serves view access test va target.first × (crosses va width ≡ true → Serves view access test (next_page va) target.second))
+  unfolding accessed
+  accessed_serves tlb va width fits some all =
+      chosen_ok (λ target. Serves view access test va target.first × (crosses va width ≡ true → Serves view access test (next_page va) target.second)) (has_canonical_bytes va width) _ _
+      (λ canonical.
+      let first = reached view access tlb va in
+      let here = canonical_first va width fits some canonical in
+      then_ok (λ target. Serves view access test va target.first × (crosses va width ≡ true → Serves view access test (next_page va) target.second)) first.answer first.tlb (completed view access va width)
+      (λ x is. completed_serves va width x first.tlb canonical (reached_keeps (λ pair. test pair ≡ true) view access walked tlb va here all)
+      (IfOk-at_ok (Serves view access test va) is (reached_serves tlb va here all))))
+      (λ _. tt)
 
--- every frame that the translations kept name is in memory after an access too, since a walk finds none outside
+-- A page whose translation serves the access is found again, and nothing changes.
+pub page_held : (view : View) (access : Access) (tlb : Translations) (va : ℕ) (leaf : Leaf) → look tlb (page_of va) ≡ Some leaf →
+    may access leaf.rights view.cpl view.wp view.smep ≡ true → reached view access tlb va ≡ answered (place_in leaf va) tlb
+unfolding reached
+page_held view access tlb va leaf kept serves =
+    ap (λ found.
+    let judgement = judged view access va (or_walked found (walk view.entries view.frames view.root (page_of va))) in
+    record { answer = judgement; tlb = kept_after judgement (fill_walked tlb (page_of va) found (walk view.entries view.frames view.root (page_of va))) va }) kept
+    ∙ ap (λ b.
+    let judgement = if b then Ok (place_in leaf va) else Err (Page (fault_code access view.cpl true) va) in
+    record { answer = judgement; tlb = kept_after judgement tlb va }) serves
+
+-- After a page was reached, its translation is kept, and it serves the access.
+pub reached_kept : (view : View) (access : Access) (tlb : Translations) (va : ℕ) → IfOk (reached view access tlb va).answer (IsKept view access (reached view access tlb va).tlb va)
+unfolding reached
+reached_kept view access tlb va = go (look tlb (page_of va)) refl (walk view.entries view.frames view.root (page_of va))
+  where
+    by_leaf : (leaf : Leaf) (after : Translations) (b : Bool) → look after (page_of va) ≡ Some leaf → may access leaf.rights view.cpl view.wp view.smep ≡ b →
+        let judgement = if b then Ok (place_in leaf va) else Err (Page (fault_code access view.cpl true) va) in
+        IfOk judgement (IsKept view access (kept_after judgement after va) va)
+    by_leaf leaf after true kept is = record { leaf = leaf; kept = kept; may_access = is; place_is = refl }
+    by_leaf leaf after false kept is = tt
+
+    go : (found : Option Leaf) → look tlb (page_of va) ≡ found → (walked : Result Leaf ℕ) →
+        let judgement = judged view access va (or_walked found walked) in
+        IfOk judgement (IsKept view access (kept_after judgement (fill_walked tlb (page_of va) found walked) va) va)
+    go (Some leaf) is walked = by_leaf leaf tlb (may access leaf.rights view.cpl view.wp view.smep) is refl
+    go None is (Ok leaf) = by_leaf leaf (filled tlb (page_of va) leaf) (may access leaf.rights view.cpl view.wp view.smep) (look_filled tlb (page_of va) leaf) refl
+    go None is (Err level) = tt
+
+-- Every frame that the translations kept name is in memory after an access too, since a walk finds none outside.
 module _ (view : View) (access : Access) (size : ℕ) (whole : view.frames ≡ size / 4096) where
-  walked_within : (page : ℕ) (leaf : Leaf) → walk view.entries view.frames view.root page ≡ Ok leaf → 4096 * leaf.frame < size
-  walked_within page leaf found = let below : leaf.frame < view.frames = leaf_in_memory view.entries view.frames view.root page leaf found in omega (arith, below, whole)
+  walked_within : (va : ℕ) (leaf : Leaf) → is_canonical va ≡ true → walk view.entries view.frames view.root (page_of va) ≡ Ok leaf → 4096 * leaf.frame < size
+  walked_within va leaf _ found =
+      let below : leaf.frame < view.frames = leaf_in_memory view.entries view.frames view.root (page_of va) leaf found in omega (arith, below, whole)
 
-  pub reached_within : (tlb : List (ℕ × Leaf)) (va : ℕ) → NamesFramesIn size tlb → NamesFramesIn size (reached view access tlb va).tlb
-  reached_within tlb va names = reached_keeps (λ pair. 4096 * pair.1.frame < size) view access walked_within tlb va names
+  pub reached_within : (tlb : Translations) (va : ℕ) → is_canonical va ≡ true → NamesFramesIn size tlb → NamesFramesIn size (reached view access tlb va).tlb
+  reached_within tlb va canonical names = reached_keeps (λ pair. 4096 * pair.1.frame < size) view access walked_within tlb va canonical names
 
-  pub accessed_within : (tlb : List (ℕ × Leaf)) (va width : ℕ) → NamesFramesIn size tlb → NamesFramesIn size (accessed view access tlb va width).tlb
-  accessed_within tlb va width names = accessed_keeps (λ pair. 4096 * pair.1.frame < size) view access walked_within tlb va width names
+-- and so is the frame that a look-up finds
+pub look_within : (tlb : Translations) (page size : ℕ) → NamesFramesIn size tlb → IfSome (look tlb page) (λ leaf. 4096 * leaf.frame < size)
+look_within tlb page size names = look_has (λ pair. 4096 * pair.1.frame < size) tlb page names

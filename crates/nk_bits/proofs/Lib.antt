@@ -1,9 +1,9 @@
-pub mod AccessLaws
-pub mod EntryBits
-pub mod KindLaws
-pub mod MemoryLaws
-pub mod TableLaws
-pub mod TlbLaws
-pub mod WalkLaws
+mod AccessLaws
+mod EntryBits
+mod KindLaws
+mod SpanLaws
+mod TableFunctions
+mod TranslationLaws
+mod WalkLaws
 mod WorkedAccesses
 mod WorkedValues

@@ -12,11 +12,6 @@ pub walk_by_level : (t : ℕ → ℕ → ℕ) (frames root page : ℕ) → walk 
 unfolding walk walk_from
 walk_by_level t frames root page = refl
 
--- a choice whose first branch both share
-same_choice : {A : Type 0} (b : Bool) (x y z : A) → (b ≡ false → y ≡ z) → (if b then x else y) ≡ (if b then x else z)
-same_choice true x y z same = refl
-same_choice false x y z same = same refl
-
 -- a choice between an error and a result
 ok_choice : (b : Bool) (level : ℕ) (r : Result Leaf ℕ) (P : Leaf → Type 0) → (b ≡ false → IfOk r P) → IfOk (if b then Err level else r) P
 ok_choice true level r P rest = tt
@@ -64,16 +59,6 @@ module _ (t : ℕ → ℕ → ℕ) (frames page : ℕ) (G : ℕ → ℕ → Righ
     (carries : (level f : ℕ) (r : Rights) → G (suc level) f r →
     is_missing frames (suc level) (t f (page_index page (suc level))) ≡ false →
     G level (frame_of (t f (page_index page (suc level)))) (common r (rights_of (t f (page_index page (suc level)))))) where
-  -- tables that agree where G holds walk alike
-  pub walk_alike : (u : ℕ → ℕ → ℕ) →
-      ((level f : ℕ) (r : Rights) → G (suc level) f r → u f (page_index page (suc level)) ≡ t f (page_index page (suc level))) →
-      (level f : ℕ) (r : Rights) → G level f r → walk_from u frames page level f r ≡ walk_from t frames page level f r
-  unfolding walk_from
-  walk_alike u agree zero f r g = refl
-  walk_alike u agree (suc level) f r g =
-      rw (agree level f r g)
-      (same_choice (is_missing frames (suc level) (t f (page_index page (suc level)))) (Err (suc level)) _ _ (λ there. walk_alike u agree level _ _ (carries level f r g there)))
-
   -- the leaf that is found has G at level 0
   pub found_has : (level f : ℕ) (r : Rights) → G level f r → IfOk (walk_from t frames page level f r) (λ leaf. G 0 leaf.frame leaf.rights)
   unfolding walk_from

@@ -1,12 +1,10 @@
 -- Accesses at worked values.
-use Rattle.std.proofs.Common.{◌≡◌, ℕ, ◌+◌, ◌*◌, ◌^◌, ◌-◌, Bool, true, false, ◌==◌, ◌&&◌, List, [], ◌∷◌, refl}
-use Rattle.std.specs.Prelude.{Ok, Err, if◌then◌else◌}
-use Rattle.nk_bits.specs.declared.leaf.Rights.{Rights}
+use Rattle.std.proofs.Common.{◌≡◌, ℕ, ◌^◌, ◌-◌, Bool, true, false, List, [], ◌∷◌, refl}
+use Rattle.std.specs.Prelude.{Ok, Err}
 use Rattle.nk_bits.specs.declared.leaf.Leaf.{Leaf}
-use Rattle.nk_bits.specs.declared.fault.AccessFault.TheVariants.{Page, NonCanonical}
-use Rattle.nk_bits.specs.Access.{Read, Write, Fetch}
-use Rattle.nk_bits.specs.Accesses.{View, reached, has_canonical_bytes, first_part, next_page, crosses, fault_code, accessed, completed, wp_of, smep_of, value_at, stores_at}
-use Rattle.nk_bits.specs.Memory.{number_at, stores}
+use Rattle.nk_bits.specs.declared.fault.AccessFault.TheVariants.{Page}
+use Rattle.nk_bits.specs.declared.access.Access.TheVariants.{Read, Write, Fetch}
+use Rattle.nk_bits.specs.Accesses.{View, reached, has_canonical_bytes, first_part, next_page, crosses, fault_code, accessed, completed, wp_of, smep_of}
 
 -- error codes: a read of no page by the supervisor is 0, a write that is refused 3, one at CPL 3 7, a fetch that is refused 17
 codes_by_bits : (fault_code Read 0 false ≡ 0) × (fault_code Write 0 true ≡ 3) × (fault_code Write 3 true ≡ 7) × (fault_code Fetch 0 true ≡ 17) × (fault_code Fetch 3 false ≡ 20)
@@ -50,9 +48,3 @@ crossing_write :
     (accessed (view 0 false) Write (kept true false false) 8190 4 ≡ record { answer = Ok (record { first = 32766; second = 36864 }); tlb = kept true false false })
 unfolding accessed completed reached crosses next_page has_canonical_bytes leaf kept view
 crossing_write = (refl, refl)
-
--- what is stored at these places, and read there: the low part first
-crossing_bytes : (stores_at 8190 4 (record { first = 32766; second = 36864 }) 67305985 ≡ (32766, 1) ∷ (32767, 2) ∷ (36864, 3) ∷ (36865, 4) ∷ []) ×
-    (value_at (5 ∷ 6 ∷ 7 ∷ 8 ∷ []) 8190 4 (record { first = 2; second = 0 }) ≡ 7 + 256 * 8 + 256 ^ 2 * 5 + 256 ^ 3 * 6)
-unfolding first_part stores number_at
-crossing_bytes = (refl, refl)

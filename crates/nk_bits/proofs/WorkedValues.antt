@@ -1,13 +1,13 @@
 -- The definitions at worked values.
-use Rattle.std.proofs.Common.{◌≡◌, ℕ, ◌+◌, ◌*◌, ◌^◌, Bool, true, false, ◌==◌, ◌&&◌, [], ◌∷◌, refl}
+use Rattle.std.proofs.Common.{◌≡◌, ℕ, ◌+◌, Bool, true, false, ◌==◌, ◌&&◌, refl}
 use Rattle.std.specs.Prelude.{Ok, Err, if◌then◌else◌}
 use Rattle.nk_bits.specs.declared.leaf.Rights.{Rights}
 use Rattle.nk_bits.specs.declared.kind.Kind.TheVariants.{Data, Code, Table, Trap, Hidden}
-use Rattle.nk_bits.specs.Memory.{number_at, stores, stored}
 use Rattle.nk_bits.specs.Paging.{page_of, page_index, is_canonical, is_present, is_writable, is_user, is_executable, is_large, frame_of, is_missing, walk}
-use Rattle.nk_bits.specs.Forms.{has_form, has_table_form, has_leaf_form}
+use Rattle.nk_bits.specs.EntryForms.{has_form, has_table_form, has_leaf_form}
 use Rattle.nk_bits.specs.Kinds.{allows}
-use Rattle.nk_bits.specs.Access.{may, Read, Write, Fetch}
+use Rattle.nk_bits.specs.AccessRights.{may}
+use Rattle.nk_bits.specs.declared.access.Access.TheVariants.{Read, Write, Fetch}
 
 -- the address of the gate's text, FFFFFF8000001000, and one of the direct map, FFFF800000047000
 gate : ℕ
@@ -53,15 +53,6 @@ gate_walk = refl
 missing_walks : (walk nested_area 512 5 (page_of gate + 1) ≡ Err 1) × (walk nested_area 512 5 0 ≡ Err 4) × (walk nested_area 8 5 (page_of gate) ≡ Err 2)
 unfolding walk nested_area gate page_index is_missing is_present frame_of is_large is_writable is_user is_executable
 missing_walks = (refl, refl, refl)
-
--- eight bytes in memory, and a number stored and read back
-bytes_in_order : number_at (1 ∷ 2 ∷ 0 ∷ 0 ∷ 0 ∷ 0 ∷ 0 ∷ 128 ∷ 255 ∷ []) 8 0 ≡ 513 + 128 * 2 ^ 56
-unfolding number_at
-bytes_in_order = refl
-
-stored_bytes : stored (9 ∷ 9 ∷ 9 ∷ 9 ∷ []) (stores 2 1 513) ≡ 9 ∷ 1 ∷ 2 ∷ 9 ∷ []
-unfolding stored stores
-stored_bytes = refl
 
 -- what a leaf may grant: Data takes a user or a non-executable page, a stack a writable one alone, a table neither, Hidden none
 rights : Bool → Bool → Bool → Rights

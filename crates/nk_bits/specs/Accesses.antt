@@ -1,14 +1,17 @@
 -- An access to memory by linear address, over the translations kept and the page tables: SDM volume 3, 4.6, 4.7 and 4.10.
-use Rattle.std.specs.Prelude.{ℕ, suc, zero, ◌≡◌, ◌+◌, ◌-◌, ◌*◌, ◌/◌, ◌%◌, ◌^◌, ◌<◌, ◌≤◌, Bool, true, false, not, ◌==◌, if◌then◌else◌, nat_lt, min, List, [], ◌∷◌, ◌++◌, length, All, Option, Some, None, Result, Ok, Err}
+-- It finds places in memory, or faults; what stands at the places is read and written elsewhere.
+use Rattle.std.specs.Prelude.{ℕ, ◌≡◌, ◌⊎◌, ◌+◌, ◌-◌, ◌*◌, ◌/◌, ◌%◌, ◌^◌, ◌<◌, ◌≤◌, Bool, true, false, ◌==◌, if◌then◌else◌, nat_lt, min, Option, Some, None, Result, Ok, Err}
 use Rattle.std.specs.List.{list_all, range_with_len}
+use Rattle.nk_bits.specs.declared.access.Access.{Access}
+use Rattle.nk_bits.specs.declared.access.Access.TheVariants.{Read, Write, Fetch}
 use Rattle.nk_bits.specs.declared.leaf.Leaf.{Leaf}
 use Rattle.nk_bits.specs.declared.leaf.Target.{Target}
 use Rattle.nk_bits.specs.declared.fault.AccessFault.{AccessFault}
 use Rattle.nk_bits.specs.declared.fault.AccessFault.TheVariants.{Page, NonCanonical}
-use Rattle.nk_bits.specs.Memory.{byte_at, number_at, stores, stored, entry_in}
-use Rattle.nk_bits.specs.Paging.{page_of, is_canonical}
-use Rattle.nk_bits.specs.Access.{Access, Read, Write, Fetch, may}
-use Rattle.nk_bits.specs.Tlb.{dropped, translation, tlb_after}
+use Rattle.nk_bits.specs.Paging.{page_of, is_canonical, walk}
+use Rattle.nk_bits.specs.AccessRights.{may}
+use Rattle.nk_bits.specs.Translations.{Translations, look, faulted, translation, tlb_after}
+use Rattle.nk_bits.specs.Outcomes.{Outcome, answered, refused, and_then}
 
 -- what an access is made under: the entries of the tables by frame and index, the number of frames in memory, the frame of
 -- the table of level 4, the CPL, and whether WP and SMEP are set
@@ -27,16 +30,6 @@ wp_of cr0 = cr0 / 2 ^ 16 % 2 == 1
 -- bit 20 of CR4, SMEP: the supervisor doesn't execute user pages
 unfoldable pub smep_of : ℕ → Bool
 smep_of cr4 = cr4 / 2 ^ 20 % 2 == 1
-
--- the view of a memory, with the root's frame, CR0, CR4 and the CPL
-abbrev pub view_of : List ℕ → ℕ → ℕ → ℕ → ℕ → View
-view_of m root cr0 cr4 cpl =
-    record { entries = entry_in m; frames = length m / 4096; root = root; cpl = cpl; wp = wp_of cr0; smep = smep_of cr4 }
-
--- what comes of an access: its answer, and the translations kept afterwards
-pub record Outcome (A : Type 0) : Type 0 where
-  pub answer : Result A AccessFault
-  pub tlb : List (ℕ × Leaf)
 
 -- the bits of the error code that tell the access: bit 1 for a write, bit 4 for a fetch
 abbrev pub access_bits : Access → ℕ
@@ -59,12 +52,12 @@ judged view access va (Some leaf) =
     if may access leaf.rights view.cpl view.wp view.smep then Ok (place_in leaf va) else Err (Page (fault_code access view.cpl true) va)
 
 -- the translations after a judgement: a page fault drops that of its page
-abbrev pub kept_after : Result ℕ AccessFault → List (ℕ × Leaf) → ℕ → List (ℕ × Leaf)
+abbrev pub kept_after : Result ℕ AccessFault → Translations → ℕ → Translations
 kept_after (Ok place) tlb va = tlb
-kept_after (Err fault) tlb va = dropped tlb (page_of va)
+kept_after (Err fault) tlb va = faulted tlb (page_of va)
 
 -- the access on one page: its translation is kept, or else walked for and filled; then it is judged
-unfoldable pub reached : View → Access → List (ℕ × Leaf) → ℕ → Outcome ℕ
+unfoldable pub reached : View → Access → Translations → ℕ → Outcome AccessFault ℕ
 reached view access tlb va =
     let judgement = judged view access va (translation view.entries view.frames view.root tlb (page_of va)) in
     record { answer = judgement; tlb = kept_after judgement (tlb_after view.entries view.frames view.root tlb (page_of va)) va }
@@ -89,58 +82,23 @@ next_page va = (va / 4096 + 1) * 4096 % 2 ^ 64
 unfoldable pub crosses : ℕ → ℕ → Bool
 crosses va width = nat_lt 4096 (va % 4096 + width)
 
--- an access that has an answer, and one that has a fault
-abbrev pub answered : {A : Type 0} → A → List (ℕ × Leaf) → Outcome A
-answered answer tlb = record { answer = Ok answer; tlb = tlb }
-
-abbrev pub refused : {A : Type 0} → AccessFault → List (ℕ × Leaf) → Outcome A
-refused fault tlb = record { answer = Err fault; tlb = tlb }
-
--- what comes after an outcome: the next step where there is an answer, and else its fault
-abbrev pub then_by : {A B : Type 0} → Result A AccessFault → List (ℕ × Leaf) → (A → List (ℕ × Leaf) → Outcome B) → Outcome B
-then_by (Ok answer) tlb next = next answer tlb
-then_by (Err fault) tlb next = refused fault tlb
-
-abbrev pub and_then : {A B : Type 0} → Outcome A → (A → List (ℕ × Leaf) → Outcome B) → Outcome B
-and_then outcome next = then_by outcome.answer outcome.tlb next
-
 -- the rest of an access whose first byte has this place: its second page, if it has one
-unfoldable pub completed : View → Access → ℕ → ℕ → ℕ → List (ℕ × Leaf) → Outcome Target
+unfoldable pub completed : View → Access → ℕ → ℕ → ℕ → Translations → Outcome AccessFault Target
 completed view access va width first tlb =
     if crosses va width
     then and_then (reached view access tlb (next_page va)) (λ second after. answered (record { first = first; second = second }) after)
     else answered (record { first = first; second = 0 }) tlb
 
+-- the bytes of an access: 1, 2, 4 or 8
+abbrev pub IsAccessSize : ℕ → Type 0
+IsAccessSize width = (width ≡ 1) ⊎ (width ≡ 2) ⊎ (width ≡ 4) ⊎ (width ≡ 8)
+
 -- the access of width bytes: the places of its first byte on each of its pages, judged in turn, or the first fault
-unfoldable pub accessed : View → Access → List (ℕ × Leaf) → ℕ → ℕ → Outcome Target
+unfoldable pub accessed : View → Access → Translations → ℕ → ℕ → Outcome AccessFault Target
 accessed view access tlb va width =
     if has_canonical_bytes va width
     then and_then (reached view access tlb va) (completed view access va width)
     else refused NonCanonical tlb
-
--- the number whose bytes stand at these places, least significant first
-abbrev pub value_at : List ℕ → ℕ → ℕ → Target → ℕ
-value_at m va width target =
-    let part = first_part va width in
-    number_at m part target.first + 256 ^ part * number_at m (width - part) target.second
-
--- the stores that put the width low bytes of a number at these places
-abbrev pub stores_at : ℕ → ℕ → Target → ℕ → List (ℕ × ℕ)
-stores_at va width target value =
-    let part = first_part va width in
-    stores part target.first value ++ stores (width - part) target.second (value / 256 ^ part)
-
--- a load, and the fetch of one byte
-abbrev pub loaded : List ℕ → View → List (ℕ × Leaf) → ℕ → ℕ → Outcome ℕ
-loaded m view tlb va width = and_then (accessed view Read tlb va width) (λ target after. answered (value_at m va width target) after)
-
-abbrev pub fetched : List ℕ → View → List (ℕ × Leaf) → ℕ → Outcome ℕ
-fetched m view tlb va = and_then (accessed view Fetch tlb va 1) (λ target after. answered (byte_at m target.first) after)
-
--- the memory after a store, by the answer of its check: the bytes stand at the places found, or none has changed
-abbrev pub written : List ℕ → ℕ → ℕ → ℕ → Result Target AccessFault → List ℕ
-written m va width value (Ok target) = stored m (stores_at va width target value)
-written m va width value (Err fault) = m
 
 -- the places agree with the address, and each byte lies in a memory of so many bytes
 pub record IsTarget (size va width : ℕ) (target : Target) : Type 0 where
@@ -149,6 +107,21 @@ pub record IsTarget (size va width : ℕ) (target : Target) : Type 0 where
   pub first_fits : target.first + first_part va width ≤ size
   pub second_fits : first_part va width < width → target.second + (width - first_part va width) ≤ size
 
--- every frame that the translations name lies in a memory of so many bytes
-abbrev pub NamesFramesIn : ℕ → List (ℕ × Leaf) → Type 0
-NamesFramesIn size tlb = All (λ pair. 4096 * pair.1.frame < size) tlb
+-- a test holds of the translation that a walk of a canonical page finds
+abbrev pub IsWalked : View → (ℕ × Leaf → Bool) → Type 0
+IsWalked view test =
+    (va : ℕ) (leaf : Leaf) → is_canonical va ≡ true → walk view.entries view.frames view.root (page_of va) ≡ Ok leaf → test (page_of va, leaf) ≡ true
+
+-- a translation of which the test holds serves the access at this address, and gives this place
+pub record Serves (view : View) (access : Access) (test : ℕ × Leaf → Bool) (va place : ℕ) : Type 0 where
+  pub leaf : Leaf
+  pub passes : test (page_of va, leaf) ≡ true
+  pub may_access : may access leaf.rights view.cpl view.wp view.smep ≡ true
+  pub place_is : place ≡ place_in leaf va
+
+-- the translation of the page of this address is kept, serves the access, and gives this place
+pub record IsKept (view : View) (access : Access) (tlb : Translations) (va place : ℕ) : Type 0 where
+  pub leaf : Leaf
+  pub kept : look tlb (page_of va) ≡ Some leaf
+  pub may_access : may access leaf.rights view.cpl view.wp view.smep ≡ true
+  pub place_is : place ≡ place_in leaf va

@@ -1,8 +1,9 @@
-pub mod Memory
+-- What a reader must believe.
 pub mod Paging
-pub mod Forms
-pub mod Rules
+pub mod EntryForms
 pub mod Kinds
-pub mod Access
-pub mod Tlb
+pub mod Rules
+pub mod AccessRights
+pub mod Translations
+pub mod Outcomes
 pub mod Accesses

@@ -14,6 +14,14 @@ page_of va = va / 4096
 abbrev pub is_canonical : ℕ → Bool
 is_canonical va = (va / 2 ^ 47 == 0) || (va / 2 ^ 47 == 2 ^ 17 - 1)
 
+-- a page is canonical where its addresses are; a linear address has 64 bits
+abbrev pub is_canonical_page : ℕ → Bool
+is_canonical_page page = is_canonical (4096 * page)
+
+-- the page is one of the kernel slot's, which entry 511 of every table of level 4 names: 512 GiB up to the last address
+abbrev pub is_slot_page : ℕ → Bool
+is_slot_page page = page / 2 ^ 27 == 2 ^ 25 - 1
+
 -- the index of a page's entry in its table of this level: the page number's digit in base 512
 unfoldable pub page_index : ℕ → ℕ → ℕ
 page_index page level = page / 512 ^ (level - 1) % 512

@@ -26,6 +26,27 @@ bitflag_items! {
     }
 }
 
+// The bits of an entry by the manual's numbers: SDM volume 3, table 4-20.
+const _: () = prove!(EntryFlags::PRESENT.0 == 1 << 0);
+
+const _: () = prove!(EntryFlags::WRITE.0 == 1 << 1);
+
+const _: () = prove!(EntryFlags::USER.0 == 1 << 2);
+
+const _: () = prove!(EntryFlags::WRITE_THROUGH.0 == 1 << 3);
+
+const _: () = prove!(EntryFlags::NO_CACHE.0 == 1 << 4);
+
+const _: () = prove!(EntryFlags::ACCESSED.0 == 1 << 5);
+
+const _: () = prove!(EntryFlags::DIRTY.0 == 1 << 6);
+
+const _: () = prove!(EntryFlags::LARGE.0 == 1 << 7);
+
+const _: () = prove!(EntryFlags::GLOBAL.0 == 1 << 8);
+
+const _: () = prove!(EntryFlags::NO_EXEC.0 == 1 << 63);
+
 impl Flags for EntryFlags {
     type Bits = u64;
 

@@ -1,24 +1,37 @@
-//! The words of the processor and of the nested kernel, and the definitions that the crates above cite: page-table
-//! entries and their rights, canonical addresses and table indices, the kinds of frames, the rules of the nested
-//! kernel's calls and the words in which a call and its answer travel; in `specs/` memory as one list of bytes, the walk
-//! over page tables, the judgement of an access and the translations that the processor keeps. It touches nothing but
-//! its arguments and takes no memory; reading tables, keeping translations and judging calls is left to others.
+//! The words of the processor and of the nested kernel, and the definitions that the crates above cite: canonical addresses
+//! and table indices, page-table entries and their rights, the kinds of frames, control registers, accesses and their
+//! faults, the rules of the nested kernel's calls and the words in which a call and its answer travel; in `specs/` the walk
+//! over page tables, the translations that the processor keeps, and the judgement of an access. It touches nothing but its
+//! arguments and takes no memory; reading tables, keeping translations and judging calls is left to others. Floor: words.
 #![tactic(auto)]
 
+// Linear addresses, and the entries that they select.
 mod address;
-mod call;
 mod entry;
+mod leaf;
+
+// Kinds of frames, and accesses to them.
+mod access;
+mod control;
 mod fault;
 mod kind;
-mod leaf;
+
+// Calls of the nested kernel.
+mod call;
 mod rule;
+
+// What follows from the definitions.
+mod laws;
 #[cfg(test)]
 mod tests;
 
+pub use access::Access;
 pub use address::{canonical, index};
 pub use call::{Answer, CallWords, Delivery};
+pub use control::Control;
 pub use entry::{Entry, EntryFlags};
 pub use fault::AccessFault;
 pub use kind::Kind;
+pub use laws::{access_law, kind_law, span_law, table_law, translation_law, walk_law};
 pub use leaf::{Leaf, Rights, Target};
 pub use rule::Rule;

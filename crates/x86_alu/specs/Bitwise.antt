@@ -2,8 +2,7 @@
 use Rattle.std.specs.Prelude.{ℕ, false, bit_and, bit_or, bit_xor}
 use Rattle.x86_alu.specs.declared.choices.Logic.{Logic}
 use Rattle.x86_alu.specs.declared.choices.Logic.TheVariants.{And, Or, Xor}
-use Rattle.x86_alu.specs.declared.flags.TheConstants.{CF, OF}
-use Rattle.x86_alu.specs.Flags.{with_flag, result_flags}
+use Rattle.x86_alu.specs.Flags.{carry_flag, overflow_flag, result_flags, with_flag}
 
 -- the bits of both, of either, or of exactly one
 abbrev pub combined : Logic → ℕ → ℕ → ℕ
@@ -13,4 +12,5 @@ combined Xor a b = bit_xor a b
 
 -- CF and OF become 0, and the flags of the result follow it
 abbrev pub logic_flags : ℕ → ℕ → ℕ → ℕ
-logic_flags w value flags = with_flag CF false (with_flag OF false (result_flags w value flags))
+logic_flags w value flags =
+    with_flag carry_flag false (with_flag overflow_flag false (result_flags w value flags))

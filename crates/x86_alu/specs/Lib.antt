@@ -1,4 +1,5 @@
-pub mod Numbers
+-- What a reader must believe.
+pub mod SignedNumbers
 pub mod Flags
 pub mod Sums
 pub mod Bitwise

@@ -1,8 +1,7 @@
 -- The product of two numbers of w bits, which has twice as many.
 use Rattle.std.specs.Prelude.{ℕ, ◌-◌, ◌*◌, ◌/◌, ◌^◌, Bool, true, false, nat_lt, nat_le}
-use Rattle.x86_alu.specs.declared.flags.TheConstants.{CF, OF}
-use Rattle.x86_alu.specs.Numbers.{cut, sign, size, differ, spelled}
-use Rattle.x86_alu.specs.Flags.{with_flag}
+use Rattle.x86_alu.specs.SignedNumbers.{cut, sign, size, differ, spelled}
+use Rattle.x86_alu.specs.Flags.{carry_flag, overflow_flag, with_flag}
 
 -- the signed product is negative, or zero times a negative number
 abbrev pub signs_differ : ℕ → ℕ → ℕ → Bool
@@ -31,4 +30,5 @@ half_of false w n = cut w n
 -- CF and OF both say that the product doesn't fit
 abbrev pub product_flags : Bool → ℕ → ℕ → ℕ → ℕ → ℕ
 product_flags signed w a b flags =
-    with_flag CF (product_overflows signed w a b) (with_flag OF (product_overflows signed w a b) flags)
+    with_flag carry_flag (product_overflows signed w a b)
+    (with_flag overflow_flag (product_overflows signed w a b) flags)

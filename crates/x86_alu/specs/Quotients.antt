@@ -1,6 +1,6 @@
 -- A number of 2 w bits, divided by one of w bits.
 use Rattle.std.specs.Prelude.{ℕ, ◌+◌, ◌*◌, ◌/◌, ◌%◌, ◌^◌, Bool, true, false, ◌||◌, ◌==◌, nat_le}
-use Rattle.x86_alu.specs.Numbers.{sign, size, differ, spelled}
+use Rattle.x86_alu.specs.SignedNumbers.{sign, size, differ, spelled}
 use Rattle.x86_alu.specs.Products.{is_outside}
 
 -- the dividend, from its two halves

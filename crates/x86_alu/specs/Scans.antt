@@ -1,7 +1,7 @@
 -- The least and the greatest set bit.
 use Rattle.std.specs.Prelude.{◌≡◌, ℕ, ◌-◌, ◌<◌, Bool, true, false, ◌==◌, if◌then◌else◌}
 use Rattle.std.specs.Int.{trailing_zeros, leading_zeros, w64}
-use Rattle.x86_alu.specs.Numbers.{bit}
+use Rattle.x86_alu.specs.SignedNumbers.{bit}
 
 -- the number of the least set bit, which has only zeros below it, or of the greatest, which has only zeros
 -- above it in 64 bits; 0 where no bit is set

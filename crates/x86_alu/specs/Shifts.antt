@@ -2,23 +2,22 @@
 use Rattle.std.specs.Prelude.{ℕ, ◌+◌, ◌-◌, ◌*◌, ◌/◌, ◌%◌, ◌^◌, Bool, true, false, ◌==◌, nat_lt, if◌then◌else◌}
 use Rattle.x86_alu.specs.declared.choices.Shift.{Shift}
 use Rattle.x86_alu.specs.declared.choices.Shift.TheVariants.{Left, Right, Signed}
-use Rattle.x86_alu.specs.declared.flags.TheConstants.{CF, OF}
-use Rattle.x86_alu.specs.Numbers.{cut, bit, sign, differ, one_if}
-use Rattle.x86_alu.specs.Flags.{with_flag, result_flags}
+use Rattle.x86_alu.specs.SignedNumbers.{cut, bit, sign, differ, one_if}
+use Rattle.x86_alu.specs.Flags.{carry_flag, overflow_flag, result_flags, with_flag}
 
 -- the count that a shift or a rotation obeys: its low 5 bits, or 6 at width 64
 abbrev pub masked_count : ℕ → ℕ → ℕ
 masked_count w count = (if w == 64 then count % 64 else count % 32)
 
 -- n with 64 copies of its sign above it
-abbrev pub sign_extended : ℕ → ℕ → ℕ
-sign_extended w n = one_if (sign w n) * (2 ^ 64 - 1) * 2 ^ w + n
+abbrev pub sign_filled : ℕ → ℕ → ℕ
+sign_filled w n = one_if (sign w n) * (2 ^ 64 - 1) * 2 ^ w + n
 
 -- times 2 ^ n, divided by 2 ^ n, or divided by it as a signed number, rounded down
 abbrev pub shifted : Shift → ℕ → ℕ → ℕ → ℕ
 shifted Left w a n = cut w (a * 2 ^ n)
 shifted Right w a n = a / 2 ^ n
-shifted Signed w a n = cut w (sign_extended w a / 2 ^ n)
+shifted Signed w a n = cut w (sign_filled w a / 2 ^ n)
 
 -- CF of a shift by 1 or more: the last bit out; past the width the sign for SAR, else what it was
 abbrev pub shift_carry : Shift → ℕ → ℕ → ℕ → Bool → Bool
@@ -37,9 +36,10 @@ shift_overflow Signed w a value carry = false
 abbrev pub shift_flags : Shift → ℕ → ℕ → ℕ → ℕ → ℕ
 shift_flags op w a n flags =
     let value = shifted op w a n in
-    let carry = shift_carry op w a n (bit flags CF) in
-    let overflow = (if n == 1 then shift_overflow op w a value carry else bit flags OF) in
-    (if n == 0 then flags else with_flag CF carry (with_flag OF overflow (result_flags w value flags)))
+    let carry = shift_carry op w a n (bit flags carry_flag) in
+    let overflow = (if n == 1 then shift_overflow op w a value carry else bit flags overflow_flag) in
+    (if n == 0 then flags
+    else with_flag carry_flag carry (with_flag overflow_flag overflow (result_flags w value flags)))
 
 -- the low n of w bits stand above the others
 abbrev pub exchanged : ℕ → ℕ → ℕ → ℕ
@@ -63,5 +63,6 @@ rotate_overflow false w value = differ (sign w value) (bit value (w - 2))
 -- the flags of a rotation by the masked count n: none for 0, and OF for 1 alone
 abbrev pub rotate_flags : Bool → ℕ → ℕ → ℕ → ℕ → ℕ
 rotate_flags left w value n flags = (if n == 0 then flags else
-    with_flag CF (rotate_carry left w value)
-    (with_flag OF (if n == 1 then rotate_overflow left w value else bit flags OF) flags))
+    with_flag carry_flag (rotate_carry left w value)
+    (with_flag overflow_flag
+    (if n == 1 then rotate_overflow left w value else bit flags overflow_flag) flags))

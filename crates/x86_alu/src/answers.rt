@@ -1,3 +1,5 @@
+//! What a call answers: a result with its flags, or a quotient with its remainder.
+
 /// A result and the flags word after it.
 #[derive(Clone, Copy, Debug, PartialEq, Eq)]
 pub struct Out {
@@ -5,7 +7,7 @@ pub struct Out {
     pub flags: u64,
 }
 
-/// A quotient and its remainder.
+/// A quotient (`value`) and its remainder (`rest`).
 #[derive(Clone, Copy, Debug, PartialEq, Eq)]
 pub struct Quotient {
     pub value: u64,

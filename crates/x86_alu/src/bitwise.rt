@@ -1,5 +1,8 @@
+//! AND, OR and XOR: `specs/Bitwise.antt`.
+
 ghost use Rattle.std.specs.Prelude.{◌≡◌};
-ghost use Rattle.x86_alu.specs.Numbers.{IsWidth, cut};
+ghost use Rattle.x86_alu.specs.SignedNumbers.{cut};
+ghost use Rattle.decode_fields.specs.Widths.{IsWidth};
 ghost use Rattle.x86_alu.specs.Bitwise.{combined, logic_flags};
 
 use crate::answers::Out;
@@ -7,7 +10,7 @@ use crate::choices::Logic;
 use crate::flags::{CF, OF, result_flags, with_flag};
 use crate::width::cut;
 
-/// AND, OR or XOR of `a` and `b`, each cut to the width.
+/// AND, OR or XOR of `a` and `b`, each cut to the width, in bits.
 pub fn logic(op: Logic, width: u8, a: u64, b: u64, flags: u64) -> Out
     requires { IsWidth width }
     ensures value { result.value ≡ combined op (cut width a) (cut width b) }

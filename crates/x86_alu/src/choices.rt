@@ -1,4 +1,6 @@
-/// A bitwise operation.
+//! Which of several operations a call makes.
+
+/// A bitwise operation: AND, OR or XOR.
 #[derive(Clone, Copy, Debug, PartialEq, Eq)]
 pub enum Logic {
     And,
@@ -6,7 +8,7 @@ pub enum Logic {
     Xor,
 }
 
-/// A shift: SHL, SHR or SAR.
+/// A shift: SHL, SHR, or SAR, which keeps the sign.
 #[derive(Clone, Copy, Debug, PartialEq, Eq)]
 pub enum Shift {
     Left,

@@ -1,10 +1,13 @@
-ghost use Rattle.std.specs.Prelude.{◌≡◌, ◌<◌};
-ghost use Rattle.x86_alu.specs.Numbers.{IsWidth};
+//! The status flags in a flags word (SDM volume 1, 3.4.3.1): `specs/Flags.antt`.
+
+ghost use Rattle.std.specs.Prelude.{◌≡◌, ◌≢◌, ◌<◌, ℕ, Bool};
+ghost use Rattle.decode_fields.specs.Widths.{IsWidth};
 ghost use Rattle.x86_alu.specs.Flags.{with_flag, even_parity, result_flags};
+ghost use Rattle.x86_alu.specs.SignedNumbers.{bit};
 
 use crate::width::sign;
 
-/// The carry flag's place (SDM volume 1, 3.4.3.1).
+/// The carry flag's place.
 pub const CF: u8 = 0;
 /// The parity flag's place.
 pub const PF: u8 = 2;
@@ -17,7 +20,7 @@ pub const SF: u8 = 7;
 /// The overflow flag's place.
 pub const OF: u8 = 11;
 
-/// The flags with the bit at `place` set or cleared.
+/// The flags word with the bit at `place` set or cleared.
 pub fn with_flag(flags: u64, place: u8, set: bool) -> u64
     requires { place < 64 }
     ensures { result ≡ with_flag place set flags }
@@ -26,12 +29,21 @@ pub fn with_flag(flags: u64, place: u8, set: bool) -> u64
     if set { flags | mask } else { flags & !mask }
 }
 
+/// A flag that is written reads as written, and each other bit of the flags word stays.
+pub fn flag_law()
+    ensures same { (place flags : ℕ) (set : Bool) → bit (with_flag place set flags) place ≡ set }
+    ensures others { (other place flags : ℕ) (set : Bool) → other ≢ place
+        → bit (with_flag place set flags) other ≡ bit flags other }
+{}
+
+/// Whether the low byte has an even number of ones.
 pub fn has_even_parity(value: u64) -> bool
     ensures { result ≡ even_parity value }
 {
     (value & 0xff).count_ones() % 2 == 0
 }
 
+/// The flags word with ZF, SF and PF as the value, of `width` in bits, has them.
 pub fn result_flags(width: u8, value: u64, flags: u64) -> u64
     requires { IsWidth width }
     ensures { result ≡ result_flags width value flags }

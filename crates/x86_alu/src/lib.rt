@@ -3,7 +3,7 @@
 //! instructions' pages of volume 2). Each call meets the definitions of `specs/`, which speak of numbers,
 //! carries and ranges; a flag that an operation doesn't name, or that the manual leaves undefined, keeps its
 //! value. A call takes plain values and answers plain values: it touches no register and no memory, and which
-//! instruction uses which call is left to the effect of instructions.
+//! instruction uses which call is left to the effect of instructions. Floor: words.
 #![tactic(auto)]
 
 mod answers;
@@ -21,7 +21,7 @@ mod width;
 pub use answers::{Divide, Out, Quotient};
 pub use bitwise::logic;
 pub use choices::{Logic, Shift};
-pub use flags::{AF, CF, OF, PF, SF, ZF, with_flag};
+pub use flags::{AF, CF, OF, PF, SF, ZF, flag_law, with_flag};
 pub use products::multiply;
 pub use quotients::divide;
 pub use rotations::rotate;

@@ -1,15 +1,19 @@
+//! Products, unsigned and signed: `specs/Products.antt`.
+
 ghost use Rattle.std.specs.Prelude.{◌≡◌, ◌*◌, ◌<◌, ◌≤◌, ◌^◌, true};
-ghost use Rattle.x86_alu.specs.Numbers.{IsWidth, cut, negated, size, spelled};
+ghost use Rattle.x86_alu.specs.SignedNumbers.{cut, negated, size, spelled};
+ghost use Rattle.decode_fields.specs.Widths.{IsWidth};
 ghost use Rattle.x86_alu.specs.Products.{signs_differ, product, is_outside, product_overflows, half_of, product_flags};
 
 use crate::answers::Out;
 use crate::flags::{CF, OF, with_flag};
 use crate::width::{cut, differ, sign, size, spelled};
 
-/// The high or the low half of the product of `a` and `b`, each cut to the width: MUL and IMUL.
+/// The high or the low half of the product of `a` and `b`, each cut to the width, in bits: MUL and IMUL.
 pub fn multiply(signed: bool, high: bool, width: u8, a: u64, b: u64, flags: u64) -> Out
     requires { IsWidth width }
-    ensures value { result.value ≡ half_of high width (product signed width (cut width a) (cut width b)) }
+    ensures value { result.value ≡
+        half_of high width (product signed width (cut width a) (cut width b)) }
     ensures flags { result.flags ≡ product_flags signed width (cut width a) (cut width b) flags }
 {
     let (a, b) = (cut(width, a as u128), cut(width, b as u128));
@@ -68,7 +72,7 @@ fn product_size(width: u8, a: u64, b: u64) -> u128
     size(width, a as u128) * size(width, b as u128)
 }
 
-/// A signed number of this sign and this size isn't one of `width` bits.
+/// Whether a signed number of this sign and this size, how far it is from zero, isn't one of `width` bits.
 pub fn is_outside(width: u8, negative: bool, size: u128) -> bool
     requires { IsWidth width }
     ensures { result ≡ is_outside width negative size }

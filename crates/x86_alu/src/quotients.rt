@@ -1,23 +1,27 @@
+//! Quotients, unsigned and signed: `specs/Quotients.antt`.
+
 ghost use Rattle.std.specs.Prelude.{◌≡◌, ◌*◌, ◌<◌, ◌^◌, IfOk, is_err, true, false};
-ghost use Rattle.x86_alu.specs.Numbers.{IsWidth, cut};
+ghost use Rattle.x86_alu.specs.SignedNumbers.{cut};
+ghost use Rattle.decode_fields.specs.Widths.{IsWidth};
 ghost use Rattle.x86_alu.specs.Quotients.{joined, is_refused, quotient, rest};
 
 use crate::answers::{Divide, Quotient};
 use crate::products::is_outside;
 use crate::width::{cut, differ, sign, size, spelled};
 
-/// The quotient and the remainder of `high` and `low`, joined, by `by`, each cut to the width: DIV and IDIV.
+/// The quotient and the remainder of `high` and `low`, joined, by `by`, each cut to the width, in bits: DIV and IDIV.
 ///
 /// # Errors
 ///
 /// `Divide` where `by` is 0 or the quotient doesn't fit the width.
 pub fn divide(signed: bool, width: u8, high: u64, low: u64, by: u64) -> Result<Quotient, Divide>
     requires { IsWidth width }
-    ensures refused { is_err result ≡ is_refused signed width (joined width (cut width high) (cut width low)) (cut width by) }
-    ensures value { IfOk result
-        (λ q. q.value ≡ quotient signed width (joined width (cut width high) (cut width low)) (cut width by)) }
-    ensures rest { IfOk result
-        (λ q. q.rest ≡ rest signed width (joined width (cut width high) (cut width low)) (cut width by)) }
+    ensures refused { is_err result ≡
+        is_refused signed width (joined width (cut width high) (cut width low)) (cut width by) }
+    ensures value { IfOk result (λ q. q.value ≡
+        quotient signed width (joined width (cut width high) (cut width low)) (cut width by)) }
+    ensures rest { IfOk result (λ q. q.rest ≡
+        rest signed width (joined width (cut width high) (cut width low)) (cut width by)) }
 {
     let (high, low, by) = (
         cut(width, high as u128),

@@ -1,5 +1,8 @@
+//! Rotations: `specs/Shifts.antt`.
+
 ghost use Rattle.std.specs.Prelude.{◌≡◌, ◌<◌, ◌≤◌, ◌^◌};
-ghost use Rattle.x86_alu.specs.Numbers.{IsWidth, cut};
+ghost use Rattle.x86_alu.specs.SignedNumbers.{cut};
+ghost use Rattle.decode_fields.specs.Widths.{IsWidth};
 ghost use Rattle.x86_alu.specs.Shifts.{masked_count, exchanged, rotated, rotate_carry, rotate_overflow, rotate_flags};
 
 use crate::answers::Out;
@@ -7,7 +10,7 @@ use crate::flags::{CF, OF, with_flag};
 use crate::shifts::masked_count;
 use crate::width::{bit, cut, differ, sign};
 
-/// ROL or ROR of `a`, which is cut to the width, by the count, masked as for a shift.
+/// ROL or ROR of `a`, which is cut to the width, in bits, by the count, masked as for a shift.
 pub fn rotate(left: bool, width: u8, a: u64, count: u8, flags: u64) -> Out
     requires { IsWidth width }
     ensures value { result.value ≡ rotated left width (cut width a) (masked_count width count) }

@@ -1,19 +1,21 @@
+//! Scans for a set bit: `specs/Scans.antt`.
+
 ghost use Rattle.std.specs.Prelude.{◌≡◌, ◌≢◌, ◌==◌};
-ghost use Rattle.x86_alu.specs.Numbers.{IsWidth, cut};
-ghost use Rattle.x86_alu.specs.Flags.{with_flag};
-ghost use Rattle.x86_alu.specs.declared.flags.TheConstants.{ZF};
+ghost use Rattle.x86_alu.specs.SignedNumbers.{cut};
+ghost use Rattle.decode_fields.specs.Widths.{IsWidth};
+ghost use Rattle.x86_alu.specs.Flags.{with_flag, zero_flag};
 ghost use Rattle.x86_alu.specs.Scans.{scanned, IsFirstSet};
 
 use crate::answers::Out;
 use crate::flags::{ZF, with_flag};
 use crate::width::cut;
 
-/// The number of the least (`up`) or the greatest set bit of `a`, which is cut to the width: BSF and BSR.
+/// The number of the least (`up`) or the greatest set bit of `a`, which is cut to the width, in bits: BSF and BSR.
 /// Where no bit is set, the value is 0 and ZF says so.
 pub fn scan_bit(up: bool, width: u8, a: u64, flags: u64) -> Out
     requires { IsWidth width }
     ensures value { result.value ≡ scanned up (cut width a) }
-    ensures flags { result.flags ≡ with_flag ZF (cut width a == 0) flags }
+    ensures flags { result.flags ≡ with_flag zero_flag (cut width a == 0) flags }
     ensures place { cut width a ≢ 0 → IsFirstSet up (cut width a) result.value }
 {
     let a = cut(width, a as u128);

@@ -1,17 +1,21 @@
+//! Shifts: `specs/Shifts.antt`.
+
 ghost use Rattle.std.specs.Prelude.{◌≡◌, ◌<◌, ◌≤◌, ◌^◌};
-ghost use Rattle.x86_alu.specs.Numbers.{IsWidth, cut};
-ghost use Rattle.x86_alu.specs.Shifts.{masked_count, sign_extended, shifted, shift_carry, shift_overflow, shift_flags};
+ghost use Rattle.x86_alu.specs.SignedNumbers.{cut};
+ghost use Rattle.decode_fields.specs.Widths.{IsWidth};
+ghost use Rattle.x86_alu.specs.Shifts.{masked_count, sign_filled, shifted, shift_carry, shift_overflow, shift_flags};
 
 use crate::answers::Out;
 use crate::choices::Shift;
 use crate::flags::{CF, OF, result_flags, with_flag};
 use crate::width::{bit, cut, differ, sign};
 
-/// SHL, SHR or SAR of `a`, which is cut to the width, by the low 5 bits of the count, or 6 at width 64.
+/// SHL, SHR or SAR of `a`, which is cut to the width, in bits, by the low 5 bits of the count, or 6 at width 64.
 pub fn shift(op: Shift, width: u8, a: u64, count: u8, flags: u64) -> Out
     requires { IsWidth width }
     ensures value { result.value ≡ shifted op width (cut width a) (masked_count width count) }
-    ensures flags { result.flags ≡ shift_flags op width (cut width a) (masked_count width count) flags }
+    ensures flags { result.flags ≡
+        shift_flags op width (cut width a) (masked_count width count) flags }
 {
     let a = cut(width, a as u128);
     let count = masked_count(width, count);
@@ -22,7 +26,7 @@ pub fn shift(op: Shift, width: u8, a: u64, count: u8, flags: u64) -> Out
     }
 }
 
-/// The count that a shift or a rotation obeys.
+/// The count that a shift or a rotation obeys at a width, in bits.
 pub fn masked_count(width: u8, count: u8) -> u8
     ensures { result ≡ masked_count width count }
 {
@@ -42,14 +46,14 @@ fn shifted(op: Shift, width: u8, a: u64, count: u8) -> u64
     match op {
         Shift::Left => cut(width, (a as u128) << count),
         Shift::Right => a >> count,
-        Shift::Signed => cut(width, sign_extended(width, a) >> count),
+        Shift::Signed => cut(width, sign_filled(width, a) >> count),
     }
 }
 
-fn sign_extended(width: u8, a: u64) -> u128
+fn sign_filled(width: u8, a: u64) -> u128
     requires width { IsWidth width }
     requires fits { a < 2 ^ width }
-    ensures { result ≡ sign_extended width a }
+    ensures { result ≡ sign_filled width a }
 {
     let ones = if sign(width, a as u128) {
         u64::MAX as u128

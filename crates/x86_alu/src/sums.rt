@@ -1,5 +1,8 @@
+//! Sums and differences: `specs/Sums.antt`.
+
 ghost use Rattle.std.specs.Prelude.{◌≡◌, ◌<◌, ◌≤◌, ◌^◌};
-ghost use Rattle.x86_alu.specs.Numbers.{IsWidth, cut};
+ghost use Rattle.x86_alu.specs.SignedNumbers.{cut};
+ghost use Rattle.decode_fields.specs.Widths.{IsWidth};
 ghost use Rattle.x86_alu.specs.Flags.{with_flag, result_flags};
 ghost use Rattle.x86_alu.specs.Sums.{sum_of, has_carry, sum_overflows, sum_flags, difference_of, has_borrow, difference_overflows, difference_flags};
 
@@ -7,7 +10,7 @@ use crate::answers::Out;
 use crate::flags::{AF, CF, OF, result_flags, with_flag};
 use crate::width::{cut, sign};
 
-/// The sum of `a`, `b` and the carry in, as ADD and ADC make it; each value is cut to the width.
+/// The sum of `a`, `b` and the carry in, as ADD and ADC make it; each value is cut to the width, in bits.
 pub fn add(width: u8, a: u64, b: u64, carry: bool, flags: u64) -> Out
     requires { IsWidth width }
     ensures value { result.value ≡ sum_of width (cut width a) (cut width b) carry }
@@ -22,7 +25,7 @@ pub fn add(width: u8, a: u64, b: u64, carry: bool, flags: u64) -> Out
     Out { value, flags }
 }
 
-/// `a` less `b` and the borrow in, as SUB, SBB, CMP and NEG make it; each value is cut to the width.
+/// `a` less `b` and the borrow in (`carry`), as SUB, SBB, CMP and NEG make it; each value is cut to the width, in bits.
 pub fn sub(width: u8, a: u64, b: u64, carry: bool, flags: u64) -> Out
     requires { IsWidth width }
     ensures value { result.value ≡ difference_of width (cut width a) (cut width b) carry }

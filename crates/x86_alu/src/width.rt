@@ -1,6 +1,10 @@
-ghost use Rattle.std.specs.Prelude.{◌≡◌, ◌+◌, ◌*◌, ◌<◌, ◌≤◌, ◌^◌, ◌⊎◌};
-ghost use Rattle.x86_alu.specs.Numbers.{IsWidth, cut, bit, sign, differ, negated, size, spelled};
+//! Numbers of so many bits, unsigned and signed: `specs/SignedNumbers.antt`.
 
+ghost use Rattle.std.specs.Prelude.{◌≡◌, ◌+◌, ◌*◌, ◌<◌, ◌≤◌, ◌^◌, ◌⊎◌};
+ghost use Rattle.x86_alu.specs.SignedNumbers.{cut, bit, sign, differ, negated, size, spelled};
+ghost use Rattle.decode_fields.specs.Widths.{IsWidth};
+
+/// The low bits of a number, as many as `width`, in bits.
 pub fn cut(width: u8, number: u128) -> u64
     requires { IsWidth width }
     ensures { result ≡ cut width number }
@@ -8,6 +12,7 @@ pub fn cut(width: u8, number: u128) -> u64
     (number & (u128::MAX >> (128 - width))) as u64
 }
 
+/// The bit at a place, the lowest of which is 0.
 pub fn bit(number: u128, place: u8) -> bool
     requires { place < 128 }
     ensures { result ≡ bit number place }
@@ -15,7 +20,7 @@ pub fn bit(number: u128, place: u8) -> bool
     number >> place & 1 == 1
 }
 
-/// The sign of a number of 8, 16, 32, 64 or 128 bits.
+/// The highest bit of a number of 8, 16, 32, 64 or 128 bits.
 pub fn sign(bits: u8, number: u128) -> bool
     requires { IsWidth bits ⊎ (bits ≡ 128) }
     ensures { result ≡ sign bits number }
@@ -23,6 +28,7 @@ pub fn sign(bits: u8, number: u128) -> bool
     bit(number, bits - 1)
 }
 
+/// Whether exactly one of the two holds.
 pub fn differ(a: bool, b: bool) -> bool
     ensures { result ≡ differ a b }
 {

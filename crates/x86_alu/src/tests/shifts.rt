@@ -1,433 +1,238 @@
-//! Each row has operands at an edge of the width and, last, the value and the flags that follow. Flags that an
-//! operation leaves alone, and those that the manual leaves undefined, stay as they were before.
+//! Shifts, rotations and bit scans: rows of each width, with operands at its edges and, last, what follows from them.
+//! Flags that an operation leaves alone, and those that the manual leaves undefined, stay as they were before.
 
-ghost use Rattle.x86_alu.specs.Numbers.{IsWidth};
-
-use crate::{Out, Shift, rotate, scan_bit, shift};
+use super::{ONES, TOP, out, width_of};
+use crate::{Shift, rotate, scan_bit, shift};
 use std::process::Abort;
 
-/// SHL, SHR and SAR.
+/// SHL. Width in bits, the operand, the count, the flags before; the value, the flags.
+static LEFT_SHIFTS: [(u8, u64, u8, u64, u64, u64); 28] = [
+    (8, 1, 1, 2, 2, 2),
+    (8, 1, 8, 0x8d7, 0, 0x857),
+    (8, 1, 9, 2, 0, 0x46),
+    (8, 0x81, 0, 0x8d7, 0x81, 0x8d7),
+    (8, 0x81, 1, 2, 2, 0x803),
+    (8, 0x81, 2, 0x8d7, 4, 0x812),
+    (8, 0x81, 7, 2, 0x80, 0x82),
+    (16, 1, 1, 2, 2, 2),
+    (16, 1, 16, 0x8d7, 0, 0x857),
+    (16, 1, 17, 2, 0, 0x46),
+    (16, 0x8001, 0, 0x8d7, 0x8001, 0x8d7),
+    (16, 0x8001, 1, 2, 2, 0x803),
+    (16, 0x8001, 2, 0x8d7, 4, 0x812),
+    (16, 0x8001, 15, 2, 0x8000, 0x86),
+    (32, 1, 1, 2, 2, 2),
+    (32, 1, 32, 0x8d7, 1, 0x8d7),
+    (32, 1, 33, 2, 2, 2),
+    (32, 0x80000001, 0, 0x8d7, 0x80000001, 0x8d7),
+    (32, 0x80000001, 1, 2, 2, 0x803),
+    (32, 0x80000001, 2, 0x8d7, 4, 0x812),
+    (32, 0x80000001, 31, 2, 0x80000000, 0x86),
+    (64, 1, 1, 2, 2, 2),
+    (64, 1, 64, 0x8d7, 1, 0x8d7),
+    (64, 1, 65, 2, 2, 2),
+    (64, 0x8000000000000001, 0, 0x8d7, 0x8000000000000001, 0x8d7),
+    (64, 0x8000000000000001, 1, 2, 2, 0x803),
+    (64, 0x8000000000000001, 2, 0x8d7, 4, 0x812),
+    (64, 0x8000000000000001, 63, 2, TOP, 0x86),
+];
+
+/// SHR. Width in bits, the operand, the count, the flags before; the value, the flags.
+static RIGHT_SHIFTS: [(u8, u64, u8, u64, u64, u64); 28] = [
+    (8, 1, 1, 2, 0, 0x47),
+    (8, 1, 8, 0x8d7, 0, 0x857),
+    (8, 1, 9, 2, 0, 0x46),
+    (8, 0x81, 0, 0x8d7, 0x81, 0x8d7),
+    (8, 0x81, 1, 2, 0x40, 0x803),
+    (8, 0x81, 2, 0x8d7, 0x20, 0x812),
+    (8, 0x81, 7, 2, 1, 2),
+    (16, 1, 1, 2, 0, 0x47),
+    (16, 1, 16, 0x8d7, 0, 0x857),
+    (16, 1, 17, 2, 0, 0x46),
+    (16, 0x8001, 0, 0x8d7, 0x8001, 0x8d7),
+    (16, 0x8001, 1, 2, 0x4000, 0x807),
+    (16, 0x8001, 2, 0x8d7, 0x2000, 0x816),
+    (16, 0x8001, 15, 2, 1, 2),
+    (32, 1, 1, 2, 0, 0x47),
+    (32, 1, 32, 0x8d7, 1, 0x8d7),
+    (32, 1, 33, 2, 0, 0x47),
+    (32, 0x80000001, 0, 0x8d7, 0x80000001, 0x8d7),
+    (32, 0x80000001, 1, 2, 0x40000000, 0x807),
+    (32, 0x80000001, 2, 0x8d7, 0x20000000, 0x816),
+    (32, 0x80000001, 31, 2, 1, 2),
+    (64, 1, 1, 2, 0, 0x47),
+    (64, 1, 64, 0x8d7, 1, 0x8d7),
+    (64, 1, 65, 2, 0, 0x47),
+    (64, 0x8000000000000001, 0, 0x8d7, 0x8000000000000001, 0x8d7),
+    (64, 0x8000000000000001, 1, 2, 0x4000000000000000, 0x807),
+    (64, 0x8000000000000001, 2, 0x8d7, 0x2000000000000000, 0x816),
+    (64, 0x8000000000000001, 63, 2, 1, 2),
+];
+
+/// SAR. Width in bits, the operand, the count, the flags before; the value, the flags.
+static SIGNED_SHIFTS: [(u8, u64, u8, u64, u64, u64); 28] = [
+    (8, 1, 1, 2, 0, 0x47),
+    (8, 1, 8, 0x8d7, 0, 0x856),
+    (8, 1, 9, 2, 0, 0x46),
+    (8, 0x81, 0, 0x8d7, 0x81, 0x8d7),
+    (8, 0x81, 1, 2, 0xc0, 0x87),
+    (8, 0x81, 2, 0x8d7, 0xe0, 0x892),
+    (8, 0x81, 7, 2, 0xff, 0x86),
+    (16, 1, 1, 2, 0, 0x47),
+    (16, 1, 16, 0x8d7, 0, 0x856),
+    (16, 1, 17, 2, 0, 0x46),
+    (16, 0x8001, 0, 0x8d7, 0x8001, 0x8d7),
+    (16, 0x8001, 1, 2, 0xc000, 0x87),
+    (16, 0x8001, 2, 0x8d7, 0xe000, 0x896),
+    (16, 0x8001, 15, 2, 0xffff, 0x86),
+    (32, 1, 1, 2, 0, 0x47),
+    (32, 1, 32, 0x8d7, 1, 0x8d7),
+    (32, 1, 33, 2, 0, 0x47),
+    (32, 0x80000001, 0, 0x8d7, 0x80000001, 0x8d7),
+    (32, 0x80000001, 1, 2, 0xc0000000, 0x87),
+    (32, 0x80000001, 2, 0x8d7, 0xe0000000, 0x896),
+    (32, 0x80000001, 31, 2, 0xffffffff, 0x86),
+    (64, 1, 1, 2, 0, 0x47),
+    (64, 1, 64, 0x8d7, 1, 0x8d7),
+    (64, 1, 65, 2, 0, 0x47),
+    (64, 0x8000000000000001, 0, 0x8d7, 0x8000000000000001, 0x8d7),
+    (64, 0x8000000000000001, 1, 2, 0xc000000000000000, 0x87),
+    (64, 0x8000000000000001, 2, 0x8d7, 0xe000000000000000, 0x896),
+    (64, 0x8000000000000001, 63, 2, ONES, 0x86),
+];
+
+/// ROL. Width in bits, the operand, the count, the flags before; the value, the flags.
+static LEFT_ROTATIONS: [(u8, u64, u8, u64, u64, u64); 24] = [
+    (8, 1, 1, 2, 2, 2),
+    (8, 1, 8, 0x8d7, 1, 0x8d7),
+    (8, 0x40, 1, 2, 0x80, 0x802),
+    (8, 0x82, 0, 0x8d7, 0x82, 0x8d7),
+    (8, 0x82, 1, 2, 5, 0x803),
+    (8, 0x82, 7, 2, 0x41, 3),
+    (16, 1, 1, 2, 2, 2),
+    (16, 1, 16, 0x8d7, 1, 0x8d7),
+    (16, 0x4000, 1, 2, 0x8000, 0x802),
+    (16, 0x8002, 0, 0x8d7, 0x8002, 0x8d7),
+    (16, 0x8002, 1, 2, 5, 0x803),
+    (16, 0x8002, 15, 2, 0x4001, 3),
+    (32, 1, 1, 2, 2, 2),
+    (32, 1, 32, 0x8d7, 1, 0x8d7),
+    (32, 0x40000000, 1, 2, 0x80000000, 0x802),
+    (32, 0x80000002, 0, 0x8d7, 0x80000002, 0x8d7),
+    (32, 0x80000002, 1, 2, 5, 0x803),
+    (32, 0x80000002, 31, 2, 0x40000001, 3),
+    (64, 1, 1, 2, 2, 2),
+    (64, 1, 64, 0x8d7, 1, 0x8d7),
+    (64, 0x4000000000000000, 1, 2, TOP, 0x802),
+    (64, 0x8000000000000002, 0, 0x8d7, 0x8000000000000002, 0x8d7),
+    (64, 0x8000000000000002, 1, 2, 5, 0x803),
+    (64, 0x8000000000000002, 63, 2, 0x4000000000000001, 3),
+];
+
+/// ROR. Width in bits, the operand, the count, the flags before; the value, the flags.
+static RIGHT_ROTATIONS: [(u8, u64, u8, u64, u64, u64); 24] = [
+    (8, 1, 1, 2, 0x80, 0x803),
+    (8, 1, 8, 0x8d7, 1, 0x8d6),
+    (8, 0x40, 1, 2, 0x20, 2),
+    (8, 0x82, 0, 0x8d7, 0x82, 0x8d7),
+    (8, 0x82, 1, 2, 0x41, 0x802),
+    (8, 0x82, 7, 2, 5, 2),
+    (16, 1, 1, 2, 0x8000, 0x803),
+    (16, 1, 16, 0x8d7, 1, 0x8d6),
+    (16, 0x4000, 1, 2, 0x2000, 2),
+    (16, 0x8002, 0, 0x8d7, 0x8002, 0x8d7),
+    (16, 0x8002, 1, 2, 0x4001, 0x802),
+    (16, 0x8002, 15, 2, 5, 2),
+    (32, 1, 1, 2, 0x80000000, 0x803),
+    (32, 1, 32, 0x8d7, 1, 0x8d7),
+    (32, 0x40000000, 1, 2, 0x20000000, 2),
+    (32, 0x80000002, 0, 0x8d7, 0x80000002, 0x8d7),
+    (32, 0x80000002, 1, 2, 0x40000001, 0x802),
+    (32, 0x80000002, 31, 2, 5, 2),
+    (64, 1, 1, 2, TOP, 0x803),
+    (64, 1, 64, 0x8d7, 1, 0x8d7),
+    (64, 0x4000000000000000, 1, 2, 0x2000000000000000, 2),
+    (64, 0x8000000000000002, 0, 0x8d7, 0x8000000000000002, 0x8d7),
+    (64, 0x8000000000000002, 1, 2, 0x4000000000000001, 0x802),
+    (64, 0x8000000000000002, 63, 2, 5, 2),
+];
+
+/// BSF. Width in bits, the operand, the flags before; the value, the flags.
+static SCANS_UP: [(u8, u64, u64, u64, u64); 16] = [
+    (8, 0, 0x8d7, 0, 0x8d7),
+    (8, 1, 2, 0, 2),
+    (8, 0x80, 2, 7, 2),
+    (8, 0x28, 2, 3, 2),
+    (16, 0, 0x8d7, 0, 0x8d7),
+    (16, 1, 2, 0, 2),
+    (16, 0x8000, 2, 0xf, 2),
+    (16, 0x2008, 2, 3, 2),
+    (32, 0, 0x8d7, 0, 0x8d7),
+    (32, 1, 2, 0, 2),
+    (32, 0x80000000, 2, 0x1f, 2),
+    (32, 0x20000008, 2, 3, 2),
+    (64, 0, 0x8d7, 0, 0x8d7),
+    (64, 1, 2, 0, 2),
+    (64, TOP, 2, 0x3f, 2),
+    (64, 0x2000000000000008, 2, 3, 2),
+];
+
+/// BSR. Width in bits, the operand, the flags before; the value, the flags.
+static SCANS_DOWN: [(u8, u64, u64, u64, u64); 16] = [
+    (8, 0, 0x8d7, 0, 0x8d7),
+    (8, 1, 2, 0, 2),
+    (8, 0x80, 2, 7, 2),
+    (8, 0x28, 2, 5, 2),
+    (16, 0, 0x8d7, 0, 0x8d7),
+    (16, 1, 2, 0, 2),
+    (16, 0x8000, 2, 0xf, 2),
+    (16, 0x2008, 2, 0xd, 2),
+    (32, 0, 0x8d7, 0, 0x8d7),
+    (32, 1, 2, 0, 2),
+    (32, 0x80000000, 2, 0x1f, 2),
+    (32, 0x20000008, 2, 0x1d, 2),
+    (64, 0, 0x8d7, 0, 0x8d7),
+    (64, 1, 2, 0, 2),
+    (64, TOP, 2, 0x3f, 2),
+    (64, 0x2000000000000008, 2, 0x3d, 2),
+];
+
 #[test]
 fn shifts_bits(rt: HostRuntime) {
-    check_shift(
-        &rt,
-        Shift::Left,
-        8,
-        &[
-            (0x1, 1, 0x2, 0x2, 0x2),
-            (0x1, 8, 0x8d7, 0x0, 0x857),
-            (0x1, 9, 0x2, 0x0, 0x46),
-            (0x81, 0, 0x8d7, 0x81, 0x8d7),
-            (0x81, 1, 0x2, 0x2, 0x803),
-            (0x81, 2, 0x8d7, 0x4, 0x812),
-            (0x81, 7, 0x2, 0x80, 0x82),
-        ],
-    );
-    check_shift(
-        &rt,
-        Shift::Left,
-        16,
-        &[
-            (0x1, 1, 0x2, 0x2, 0x2),
-            (0x1, 16, 0x8d7, 0x0, 0x857),
-            (0x1, 17, 0x2, 0x0, 0x46),
-            (0x8001, 0, 0x8d7, 0x8001, 0x8d7),
-            (0x8001, 1, 0x2, 0x2, 0x803),
-            (0x8001, 2, 0x8d7, 0x4, 0x812),
-            (0x8001, 15, 0x2, 0x8000, 0x86),
-        ],
-    );
-    check_shift(
-        &rt,
-        Shift::Left,
-        32,
-        &[
-            (0x1, 1, 0x2, 0x2, 0x2),
-            (0x1, 32, 0x8d7, 0x1, 0x8d7),
-            (0x1, 33, 0x2, 0x2, 0x2),
-            (0x80000001, 0, 0x8d7, 0x80000001, 0x8d7),
-            (0x80000001, 1, 0x2, 0x2, 0x803),
-            (0x80000001, 2, 0x8d7, 0x4, 0x812),
-            (0x80000001, 31, 0x2, 0x80000000, 0x86),
-        ],
-    );
-    check_shift(
-        &rt,
-        Shift::Left,
-        64,
-        &[
-            (0x1, 1, 0x2, 0x2, 0x2),
-            (0x1, 64, 0x8d7, 0x1, 0x8d7),
-            (0x1, 65, 0x2, 0x2, 0x2),
-            (0x8000000000000001, 0, 0x8d7, 0x8000000000000001, 0x8d7),
-            (0x8000000000000001, 1, 0x2, 0x2, 0x803),
-            (0x8000000000000001, 2, 0x8d7, 0x4, 0x812),
-            (0x8000000000000001, 63, 0x2, 0x8000000000000000, 0x86),
-        ],
-    );
-    check_shift(
-        &rt,
-        Shift::Right,
-        8,
-        &[
-            (0x1, 1, 0x2, 0x0, 0x47),
-            (0x1, 8, 0x8d7, 0x0, 0x857),
-            (0x1, 9, 0x2, 0x0, 0x46),
-            (0x81, 0, 0x8d7, 0x81, 0x8d7),
-            (0x81, 1, 0x2, 0x40, 0x803),
-            (0x81, 2, 0x8d7, 0x20, 0x812),
-            (0x81, 7, 0x2, 0x1, 0x2),
-        ],
-    );
-    check_shift(
-        &rt,
-        Shift::Right,
-        16,
-        &[
-            (0x1, 1, 0x2, 0x0, 0x47),
-            (0x1, 16, 0x8d7, 0x0, 0x857),
-            (0x1, 17, 0x2, 0x0, 0x46),
-            (0x8001, 0, 0x8d7, 0x8001, 0x8d7),
-            (0x8001, 1, 0x2, 0x4000, 0x807),
-            (0x8001, 2, 0x8d7, 0x2000, 0x816),
-            (0x8001, 15, 0x2, 0x1, 0x2),
-        ],
-    );
-    check_shift(
-        &rt,
-        Shift::Right,
-        32,
-        &[
-            (0x1, 1, 0x2, 0x0, 0x47),
-            (0x1, 32, 0x8d7, 0x1, 0x8d7),
-            (0x1, 33, 0x2, 0x0, 0x47),
-            (0x80000001, 0, 0x8d7, 0x80000001, 0x8d7),
-            (0x80000001, 1, 0x2, 0x40000000, 0x807),
-            (0x80000001, 2, 0x8d7, 0x20000000, 0x816),
-            (0x80000001, 31, 0x2, 0x1, 0x2),
-        ],
-    );
-    check_shift(
-        &rt,
-        Shift::Right,
-        64,
-        &[
-            (0x1, 1, 0x2, 0x0, 0x47),
-            (0x1, 64, 0x8d7, 0x1, 0x8d7),
-            (0x1, 65, 0x2, 0x0, 0x47),
-            (0x8000000000000001, 0, 0x8d7, 0x8000000000000001, 0x8d7),
-            (0x8000000000000001, 1, 0x2, 0x4000000000000000, 0x807),
-            (0x8000000000000001, 2, 0x8d7, 0x2000000000000000, 0x816),
-            (0x8000000000000001, 63, 0x2, 0x1, 0x2),
-        ],
-    );
-    check_shift(
-        &rt,
-        Shift::Signed,
-        8,
-        &[
-            (0x1, 1, 0x2, 0x0, 0x47),
-            (0x1, 8, 0x8d7, 0x0, 0x856),
-            (0x1, 9, 0x2, 0x0, 0x46),
-            (0x81, 0, 0x8d7, 0x81, 0x8d7),
-            (0x81, 1, 0x2, 0xc0, 0x87),
-            (0x81, 2, 0x8d7, 0xe0, 0x892),
-            (0x81, 7, 0x2, 0xff, 0x86),
-        ],
-    );
-    check_shift(
-        &rt,
-        Shift::Signed,
-        16,
-        &[
-            (0x1, 1, 0x2, 0x0, 0x47),
-            (0x1, 16, 0x8d7, 0x0, 0x856),
-            (0x1, 17, 0x2, 0x0, 0x46),
-            (0x8001, 0, 0x8d7, 0x8001, 0x8d7),
-            (0x8001, 1, 0x2, 0xc000, 0x87),
-            (0x8001, 2, 0x8d7, 0xe000, 0x896),
-            (0x8001, 15, 0x2, 0xffff, 0x86),
-        ],
-    );
-    check_shift(
-        &rt,
-        Shift::Signed,
-        32,
-        &[
-            (0x1, 1, 0x2, 0x0, 0x47),
-            (0x1, 32, 0x8d7, 0x1, 0x8d7),
-            (0x1, 33, 0x2, 0x0, 0x47),
-            (0x80000001, 0, 0x8d7, 0x80000001, 0x8d7),
-            (0x80000001, 1, 0x2, 0xc0000000, 0x87),
-            (0x80000001, 2, 0x8d7, 0xe0000000, 0x896),
-            (0x80000001, 31, 0x2, 0xffffffff, 0x86),
-        ],
-    );
-    check_shift(
-        &rt,
-        Shift::Signed,
-        64,
-        &[
-            (0x1, 1, 0x2, 0x0, 0x47),
-            (0x1, 64, 0x8d7, 0x1, 0x8d7),
-            (0x1, 65, 0x2, 0x0, 0x47),
-            (0x8000000000000001, 0, 0x8d7, 0x8000000000000001, 0x8d7),
-            (0x8000000000000001, 1, 0x2, 0xc000000000000000, 0x87),
-            (0x8000000000000001, 2, 0x8d7, 0xe000000000000000, 0x896),
-            (0x8000000000000001, 63, 0x2, 0xffffffffffffffff, 0x86),
-        ],
-    );
+    check_shift(&rt, Shift::Left, &LEFT_SHIFTS);
+    check_shift(&rt, Shift::Right, &RIGHT_SHIFTS);
+    check_shift(&rt, Shift::Signed, &SIGNED_SHIFTS);
 }
 
-/// ROL and ROR.
 #[test]
 fn rotates_bits(rt: HostRuntime) {
-    check_rotate(
-        &rt,
-        true,
-        8,
-        &[
-            (0x1, 1, 0x2, 0x2, 0x2),
-            (0x1, 8, 0x8d7, 0x1, 0x8d7),
-            (0x40, 1, 0x2, 0x80, 0x802),
-            (0x82, 0, 0x8d7, 0x82, 0x8d7),
-            (0x82, 1, 0x2, 0x5, 0x803),
-            (0x82, 7, 0x2, 0x41, 0x3),
-        ],
-    );
-    check_rotate(
-        &rt,
-        true,
-        16,
-        &[
-            (0x1, 1, 0x2, 0x2, 0x2),
-            (0x1, 16, 0x8d7, 0x1, 0x8d7),
-            (0x4000, 1, 0x2, 0x8000, 0x802),
-            (0x8002, 0, 0x8d7, 0x8002, 0x8d7),
-            (0x8002, 1, 0x2, 0x5, 0x803),
-            (0x8002, 15, 0x2, 0x4001, 0x3),
-        ],
-    );
-    check_rotate(
-        &rt,
-        true,
-        32,
-        &[
-            (0x1, 1, 0x2, 0x2, 0x2),
-            (0x1, 32, 0x8d7, 0x1, 0x8d7),
-            (0x40000000, 1, 0x2, 0x80000000, 0x802),
-            (0x80000002, 0, 0x8d7, 0x80000002, 0x8d7),
-            (0x80000002, 1, 0x2, 0x5, 0x803),
-            (0x80000002, 31, 0x2, 0x40000001, 0x3),
-        ],
-    );
-    check_rotate(
-        &rt,
-        true,
-        64,
-        &[
-            (0x1, 1, 0x2, 0x2, 0x2),
-            (0x1, 64, 0x8d7, 0x1, 0x8d7),
-            (0x4000000000000000, 1, 0x2, 0x8000000000000000, 0x802),
-            (0x8000000000000002, 0, 0x8d7, 0x8000000000000002, 0x8d7),
-            (0x8000000000000002, 1, 0x2, 0x5, 0x803),
-            (0x8000000000000002, 63, 0x2, 0x4000000000000001, 0x3),
-        ],
-    );
-    check_rotate(
-        &rt,
-        false,
-        8,
-        &[
-            (0x1, 1, 0x2, 0x80, 0x803),
-            (0x1, 8, 0x8d7, 0x1, 0x8d6),
-            (0x40, 1, 0x2, 0x20, 0x2),
-            (0x82, 0, 0x8d7, 0x82, 0x8d7),
-            (0x82, 1, 0x2, 0x41, 0x802),
-            (0x82, 7, 0x2, 0x5, 0x2),
-        ],
-    );
-    check_rotate(
-        &rt,
-        false,
-        16,
-        &[
-            (0x1, 1, 0x2, 0x8000, 0x803),
-            (0x1, 16, 0x8d7, 0x1, 0x8d6),
-            (0x4000, 1, 0x2, 0x2000, 0x2),
-            (0x8002, 0, 0x8d7, 0x8002, 0x8d7),
-            (0x8002, 1, 0x2, 0x4001, 0x802),
-            (0x8002, 15, 0x2, 0x5, 0x2),
-        ],
-    );
-    check_rotate(
-        &rt,
-        false,
-        32,
-        &[
-            (0x1, 1, 0x2, 0x80000000, 0x803),
-            (0x1, 32, 0x8d7, 0x1, 0x8d7),
-            (0x40000000, 1, 0x2, 0x20000000, 0x2),
-            (0x80000002, 0, 0x8d7, 0x80000002, 0x8d7),
-            (0x80000002, 1, 0x2, 0x40000001, 0x802),
-            (0x80000002, 31, 0x2, 0x5, 0x2),
-        ],
-    );
-    check_rotate(
-        &rt,
-        false,
-        64,
-        &[
-            (0x1, 1, 0x2, 0x8000000000000000, 0x803),
-            (0x1, 64, 0x8d7, 0x1, 0x8d7),
-            (0x4000000000000000, 1, 0x2, 0x2000000000000000, 0x2),
-            (0x8000000000000002, 0, 0x8d7, 0x8000000000000002, 0x8d7),
-            (0x8000000000000002, 1, 0x2, 0x4000000000000001, 0x802),
-            (0x8000000000000002, 63, 0x2, 0x5, 0x2),
-        ],
-    );
+    check_rotate(&rt, true, &LEFT_ROTATIONS);
+    check_rotate(&rt, false, &RIGHT_ROTATIONS);
 }
 
-/// BSF and BSR.
 #[test]
 fn scans_bits(rt: HostRuntime) {
-    check_scan(
-        &rt,
-        true,
-        8,
-        &[
-            (0x0, 0x8d7, 0x0, 0x8d7),
-            (0x1, 0x2, 0x0, 0x2),
-            (0x80, 0x2, 0x7, 0x2),
-            (0x28, 0x2, 0x3, 0x2),
-        ],
-    );
-    check_scan(
-        &rt,
-        true,
-        16,
-        &[
-            (0x0, 0x8d7, 0x0, 0x8d7),
-            (0x1, 0x2, 0x0, 0x2),
-            (0x8000, 0x2, 0xf, 0x2),
-            (0x2008, 0x2, 0x3, 0x2),
-        ],
-    );
-    check_scan(
-        &rt,
-        true,
-        32,
-        &[
-            (0x0, 0x8d7, 0x0, 0x8d7),
-            (0x1, 0x2, 0x0, 0x2),
-            (0x80000000, 0x2, 0x1f, 0x2),
-            (0x20000008, 0x2, 0x3, 0x2),
-        ],
-    );
-    check_scan(
-        &rt,
-        true,
-        64,
-        &[
-            (0x0, 0x8d7, 0x0, 0x8d7),
-            (0x1, 0x2, 0x0, 0x2),
-            (0x8000000000000000, 0x2, 0x3f, 0x2),
-            (0x2000000000000008, 0x2, 0x3, 0x2),
-        ],
-    );
-    check_scan(
-        &rt,
-        false,
-        8,
-        &[
-            (0x0, 0x8d7, 0x0, 0x8d7),
-            (0x1, 0x2, 0x0, 0x2),
-            (0x80, 0x2, 0x7, 0x2),
-            (0x28, 0x2, 0x5, 0x2),
-        ],
-    );
-    check_scan(
-        &rt,
-        false,
-        16,
-        &[
-            (0x0, 0x8d7, 0x0, 0x8d7),
-            (0x1, 0x2, 0x0, 0x2),
-            (0x8000, 0x2, 0xf, 0x2),
-            (0x2008, 0x2, 0xd, 0x2),
-        ],
-    );
-    check_scan(
-        &rt,
-        false,
-        32,
-        &[
-            (0x0, 0x8d7, 0x0, 0x8d7),
-            (0x1, 0x2, 0x0, 0x2),
-            (0x80000000, 0x2, 0x1f, 0x2),
-            (0x20000008, 0x2, 0x1d, 0x2),
-        ],
-    );
-    check_scan(
-        &rt,
-        false,
-        64,
-        &[
-            (0x0, 0x8d7, 0x0, 0x8d7),
-            (0x1, 0x2, 0x0, 0x2),
-            (0x8000000000000000, 0x2, 0x3f, 0x2),
-            (0x2000000000000008, 0x2, 0x3d, 0x2),
-        ],
-    );
+    check_scan(&rt, true, &SCANS_UP);
+    check_scan(&rt, false, &SCANS_DOWN);
 }
 
-/// Rows: the operand, the count, the flags before.
-fn check_shift(rt: &impl Abort, op: Shift, width: u8, rows: &[(u64, u8, u64, u64, u64)])
-    requires { IsWidth width }
-{
-    for (a, count, before, value, flags) in rows {
-        let out = shift(op, width, *a, *count, *before);
-        assert_eq!(rt;
-            out,
-            Out {
-                value: *value,
-                flags: *flags
-            },
-            "{width}: {a:x} by {count}"
-        );
+fn check_shift(rt: &impl Abort, op: Shift, rows: &[(u8, u64, u8, u64, u64, u64)]) {
+    for (width, a, count, before, value, flags) in rows {
+        let shifted = shift(op, width_of(rt, *width), *a, *count, *before);
+        assert_eq!(rt; shifted, out(*value, *flags), "{width}: {a:x} by {count}");
     }
 }
 
-/// Rows: the operand, the count, the flags before.
-fn check_rotate(rt: &impl Abort, left: bool, width: u8, rows: &[(u64, u8, u64, u64, u64)])
-    requires { IsWidth width }
-{
-    for (a, count, before, value, flags) in rows {
-        let out = rotate(left, width, *a, *count, *before);
-        assert_eq!(rt;
-            out,
-            Out {
-                value: *value,
-                flags: *flags
-            },
-            "{width}: {a:x} by {count}"
-        );
+fn check_rotate(rt: &impl Abort, left: bool, rows: &[(u8, u64, u8, u64, u64, u64)]) {
+    for (width, a, count, before, value, flags) in rows {
+        let rotated = rotate(left, width_of(rt, *width), *a, *count, *before);
+        assert_eq!(rt; rotated, out(*value, *flags), "{width}: {a:x} by {count}");
     }
 }
 
-/// Rows: the operand, the flags before.
-fn check_scan(rt: &impl Abort, up: bool, width: u8, rows: &[(u64, u64, u64, u64)])
-    requires { IsWidth width }
-{
-    for (a, before, value, flags) in rows {
-        let out = scan_bit(up, width, *a, *before);
-        assert_eq!(rt;
-            out,
-            Out {
-                value: *value,
-                flags: *flags
-            },
-            "{width}: {a:x}"
-        );
+fn check_scan(rt: &impl Abort, up: bool, rows: &[(u8, u64, u64, u64, u64)]) {
+    for (width, a, before, value, flags) in rows {
+        let found = scan_bit(up, width_of(rt, *width), *a, *before);
+        assert_eq!(rt; found, out(*value, *flags), "{width}: {a:x}");
     }
 }

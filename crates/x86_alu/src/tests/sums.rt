@@ -1,359 +1,148 @@
-//! Each row has operands at an edge of the width and, last, the value and the flags that follow. Flags that an
-//! operation leaves alone, and those that the manual leaves undefined, stay as they were before.
+//! Sums, differences and logic: rows of each width, with operands at its edges and, last, what follows from them.
+//! Flags that an operation leaves alone, and those that the manual leaves undefined, stay as they were before.
 
-ghost use Rattle.x86_alu.specs.Numbers.{IsWidth};
-
-use crate::{Logic, Out, add, logic, sub};
+use super::{MOST, ONES, TOP, out, width_of};
+use crate::{Logic, add, logic, sub};
 use std::process::Abort;
 
-/// ADC, and ADD where no carry comes in.
+/// ADC, and ADD where no carry comes in. Width in bits, a, b, the carry in; the value, the flags, from flags 2.
+static SUMS: [(u8, u64, u64, bool, u64, u64); 24] = [
+    (8, 0, 0, false, 0, 0x46),
+    (8, 1, 0xff, false, 0, 0x57),
+    (8, 1, 0xff, true, 1, 0x13),
+    (8, 0x7f, 1, false, 0x80, 0x892),
+    (8, 0x80, 0x80, false, 0, 0x847),
+    (8, 0x80, 0xff, true, 0x80, 0x93),
+    (16, 0, 0, false, 0, 0x46),
+    (16, 1, 0xffff, false, 0, 0x57),
+    (16, 1, 0xffff, true, 1, 0x13),
+    (16, 0x7fff, 1, false, 0x8000, 0x896),
+    (16, 0x8000, 0x8000, false, 0, 0x847),
+    (16, 0x8000, 0xffff, true, 0x8000, 0x97),
+    (32, 0, 0, false, 0, 0x46),
+    (32, 1, 0xffffffff, false, 0, 0x57),
+    (32, 1, 0xffffffff, true, 1, 0x13),
+    (32, 0x7fffffff, 1, false, 0x80000000, 0x896),
+    (32, 0x80000000, 0x80000000, false, 0, 0x847),
+    (32, 0x80000000, 0xffffffff, true, 0x80000000, 0x97),
+    (64, 0, 0, false, 0, 0x46),
+    (64, 1, ONES, false, 0, 0x57),
+    (64, 1, ONES, true, 1, 0x13),
+    (64, MOST, 1, false, TOP, 0x896),
+    (64, TOP, TOP, false, 0, 0x847),
+    (64, TOP, ONES, true, TOP, 0x97),
+];
+
+/// SBB, and SUB where no borrow comes in. Width in bits, a, b, the borrow in; the value, the flags, from flags 2.
+static DIFFERENCES: [(u8, u64, u64, bool, u64, u64); 24] = [
+    (8, 0, 0, false, 0, 0x46),
+    (8, 0, 0, true, 0xff, 0x97),
+    (8, 1, 0xff, false, 2, 0x13),
+    (8, 0x80, 0xff, false, 0x81, 0x97),
+    (8, 0x80, 0xff, true, 0x80, 0x93),
+    (8, 0x7f, 0x80, false, 0xff, 0x887),
+    (16, 0, 0, false, 0, 0x46),
+    (16, 0, 0, true, 0xffff, 0x97),
+    (16, 1, 0xffff, false, 2, 0x13),
+    (16, 0x8000, 0xffff, false, 0x8001, 0x93),
+    (16, 0x8000, 0xffff, true, 0x8000, 0x97),
+    (16, 0x7fff, 0x8000, false, 0xffff, 0x887),
+    (32, 0, 0, false, 0, 0x46),
+    (32, 0, 0, true, 0xffffffff, 0x97),
+    (32, 1, 0xffffffff, false, 2, 0x13),
+    (32, 0x80000000, 0xffffffff, false, 0x80000001, 0x93),
+    (32, 0x80000000, 0xffffffff, true, 0x80000000, 0x97),
+    (32, 0x7fffffff, 0x80000000, false, 0xffffffff, 0x887),
+    (64, 0, 0, false, 0, 0x46),
+    (64, 0, 0, true, ONES, 0x97),
+    (64, 1, ONES, false, 2, 0x13),
+    (64, TOP, ONES, false, 0x8000000000000001, 0x93),
+    (64, TOP, ONES, true, TOP, 0x97),
+    (64, MOST, TOP, false, ONES, 0x887),
+];
+
+/// AND. Width in bits, a, b; the value, the flags, from all flags set.
+static ANDS: [(u8, u64, u64, u64, u64); 12] = [
+    (8, 1, 0xff, 1, 0x12),
+    (8, 0x80, 0xff, 0x80, 0x92),
+    (8, 0x7f, 0x80, 0, 0x56),
+    (16, 1, 0xffff, 1, 0x12),
+    (16, 0x8000, 0xffff, 0x8000, 0x96),
+    (16, 0x7fff, 0x8000, 0, 0x56),
+    (32, 1, 0xffffffff, 1, 0x12),
+    (32, 0x80000000, 0xffffffff, 0x80000000, 0x96),
+    (32, 0x7fffffff, 0x80000000, 0, 0x56),
+    (64, 1, ONES, 1, 0x12),
+    (64, TOP, ONES, TOP, 0x96),
+    (64, MOST, TOP, 0, 0x56),
+];
+
+/// OR. Width in bits, a, b; the value, the flags, from all flags set.
+static ORS: [(u8, u64, u64, u64, u64); 12] = [
+    (8, 1, 0xff, 0xff, 0x96),
+    (8, 0x80, 0xff, 0xff, 0x96),
+    (8, 0x7f, 0x80, 0xff, 0x96),
+    (16, 1, 0xffff, 0xffff, 0x96),
+    (16, 0x8000, 0xffff, 0xffff, 0x96),
+    (16, 0x7fff, 0x8000, 0xffff, 0x96),
+    (32, 1, 0xffffffff, 0xffffffff, 0x96),
+    (32, 0x80000000, 0xffffffff, 0xffffffff, 0x96),
+    (32, 0x7fffffff, 0x80000000, 0xffffffff, 0x96),
+    (64, 1, ONES, ONES, 0x96),
+    (64, TOP, ONES, ONES, 0x96),
+    (64, MOST, TOP, ONES, 0x96),
+];
+
+/// XOR. Width in bits, a, b; the value, the flags, from all flags set.
+static XORS: [(u8, u64, u64, u64, u64); 12] = [
+    (8, 1, 0xff, 0xfe, 0x92),
+    (8, 0x80, 0xff, 0x7f, 0x12),
+    (8, 0x7f, 0x80, 0xff, 0x96),
+    (16, 1, 0xffff, 0xfffe, 0x92),
+    (16, 0x8000, 0xffff, 0x7fff, 0x16),
+    (16, 0x7fff, 0x8000, 0xffff, 0x96),
+    (32, 1, 0xffffffff, 0xfffffffe, 0x92),
+    (32, 0x80000000, 0xffffffff, 0x7fffffff, 0x16),
+    (32, 0x7fffffff, 0x80000000, 0xffffffff, 0x96),
+    (64, 1, ONES, 0xfffffffffffffffe, 0x92),
+    (64, TOP, ONES, MOST, 0x16),
+    (64, MOST, TOP, ONES, 0x96),
+];
+
 #[test]
 fn adds(rt: HostRuntime) {
-    check_add(
-        &rt,
-        8,
-        &[
-            (0x0, 0x0, false, 0x0, 0x46),
-            (0x1, 0xff, false, 0x0, 0x57),
-            (0x1, 0xff, true, 0x1, 0x13),
-            (0x7f, 0x1, false, 0x80, 0x892),
-            (0x80, 0x80, false, 0x0, 0x847),
-            (0x80, 0xff, true, 0x80, 0x93),
-        ],
-    );
-    check_add(
-        &rt,
-        16,
-        &[
-            (0x0, 0x0, false, 0x0, 0x46),
-            (0x1, 0xffff, false, 0x0, 0x57),
-            (0x1, 0xffff, true, 0x1, 0x13),
-            (0x7fff, 0x1, false, 0x8000, 0x896),
-            (0x8000, 0x8000, false, 0x0, 0x847),
-            (0x8000, 0xffff, true, 0x8000, 0x97),
-        ],
-    );
-    check_add(
-        &rt,
-        32,
-        &[
-            (0x0, 0x0, false, 0x0, 0x46),
-            (0x1, 0xffffffff, false, 0x0, 0x57),
-            (0x1, 0xffffffff, true, 0x1, 0x13),
-            (0x7fffffff, 0x1, false, 0x80000000, 0x896),
-            (0x80000000, 0x80000000, false, 0x0, 0x847),
-            (0x80000000, 0xffffffff, true, 0x80000000, 0x97),
-        ],
-    );
-    check_add(
-        &rt,
-        64,
-        &[
-            (0x0, 0x0, false, 0x0, 0x46),
-            (0x1, 0xffffffffffffffff, false, 0x0, 0x57),
-            (0x1, 0xffffffffffffffff, true, 0x1, 0x13),
-            (0x7fffffffffffffff, 0x1, false, 0x8000000000000000, 0x896),
-            (0x8000000000000000, 0x8000000000000000, false, 0x0, 0x847),
-            (
-                0x8000000000000000,
-                0xffffffffffffffff,
-                true,
-                0x8000000000000000,
-                0x97,
-            ),
-        ],
-    );
+    for (width, a, b, carry, value, flags) in &SUMS {
+        let sum = add(width_of(&rt, *width), *a, *b, *carry, 2);
+        assert_eq!(rt; sum, out(*value, *flags), "{width}: {a:x} + {b:x}");
+    }
 }
 
-/// SBB, and SUB where no borrow comes in.
 #[test]
 fn subtracts(rt: HostRuntime) {
-    check_sub(
-        &rt,
-        8,
-        &[
-            (0x0, 0x0, false, 0x0, 0x46),
-            (0x0, 0x0, true, 0xff, 0x97),
-            (0x1, 0xff, false, 0x2, 0x13),
-            (0x80, 0xff, false, 0x81, 0x97),
-            (0x80, 0xff, true, 0x80, 0x93),
-            (0x7f, 0x80, false, 0xff, 0x887),
-        ],
-    );
-    check_sub(
-        &rt,
-        16,
-        &[
-            (0x0, 0x0, false, 0x0, 0x46),
-            (0x0, 0x0, true, 0xffff, 0x97),
-            (0x1, 0xffff, false, 0x2, 0x13),
-            (0x8000, 0xffff, false, 0x8001, 0x93),
-            (0x8000, 0xffff, true, 0x8000, 0x97),
-            (0x7fff, 0x8000, false, 0xffff, 0x887),
-        ],
-    );
-    check_sub(
-        &rt,
-        32,
-        &[
-            (0x0, 0x0, false, 0x0, 0x46),
-            (0x0, 0x0, true, 0xffffffff, 0x97),
-            (0x1, 0xffffffff, false, 0x2, 0x13),
-            (0x80000000, 0xffffffff, false, 0x80000001, 0x93),
-            (0x80000000, 0xffffffff, true, 0x80000000, 0x97),
-            (0x7fffffff, 0x80000000, false, 0xffffffff, 0x887),
-        ],
-    );
-    check_sub(
-        &rt,
-        64,
-        &[
-            (0x0, 0x0, false, 0x0, 0x46),
-            (0x0, 0x0, true, 0xffffffffffffffff, 0x97),
-            (0x1, 0xffffffffffffffff, false, 0x2, 0x13),
-            (
-                0x8000000000000000,
-                0xffffffffffffffff,
-                false,
-                0x8000000000000001,
-                0x93,
-            ),
-            (
-                0x8000000000000000,
-                0xffffffffffffffff,
-                true,
-                0x8000000000000000,
-                0x97,
-            ),
-            (
-                0x7fffffffffffffff,
-                0x8000000000000000,
-                false,
-                0xffffffffffffffff,
-                0x887,
-            ),
-        ],
-    );
+    for (width, a, b, borrow, value, flags) in &DIFFERENCES {
+        let difference = sub(width_of(&rt, *width), *a, *b, *borrow, 2);
+        assert_eq!(rt; difference, out(*value, *flags), "{width}: {a:x} - {b:x}");
+    }
 }
 
-/// AND, OR and XOR.
 #[test]
 fn combines_bits(rt: HostRuntime) {
-    check_logic(
-        &rt,
-        Logic::And,
-        8,
-        &[
-            (0x1, 0xff, 0x1, 0x12),
-            (0x80, 0xff, 0x80, 0x92),
-            (0x7f, 0x80, 0x0, 0x56),
-        ],
-    );
-    check_logic(
-        &rt,
-        Logic::And,
-        16,
-        &[
-            (0x1, 0xffff, 0x1, 0x12),
-            (0x8000, 0xffff, 0x8000, 0x96),
-            (0x7fff, 0x8000, 0x0, 0x56),
-        ],
-    );
-    check_logic(
-        &rt,
-        Logic::And,
-        32,
-        &[
-            (0x1, 0xffffffff, 0x1, 0x12),
-            (0x80000000, 0xffffffff, 0x80000000, 0x96),
-            (0x7fffffff, 0x80000000, 0x0, 0x56),
-        ],
-    );
-    check_logic(
-        &rt,
-        Logic::And,
-        64,
-        &[
-            (0x1, 0xffffffffffffffff, 0x1, 0x12),
-            (
-                0x8000000000000000,
-                0xffffffffffffffff,
-                0x8000000000000000,
-                0x96,
-            ),
-            (0x7fffffffffffffff, 0x8000000000000000, 0x0, 0x56),
-        ],
-    );
-    check_logic(
-        &rt,
-        Logic::Or,
-        8,
-        &[
-            (0x1, 0xff, 0xff, 0x96),
-            (0x80, 0xff, 0xff, 0x96),
-            (0x7f, 0x80, 0xff, 0x96),
-        ],
-    );
-    check_logic(
-        &rt,
-        Logic::Or,
-        16,
-        &[
-            (0x1, 0xffff, 0xffff, 0x96),
-            (0x8000, 0xffff, 0xffff, 0x96),
-            (0x7fff, 0x8000, 0xffff, 0x96),
-        ],
-    );
-    check_logic(
-        &rt,
-        Logic::Or,
-        32,
-        &[
-            (0x1, 0xffffffff, 0xffffffff, 0x96),
-            (0x80000000, 0xffffffff, 0xffffffff, 0x96),
-            (0x7fffffff, 0x80000000, 0xffffffff, 0x96),
-        ],
-    );
-    check_logic(
-        &rt,
-        Logic::Or,
-        64,
-        &[
-            (0x1, 0xffffffffffffffff, 0xffffffffffffffff, 0x96),
-            (
-                0x8000000000000000,
-                0xffffffffffffffff,
-                0xffffffffffffffff,
-                0x96,
-            ),
-            (
-                0x7fffffffffffffff,
-                0x8000000000000000,
-                0xffffffffffffffff,
-                0x96,
-            ),
-        ],
-    );
-    check_logic(
-        &rt,
-        Logic::Xor,
-        8,
-        &[
-            (0x1, 0xff, 0xfe, 0x92),
-            (0x80, 0xff, 0x7f, 0x12),
-            (0x7f, 0x80, 0xff, 0x96),
-        ],
-    );
-    check_logic(
-        &rt,
-        Logic::Xor,
-        16,
-        &[
-            (0x1, 0xffff, 0xfffe, 0x92),
-            (0x8000, 0xffff, 0x7fff, 0x16),
-            (0x7fff, 0x8000, 0xffff, 0x96),
-        ],
-    );
-    check_logic(
-        &rt,
-        Logic::Xor,
-        32,
-        &[
-            (0x1, 0xffffffff, 0xfffffffe, 0x92),
-            (0x80000000, 0xffffffff, 0x7fffffff, 0x16),
-            (0x7fffffff, 0x80000000, 0xffffffff, 0x96),
-        ],
-    );
-    check_logic(
-        &rt,
-        Logic::Xor,
-        64,
-        &[
-            (0x1, 0xffffffffffffffff, 0xfffffffffffffffe, 0x92),
-            (
-                0x8000000000000000,
-                0xffffffffffffffff,
-                0x7fffffffffffffff,
-                0x16,
-            ),
-            (
-                0x7fffffffffffffff,
-                0x8000000000000000,
-                0xffffffffffffffff,
-                0x96,
-            ),
-        ],
-    );
+    check_logic(&rt, Logic::And, &ANDS);
+    check_logic(&rt, Logic::Or, &ORS);
+    check_logic(&rt, Logic::Xor, &XORS);
 }
 
 /// Bits of the values above the width don't count, and the other bits of the flags word stay.
 #[test]
 fn cuts_values(rt: HostRuntime) {
-    let out = add(8, 0x1ff, 0xf01, false, 0xffff_ffff_ffff_f72a);
-    assert_eq!(rt;
-        out,
-        Out {
-            value: 0,
-            flags: 0xffff_ffff_ffff_f77f
-        }
-    );
-    let out = sub(8, 0x100, 1, false, 2);
-    assert_eq!(rt;
-        out,
-        Out {
-            value: 0xff,
-            flags: 0x97
-        }
-    );
+    let sum = add(8, 0x1ff, 0xf01, false, 0xffff_ffff_ffff_f72a);
+    assert_eq!(rt; sum, out(0, 0xffff_ffff_ffff_f77f));
+    assert_eq!(rt; sub(8, 0x100, 1, false, 2), out(0xff, 0x97));
 }
 
-/// Rows: a, b, the carry in; from flags 2.
-fn check_add(rt: &impl Abort, width: u8, rows: &[(u64, u64, bool, u64, u64)])
-    requires { IsWidth width }
-{
-    for (a, b, carry, value, flags) in rows {
-        let out = add(width, *a, *b, *carry, 2);
-        assert_eq!(rt;
-            out,
-            Out {
-                value: *value,
-                flags: *flags
-            },
-            "{width}: {a:x} + {b:x}"
-        );
-    }
-}
-
-/// Rows: a, b, the borrow in; from flags 2.
-fn check_sub(rt: &impl Abort, width: u8, rows: &[(u64, u64, bool, u64, u64)])
-    requires { IsWidth width }
-{
-    for (a, b, borrow, value, flags) in rows {
-        let out = sub(width, *a, *b, *borrow, 2);
-        assert_eq!(rt;
-            out,
-            Out {
-                value: *value,
-                flags: *flags
-            },
-            "{width}: {a:x} - {b:x}"
-        );
-    }
-}
-
-/// Rows: a, b; from all flags set.
-fn check_logic(rt: &impl Abort, op: Logic, width: u8, rows: &[(u64, u64, u64, u64)])
-    requires { IsWidth width }
-{
-    for (a, b, value, flags) in rows {
-        let out = logic(op, width, *a, *b, 0x8d7);
-        assert_eq!(rt;
-            out,
-            Out {
-                value: *value,
-                flags: *flags
-            },
-            "{width}: {a:x}, {b:x}"
-        );
+fn check_logic(rt: &impl Abort, op: Logic, rows: &[(u8, u64, u64, u64, u64)]) {
+    for (width, a, b, value, flags) in rows {
+        let combined = logic(op, width_of(rt, *width), *a, *b, 0x8d7);
+        assert_eq!(rt; combined, out(*value, *flags), "{width}: {a:x}, {b:x}");
     }
 }

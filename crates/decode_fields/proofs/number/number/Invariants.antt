@@ -1,5 +1,5 @@
 use Rattle.std.proofs.Common.{◌≡◌, ◌-◌, ◌^◌, ◌*◌, ◌<◌, drop}
-use Rattle.decode_fields.specs.Number.{number_of}
+use Rattle.decode_fields.specs.Immediates.{number_of}
 use Rattle.decode_fields.proofs.number.number.Given as goal
 
 -- the bytes from i on are read

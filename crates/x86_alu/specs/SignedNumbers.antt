@@ -1,9 +1,5 @@
 -- Numbers of w bits, unsigned and signed.
-use Rattle.std.specs.Prelude.{◌≡◌, ℕ, ◌+◌, ◌-◌, ◌/◌, ◌%◌, ◌^◌, Bool, true, false, not, ◌⊎◌, ◌==◌, if◌then◌else◌}
-
--- an operand has 8, 16, 32 or 64 bits
-abbrev pub IsWidth : ℕ → Type 0
-IsWidth w = (w ≡ 8) ⊎ ((w ≡ 16) ⊎ ((w ≡ 32) ⊎ (w ≡ 64)))
+use Rattle.std.specs.Prelude.{ℕ, ◌+◌, ◌-◌, ◌/◌, ◌%◌, ◌^◌, Bool, true, false, not, ◌==◌, if◌then◌else◌}
 
 -- the low w bits of n
 abbrev pub cut : ℕ → ℕ → ℕ

@@ -1,12 +1,8 @@
--- What the processor judges an access by: SDM volume 3, 4.6, with the bits that this machine has.
+-- Which accesses a translation serves: SDM volume 3, 4.6, with the bits that this machine has.
 use Rattle.std.specs.Prelude.{ℕ, Bool, not, ◌&&◌, ◌||◌, ◌==◌, if◌then◌else◌}
 use Rattle.nk_bits.specs.declared.leaf.Rights.{Rights}
-
--- what an access does to a byte
-pub data Access : Type 0 where
-  Read : Access
-  Write : Access
-  Fetch : Access
+use Rattle.nk_bits.specs.declared.access.Access.{Access}
+use Rattle.nk_bits.specs.declared.access.Access.TheVariants.{Read, Write, Fetch}
 
 -- a translation with these rights serves the access at this CPL, WP being bit 16 of CR0 and SMEP bit 20 of CR4
 abbrev pub may : Access → Rights → ℕ → Bool → Bool → Bool

@@ -1,9 +1,5 @@
 -- Numbers in an instruction: least byte first, and extended by their sign.
-use Rattle.std.specs.Prelude.{◌≡◌, ◌⊎◌, ℕ, ◌+◌, ◌-◌, ◌*◌, ◌/◌, ◌^◌, Option, Some, None, List, [], ◌∷◌, zero, suc, length, nat_lt, if◌then◌else◌}
-
--- the widths of operands, in bits
-abbrev pub IsWidth : ℕ → Type 0
-IsWidth width = (width ≡ 8) ⊎ ((width ≡ 16) ⊎ ((width ≡ 32) ⊎ (width ≡ 64)))
+use Rattle.std.specs.Prelude.{ℕ, ◌+◌, ◌-◌, ◌*◌, ◌/◌, ◌^◌, Option, Some, None, List, [], ◌∷◌, zero, suc, length, nat_lt, if◌then◌else◌}
 
 -- the number of the first n bytes, least first; a byte past the end counts as 0
 abbrev pub number_of : ℕ → List ℕ → ℕ

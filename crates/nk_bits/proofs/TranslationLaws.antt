@@ -1,27 +1,17 @@
 -- The translations kept: what a look-up finds after a drop and a fill, and what goes on holding of each.
-use Rattle.std.proofs.Common.{◌≡◌, ◌≢◌, ℕ, ◌+◌, ◌-◌, ◌<◌, ◌≤◌, Bool, true, false, not, ◌==◌, List, [], ◌∷◌, ◌++◌, length, drop, All, arith, refl, sym, ap, subst, cond, inl, inr, ◌∙◌}
+use Rattle.std.proofs.Common.{◌≡◌, ◌≢◌, ℕ, ◌-◌, ◌<◌, ◌≤◌, Bool, true, false, not, ◌==◌, List, [], ◌∷◌, ◌++◌, length, drop, All, arith, refl, sym, ap, subst, cond, inl, inr, ◌∙◌}
 use Rattle.std.specs.Prelude.{IfSome, Option, Some, None, Result, Ok, Err, if◌then◌else◌}
-use Rattle.std.proofs.lemmas.List.{length-drop, length-append, drop-append-le, get_or-drop}
-use Rattle.std.proofs.lemmas.List.Elements.{All-head, All-tail, All-filter, All-append, All-drop, All-cons, All-nil, filter_passes, All-weaker}
+use Rattle.std.proofs.lemmas.List.{length-append, drop-append-le}
+use Rattle.std.proofs.lemmas.List.Elements.{All-head, All-tail, All-filter, All-append, All-drop, All-cons, All-nil, filter_passes}
 use Rattle.std.proofs.lemmas.Bool.{eqb-true, eq-eqb, false≢true}
 use Rattle.std.proofs.lemmas.Bool.Decides.{eqb_tells}
-use Rattle.std.proofs.lemmas.List.Quantifiers.{all_pairs_push}
-use Rattle.std.proofs.lemmas.List.Kept.{AllPairs-filter}
 use Rattle.nk_bits.specs.declared.leaf.Leaf.{Leaf}
 use Rattle.nk_bits.specs.Paging.{walk}
-use Rattle.nk_bits.specs.Tlb.{capacity, look, dropped, youngest, filled, HasDistinctPages, fill_walked, tlb_after}
+use Rattle.nk_bits.specs.Translations.{capacity, look, dropped, youngest, filled, fill_walked, tlb_after}
 
 capacity_positive : 0 < capacity
 unfolding capacity
 capacity_positive = omega arith
-
--- no more is kept than fits
-pub length-filled : (tlb : List (ℕ × Leaf)) (page : ℕ) (leaf : Leaf) → length (filled tlb page leaf) ≤ capacity
-unfolding filled
-length-filled tlb page leaf = fits capacity (dropped tlb page ++ (page, leaf) ∷ [])
-  where
-    fits : (most : ℕ) (pairs : List (ℕ × Leaf)) → length (youngest most pairs) ≤ most
-    fits most pairs = omega (arith, length-drop (length pairs - most) pairs)
 
 -- what holds of each pair goes on holding after a drop and after a fill
 pub All-dropped : (P : ℕ × Leaf → Type 0) (tlb : List (ℕ × Leaf)) (page : ℕ) → All P tlb → All P (dropped tlb page)
@@ -101,19 +91,3 @@ look_filled tlb page leaf = found capacity (dropped tlb page) capacity_positive 
         let over : length (pairs ++ (page, leaf) ∷ []) - most ≤ length pairs = omega (arith, length-append pairs ((page, leaf) ∷ []), some) in
         ap (λ xs. look xs page) (drop-append-le (length (pairs ++ (page, leaf) ∷ []) - most) pairs ((page, leaf) ∷ []) over)
         ∙ look_last (drop (length (pairs ++ (page, leaf) ∷ []) - most) pairs) page leaf (All-drop (λ pair. not (pair.0 == page) ≡ true) _ pairs others)
-
--- pages go on being distinct after a drop and after a fill
-pub distinct_dropped : (tlb : List (ℕ × Leaf)) (page : ℕ) → HasDistinctPages tlb → HasDistinctPages (dropped tlb page)
-distinct_dropped tlb page distinct = AllPairs-filter (λ one other. one.0 ≢ other.0) (λ pair. not (pair.0 == page)) tlb distinct
-
-pub distinct_filled : (tlb : List (ℕ × Leaf)) (page : ℕ) (leaf : Leaf) → HasDistinctPages tlb → HasDistinctPages (filled tlb page leaf)
-unfolding filled
-distinct_filled tlb page leaf distinct =
-    distinct_youngest _ (dropped tlb page ++ (page, leaf) ∷ [])
-    (all_pairs_push (λ one other. one.0 ≢ other.0) (dropped tlb page) (page, leaf) (distinct_dropped tlb page distinct)
-    (All-weaker (λ pair. not (pair.0 == page) ≡ true) (λ pair. pair.0 ≢ page) (λ pair passes e. absurd (false≢true (sym (ap not (eq-eqb pair.0 page e)) ∙ passes))) (dropped tlb page) (filter_passes (λ pair. not (pair.0 == page)) tlb)))
-  where
-    distinct_youngest : (n : ℕ) (pairs : List (ℕ × Leaf)) → HasDistinctPages pairs → HasDistinctPages (drop n pairs)
-    distinct_youngest n pairs all =
-        λ i j d below fits e. all (n + i) (n + j) d (omega (arith, below)) (omega (arith, fits, length-drop n pairs))
-        (sym (ap (λ x. x.0) (get_or-drop n pairs i d)) ∙ e ∙ ap (λ x. x.0) (get_or-drop n pairs j d))
