@@ -1,17 +1,19 @@
 -- From single pages to the whole image.
-use Rattle.std.proofs.Common.{◌≡◌, ℕ, zero, suc, ◌+◌, ◌-◌, ◌*◌, ◌/◌, ◌%◌, ◌<◌, ◌≤◌, ◌⊎◌, inl, inr, List, [], ◌∷◌, length, get_or, Option, Some, None, slice_get, Bool, true, false, cond, ◌&&◌, ◌||◌, refl, ap, sym, ◌∙◌, subst, arith, find}
+use Rattle.std.proofs.Common.{◌≡◌, ℕ, zero, suc, ◌+◌, ◌-◌, ◌*◌, ◌/◌, ◌%◌, ◌<◌, ◌≤◌, inl, inr, List, [], ◌∷◌, length, get_or, Option, Some, None, Bool, true, false, ◌&&◌, refl, ap, sym, ◌∙◌, subst, arith, find}
 use Rattle.std.specs.List.{range_with_len, list_any}
 use Rattle.std.specs.Prelude.{option_map}
 use Rattle.std.proofs.lemmas.Bool.{cases_lt, cases_Bool}
-use Rattle.elf_image.specs.declared.elf.TheConstants.{HOME_START, HOME_END, PF_X}
+use Rattle.std.proofs.lemmas.Option.{none-some}
 use Rattle.elf_image.specs.declared.program_header.ProgramHeader.{ProgramHeader}
-use Rattle.elf_image.specs.Elf.{has_flag, segments}
+use Rattle.elf_image.specs.Elf.{has_flag, pf_x, segments}
+use Rattle.elf_image.specs.Home.{home_end, home_start}
 use Rattle.elf_image.specs.Segments.{touches}
 use Rattle.elf_image.specs.Pages.{IsPageList, is_executable, is_page, pages_of}
 use Rattle.byte_scanner.specs.declared.encoding.Found.{Found}
 use Rattle.decode_fields.specs.Protected.{is_protected_at}
-use Rattle.byte_scanner.specs.Code.{code_at, IsClean}
-use Rattle.byte_scanner.specs.Found.{IsFirstOn, first_found, found_with, least_from}
+use Rattle.byte_scanner.specs.ImageCode.{code_at}
+use Rattle.byte_scanner.specs.FirstFound.{first_found, found_with, least_from}
+use Rattle.byte_scanner.specs.PageScan.{IsClean, IsFirstOn}
 use Rattle.byte_scanner.proofs.Windows.{code_off}
 
 find_none : (p : ℕ → Bool) (a n : ℕ) → ((x : ℕ) → p x ≡ false) → find p (range_with_len a n) ≡ None
@@ -26,6 +28,22 @@ find_first p a (suc n) x low high here below =
       | inr reached ↦ let e : x ≡ a = omega arith in let P : ℕ → Type 0 = λ y. find p (range_with_len y (suc n)) ≡ Some x in subst P e (rw here refl)
     ]
 
+-- where none of a range is found, each fails the test
+find_clear : (p : ℕ → Bool) (a n x : ℕ) → find p (range_with_len a n) ≡ None → a ≤ x → x < a + n → p x ≡ false
+find_clear p a zero x h low high = absurd (omega arith)
+find_clear p a (suc n) x h low high =
+    elim (cases_Bool (p a)) [
+      | inl on ↦ absurd (none-some a (sym h ∙ rw on refl))
+      | inr off ↦ elim (cases_lt a x) [
+        | inl less ↦ find_clear p (a + 1) n x (rw off at h) (omega arith) (omega arith)
+        | inr reached ↦ let e : a ≡ x = omega arith in ap p (sym e) ∙ off
+      ]
+    ]
+
+unmapped : {A B : Type 0} (f : A → B) (o : Option A) → option_map f o ≡ None → o ≡ None
+unmapped f None h = refl
+unmapped f (Some x) h = absurd (none-some (f x) (sym h))
+
 -- a page that may be executed is a page
 any_left : (p q : ProgramHeader → Bool) (xs : List ProgramHeader) → list_any (λ s. p s && q s) xs ≡ true → list_any p xs ≡ true
 any_left p q [] h = h
@@ -33,7 +51,7 @@ any_left p q (x ∷ xs) h = elim (cases_Bool (p x)) [ inl on ↦ rw on refl | in
 
 executable_page : (b : List ℕ) (n : ℕ) → is_executable b n ≡ true → is_page b n ≡ true
 unfolding is_executable is_page
-executable_page b n h = any_left (λ s. touches s n) (λ s. has_flag s PF_X) (segments b) h
+executable_page b n h = any_left (λ s. touches s n) (λ s. has_flag s pf_x) (segments b) h
 
 -- no encoding stands at an address whose page may not be executed
 off_code : (b : List ℕ) (a : ℕ) → is_executable b (a / 4096) ≡ false → is_protected_at (code_at b) a ≡ false
@@ -84,10 +102,24 @@ module _ (b : List ℕ) (pages : IsPageList b (pages_of b)) where
     unfolding first_found
     first_is =
         let home = pages.home i inside in
-        let least = find_first (is_protected_at (code_at b)) HOME_START (HOME_END - HOME_START) (4096 * get_or (pages_of b) i 0 + first.place)
+        let least = find_first (is_protected_at (code_at b)) home_start (home_end - home_start) (4096 * get_or (pages_of b) i 0 + first.place)
         (omega (arith, home.0)) (omega (arith, home.1, first.on_page)) first.stands lower in
         ap (λ (f : Found). Some f) first.is ∙ sym (ap (option_map (λ at. found_with (code_at b) at at)) least)
 
   pub none_is : ((i : ℕ) → i < length (pages_of b) → IsClean (code_at b) (4096 * get_or (pages_of b) i 0)) → None ≡ first_found b
   unfolding first_found
-  none_is clean = sym (ap (option_map (λ at. found_with (code_at b) at at)) (find_none (is_protected_at (code_at b)) HOME_START (HOME_END - HOME_START) (nowhere clean)))
+  none_is clean = sym (ap (option_map (λ at. found_with (code_at b) at at)) (find_none (is_protected_at (code_at b)) home_start (home_end - home_start) (nowhere clean)))
+
+  -- where no encoding is found, none stands anywhere in the code
+  pub clean_everywhere : first_found b ≡ None → (va : ℕ) → is_protected_at (code_at b) va ≡ false
+  unfolding first_found
+  clean_everywhere h va =
+      elim (cases_Bool (is_executable b (va / 4096))) [
+        | inl on ↦
+            let (i, inside, e) = pages.complete (va / 4096) (executable_page b (va / 4096) on) in
+            let home = pages.home i inside in
+            find_clear (is_protected_at (code_at b)) home_start (home_end - home_start) va
+            (unmapped (λ at. found_with (code_at b) at at) (least_from (code_at b) home_start (home_end - home_start)) h)
+            (omega (arith, home.0, e)) (omega (arith, home.1, e))
+        | inr off ↦ off_code b va off
+      ]

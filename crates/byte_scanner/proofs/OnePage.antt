@@ -1,11 +1,12 @@
 -- What a window shows of the encodings on its page.
-use Rattle.std.proofs.Common.{◌≡◌, ℕ, ◌+◌, ◌*◌, ◌/◌, ◌<◌, ◌≤◌, List, Option, Some, None, slice_get, Bool, true, false, refl, ap, sym, ◌∙◌, subst, arith}
+use Rattle.std.proofs.Common.{◌≡◌, ℕ, ◌+◌, ◌*◌, ◌/◌, ◌<◌, ◌≤◌, List, Option, slice_get, false, refl, ap, sym, ◌∙◌, arith}
 use Rattle.elf_image.specs.Pages.{is_executable}
 use Rattle.byte_scanner.specs.declared.encoding.Found.{Found}
-use Rattle.decode_fields.specs.Protected.{length_of_bytes, length_at, is_protected_at}
-use Rattle.byte_scanner.specs.Least.{IsNowhere, IsLeastPlace, NoneBelow}
-use Rattle.byte_scanner.specs.Code.{code_at, IsClean, Shows}
-use Rattle.byte_scanner.specs.Found.{IsFirstOn, encoding_from, found_with}
+use Rattle.decode_fields.specs.Protected.{length_at, is_protected_at}
+use Rattle.byte_scanner.specs.LeastPlace.{IsNowhere, IsLeastPlace}
+use Rattle.byte_scanner.specs.ImageCode.{code_at}
+use Rattle.byte_scanner.specs.FirstFound.{found_with}
+use Rattle.byte_scanner.specs.PageScan.{IsClean, IsFirstOn, Shows}
 use Rattle.byte_scanner.proofs.Windows.{code_off}
 
 module _ (byte_at : ℕ → Option ℕ) (start : ℕ) (window : List ℕ) (shows : Shows byte_at start window) where

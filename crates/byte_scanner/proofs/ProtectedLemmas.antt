@@ -1,8 +1,8 @@
 -- What a slice of bytes says of the encodings in it.
-use Rattle.std.proofs.Common.{◌≡◌, ◌≢◌, ℕ, ◌+◌, ◌<◌, ◌≤◌, ◌==◌, List, length, get_or, Option, Some, None, slice_get, Bool, true, false, refl, ap, arith, sym}
+use Rattle.std.proofs.Common.{◌≡◌, ◌≢◌, ℕ, ◌+◌, ◌<◌, ◌≤◌, List, length, get_or, Option, Some, slice_get, refl, arith}
 use Rattle.std.proofs.lemmas.Option.{slice_get-get_or, slice_get_past}
 use Rattle.std.proofs.lemmas.Grind.{common_steps}
-use Rattle.decode_fields.specs.Protected.{length_of_bytes, length_at, is_protected_at}
+use Rattle.decode_fields.specs.Protected.{length_of_bytes, length_at}
 
 -- no protected encoding begins with another byte than the escape
 pub length_of_bytes-other : (first : ℕ) (second third : Option ℕ) → first ≢ 0x0f → length_of_bytes (Some first) second third ≡ 0

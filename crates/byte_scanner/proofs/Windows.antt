@@ -1,11 +1,12 @@
 -- A window that holds a page's bytes shows the page's code, and what an encoding on it may reach.
-use Rattle.std.proofs.Common.{◌≡◌, ℕ, ◌+◌, ◌-◌, ◌*◌, ◌/◌, ◌<◌, ◌≤◌, List, ◌++◌, length, get_or, take, Option, Some, None, slice_get, Bool, true, false, cond, ◌≢◌, drop, refl, ap, sym, ◌∙◌, subst, arith, ◌⊎◌, inl, inr}
+use Rattle.std.proofs.Common.{◌≡◌, ℕ, ◌+◌, ◌*◌, ◌/◌, ◌<◌, ◌≤◌, List, ◌++◌, length, get_or, take, Some, None, slice_get, Bool, true, false, cond, ◌≢◌, drop, ap, sym, ◌∙◌, subst, arith, inl, inr}
 use Rattle.std.proofs.lemmas.List.{take-append-le, take_all, length-append, length-set, length-take-le, length-drop, get_or-set_same, get_or-set_other}
 use Rattle.std.proofs.Math.ListN.{get_or-append, set}
 use Rattle.std.proofs.lemmas.Option.{slice_get-get_or, slice_get_past}
 use Rattle.std.proofs.lemmas.Bool.{cases_lt}
 use Rattle.elf_image.specs.Pages.{IsBytesOfPage, byte_of, is_executable}
-use Rattle.byte_scanner.specs.Code.{code_at, Shows}
+use Rattle.byte_scanner.specs.ImageCode.{code_at}
+use Rattle.byte_scanner.specs.PageScan.{Shows}
 
 -- the page that holds an address
 page_of : (n k : ℕ) → k < 4096 → (4096 * n + k) / 4096 ≡ n

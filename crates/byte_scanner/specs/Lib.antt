@@ -1,3 +1,6 @@
-pub mod Least
-pub mod Code
-pub mod Found
+-- What a reader must believe.
+pub mod LeastPlace
+pub mod ImageCode
+pub mod FirstFound
+-- Words of private clauses and proofs.
+pub mod PageScan

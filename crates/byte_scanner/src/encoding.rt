@@ -1,4 +1,5 @@
 //! The encodings that outer code must not hold.
+
 ghost use Rattle.std.specs.Prelude.{◌≡◌, ℕ, ◌<◌, ◌+◌, length, slice_get, Some, None};
 ghost use Rattle.decode_fields.specs.Protected.{is_refused_with, length_after_escape, length_at};
 
@@ -7,9 +8,9 @@ ghost use Rattle.decode_fields.specs.Protected.{is_refused_with, length_after_es
 pub struct Found {
     /// Its linear address.
     pub at: u64,
-    /// Its bytes, 0 past its length.
+    /// Its bytes in the order in which they stand, 0 past its length.
     pub bytes: [u8; 3],
-    /// Its length, 2 or 3.
+    /// Its length in bytes, 2 or 3.
     pub count: u8,
 }
 

@@ -1,9 +1,12 @@
 //! The scan of an image's code as it is mapped, page by page.
+
 ghost use Rattle.std.specs.Prelude.{◌≡◌, ◌+◌, ◌<◌, ◌≤◌, ◌*◌, length, slice_index, slice_get, IsTrue, IfSome, MatchOption};
+ghost use Rattle.elf_image.specs.Home.{page_size};
 ghost use Rattle.elf_image.specs.Pages.{page_count, pages_of};
 ghost use Rattle.decode_fields.specs.Protected.{is_protected_at};
-ghost use Rattle.byte_scanner.specs.Code.{code_at, IsClean};
-ghost use Rattle.byte_scanner.specs.Found.{IsFirstOn, first_found, found_with};
+ghost use Rattle.byte_scanner.specs.FirstFound.{first_found, found_with};
+ghost use Rattle.byte_scanner.specs.ImageCode.{code_at};
+ghost use Rattle.byte_scanner.specs.PageScan.{IsClean, IsFirstOn};
 
 use crate::encoding::{Found, encoding_length};
 use crate::slice_scan::first_protected;
@@ -28,9 +31,9 @@ fn found_in(window: &[u8], place: usize, at: u64) -> Found
 /// The first encoding that begins on page number `i`, where that page is code. The window's bytes are of no account.
 fn scan_page(image: &Image, i: u32, window: &mut [u8]) -> Option<Found>
     requires page { i < page_count image.now }
-    requires size { length window.old ≡ WINDOW }
+    requires size { length window.old ≡ 4098 }
     ensures length { IfSome result (λ found. (2 ≤ found.count) × (found.count ≤ 3)) }
-    ensures first { let start = PAGE_SIZE * slice_index (pages_of image.now) i in
+    ensures first { let start = page_size * slice_index (pages_of image.now) i in
         MatchOption result (IsClean (code_at image.now) start) (IsFirstOn (code_at image.now) start) }
 {
     let page = image.page(i);

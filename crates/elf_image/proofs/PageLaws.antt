@@ -8,9 +8,9 @@ use Rattle.std.proofs.lemmas.List.Sums.{sum_by-cons}
 use Rattle.std.proofs.lemmas.List.Filters.{sum_by-filter_both}
 use Rattle.std.specs.Prelude.{filter, find, sum_by}
 use Rattle.std.specs.List.{All, Contains, flat_map, list_any, range_with_len}
-use Rattle.elf_image.specs.declared.elf.TheConstants.{HOME_START, HOME_END, MOST_PAGES, PAGE_SIZE, PF_X, PF_W}
 use Rattle.elf_image.specs.declared.program_header.ProgramHeader.{ProgramHeader}
-use Rattle.elf_image.specs.Elf.{e_entry, has_flag, header_at, segments}
+use Rattle.elf_image.specs.Elf.{e_entry, has_flag, header_at, pf_w, pf_x, segments}
+use Rattle.elf_image.specs.Home.{home_end, home_start, page_size}
 use Rattle.elf_image.specs.Segments.{covers, first_page, is_code_at, is_writable_code, last_page, loads, pages_of_segment, pages_touched, shares_page, total_pages, touches}
 use Rattle.elf_image.specs.Loaded.{IsLoaded, IsPlaced, Supplies}
 use Rattle.elf_image.specs.Pages.{IsPageList, byte_from, byte_of, executable_page_count, home_pages, is_executable, is_in_memory, is_page, is_writable, numbers_from, page_count, pages_of}
@@ -61,15 +61,15 @@ module _ (b : List ℕ) (segs : List ProgramHeader) (image : IsLoaded b segs) wh
   unfolding is_page
   touched_by n = list_any-IsPermutation (λ s. touches s n) (segments b) segs image.same
 
-  pub executable_by : (n : ℕ) → is_executable b n ≡ list_any (λ s. touches s n && has_flag s PF_X) segs
+  pub executable_by : (n : ℕ) → is_executable b n ≡ list_any (λ s. touches s n && has_flag s pf_x) segs
   unfolding is_executable
-  executable_by n = list_any-IsPermutation (λ s. touches s n && has_flag s PF_X) (segments b) segs image.same
+  executable_by n = list_any-IsPermutation (λ s. touches s n && has_flag s pf_x) (segments b) segs image.same
 
-  pub writable_by : (n : ℕ) → is_writable b n ≡ list_any (λ s. touches s n && has_flag s PF_W) segs
+  pub writable_by : (n : ℕ) → is_writable b n ≡ list_any (λ s. touches s n && has_flag s pf_w) segs
   unfolding is_writable
-  writable_by n = list_any-IsPermutation (λ s. touches s n && has_flag s PF_W) (segments b) segs image.same
+  writable_by n = list_any-IsPermutation (λ s. touches s n && has_flag s pf_w) (segments b) segs image.same
 
-  pages_in : (low m : ℕ) → low * PAGE_SIZE ≡ HOME_START → (low + m) * PAGE_SIZE ≡ HOME_END → filter (is_page b) (numbers_from low m) ≡ flat_map pages_of_segment segs
+  pages_in : (low m : ℕ) → low * page_size ≡ home_start → (low + m) * page_size ≡ home_end → filter (is_page b) (numbers_from low m) ≡ flat_map pages_of_segment segs
   unfolding numbers_from
   pages_in low m starts ends =
       let above : All (λ s. low ≤ first_page s) segs = All-weaker (IsPlaced (length b)) (λ s. low ≤ first_page s) (λ s h. omega (arith, h.above)) segs placed in
@@ -85,13 +85,13 @@ module _ (b : List ℕ) (segs : List ProgramHeader) (image : IsLoaded b segs) wh
   pub count_is : total_pages segs ≡ page_count b
   count_is = sym (ap length pages_are ∙ count_in_turn segs)
 
-  pub few_pages : total_pages segs ≤ MOST_PAGES
+  pub few_pages : total_pages segs ≤ 8192
   few_pages = omega (arith, sum_by-IsPermutation pages_touched (segments b) segs image.same, (lawful b image.form).few)
 
   pub some_page : 0 < total_pages segs
   some_page = at_least_one segs (omega (arith, length_permutation (segments b) segs image.same, some_segment b image.form))
 
-  in_home : (low m n : ℕ) → low * PAGE_SIZE ≡ HOME_START → (low + m) * PAGE_SIZE ≡ HOME_END → is_page b n ≡ true → (low ≤ n) × (n < low + m)
+  in_home : (low m n : ℕ) → low * page_size ≡ home_start → (low + m) * page_size ≡ home_end → is_page b n ≡ true → (low ≤ n) × (n < low + m)
   in_home low m n starts ends h =
       let a = Any-from_list_any (λ s. touches s n) segs (sym (touched_by n) ∙ h) in
       let s : ProgramHeader = get_or segs a.0 a.1 in
@@ -105,10 +105,10 @@ module _ (b : List ℕ) (segs : List ProgramHeader) (image : IsLoaded b segs) wh
   unfolding is_in_memory
   covered_by va = list_any-IsPermutation (λ s. covers s va) (segments b) segs image.same
 
-  covered : (va : ℕ) → is_in_memory b va ≡ true → is_page b (va / PAGE_SIZE) ≡ true
-  covered va h = touched_by (va / PAGE_SIZE) ∙ weaker_any (λ s. covers s va) (λ s. touches s (va / PAGE_SIZE)) segs (λ s e. covers_touches s va e) (sym (covered_by va) ∙ h)
+  covered : (va : ℕ) → is_in_memory b va ≡ true → is_page b (va / page_size) ≡ true
+  covered va h = touched_by (va / page_size) ∙ weaker_any (λ s. covers s va) (λ s. touches s (va / page_size)) segs (λ s e. covers_touches s va e) (sym (covered_by va) ∙ h)
 
-  covering : (n : ℕ) → is_page b n ≡ true → (va : ℕ) × (va / PAGE_SIZE ≡ n) × (is_in_memory b va ≡ true)
+  covering : (n : ℕ) → is_page b n ≡ true → (va : ℕ) × (va / page_size ≡ n) × (is_in_memory b va ≡ true)
   covering n h =
       let a = Any-from_list_any (λ s. touches s n) segs (sym (touched_by n) ∙ h) in
       let w = touches_covers (get_or segs a.0 a.1) n (placed a.0 a.1 a.2).takes (ap (λ (t : ProgramHeader). touches t n) a.3 ∙ a.4) in
@@ -116,26 +116,26 @@ module _ (b : List ℕ) (segs : List ProgramHeader) (image : IsLoaded b segs) wh
 
   unwritable : (n : ℕ) → is_executable b n ≡ true → is_writable b n ≡ false
   unwritable n h =
-      let a = Any-from_list_any (λ s. touches s n && has_flag s PF_X) segs (sym (executable_by n) ∙ h) in
-      let here = and_parts (touches (get_or segs a.0 a.1) n) (has_flag (get_or segs a.0 a.1) PF_X) (ap (λ (t : ProgramHeader). touches t n && has_flag t PF_X) a.3 ∙ a.4) in
-      writable_by n ∙ list_any_none (λ s. touches s n && has_flag s PF_W) segs (All-from_get_or (λ s. (touches s n && has_flag s PF_W) ≡ false) segs a.1 (λ j hj.
+      let a = Any-from_list_any (λ s. touches s n && has_flag s pf_x) segs (sym (executable_by n) ∙ h) in
+      let here = and_parts (touches (get_or segs a.0 a.1) n) (has_flag (get_or segs a.0 a.1) pf_x) (ap (λ (t : ProgramHeader). touches t n && has_flag t pf_x) a.3 ∙ a.4) in
+      writable_by n ∙ list_any_none (λ s. touches s n && has_flag s pf_w) segs (All-from_get_or (λ s. (touches s n && has_flag s pf_w) ≡ false) segs a.1 (λ j hj.
       elim (cases_eq a.0 j) [
         | inl same ↦
             let rights : is_writable_code (get_or segs j a.1) ≡ false = All-permutation (λ s. is_writable_code s ≡ false) (segments b) segs image.same (lawful b image.form).rights j a.1 hj in
-            let code : has_flag (get_or segs j a.1) PF_X ≡ true = ap (λ (k : ℕ). has_flag (get_or segs k a.1) PF_X) (sym same) ∙ here.1 in
-            and_right (touches (get_or segs j a.1) n) (has_flag (get_or segs j a.1) PF_W) (second_false _ _ code rights)
-        | inr other ↦ and_left (touches (get_or segs j a.1) n) (has_flag (get_or segs j a.1) PF_W) (touched_once segs apart n a.0 j a.1 a.2 hj other here.0)
+            let code : has_flag (get_or segs j a.1) pf_x ≡ true = ap (λ (k : ℕ). has_flag (get_or segs k a.1) pf_x) (sym same) ∙ here.1 in
+            and_right (touches (get_or segs j a.1) n) (has_flag (get_or segs j a.1) pf_w) (second_false _ _ code rights)
+        | inr other ↦ and_left (touches (get_or segs j a.1) n) (has_flag (get_or segs j a.1) pf_w) (touched_once segs apart n a.0 j a.1 a.2 hj other here.0)
       ]))
 
   -- the page of the entry may be executed
-  pub entry_page : is_executable b (e_entry b / PAGE_SIZE) ≡ true
+  pub entry_page : is_executable b (e_entry b / page_size) ≡ true
   entry_page =
-      executable_by (e_entry b / PAGE_SIZE)
-      ∙ weaker_any (is_code_at (e_entry b)) (λ s. touches s (e_entry b / PAGE_SIZE) && has_flag s PF_X) segs
-      (λ s e. let parts = and_parts (has_flag s PF_X) (covers s (e_entry b)) e in and_from (touches s (e_entry b / PAGE_SIZE)) (has_flag s PF_X) (covers_touches s (e_entry b) parts.1) parts.0)
+      executable_by (e_entry b / page_size)
+      ∙ weaker_any (is_code_at (e_entry b)) (λ s. touches s (e_entry b / page_size) && has_flag s pf_x) segs
+      (λ s e. let parts = and_parts (has_flag s pf_x) (covers s (e_entry b)) e in and_from (touches s (e_entry b / page_size)) (has_flag s pf_x) (covers_touches s (e_entry b) parts.1) parts.0)
       (sym (list_any-IsPermutation (is_code_at (e_entry b)) (segments b) segs image.same) ∙ (lawful b image.form).entry)
 
-  list_in : (low m : ℕ) → low * PAGE_SIZE ≡ HOME_START → (low + m) * PAGE_SIZE ≡ HOME_END → IsPageList b (filter (is_page b) (numbers_from low m))
+  list_in : (low m : ℕ) → low * page_size ≡ home_start → (low + m) * page_size ≡ home_end → IsPageList b (filter (is_page b) (numbers_from low m))
   unfolding numbers_from
   list_in low m starts ends = record {
     ascending = λ i j below within. kept_ascending (is_page b) low m i j 0 below within;
@@ -145,7 +145,7 @@ module _ (b : List ℕ) (segs : List ProgramHeader) (image : IsLoaded b segs) wh
     holds = covering;
     held = covered;
     unwritable = unwritable;
-    executable = λ n h. touched_by n ∙ weaker_any (λ s. touches s n && has_flag s PF_X) (λ s. touches s n) segs (λ s e. (and_parts (touches s n) (has_flag s PF_X) e).0) (sym (executable_by n) ∙ h);
+    executable = λ n h. touched_by n ∙ weaker_any (λ s. touches s n && has_flag s pf_x) (λ s. touches s n) segs (λ s e. (and_parts (touches s n) (has_flag s pf_x) e).0) (sym (executable_by n) ∙ h);
   }
 
   pub page_list : IsPageList b (pages_of b)
@@ -153,21 +153,21 @@ module _ (b : List ℕ) (segs : List ProgramHeader) (image : IsLoaded b segs) wh
   page_list = list_in _ _ refl refl
 
   -- where a segment touches a page, the page has the segment's rights
-  pub same_rights : (i : ℕ) (d : ProgramHeader) → i < length segs → (n : ℕ) → touches (get_or segs i d) n ≡ true → is_executable b n ≡ has_flag (get_or segs i d) PF_X
+  pub same_rights : (i : ℕ) (d : ProgramHeader) → i < length segs → (n : ℕ) → touches (get_or segs i d) n ≡ true → is_executable b n ≡ has_flag (get_or segs i d) pf_x
   same_rights i d h n here =
-      elim (cases_Bool (has_flag (get_or segs i d) PF_X)) [
-        | inl e ↦ executable_by n ∙ list_any_at (λ s. touches s n && has_flag s PF_X) segs i d h (and_from _ _ here e) ∙ sym e
-        | inr e ↦ executable_by n ∙ list_any_none (λ s. touches s n && has_flag s PF_X) segs (All-from_get_or (λ s. (touches s n && has_flag s PF_X) ≡ false) segs d (λ j hj.
+      elim (cases_Bool (has_flag (get_or segs i d) pf_x)) [
+        | inl e ↦ executable_by n ∙ list_any_at (λ s. touches s n && has_flag s pf_x) segs i d h (and_from _ _ here e) ∙ sym e
+        | inr e ↦ executable_by n ∙ list_any_none (λ s. touches s n && has_flag s pf_x) segs (All-from_get_or (λ s. (touches s n && has_flag s pf_x) ≡ false) segs d (λ j hj.
             elim (cases_eq i j) [
-              | inl same ↦ and_right (touches (get_or segs j d) n) (has_flag (get_or segs j d) PF_X) (ap (λ (k : ℕ). has_flag (get_or segs k d) PF_X) (sym same) ∙ e)
-              | inr other ↦ and_left (touches (get_or segs j d) n) (has_flag (get_or segs j d) PF_X) (touched_once segs apart n i j d h hj other here)
+              | inl same ↦ and_right (touches (get_or segs j d) n) (has_flag (get_or segs j d) pf_x) (ap (λ (k : ℕ). has_flag (get_or segs k d) pf_x) (sym same) ∙ e)
+              | inr other ↦ and_left (touches (get_or segs j d) n) (has_flag (get_or segs j d) pf_x) (touched_once segs apart n i j d h hj other here)
             ])) ∙ sym e
       ]
 
-  pub executable_count : sum_by pages_touched (filter (λ s. has_flag s PF_X) segs) ≡ executable_page_count b
+  pub executable_count : sum_by pages_touched (filter (λ s. has_flag s pf_x) segs) ≡ executable_page_count b
   executable_count =
-      let P : List ℕ → Type 0 = λ ps. length (filter (is_executable b) ps) ≡ sum_by pages_touched (filter (λ s. has_flag s PF_X) segs) in
-      sym (subst P (sym pages_are) (count_kept (is_executable b) (λ s. has_flag s PF_X) segs (λ i d h n low high.
+      let P : List ℕ → Type 0 = λ ps. length (filter (is_executable b) ps) ≡ sum_by pages_touched (filter (λ s. has_flag s pf_x) segs) in
+      sym (subst P (sym pages_are) (count_kept (is_executable b) (λ s. has_flag s pf_x) segs (λ i d h n low high.
       let upto : n ≤ last_page (get_or segs i d) = omega (arith, high, in_order (get_or segs i d) (placed i d h).takes) in
       same_rights i d h n (and_from (leb (first_page (get_or segs i d)) n) (leb n (last_page (get_or segs i d))) (le-leb _ _ low) (le-leb _ _ upto)))))
 
@@ -175,21 +175,21 @@ module _ (b : List ℕ) (segs : List ProgramHeader) (image : IsLoaded b segs) wh
   lone_loader va i j d hi hj ne h =
       let s : ProgramHeader = get_or (segments b) i d in
       let t : ProgramHeader = get_or (segments b) j d in
-      let first : touches s (va / PAGE_SIZE) ≡ true = loads_touches s va (all_placed b image.form i d hi).backed h in
-      let second : touches t (va / PAGE_SIZE) ≡ false = touch_apart s t (va / PAGE_SIZE) (segments_apart b image.form i j d hi hj ne) first in
+      let first : touches s (va / page_size) ≡ true = loads_touches s va (all_placed b image.form i d hi).backed h in
+      let second : touches t (va / page_size) ≡ false = touch_apart s t (va / page_size) (segments_apart b image.form i j d hi hj ne) first in
       false_from_ne_true (loads t va) (λ e. false≢true (sym second ∙ loads_touches t va (all_placed b image.form j d hj).backed e))
 
   in_table : (s : ProgramHeader) → Contains segs s → Contains (segments b) s
   in_table s held = Contains-permutation segs (segments b) s (IsPermutation-sym (segments b) segs image.same) held
 
   -- a segment that loads an address is the one that touches its page
-  loader_touches : (d : ProgramHeader) (va : ℕ) → list_any (λ t. loads t va) (segments b) ≡ true → (t : ProgramHeader) × (Contains segs t) × (loads t va ≡ true) × (touches t (va / PAGE_SIZE) ≡ true)
+  loader_touches : (d : ProgramHeader) (va : ℕ) → list_any (λ t. loads t va) (segments b) ≡ true → (t : ProgramHeader) × (Contains segs t) × (loads t va ≡ true) × (touches t (va / page_size) ≡ true)
   loader_touches d va h =
       let f = found_at (λ t. loads t va) (segments b) d h in
       let t : ProgramHeader = get_or (segments b) f.0 d in
       (t, Contains-permutation (segments b) segs t image.same (Contains-get_or (segments b) f.0 d f.1), f.2, loads_touches t va (all_placed b image.form f.0 d f.1).backed f.2)
 
-  loaded_by : (s : ProgramHeader) → Contains segs s → (va : ℕ) → touches s (va / PAGE_SIZE) ≡ true → byte_of b va ≡ byte_from b va (cond (loads s va) (Some s) None)
+  loaded_by : (s : ProgramHeader) → Contains segs s → (va : ℕ) → touches s (va / page_size) ≡ true → byte_of b va ≡ byte_from b va (cond (loads s va) (Some s) None)
   unfolding byte_of
   loaded_by s held va here =
       elim (cases_Bool (loads s va)) [
@@ -199,19 +199,19 @@ module _ (b : List ℕ) (segs : List ProgramHeader) (image : IsLoaded b segs) wh
         | inr e ↦
             let nobody : list_any (λ t. loads t va) (segments b) ≡ false = false_from_ne_true _ (λ some.
             let l = loader_touches s va some in
-            let one = found_alone (λ t. touches t (va / PAGE_SIZE)) segs (touched_once segs apart (va / PAGE_SIZE)) s held here in
-            let two = found_alone (λ t. touches t (va / PAGE_SIZE)) segs (touched_once segs apart (va / PAGE_SIZE)) l.0 l.1 l.3 in
+            let one = found_alone (λ t. touches t (va / page_size)) segs (touched_once segs apart (va / page_size)) s held here in
+            let two = found_alone (λ t. touches t (va / page_size)) segs (touched_once segs apart (va / page_size)) l.0 l.1 l.3 in
             let same : l.0 ≡ s = cc (sym two ∙ one) in
             false≢true (sym e ∙ ap (λ (t : ProgramHeader). loads t va) (sym same) ∙ l.2)) in
             ap (λ (o : Option ProgramHeader). byte_from b va o) (none_found (λ t. loads t va) (segments b) nobody ∙ sym (cond-false (loads s va) (Some s) None e))
       ]
 
-  blank : (va : ℕ) → find (λ s. touches s (va / PAGE_SIZE)) segs ≡ None → byte_of b va ≡ 0
+  blank : (va : ℕ) → find (λ s. touches s (va / page_size)) segs ≡ None → byte_of b va ≡ 0
   unfolding byte_of
   blank va h =
       let nobody : list_any (λ t. loads t va) (segments b) ≡ false = false_from_ne_true _ (λ some.
       let l = loader_touches (header_at b 0) va some in
-      let one = found_alone (λ t. touches t (va / PAGE_SIZE)) segs (touched_once segs apart (va / PAGE_SIZE)) l.0 l.1 l.3 in
+      let one = found_alone (λ t. touches t (va / page_size)) segs (touched_once segs apart (va / page_size)) l.0 l.1 l.3 in
       cc (sym h ∙ one)) in
       ap (λ (o : Option ProgramHeader). byte_from b va o) (none_found (λ t. loads t va) (segments b) nobody)
 
@@ -224,14 +224,14 @@ module _ (b : List ℕ) (segs : List ProgramHeader) (image : IsLoaded b segs) wh
         λ va at. loaded_by s f.0 va (ap (λ (m : ℕ). touches s m) at ∙ f.1),
       )
 
-  pub page_in_home : (i : ℕ) → i < page_count b → (HOME_START ≤ PAGE_SIZE * get_or (pages_of b) i 0) × (PAGE_SIZE * get_or (pages_of b) i 0 + PAGE_SIZE ≤ HOME_END)
+  pub page_in_home : (i : ℕ) → i < page_count b → (home_start ≤ page_size * get_or (pages_of b) i 0) × (page_size * get_or (pages_of b) i 0 + page_size ≤ home_end)
   page_in_home i h = page_list.home i h
 
-  some_executable : 0 < sum_by pages_touched (filter (λ s. has_flag s PF_X) segs)
+  some_executable : 0 < sum_by pages_touched (filter (λ s. has_flag s pf_x) segs)
   some_executable =
       let code : list_any (is_code_at (e_entry b)) segs ≡ true = sym (list_any-IsPermutation (is_code_at (e_entry b)) (segments b) segs image.same) ∙ (lawful b image.form).entry in
-      let flagged : list_any (λ s. has_flag s PF_X) segs ≡ true = weaker_any (is_code_at (e_entry b)) (λ s. has_flag s PF_X) segs (λ s e. (and_parts _ _ e).0) code in
-      at_least_one _ (kept_some (λ s. has_flag s PF_X) segs flagged)
+      let flagged : list_any (λ s. has_flag s pf_x) segs ≡ true = weaker_any (is_code_at (e_entry b)) (λ s. has_flag s pf_x) segs (λ s e. (and_parts _ _ e).0) code in
+      at_least_one _ (kept_some (λ s. has_flag s pf_x) segs flagged)
 
-  pub executable_bounds : (n : ℕ) → n ≡ sum_by pages_touched (filter (λ s. has_flag s PF_X) segs) → (0 < n) × (n ≤ MOST_PAGES)
-  executable_bounds n e = (omega (arith, some_executable), omega (arith, few_pages, sum_by-filter_both (λ s. has_flag s PF_X) (λ s. not (has_flag s PF_X)) (λ _. refl) pages_touched segs))
+  pub executable_bounds : (n : ℕ) → n ≡ sum_by pages_touched (filter (λ s. has_flag s pf_x) segs) → (0 < n) × (n ≤ 8192)
+  executable_bounds n e = (omega (arith, some_executable), omega (arith, few_pages, sum_by-filter_both (λ s. has_flag s pf_x) (λ s. not (has_flag s pf_x)) (λ _. refl) pages_touched segs))

@@ -8,7 +8,7 @@ use Rattle.std.proofs.lemmas.List.Sums.{sum_by-cons}
 use Rattle.std.specs.Prelude.{filter, sum_by}
 use Rattle.std.specs.List.{All, flat_map, list_any, range_with_len}
 use Rattle.std.specs.List.Sorted.{IsNonDecreasingBy}
-use Rattle.elf_image.specs.declared.elf.TheConstants.{PAGE_SIZE}
+use Rattle.elf_image.specs.Home.{page_size}
 use Rattle.elf_image.specs.declared.program_header.ProgramHeader.{ProgramHeader}
 use Rattle.elf_image.specs.Segments.{covers, first_page, last_page, loads, pages_of_segment, pages_touched, shares_page, total_pages, touches}
 use Rattle.elf_image.proofs.Pairs.{AtMostOne, EachPair}
@@ -35,26 +35,26 @@ pub touched_once : (segs : List ProgramHeader) → EachPair (λ s t. shares_page
 touched_once segs apart n i j d hi hj ne here = touch_apart (get_or segs i d) (get_or segs j d) n (apart i j d hi hj ne) here
 
 -- a segment touches the page of each address of its memory
-pub covers_touches : (s : ProgramHeader) (va : ℕ) → covers s va ≡ true → touches s (va / PAGE_SIZE) ≡ true
+pub covers_touches : (s : ProgramHeader) (va : ℕ) → covers s va ≡ true → touches s (va / page_size) ≡ true
 covers_touches s va h =
     let parts = and_parts (leb s.address va) (ltb va (s.address + s.memory_size)) h in
     let from : s.address ≤ va = leb-true s.address va parts.0 in
     let upto : va < s.address + s.memory_size = ltb-true va (s.address + s.memory_size) parts.1 in
-    let low : first_page s ≤ va / PAGE_SIZE = omega arith in
-    let high : va / PAGE_SIZE ≤ last_page s = omega arith in
-    and_from (leb (first_page s) (va / PAGE_SIZE)) (leb (va / PAGE_SIZE) (last_page s)) (le-leb _ _ low) (le-leb _ _ high)
+    let low : first_page s ≤ va / page_size = omega arith in
+    let high : va / page_size ≤ last_page s = omega arith in
+    and_from (leb (first_page s) (va / page_size)) (leb (va / page_size) (last_page s)) (le-leb _ _ low) (le-leb _ _ high)
 
 -- and each page that it touches has such an address
-pub touches_covers : (s : ProgramHeader) (n : ℕ) → 0 < s.memory_size → touches s n ≡ true → (va : ℕ) × (va / PAGE_SIZE ≡ n) × (covers s va ≡ true)
+pub touches_covers : (s : ProgramHeader) (n : ℕ) → 0 < s.memory_size → touches s n ≡ true → (va : ℕ) × (va / page_size ≡ n) × (covers s va ≡ true)
 touches_covers s n takes h =
     let parts = and_parts (leb (first_page s) n) (leb n (last_page s)) h in
     let from : first_page s ≤ n = leb-true _ _ parts.0 in
     let upto : n ≤ last_page s = leb-true _ _ parts.1 in
-    elim (cases_lt s.address (PAGE_SIZE * n)) [
+    elim (cases_lt s.address (page_size * n)) [
       | inl before ↦
-          let low : s.address ≤ PAGE_SIZE * n = omega arith in
-          let high : PAGE_SIZE * n < s.address + s.memory_size = omega arith in
-          (PAGE_SIZE * n, omega arith, and_from (leb s.address (PAGE_SIZE * n)) (ltb (PAGE_SIZE * n) (s.address + s.memory_size)) (le-leb _ _ low) (lt-ltb _ _ high))
+          let low : s.address ≤ page_size * n = omega arith in
+          let high : page_size * n < s.address + s.memory_size = omega arith in
+          (page_size * n, omega arith, and_from (leb s.address (page_size * n)) (ltb (page_size * n) (s.address + s.memory_size)) (le-leb _ _ low) (lt-ltb _ _ high))
       | inr after ↦
           let low : s.address ≤ s.address = omega arith in
           let high : s.address < s.address + s.memory_size = omega arith in
@@ -62,13 +62,13 @@ touches_covers s n takes h =
     ]
 
 -- a segment touches the page of each byte that it loads
-pub loads_touches : (s : ProgramHeader) (va : ℕ) → s.file_size ≤ s.memory_size → loads s va ≡ true → touches s (va / PAGE_SIZE) ≡ true
+pub loads_touches : (s : ProgramHeader) (va : ℕ) → s.file_size ≤ s.memory_size → loads s va ≡ true → touches s (va / page_size) ≡ true
 loads_touches s va backed h =
     let parts = and_parts (leb s.address va) (ltb va (s.address + s.file_size)) h in
     let from : s.address ≤ va = leb-true s.address va parts.0 in
     let upto : va < s.address + s.file_size = ltb-true va (s.address + s.file_size) parts.1 in
-    let low : first_page s ≤ va / PAGE_SIZE = omega arith in
-    let high : va / PAGE_SIZE ≤ last_page s = omega arith in
+    let low : first_page s ≤ va / page_size = omega arith in
+    let high : va / page_size ≤ last_page s = omega arith in
     and_from _ _ (le-leb _ _ low) (le-leb _ _ high)
 
 -- each segment begins on this page or later, after the pages of the one before

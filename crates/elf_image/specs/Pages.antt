@@ -1,9 +1,9 @@
 -- What an image, the file b, loads: its entry, its pages and their bytes. Page n begins at address 4096 * n.
 use Rattle.std.specs.Prelude.{◌≡◌, ℕ, ◌+◌, ◌-◌, ◌*◌, ◌/◌, ◌<◌, ◌≤◌, Bool, true, false, ◌&&◌, List, length, slice_index, filter, find, Option, Some, None}
 use Rattle.std.specs.List.{list_any, range_with_len}
-use Rattle.elf_image.specs.declared.elf.TheConstants.{PF_X, PF_W, PAGE_SIZE, HOME_START, HOME_END}
 use Rattle.elf_image.specs.declared.program_header.ProgramHeader.{ProgramHeader}
-use Rattle.elf_image.specs.Elf.{e_entry, has_flag, segments}
+use Rattle.elf_image.specs.Elf.{e_entry, has_flag, pf_w, pf_x, segments}
+use Rattle.elf_image.specs.Home.{home_end, home_start, page_size}
 use Rattle.elf_image.specs.Segments.{covers, touches, loads}
 
 -- the address of the first instruction
@@ -20,11 +20,11 @@ is_page b n = list_any (λ s. touches s n) (segments b)
 
 -- page n is one of the image's, and may be executed
 unfoldable pub is_executable : List ℕ → ℕ → Bool
-is_executable b n = list_any (λ s. touches s n && has_flag s PF_X) (segments b)
+is_executable b n = list_any (λ s. touches s n && has_flag s pf_x) (segments b)
 
 -- page n is one of the image's, and may be written
 unfoldable pub is_writable : List ℕ → ℕ → Bool
-is_writable b n = list_any (λ s. touches s n && has_flag s PF_W) (segments b)
+is_writable b n = list_any (λ s. touches s n && has_flag s pf_w) (segments b)
 
 -- n numbers in turn, from a on
 unfoldable pub numbers_from : ℕ → ℕ → List ℕ
@@ -32,7 +32,7 @@ numbers_from a n = range_with_len a n
 
 -- the pages of the home, ascending
 unfoldable pub home_pages : List ℕ
-home_pages = numbers_from (HOME_START / PAGE_SIZE) ((HOME_END - HOME_START) / PAGE_SIZE)
+home_pages = numbers_from (home_start / page_size) ((home_end - home_start) / page_size)
 
 -- the image's pages, ascending
 unfoldable pub pages_of : List ℕ → List ℕ
@@ -56,17 +56,18 @@ byte_of b va = byte_from b va (find (λ s. loads s va) (segments b))
 
 -- these are the bytes of page n
 pub record IsBytesOfPage (b : List ℕ) (n : ℕ) (bytes : List ℕ) : Type 0 where
-  pub full : length bytes ≡ PAGE_SIZE
-  pub each : (k : ℕ) → k < PAGE_SIZE → slice_index bytes k ≡ byte_of b (PAGE_SIZE * n + k)
+  pub full : length bytes ≡ page_size
+  pub each : (k : ℕ) → k < page_size → slice_index bytes k ≡ byte_of b (page_size * n + k)
 
--- what holds of an image's pages: they ascend, lie in the home, and are all pages that a segment touches, which are those
--- that hold an address of its memory. A page that may be executed is one of them, and may not be written.
+-- what holds of an image's pages: they ascend, lie in the home, and are all pages that a segment touches, which are
+-- those that hold an address of its memory. A page that may be executed is one of them, and may not be written.
 pub record IsPageList (b : List ℕ) (pages : List ℕ) : Type 0 where
   pub ascending : (i j : ℕ) → i < j → j < length pages → slice_index pages i < slice_index pages j
-  pub home : (i : ℕ) → i < length pages → (HOME_START ≤ PAGE_SIZE * slice_index pages i) × (PAGE_SIZE * slice_index pages i + PAGE_SIZE ≤ HOME_END)
+  pub home : (i : ℕ) → i < length pages → (home_start ≤ page_size * slice_index pages i)
+      × (page_size * slice_index pages i + page_size ≤ home_end)
   pub touched : (i : ℕ) → i < length pages → is_page b (slice_index pages i) ≡ true
   pub complete : (n : ℕ) → is_page b n ≡ true → (i : ℕ) × (i < length pages) × (slice_index pages i ≡ n)
-  pub holds : (n : ℕ) → is_page b n ≡ true → (va : ℕ) × (va / PAGE_SIZE ≡ n) × (is_in_memory b va ≡ true)
-  pub held : (va : ℕ) → is_in_memory b va ≡ true → is_page b (va / PAGE_SIZE) ≡ true
+  pub holds : (n : ℕ) → is_page b n ≡ true → (va : ℕ) × (va / page_size ≡ n) × (is_in_memory b va ≡ true)
+  pub held : (va : ℕ) → is_in_memory b va ≡ true → is_page b (va / page_size) ≡ true
   pub executable : (n : ℕ) → is_executable b n ≡ true → is_page b n ≡ true
   pub unwritable : (n : ℕ) → is_executable b n ≡ true → is_writable b n ≡ false

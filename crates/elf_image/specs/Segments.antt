@@ -1,9 +1,9 @@
 -- Where a segment lies in the file, in memory and among the pages. Sums are of numbers without bound.
 use Rattle.std.specs.Prelude.{ℕ, ◌+◌, ◌-◌, ◌/◌, ◌%◌, ◌==◌, Bool, not, ◌&&◌, ◌||◌, List, sum_by, nat_lt, nat_le}
 use Rattle.std.specs.List.{list_any, range_with_len}
-use Rattle.elf_image.specs.declared.elf.TheConstants.{PF_X, PF_W, PAGE_SIZE, HOME_START, HOME_END}
 use Rattle.elf_image.specs.declared.program_header.ProgramHeader.{ProgramHeader}
-use Rattle.elf_image.specs.Elf.{has_flag}
+use Rattle.elf_image.specs.Elf.{has_flag, pf_w, pf_x}
+use Rattle.elf_image.specs.Home.{home_end, home_start, page_size}
 
 -- its memory range covers this address
 abbrev pub covers : ProgramHeader → ℕ → Bool
@@ -15,10 +15,10 @@ loads s va = nat_le s.address va && nat_lt va (s.address + s.file_size)
 
 -- the page of its first byte, and that of its last
 abbrev pub first_page : ProgramHeader → ℕ
-first_page s = s.address / PAGE_SIZE
+first_page s = s.address / page_size
 
 abbrev pub last_page : ProgramHeader → ℕ
-last_page s = (s.address + s.memory_size - 1) / PAGE_SIZE
+last_page s = (s.address + s.memory_size - 1) / page_size
 
 -- it touches page n
 abbrev pub touches : ProgramHeader → ℕ → Bool
@@ -46,11 +46,11 @@ passes_end file_length s = nat_lt s.memory_size s.file_size || nat_lt file_lengt
 
 -- it takes bytes from the file, and its address and its offset differ within a page
 abbrev pub is_misaligned : ProgramHeader → Bool
-is_misaligned s = not (s.file_size == 0) && not (s.address % PAGE_SIZE == s.offset % PAGE_SIZE)
+is_misaligned s = not (s.file_size == 0) && not (s.address % page_size == s.offset % page_size)
 
 -- it begins before the home, or ends after it
 abbrev pub leaves_home : ProgramHeader → Bool
-leaves_home s = nat_lt s.address HOME_START || nat_lt HOME_END (s.address + s.memory_size)
+leaves_home s = nat_lt s.address home_start || nat_lt home_end (s.address + s.memory_size)
 
 -- it touches a page of an earlier segment
 abbrev pub shares_with_earlier : List ProgramHeader → ProgramHeader → Bool
@@ -58,8 +58,8 @@ shares_with_earlier segments s = list_any (λ t. nat_lt t.index s.index && share
 
 -- it may be written and executed
 abbrev pub is_writable_code : ProgramHeader → Bool
-is_writable_code s = has_flag s PF_X && has_flag s PF_W
+is_writable_code s = has_flag s pf_x && has_flag s pf_w
 
 -- it may be executed, and its memory range covers this address
 abbrev pub is_code_at : ℕ → ProgramHeader → Bool
-is_code_at va s = has_flag s PF_X && covers s va
+is_code_at va s = has_flag s pf_x && covers s va

@@ -1,9 +1,10 @@
-//! The constants of the ELF-64 object file format that the reader looks at, by the standard's names.
+//! The constants of the ELF-64 object file format that the reader looks at, by the standard's names, and the limits that
+//! an image keeps here. The definitions have each number as a literal, and the proofs compare.
 
-/// The size of the file header.
+/// The size of the file header in bytes.
 pub const EHDR_SIZE: usize = 64;
 
-/// The size of an entry of the program header table.
+/// The size of an entry of the program header table in bytes.
 pub const PHDR_SIZE: usize = 56;
 
 /// The most entries that a program header table may have here.
@@ -78,10 +79,10 @@ pub const PF_W: u32 = 2;
 /// The size of a page in bytes.
 pub const PAGE_SIZE: u64 = 4096;
 
-/// The first address of the image's home.
+/// The first linear address of the image's home.
 pub const HOME_START: u64 = 0xFFFF_FFFF_8000_0000;
 
-/// The first address past the image's home.
+/// The first linear address past the image's home.
 pub const HOME_END: u64 = 0xFFFF_FFFF_C000_0000;
 
 /// The most pages that an image may have.

@@ -1,9 +1,10 @@
 //! The faults of an image.
 
 ghost use Rattle.std.specs.Prelude.{◌≡◌};
-ghost use Rattle.elf_image.specs.Faults.{name_of, number_of};
+ghost use Rattle.elf_image.specs.ImageFaults.{name_of, number_of};
 
-/// The rows by which the form of an image is judged, in order, and the value of each.
+/// The rows by which the form of an image is judged, in order, and the value of each. Fields are named as in the ELF-64
+/// object file format.
 #[derive(Clone, Copy, Debug, PartialEq, Eq)]
 pub enum FaultKind {
     /// The file is shorter than a file header: its length.
@@ -36,7 +37,7 @@ pub enum FaultKind {
 }
 
 impl FaultKind {
-    /// The number of the kind, as it is printed.
+    /// The number of the kind, 1 to 13, as it is printed.
     pub fn number(self) -> u8
         ensures { result ≡ number_of self }
     {
@@ -82,8 +83,9 @@ impl FaultKind {
 /// The first fault of a file.
 #[derive(Clone, Copy, Debug, PartialEq, Eq)]
 pub struct ImageFault {
+    /// The row that stands.
     pub kind: FaultKind,
-    /// What the kind says: a length, a place in the file, the index of a program header, or a number of pages.
+    /// What the kind says: a length or a place in the file, in bytes, the index of a program header, or a number of pages.
     pub value: u64,
 }
 

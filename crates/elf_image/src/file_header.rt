@@ -1,7 +1,7 @@
 //! The file header, and the rows on it.
 
 ghost use Rattle.std.specs.Prelude.{◌≡◌, ◌+◌, ◌*◌, ◌≤◌, length, nat_lt, IfNone, Some};
-ghost use Rattle.elf_image.specs.Elf.{e_phnum, e_phoff};
+ghost use Rattle.elf_image.specs.Elf.{e_phnum, e_phoff, ehdr_size, phdr_size};
 ghost use Rattle.elf_image.specs.Loaded.{HasTable};
 ghost use Rattle.elf_image.specs.Rows.{file_fault, has_magic, wrong_class, wrong_table};
 
@@ -14,7 +14,7 @@ use crate::fault::{FaultKind, ImageFault};
 use crate::fields::{half, xword};
 
 fn has_magic(bytes: &[u8]) -> bool
-    requires { EHDR_SIZE ≤ length bytes.now }
+    requires { ehdr_size ≤ length bytes.now }
     ensures { result ≡ has_magic bytes.now }
 {
     bytes[EI_MAG0] == ELFMAG0
@@ -24,7 +24,7 @@ fn has_magic(bytes: &[u8]) -> bool
 }
 
 fn wrong_class(bytes: &[u8]) -> Option<usize>
-    requires { EHDR_SIZE ≤ length bytes.now }
+    requires { ehdr_size ≤ length bytes.now }
     ensures { result ≡ wrong_class bytes.now }
 {
     if bytes[EI_CLASS] != ELFCLASS64 {
@@ -39,15 +39,16 @@ fn wrong_class(bytes: &[u8]) -> Option<usize>
 }
 
 fn table_passes_end(bytes: &[u8]) -> bool
-    requires { EHDR_SIZE ≤ length bytes.now }
-    ensures { result ≡ nat_lt (length bytes.now) (e_phoff bytes.now + PHDR_SIZE * e_phnum bytes.now) }
+    requires { ehdr_size ≤ length bytes.now }
+    ensures { result
+        ≡ nat_lt (length bytes.now) (e_phoff bytes.now + phdr_size * e_phnum bytes.now) }
 {
     let size = PHDR_SIZE * half(bytes, E_PHNUM) as usize;
     (bytes.len() as u128) < xword(bytes, E_PHOFF) as u128 + size as u128
 }
 
 fn wrong_table(bytes: &[u8]) -> Option<usize>
-    requires { EHDR_SIZE ≤ length bytes.now }
+    requires { ehdr_size ≤ length bytes.now }
     ensures place { result ≡ wrong_table bytes.now }
     ensures none { IfNone result (HasTable bytes.now) }
 {

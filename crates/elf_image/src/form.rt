@@ -17,7 +17,8 @@ use arrayvec::ArrayVec;
 /// The segments of a file by which no row stands, or the first row that does.
 #[tactic(auto, unfolding(crate::specs::Rows::first_fault))]
 pub fn read_form(bytes: &[u8]) -> Result<ArrayVec<ProgramHeader, MOST_HEADERS>, ImageFault>
-    ensures { MatchResult result (λ found. (found.items ≡ segments bytes.now) × (first_fault bytes.now ≡ None))
+    ensures { MatchResult result
+        (λ found. (found.items ≡ segments bytes.now) × (first_fault bytes.now ≡ None))
         (λ fault. first_fault bytes.now ≡ Some fault) }
 {
     if let Some(fault) = file_fault(bytes) {

@@ -1,6 +1,7 @@
 //! The image: a file in form, and what it loads.
 
 ghost use Rattle.std.specs.Prelude.{◌≡◌, ◌+◌, ◌*◌, ◌/◌, ◌<◌, ◌≤◌, length, slice_index, IsTrue, IfOk, OnOk, IfErr, Some};
+ghost use Rattle.elf_image.specs.Home.{home_end, home_start, page_size};
 ghost use Rattle.elf_image.specs.Loaded.{IsPartOf, IsPlaced, Supplies};
 ghost use Rattle.elf_image.specs.Pages.{IsBytesOfPage, IsPageList, byte_of, entry_of, executable_page_count, is_executable, is_writable, page_count, pages_of};
 ghost use Rattle.elf_image.specs.Rows.{IsForm, first_fault};
@@ -18,11 +19,14 @@ use crate::whole_rows::total_pages;
 use arrayvec::ArrayVec;
 use std::marker::Model;
 
-/// A page of an image: the address of its first byte, and what may be done with it besides reading.
+/// A page of an image, 4,096 bytes, and what may be done with it besides reading.
 #[derive(Clone, Copy, Debug, PartialEq, Eq)]
 pub struct PageInfo {
+    /// The linear address of its first byte.
     pub va: u64,
+    /// Whether its segment has `PF_W`.
     pub can_write: bool,
+    /// Whether its segment has `PF_X`.
     pub exec: bool,
 }
 
@@ -46,7 +50,7 @@ impl Model for Image {
 }
 
 impl Image {
-    /// Reads an image. Takes no memory.
+    /// Reads an image from the bytes of a file. Takes no memory.
     ///
     /// Returns the first fault where the file is not in form.
     pub fn read(bytes: Vec<u8>) -> Result<Image, ImageFault>
@@ -62,11 +66,11 @@ impl Image {
         Ok(Image { bytes, segments })
     }
 
-    /// The address of the first instruction.
+    /// The linear address of the first instruction, `e_entry`.
     #[tactic(auto, unfolding(crate::specs::Pages::entry_of))]
     pub fn entry(&self) -> u64
         ensures entry { result ≡ entry_of self.now }
-        ensures code { IsTrue (is_executable self.now (result / PAGE_SIZE)) }
+        ensures code { IsTrue (is_executable self.now (result / page_size)) }
         ensures form { IsForm self.now }
     {
         xword(&self.bytes, E_ENTRY)
@@ -76,7 +80,7 @@ impl Image {
     pub fn pages(&self) -> u32
         ensures count { result ≡ page_count self.now }
         ensures some { 0 < result }
-        ensures few { result ≤ MOST_PAGES }
+        ensures few { result ≤ 8192 }
         ensures list { IsPageList self.now (pages_of self.now) }
         ensures form { IsForm self.now }
     {
@@ -86,8 +90,8 @@ impl Image {
     fn page_number(&self, i: u32) -> u64
         requires { i < page_count self.now }
         ensures number { result ≡ slice_index (pages_of self.now) i }
-        ensures above { HOME_START ≤ PAGE_SIZE * result }
-        ensures below { PAGE_SIZE * result + PAGE_SIZE ≤ HOME_END }
+        ensures above { home_start ≤ page_size * result }
+        ensures below { page_size * result + page_size ≤ home_end }
     {
         nth_page(self.segments.as_slice(), i as u64)
     }
@@ -104,13 +108,14 @@ impl Image {
         is_executable(self.segments.as_slice(), page)
     }
 
-    /// The page number `i` of the image, in ascending order of their addresses.
+    /// Page number `i` of the image, from 0 on, in ascending order of their addresses.
     pub fn page(&self, i: u32) -> PageInfo
         requires { i < page_count self.now }
-        ensures va { result.va ≡ PAGE_SIZE * slice_index (pages_of self.now) i }
-        ensures above { HOME_START ≤ result.va }
-        ensures below { result.va + PAGE_SIZE ≤ HOME_END }
-        ensures can_write { result.can_write ≡ is_writable self.now (slice_index (pages_of self.now) i) }
+        ensures va { result.va ≡ page_size * slice_index (pages_of self.now) i }
+        ensures above { home_start ≤ result.va }
+        ensures below { result.va + page_size ≤ home_end }
+        ensures can_write { result.can_write
+            ≡ is_writable self.now (slice_index (pages_of self.now) i) }
         ensures exec { result.exec ≡ is_executable self.now (slice_index (pages_of self.now) i) }
     {
         let page = self.page_number(i);
@@ -128,7 +133,7 @@ impl Image {
         touching(self.segments.as_slice(), page)
     }
 
-    /// The byte at `va`, which is 0 where no segment loads one.
+    /// The byte at linear address `va`, 0 where no segment loads one.
     pub fn byte(&self, va: u64) -> u8
         ensures { result ≡ byte_of self.now va }
     {
@@ -141,7 +146,7 @@ impl Image {
     // What a segment loads into the page at `va`, and the place in the page where that begins.
     fn loaded_part(&self, va: u64, segment: &ProgramHeader) -> (usize, &[u8])
         requires placed { IsPlaced (length self.now) segment.now }
-        requires home { va + PAGE_SIZE ≤ HOME_END }
+        requires home { va + page_size ≤ home_end }
         ensures { IsPartOf self.now segment.now va result.0 result.1.now }
     {
         let bytes = self.bytes.as_slice();
@@ -155,10 +160,10 @@ impl Image {
         ((start - va) as usize, &bytes[at..upto])
     }
 
-    /// Writes the bytes of page number `i` into `into`.
+    /// Writes the 4,096 bytes of page number `i` into `into`.
     pub fn copy_page(&self, i: u32, into: &mut [u8])
         requires page { i < page_count self.now }
-        requires size { length into.old ≡ PAGE_SIZE }
+        requires size { length into.old ≡ page_size }
         ensures { IsBytesOfPage self.now (slice_index (pages_of self.now) i) into.new }
     {
         let page = self.page_number(i);
@@ -170,18 +175,18 @@ impl Image {
         }
     }
 
-    /// Whether the page that holds an address is one of the image's and may be executed.
+    /// Whether the page that holds linear address `va` is one of the image's and may be executed.
     pub fn is_code(&self, va: u64) -> bool
-        ensures { result ≡ is_executable self.now (va / PAGE_SIZE) }
+        ensures { result ≡ is_executable self.now (va / page_size) }
     {
         self.is_executable(va / PAGE_SIZE)
     }
 
-    /// The number of pages that may be executed.
+    /// The number of pages that may be executed, 1 to 8,192.
     pub fn executable_pages(&self) -> u32
         ensures count { result ≡ executable_page_count self.now }
         ensures some { 0 < result }
-        ensures few { result ≤ MOST_PAGES }
+        ensures few { result ≤ 8192 }
     {
         executable_pages(self.segments.as_slice()) as u32
     }

@@ -5,7 +5,8 @@ ghost use Rattle.std.specs.Prelude.{◌≡◌, ◌+◌, ◌-◌, ◌≤◌, ◌+
 /// Writes `bytes` from `place` on, and zeros before and after them.
 pub fn lay(into: &mut [u8], place: usize, bytes: &[u8])
     requires { place + length bytes.now ≤ length into.old }
-    ensures { into.new ≡ replicate place 0 ++ (bytes.now ++ replicate (length into.old - (place + length bytes.now)) 0) }
+    ensures { into.new ≡ replicate place 0
+        ++ (bytes.now ++ replicate (length into.old - (place + length bytes.now)) 0) }
 {
     if bytes.len() == into.len() {
         into.copy_from_slice(bytes);

@@ -3,7 +3,7 @@
 ghost use Rattle.std.specs.Prelude.{◌≡◌, ◌<◌, ◌≤◌, ◌&&◌, filter, find, length, slice_index, sum_by};
 ghost use Rattle.std.specs.List.{flat_map, list_any};
 ghost use Rattle.std.specs.List.Sorted.{IsNonDecreasingBy, IsPermutation};
-ghost use Rattle.elf_image.specs.Elf.{has_flag};
+ghost use Rattle.elf_image.specs.Elf.{has_flag, pf_w, pf_x};
 ghost use Rattle.elf_image.specs.Segments.{pages_of_segment, pages_touched, total_pages, touches};
 
 use crate::elf::{MOST_HEADERS, PF_W, PF_X};
@@ -43,14 +43,14 @@ pub fn touching(segments: &[ProgramHeader], page: u64) -> Option<ProgramHeader>
 
 /// Whether a segment that touches a page may be written.
 pub fn is_writable(segments: &[ProgramHeader], page: u64) -> bool
-    ensures { result ≡ list_any (λ s. touches s page && has_flag s PF_W) segments.now }
+    ensures { result ≡ list_any (λ s. touches s page && has_flag s pf_w) segments.now }
 {
     segments.iter().any(|s| s.touches(page) && s.is_writable())
 }
 
 /// Whether a segment that touches a page may be executed.
 pub fn is_executable(segments: &[ProgramHeader], page: u64) -> bool
-    ensures { result ≡ list_any (λ s. touches s page && has_flag s PF_X) segments.now }
+    ensures { result ≡ list_any (λ s. touches s page && has_flag s pf_x) segments.now }
 {
     segments
         .iter()
@@ -59,8 +59,8 @@ pub fn is_executable(segments: &[ProgramHeader], page: u64) -> bool
 
 /// How many pages the segments have that may be executed, each segment counted by itself.
 pub fn executable_pages(segments: &[ProgramHeader]) -> u64
-    requires { length segments.now ≤ MOST_HEADERS }
-    ensures { result ≡ sum_by pages_touched (filter (λ s. has_flag s PF_X) segments.now) }
+    requires { length segments.now ≤ 64 }
+    ensures { result ≡ sum_by pages_touched (filter (λ s. has_flag s pf_x) segments.now) }
 {
     segments
         .iter()

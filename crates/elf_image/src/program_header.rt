@@ -1,7 +1,7 @@
 //! An entry of the program header table, and the questions that are asked of it.
 
 ghost use Rattle.std.specs.Prelude.{◌≡◌, ◌+◌, ◌^◌, ◌<◌, ◌≤◌, length, nat_lt};
-ghost use Rattle.elf_image.specs.Elf.{has_flag, is_segment, program_header_at};
+ghost use Rattle.elf_image.specs.Elf.{has_flag, is_segment, pf_w, pf_x, phdr_size, program_header_at};
 ghost use Rattle.elf_image.specs.Segments.{covers, first_page, is_code_at, is_misaligned, is_writable_code, last_page, leaves_home, loads, pages_touched, passes_end, shares_page, touches};
 
 use crate::elf::{
@@ -10,16 +10,22 @@ use crate::elf::{
 };
 use crate::fields::{word, xword};
 
-/// An entry of the program header table, as far as the reader looks at it.
+/// An entry of the program header table, `Elf64_Phdr`, as far as the reader looks at it.
 #[derive(Clone, Copy, Debug, Default, PartialEq, Eq)]
 pub struct ProgramHeader {
-    /// Its place in the table.
+    /// Its place in the table, from 0 on.
     pub index: u64,
+    /// `p_type`.
     pub kind: u32,
+    /// `p_flags`.
     pub flags: u32,
+    /// `p_offset`, in bytes from the file's start.
     pub offset: u64,
+    /// `p_vaddr`, a linear address.
     pub address: u64,
+    /// `p_filesz`, in bytes.
     pub file_size: u64,
+    /// `p_memsz`, in bytes.
     pub memory_size: u64,
 }
 
@@ -27,7 +33,7 @@ impl ProgramHeader {
     /// Reads the entry at `place`, whose place in the table is `index`.
     #[tactic(auto, unfolding(crate::specs::Elf::program_header_at))]
     pub fn read(bytes: &[u8], place: usize, index: usize) -> Self
-        requires { place + PHDR_SIZE ≤ length bytes.now }
+        requires { place + phdr_size ≤ length bytes.now }
         ensures { result ≡ program_header_at bytes.now place index }
     {
         ProgramHeader {
@@ -56,14 +62,14 @@ impl ProgramHeader {
 
     /// Whether it may be written.
     pub fn is_writable(&self) -> bool
-        ensures { result ≡ has_flag self.now PF_W }
+        ensures { result ≡ has_flag self.now pf_w }
     {
         self.has_flag(PF_W)
     }
 
     /// Whether it may be executed.
     pub fn is_executable(&self) -> bool
-        ensures { result ≡ has_flag self.now PF_X }
+        ensures { result ≡ has_flag self.now pf_x }
     {
         self.has_flag(PF_X)
     }

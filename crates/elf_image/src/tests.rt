@@ -1,3 +1,9 @@
+//! A small file in form, changed in one place after another: each row on both sides of its edge, and what a file loads.
+
+use crate::FaultKind::{
+    Align, BadEntry, Class, FileType, Machine, Magic, OutsideHome, SegmentRange, SharedPage, Short,
+    Table, TooLarge, WritableCode,
+};
 use crate::{FaultKind, Image};
 use std::alloc::{AllocError, Global};
 use std::process::Abort;
@@ -6,9 +12,13 @@ use std::test::Fail;
 /// A change of a file: a place, how many bytes, and the number that they then hold.
 type Change = (usize, usize, u64);
 
-const HOME_END: u64 = 0xFFFF_FFFF_C000_0000;
-
+/// The first address of the home, and the first past it.
 const HOME: u64 = 0xFFFF_FFFF_8000_0000;
+
+const END: u64 = 0xFFFF_FFFF_C000_0000;
+
+/// The length of the halting file.
+const WHOLE: usize = 4097;
 
 fn change(rt: &impl Abort, file: &mut [u8], (place, size, value): Change) {
     let bytes = value.to_le_bytes();
@@ -20,7 +30,7 @@ fn change(rt: &impl Abort, file: &mut [u8], (place, size, value): Change) {
 
 /// A file whose one header, readable and executable, loads the byte F4 from offset 4,096 to the home's start.
 fn halting(rt: &impl Abort, alloc: Global) -> Result<Vec<u8>, AllocError> {
-    let mut file = vec![in alloc; 0u8; 4097]?;
+    let mut file = vec![in alloc; 0u8; WHOLE]?;
     for it in [
         (0, 7, 0x01_01_02_46_4C_45_7F),
         (16, 2, 2),
@@ -81,111 +91,172 @@ fn reads_the_halting_image(rt: HostRuntime) -> Result<(), Fail> {
 }
 
 #[test]
-fn names_the_first_fault(rt: HostRuntime) -> Result<(), Fail> {
-    let whole = 4097;
-    let cases: [(usize, &[Change], Option<(FaultKind, u64)>); 34] = [
-        (whole, &[], None),
-        (63, &[], Some((FaultKind::Short, 63))),
-        (whole, &[(3, 1, 0x47)], Some((FaultKind::Magic, 0))),
-        (whole, &[(4, 1, 1)], Some((FaultKind::Class, 4))),
-        (whole, &[(5, 1, 2)], Some((FaultKind::Class, 5))),
-        (whole, &[(16, 2, 3)], Some((FaultKind::FileType, 16))),
-        (whole, &[(18, 2, 3)], Some((FaultKind::Machine, 18))),
-        (whole, &[(54, 2, 57)], Some((FaultKind::Table, 54))),
-        (whole, &[(56, 2, 0)], Some((FaultKind::Table, 56))),
-        (whole, &[(56, 2, 65)], Some((FaultKind::Table, 56))),
-        (whole, &[(32, 8, u64::MAX)], Some((FaultKind::Table, 32))),
-        (4096, &[], Some((FaultKind::SegmentRange, 0))),
-        (whole, &[(96, 8, 2)], Some((FaultKind::SegmentRange, 0))),
-        (whole, &[(80, 8, HOME + 1)], Some((FaultKind::Align, 0))),
-        (
-            whole,
-            &[(80, 8, 0x1000), (24, 8, 0x1000)],
-            Some((FaultKind::OutsideHome, 0)),
-        ),
-        (
-            whole,
-            &[(104, 8, 1 << 63)],
-            Some((FaultKind::OutsideHome, 0)),
-        ),
-        (
-            whole,
-            &[
-                (56, 2, 2),
-                (120, 4, 1),
-                (124, 4, 5),
-                (128, 8, 4096),
-                (136, 8, HOME),
-                (152, 8, 1),
-                (160, 8, 1),
-            ],
-            Some((FaultKind::SharedPage, 1)),
-        ),
-        (whole, &[(68, 4, 7)], Some((FaultKind::WritableCode, 0))),
-        (whole, &[(68, 4, 4)], Some((FaultKind::BadEntry, 24))),
-        (
-            whole,
-            &[(104, 8, 33_554_433)],
-            Some((FaultKind::TooLarge, 8193)),
-        ),
-        (whole, &[(104, 8, 33_554_432)], None),
-        (whole, &[(24, 8, HOME + 1)], Some((FaultKind::BadEntry, 24))),
-        // The table ends with the file, or one byte past it. The bytes there are no segment.
-        (whole, &[(32, 8, 4041)], Some((FaultKind::BadEntry, 24))),
-        (whole, &[(32, 8, 4042)], Some((FaultKind::Table, 32))),
-        (
-            whole,
-            &[(96, 8, u64::MAX)],
-            Some((FaultKind::SegmentRange, 0)),
-        ),
-        (
-            whole,
-            &[(72, 8, u64::MAX)],
-            Some((FaultKind::SegmentRange, 0)),
-        ),
-        // A segment without bytes of the file may begin at the file's end and at any place of a page.
-        (whole, &[(96, 8, 0), (72, 8, 4097)], None),
-        (
-            whole,
-            &[(96, 8, 0), (72, 8, 4098)],
-            Some((FaultKind::SegmentRange, 0)),
-        ),
-        // The home's last page, and one byte past it.
-        (
-            whole,
-            &[
-                (80, 8, HOME_END - 4096),
-                (24, 8, HOME_END - 4096),
-                (104, 8, 4096),
-            ],
-            None,
-        ),
-        (
-            whole,
-            &[
-                (80, 8, HOME_END - 4096),
-                (24, 8, HOME_END - 4096),
-                (104, 8, 4097),
-            ],
-            Some((FaultKind::OutsideHome, 0)),
-        ),
-        (
-            whole,
-            &[(80, 8, HOME - 4096), (104, 8, 8192)],
-            Some((FaultKind::OutsideHome, 0)),
-        ),
-        (
-            whole,
-            &[(104, 8, u64::MAX)],
-            Some((FaultKind::OutsideHome, 0)),
-        ),
-        // A header that takes no memory is passed over.
-        (whole, &[(104, 8, 0)], Some((FaultKind::BadEntry, 24))),
-        (64, &[], Some((FaultKind::Table, 32))),
+fn the_rows_on_the_file_header(rt: HostRuntime) -> Result<(), Fail> {
+    let cases: [(usize, &[Change], FaultKind, u64); 22] = [
+        (0, &[], Short, 0),
+        (63, &[], Short, 63),
+        (64, &[(0, 1, 0x7E)], Magic, 0),
+        (WHOLE, &[(1, 1, 0x65)], Magic, 0),
+        (WHOLE, &[(2, 1, 0x6C)], Magic, 0),
+        (WHOLE, &[(3, 1, 0x47)], Magic, 0),
+        (WHOLE, &[(4, 1, 1)], Class, 4),
+        (WHOLE, &[(5, 1, 2)], Class, 5),
+        (WHOLE, &[(6, 1, 0)], Class, 6),
+        (WHOLE, &[(6, 1, 2)], Class, 6),
+        (WHOLE, &[(16, 2, 3)], FileType, 16),
+        (WHOLE, &[(16, 2, 0x102)], FileType, 16),
+        (WHOLE, &[(18, 2, 3)], Machine, 18),
+        (WHOLE, &[(54, 2, 55)], Table, 54),
+        (WHOLE, &[(54, 2, 57)], Table, 54),
+        (WHOLE, &[(56, 2, 0)], Table, 56),
+        (WHOLE, &[(56, 2, 65)], Table, 56),
+        (WHOLE, &[(32, 8, u64::MAX)], Table, 32),
+        // The table passes the file's end by one byte, then by its whole; the last also has 64 headers.
+        (WHOLE, &[(32, 8, 4042)], Table, 32),
+        (64, &[], Table, 32),
+        (WHOLE, &[(32, 8, 514), (56, 2, 64)], Table, 32),
+        // The first row that stands counts: type before machine.
+        (WHOLE, &[(18, 2, 3), (16, 2, 3)], FileType, 16),
     ];
-    for (length, changes, want) in cases {
-        assert_eq!(rt; fault_of(&rt, rt.alloc(), length, changes)?, want);
+    for (length, changes, kind, value) in cases {
+        assert_eq!(rt;
+            fault_of(&rt, rt.alloc(), length, changes)?,
+            Some((kind, value))
+        );
     }
+    Ok(())
+}
+
+#[test]
+fn the_rows_on_a_segment(rt: HostRuntime) -> Result<(), Fail> {
+    let cases: [(usize, &[Change], FaultKind, u64); 17] = [
+        (4096, &[], SegmentRange, 0),
+        (WHOLE, &[(96, 8, 2)], SegmentRange, 0),
+        (WHOLE, &[(96, 8, 2), (104, 8, 2)], SegmentRange, 0),
+        (WHOLE, &[(96, 8, u64::MAX)], SegmentRange, 0),
+        (
+            WHOLE,
+            &[(96, 8, u64::MAX), (104, 8, u64::MAX)],
+            SegmentRange,
+            0,
+        ),
+        (WHOLE, &[(72, 8, u64::MAX)], SegmentRange, 0),
+        (WHOLE, &[(96, 8, 0), (72, 8, 4098)], SegmentRange, 0),
+        (WHOLE, &[(80, 8, HOME + 1)], Align, 0),
+        (WHOLE, &[(72, 8, 4095)], Align, 0),
+        (WHOLE, &[(80, 8, 0x1000)], OutsideHome, 0),
+        (WHOLE, &[(96, 8, 0), (80, 8, HOME - 1)], OutsideHome, 0),
+        (
+            WHOLE,
+            &[(96, 8, 0), (80, 8, END - 1), (104, 8, 2)],
+            OutsideHome,
+            0,
+        ),
+        (WHOLE, &[(96, 8, 0), (80, 8, END)], OutsideHome, 0),
+        (WHOLE, &[(104, 8, 0x4000_0001)], OutsideHome, 0),
+        (WHOLE, &[(104, 8, u64::MAX)], OutsideHome, 0),
+        (WHOLE, &[(68, 4, 7)], WritableCode, 0),
+        (WHOLE, &[(68, 4, 3)], WritableCode, 0),
+    ];
+    for (length, changes, kind, value) in cases {
+        assert_eq!(rt;
+            fault_of(&rt, rt.alloc(), length, changes)?,
+            Some((kind, value))
+        );
+    }
+    Ok(())
+}
+
+#[test]
+fn the_rows_on_all_segments(rt: HostRuntime) -> Result<(), Fail> {
+    let cases: [(&[Change], FaultKind, u64); 9] = [
+        (&[(24, 8, HOME + 1)], BadEntry, 24),
+        (&[(24, 8, HOME - 1)], BadEntry, 24),
+        (&[(24, 8, 0)], BadEntry, 24),
+        (&[(68, 4, 4)], BadEntry, 24),
+        // A header that takes no memory is passed over, and one that is not to be loaded.
+        (&[(104, 8, 0)], BadEntry, 24),
+        (&[(64, 4, 2)], BadEntry, 24),
+        // The table ends with the file. The bytes there are no segment.
+        (&[(32, 8, 4041)], BadEntry, 24),
+        (&[(104, 8, 8192 * 4096 + 1)], TooLarge, 8193),
+        (&[(104, 8, 0x4000_0000)], TooLarge, 0x4_0000),
+    ];
+    for (changes, kind, value) in cases {
+        assert_eq!(rt;
+            fault_of(&rt, rt.alloc(), WHOLE, changes)?,
+            Some((kind, value))
+        );
+    }
+    Ok(())
+}
+
+#[test]
+fn accepts_up_to_each_edge(rt: HostRuntime) -> Result<(), Fail> {
+    let cases: [&[Change]; 10] = [
+        &[],
+        // The most headers; the second to the last are of no type.
+        &[(56, 2, 64)],
+        &[(104, 8, 8192 * 4096)],
+        &[(104, 8, 4096), (24, 8, HOME + 4095)],
+        // A segment without bytes of the file may begin at the file's end and at any place of a page.
+        &[(96, 8, 0), (72, 8, 4097)],
+        &[(96, 8, 0), (80, 8, HOME + 1), (24, 8, HOME + 1)],
+        // The home's last page, and its last byte alone.
+        &[(80, 8, END - 4096), (24, 8, END - 4096), (104, 8, 4096)],
+        &[(96, 8, 0), (80, 8, END - 1), (24, 8, END - 1)],
+        // Code that may not be read; the address in physical memory and the alignment aren't looked at.
+        &[(68, 4, 1)],
+        &[(88, 8, 7), (112, 8, 3)],
+    ];
+    for changes in cases {
+        assert_eq!(rt; fault_of(&rt, rt.alloc(), WHOLE, changes)?, None);
+    }
+    Ok(())
+}
+
+/// A second header, of memory alone, that is loaded to an address, with a size and flags.
+#[test]
+fn a_second_segment(rt: HostRuntime) -> Result<(), Fail> {
+    let cases: [(u64, u64, u64, Option<(FaultKind, u64)>); 8] = [
+        (HOME, 1, 4, Some((SharedPage, 1))),
+        (HOME + 4095, 1, 4, Some((SharedPage, 1))),
+        (HOME + 4096, 1, 4, None),
+        (END - 1, 1, 4, None),
+        (END - 1, 2, 4, Some((OutsideHome, 1))),
+        (HOME - 1, 1, 4, Some((OutsideHome, 1))),
+        (HOME + 4096, 8191 * 4096, 6, None),
+        (HOME + 4096, 8191 * 4096 + 1, 6, Some((TooLarge, 8193))),
+    ];
+    for (address, size, flags, want) in cases {
+        let changes = [
+            (56, 2, 2),
+            (120, 4, 1),
+            (124, 4, flags),
+            (136, 8, address),
+            (160, 8, size),
+        ];
+        assert_eq!(rt; fault_of(&rt, rt.alloc(), WHOLE, &changes)?, want);
+    }
+    Ok(())
+}
+
+/// Each row is asked of all segments before the next one: header 0 leaves the home, header 1 is misaligned.
+#[test]
+fn an_earlier_row_of_a_later_segment_counts(rt: HostRuntime) -> Result<(), Fail> {
+    let changes = [
+        (80, 8, 0x1000),
+        (56, 2, 2),
+        (120, 4, 1),
+        (128, 8, 1),
+        (136, 8, HOME),
+        (152, 8, 1),
+        (160, 8, 1),
+    ];
+    assert_eq!(rt;
+        fault_of(&rt, rt.alloc(), WHOLE, &changes)?,
+        Some((Align, 1))
+    );
     Ok(())
 }
 
@@ -240,19 +311,19 @@ fn orders_the_pages_of_segments(rt: HostRuntime) -> Result<(), Fail> {
 #[test]
 fn numbers_and_names_faults(rt: HostRuntime) {
     for (kind, number, name) in [
-        (FaultKind::Short, 1, "Short"),
-        (FaultKind::Magic, 2, "Magic"),
-        (FaultKind::Class, 3, "Class"),
-        (FaultKind::FileType, 4, "FileType"),
-        (FaultKind::Machine, 5, "Machine"),
-        (FaultKind::Table, 6, "Table"),
-        (FaultKind::SegmentRange, 7, "SegmentRange"),
-        (FaultKind::Align, 8, "Align"),
-        (FaultKind::OutsideHome, 9, "OutsideHome"),
-        (FaultKind::SharedPage, 10, "SharedPage"),
-        (FaultKind::WritableCode, 11, "WritableCode"),
-        (FaultKind::BadEntry, 12, "BadEntry"),
-        (FaultKind::TooLarge, 13, "TooLarge"),
+        (Short, 1, "Short"),
+        (Magic, 2, "Magic"),
+        (Class, 3, "Class"),
+        (FileType, 4, "FileType"),
+        (Machine, 5, "Machine"),
+        (Table, 6, "Table"),
+        (SegmentRange, 7, "SegmentRange"),
+        (Align, 8, "Align"),
+        (OutsideHome, 9, "OutsideHome"),
+        (SharedPage, 10, "SharedPage"),
+        (WritableCode, 11, "WritableCode"),
+        (BadEntry, 12, "BadEntry"),
+        (TooLarge, 13, "TooLarge"),
     ] {
         assert_eq!(rt; kind.number(), number);
         assert_eq!(rt; kind.name(), name);

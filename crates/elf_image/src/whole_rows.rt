@@ -17,7 +17,7 @@ fn is_code_at(segments: &[ProgramHeader], va: u64) -> bool
 
 /// How many pages the segments have, each counted by itself.
 pub fn total_pages(segments: &[ProgramHeader]) -> u64
-    requires { length segments.now ≤ MOST_HEADERS }
+    requires { length segments.now ≤ 64 }
     ensures { result ≡ total_pages segments.now }
 {
     segments.iter().map(|s| s.pages_touched()).sum()
@@ -26,7 +26,7 @@ pub fn total_pages(segments: &[ProgramHeader]) -> u64
 /// The first row on all segments together that stands.
 #[tactic(auto, unfolding(crate::specs::Rows::whole_fault))]
 pub fn whole_fault(segments: &[ProgramHeader], entry: u64) -> Option<ImageFault>
-    requires { length segments.now ≤ MOST_HEADERS }
+    requires { length segments.now ≤ 64 }
     ensures { result ≡ whole_fault entry segments.now }
 {
     if !is_code_at(segments, entry) {

@@ -1,9 +1,10 @@
 -- The static text and the listing, compared at each place.
-use Rattle.std.proofs.Common.{◌≡◌, ℕ, ◌<◌, ◌≤◌, ◌+◌, true, false, nat_eq, nat_lt, nat_le, List, [], ◌∷◌, length, slice_index_or, refl, inl, inr, sym, ◌∙◌, arith}
-use Rattle.std.proofs.lemmas.Bool.{eqb-true, ltb-true, leb-true, le-ltb, ne_eqb, and_parts, cond-false, and_right, agree_below, agree_below_at, cases_lt}
+use Rattle.std.proofs.Common.{◌≡◌, ℕ, ◌<◌, ◌≤◌, ◌+◌, true, false, nat_eq, nat_lt, nat_le, List, [], ◌∷◌, length, slice_index_or, refl, inl, inr, sym, ap, ◌∙◌, arith, Option, Some, None, ◌⊎◌}
+use Rattle.std.proofs.lemmas.Bool.{eqb-true, ltb-true, leb-true, le-ltb, ne_eqb, and_parts, cond-true, cond-false, lt-ltb, and_right, agree_below, agree_below_at, cases_lt}
 use Rattle.std.specs.List.{list_any, list_all}
+use Rattle.decode_fields.specs.Protected.{is_protected_at, length_of_bytes}
 use Rattle.gate_text.specs.declared.text.TheConstants.{TEXT}
-use Rattle.gate_text.specs.Listing.{Row, byte_by, gate_byte, listing, entry_and_exit, trap_gate, ascend, begins_load, cr0_loads}
+use Rattle.gate_text.specs.Listing.{ListingRow, byte_by, gate_byte, listing, entry_and_exit, trap_gate, ascend, gate_at, cr0_loads}
 
 -- up to the last row the static text is the listing
 same_within : agree_below (λ at. nat_eq (slice_index_or TEXT at 0) (gate_byte at)) (λ _. true) 480 ≡ true
@@ -15,7 +16,7 @@ byte_within at below =
     eqb-true _ _ (agree_below_at (λ k. nat_eq (slice_index_or TEXT k 0) (gate_byte k)) (λ _. true) 480 at same_within below)
 
 -- INT3 stands past the end of the rows
-byte_by-past : (rows : List Row) (end at : ℕ) → list_all (λ r. nat_le (r.offset + length r.bytes) end) rows ≡ true → end ≤ at → byte_by rows at ≡ 204
+byte_by-past : (rows : List ListingRow) (end at : ℕ) → list_all (λ r. nat_le (r.offset + length r.bytes) end) rows ≡ true → end ≤ at → byte_by rows at ≡ 204
 byte_by-past [] end at ends past = refl
 byte_by-past (r ∷ rows) end at ends past =
     let parts : (nat_le (r.offset + length r.bytes) end ≡ true) × (list_all (λ q. nat_le (q.offset + length q.bytes) end) rows ≡ true) = and_parts _ _ ends in
@@ -46,7 +47,7 @@ byte_fits at below = elim (cases_lt at 480) [
   | inr past ↦ omega (arith, byte_past at below past)
 ]
 
-loads_agree : agree_below begins_load (λ at. list_any (λ place. nat_eq place at) cr0_loads) 480 ≡ true
+loads_agree : agree_below (is_protected_at gate_at) (λ at. list_any (λ place. nat_eq place at) cr0_loads) 480 ≡ true
 unfolding gate_byte listing entry_and_exit trap_gate
 loads_agree = refl
 
@@ -54,8 +55,19 @@ no_loads_past : (at : ℕ) → 480 ≤ at → false ≡ list_any (λ place. nat_
 no_loads_past at past =
     simp (ne_eqb 13 at (λ e. absurd (omega arith)), ne_eqb 37 at (λ e. absurd (omega arith)), ne_eqb 457 at (λ e. absurd (omega arith)))
 
-pub loads_at : (at : ℕ) → at < 4096 → begins_load at ≡ list_any (λ place. nat_eq place at) cr0_loads
-loads_at at below = elim (cases_lt at 480) [
-  | inl within ↦ agree_below_at begins_load (λ k. list_any (λ place. nat_eq place k) cr0_loads) 480 at loads_agree within
-  | inr past ↦ rw (← byte_past at below past) (no_loads_past at past)
+-- no protected encoding begins with INT3, nor where no byte stands
+none_begins : (first second third : Option ℕ) → (first ≡ Some 204) ⊎ (first ≡ None) → nat_lt 0 (length_of_bytes first second third) ≡ false
+none_begins first second third (inl fill) = ap (λ o. nat_lt 0 (length_of_bytes o second third)) fill
+none_begins first second third (inr none) = ap (λ o. nat_lt 0 (length_of_bytes o second third)) none
+
+past_rows : (at : ℕ) → 480 ≤ at → (gate_at at ≡ Some 204) ⊎ (gate_at at ≡ None)
+past_rows at past = elim (cases_lt at 4096) [
+  | inl within ↦ inl (cond-true _ _ _ (lt-ltb at 4096 within) ∙ ap Some (sym (byte_past at within past)))
+  | inr outside ↦ inr (cond-false _ _ _ (le-ltb at 4096 outside))
+]
+
+pub loads_at : (at : ℕ) → is_protected_at gate_at at ≡ list_any (λ place. nat_eq place at) cr0_loads
+loads_at at = elim (cases_lt at 480) [
+  | inl within ↦ agree_below_at (is_protected_at gate_at) (λ k. list_any (λ place. nat_eq place k) cr0_loads) 480 at loads_agree within
+  | inr past ↦ none_begins (gate_at at) (gate_at (at + 1)) (gate_at (at + 2)) (past_rows at past) ∙ no_loads_past at past
 ]

@@ -1,1 +1,2 @@
+-- What a reader must believe.
 pub mod Listing

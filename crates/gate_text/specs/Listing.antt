@@ -1,18 +1,26 @@
 -- The text of the gates: the listing, row by row, and the byte that it puts at each offset.
-use Rattle.std.specs.Prelude.{ℕ, ◌+◌, ◌-◌, ◌*◌, ◌==◌, Bool, ◌&&◌, nat_le, nat_lt, if◌then◌else◌, List, [], ◌∷◌, ◌++◌, length, slice_index}
-use Rattle.std.specs.List.{flat_map, range_with_len, list_any}
+use Rattle.std.specs.Prelude.{ℕ, ◌+◌, ◌-◌, ◌*◌, Bool, ◌&&◌, nat_le, nat_lt, if◌then◌else◌, Option, Some, None, List, [], ◌∷◌, ◌++◌, length, slice_index}
+use Rattle.std.specs.List.{flat_map, range_with_len}
 use Rattle.std.specs.Int.{to_le_bytes, w32}
 
+-- the linear address of the text, at which the outer kernel calls
+abbrev pub gate_address : ℕ
+gate_address = 0xFFFFFF8000001000
+
+-- the linear address at which the nested kernel does its work
+abbrev pub body_address : ℕ
+body_address = 0xFFFFFF800000101B
+
 -- a row of the listing: an offset, and the bytes that stand from it on
-pub record Row : Type 0 where
+pub record ListingRow : Type 0 where
   pub offset : ℕ
   pub bytes : List ℕ
 
-abbrev pub row : ℕ → List ℕ → Row
+abbrev pub row : ℕ → List ℕ → ListingRow
 row offset bytes = record { offset = offset; bytes = bytes }
 
 -- the entry gate clears WP and takes the nested stack, the exit gate sets WP and goes back
-unfoldable pub entry_and_exit : List Row
+unfoldable pub entry_and_exit : List ListingRow
 entry_and_exit =
     row 0 (0x9C ∷ []) ∷  -- pushfq
     row 1 (0xFA ∷ []) ∷  -- cli
@@ -35,14 +43,14 @@ entry_and_exit =
     []
 
 -- the stub to which the gate of vector v leads: push v; jmp 448
-abbrev pub stub : ℕ → List Row
+abbrev pub stub : ℕ → List ListingRow
 stub v =
     row (64 + 8 * v) (0x6A ∷ v ∷ []) ∷
     row (66 + 8 * v) (0xE9 ∷ to_le_bytes w32 (377 - 8 * v)) ∷
     []
 
 -- the trap gate sets WP and goes on to the outer kernel's handler, or halts for good
-unfoldable pub trap_gate : List Row
+unfoldable pub trap_gate : List ListingRow
 trap_gate =
     row 448 (0x50 ∷ []) ∷  -- push rax
     row 449 (0x0F ∷ 0x20 ∷ 0xC0 ∷ []) ∷  -- mov rax, cr0
@@ -57,15 +65,15 @@ trap_gate =
     []
 
 -- the whole text, by ascending offsets, with a stub for each vector from 0 to 47
-unfoldable pub listing : List Row
+unfoldable pub listing : List ListingRow
 listing = entry_and_exit ++ (flat_map stub (range_with_len 0 48) ++ trap_gate)
 
 -- the row has a byte at this offset
-abbrev pub reaches : Row → ℕ → Bool
+abbrev pub reaches : ListingRow → ℕ → Bool
 reaches r at = nat_le r.offset at && nat_lt at (r.offset + length r.bytes)
 
 -- the byte that the rows put at an offset, and INT3 where none reaches it
-abbrev pub byte_by : List Row → ℕ → ℕ
+abbrev pub byte_by : List ListingRow → ℕ → ℕ
 byte_by [] at = 0xCC
 byte_by (r ∷ rows) at = if reaches r at then slice_index r.bytes (at - r.offset) else byte_by rows at
 
@@ -74,17 +82,13 @@ unfoldable pub gate_byte : ℕ → ℕ
 gate_byte at = byte_by listing at
 
 -- each row begins at or after the end of the row before it, and the last one ends at most here
-abbrev pub ascend : ℕ → ℕ → List Row → Bool
+abbrev pub ascend : ℕ → ℕ → List ListingRow → Bool
 ascend from end [] = nat_le from end
 ascend from end (r ∷ rows) = nat_le from r.offset && ascend (r.offset + length r.bytes) end rows
 
--- the second bytes, after 0F, of the instructions that load a descriptor table, control, debug or model-specific register
-abbrev pub load_codes : List ℕ
-load_codes = 0x00 ∷ 0x01 ∷ 0x22 ∷ 0x23 ∷ 0x30 ∷ []
-
--- such an instruction could begin at this offset
-abbrev pub begins_load : ℕ → Bool
-begins_load at = gate_byte at == 0x0F && list_any (λ code. code == gate_byte (at + 1)) load_codes
+-- the text as bytes at places, none of which stands past its 4,096
+abbrev pub gate_at : ℕ → Option ℕ
+gate_at at = if nat_lt at 4096 then Some (gate_byte at) else None
 
 -- the offsets of the loads of CR0 in the three gates
 abbrev pub cr0_loads : List ℕ

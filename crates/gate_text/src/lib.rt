@@ -1,6 +1,6 @@
 //! The text of the gates between the outer and the nested kernel: entry, exit and trap, as bytes. It meets the
 //! listing of `specs/Listing.antt`. It reads nothing and changes nothing; where the text stands in memory, and
-//! what its instructions do, others say.
+//! what its instructions do, others say. Floor: formats.
 
 #![tactic(auto)]
 

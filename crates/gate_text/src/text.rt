@@ -2,7 +2,8 @@
 
 ghost use Rattle.std.specs.Prelude.{◌≡◌, ℕ, ◌<◌, ◌==◌, true};
 ghost use Rattle.std.specs.List.{list_any};
-ghost use Rattle.gate_text.specs.Listing.{ascend, begins_load, cr0_loads, gate_byte, listing};
+ghost use Rattle.decode_fields.specs.Protected.{is_protected_at};
+ghost use Rattle.gate_text.specs.Listing.{ascend, body_address, cr0_loads, gate_address, gate_at, gate_byte, listing};
 
 /// The linear address of the text, at which the outer kernel calls.
 pub const GATE: u64 = 0xFFFF_FF80_0000_1000;
@@ -48,7 +49,7 @@ static TEXT: [u8; 480] = [
     0x00, 0x74, 0xEE, 0x58, 0xFF, 0x25, 0x26, 0x0E, 0x00, 0x00, 0xF4, 0xEB, 0xFD, 0xCC, 0xCC, 0xCC,
 ];
 
-/// The byte at an offset in the text, which is 4,096 bytes long.
+/// The byte at an offset, in bytes, in the text, which is 4,096 bytes long.
 #[tactic(auto, using(crate::proofs::Places::byte_within, crate::proofs::Places::byte_past))]
 pub fn byte(offset: usize) -> u8
     requires { offset < 4096 }
@@ -61,11 +62,14 @@ pub fn byte(offset: usize) -> u8
     }
 }
 
-/// The listing is a text of 4,096 bytes, and the loads of CR0 in its gates are all that its bytes hold of the
-/// instructions that load a descriptor table, control, debug or model-specific register.
+/// The listing is a text of 4,096 bytes, and the loads of CR0 in its gates are the only protected encodings that its
+/// bytes hold, at whatever offset one begins to read. The two addresses are the definition's.
 #[tactic(auto, using(crate::proofs::Places::rows_ascend, crate::proofs::Places::byte_fits, crate::proofs::Places::loads_at))]
 pub fn listing_law()
     ensures rows { ascend 0 4096 listing ≡ true }
     ensures bytes { (at : ℕ) → at < 4096 → gate_byte at < 256 }
-    ensures loads { (at : ℕ) → at < 4096 → begins_load at ≡ list_any (λ place. place == at) cr0_loads }
+    ensures loads { (at : ℕ) →
+        is_protected_at gate_at at ≡ list_any (λ place. place == at) cr0_loads }
+    ensures gate { GATE ≡ gate_address }
+    ensures body { BODY ≡ body_address }
 {}

@@ -4,14 +4,14 @@ use Rattle.std.specs.List.{list_all}
 use Rattle.std.proofs.lemmas.Bool.{and_parts, and_from, cases_Bool, cases_lt, cond-false, eq-eqb, agree_below, agree_below_at}
 use Rattle.std.proofs.lemmas.List.{get_or_past, length-take}
 use Rattle.decode_fields.specs.declared.parts.Prefixes.{Prefixes}
-use Rattle.decode_fields.specs.ModRm.{middle_field}
+use Rattle.decode_fields.specs.ModRm.{reg_field}
 use Rattle.x86_decode.specs.declared.operation.Op.{Op}
 use Rattle.x86_decode.specs.declared.shape.Shape.{Shape}
-use Rattle.x86_decode.specs.declared.shape.Layout.{Layout}
-use Rattle.x86_decode.specs.declared.shape.Layout.TheVariants as layout
+use Rattle.x86_decode.specs.declared.shape.RowLayout.{RowLayout}
+use Rattle.x86_decode.specs.declared.shape.RowLayout.TheVariants as layout
 use Rattle.x86_decode.specs.declared.entry.TheConstants.{GROUPS}
-use Rattle.x86_decode.specs.declared.entry.Entry.{Entry}
-use Rattle.x86_decode.specs.declared.entry.Entry.TheVariants as entry
+use Rattle.x86_decode.specs.declared.entry.OpcodeEntry.{OpcodeEntry}
+use Rattle.x86_decode.specs.declared.entry.OpcodeEntry.TheVariants as entry
 use Rattle.x86_decode.specs.declared.entry.Slot.{Slot}
 use Rattle.x86_decode.specs.declared.entry.Slot.TheVariants as slot
 use Rattle.x86_decode.specs.declared.entry.Selector.{Selector}
@@ -19,35 +19,42 @@ use Rattle.x86_decode.specs.declared.entry.Selector.TheVariants as selector
 use Rattle.x86_decode.specs.declared.choice.Choice.TheVariants as choice
 use Rattle.x86_decode.specs.declared.reader.Map.{Map}
 use Rattle.x86_decode.specs.declared.reader.Map.TheVariants.{OneByte, TwoByte}
-use Rattle.x86_decode.specs.Table.{Row, Always}
+use Rattle.x86_decode.specs.OpcodeTable.{OpcodeRow, Always}
 use Rattle.x86_decode.specs.Meaning.{layout_stands, row_stands, when_stands}
 use Rattle.x86_decode.specs.Grid.{entry_at, entry_rows, group_rows, slots_from, when_at}
 use Rattle.x86_decode.specs.Reader.{asks_form, chosen, picked, picked_at, place_in, tested}
 use Rattle.x86_decode.proofs.Rows.{IsIn, at_group, is_plain, reads_modrm, row_by, tested_some, when_of_place}
 
 -- a ModRM byte of the form that a layout asks for, with this reg
-abbrev example : Layout → ℕ → ℕ
+abbrev example : RowLayout → ℕ → ℕ
 example layout.Plain reg = 8 * reg
-example layout.ModRm reg = 8 * reg
+example layout.AnyForm reg = 8 * reg
 example layout.Memory reg = 8 * reg
 example layout.Register reg = 192 + 8 * reg
 example layout.Ignored reg = 8 * reg
 
-example_form : (l : Layout) (reg : ℕ) → reg < 8 → layout_stands l (example l reg ∷ []) ≡ true
+example_form : (l : RowLayout) (reg : ℕ) → reg < 8 → layout_stands l (example l reg ∷ []) ≡ true
 example_form layout.Plain reg small = refl
-example_form layout.ModRm reg small = refl
+example_form layout.AnyForm reg small = refl
 example_form layout.Memory reg small =
     let zero_mod : 8 * reg / 64 ≡ 0 = omega arith in
     ap (λ n. not (nat_eq n 3)) zero_mod
 example_form layout.Register reg small = eq-eqb ((192 + 8 * reg) / 64) 3 (omega arith)
 example_form layout.Ignored reg small = refl
 
-example_reg : (l : Layout) (reg : ℕ) → reg < 8 → middle_field (example l reg) ≡ reg
+example_reg : (l : RowLayout) (reg : ℕ) → reg < 8 → reg_field (example l reg) ≡ reg
 example_reg layout.Plain reg small = omega arith
-example_reg layout.ModRm reg small = omega arith
+example_reg layout.AnyForm reg small = omega arith
 example_reg layout.Memory reg small = omega arith
 example_reg layout.Register reg small = omega arith
 example_reg layout.Ignored reg small = omega arith
+
+example_byte : (l : RowLayout) (reg : ℕ) → reg < 8 → example l reg < 256
+example_byte layout.Plain reg small = omega arith
+example_byte layout.AnyForm reg small = omega arith
+example_byte layout.Memory reg small = omega arith
+example_byte layout.Register reg small = omega arith
+example_byte layout.Ignored reg small = omega arith
 
 -- a group has a row
 abbrev pub has_row : List Slot → Bool
@@ -81,17 +88,17 @@ place_small first place op shape is = elim (cases_lt place (length (slots_from f
 ]
 
 -- the entry's rows look at ModRM only where they have one, and a group by reg has a row
-abbrev pub sane : Row → Bool
+abbrev pub sane : OpcodeRow → Bool
 sane row = not (reads_modrm row.when && is_plain row.shape.layout)
 
-abbrev pub has_example : Entry → Bool
+abbrev pub has_example : OpcodeEntry → Bool
 has_example entry.Absent = true
 has_example (entry.One op shape) = true
 has_example (entry.Many selector.Digit first) = has_row (slots_from first)
-has_example (entry.Many selector.OperandSize first) = true
+has_example (entry.Many selector.Size first) = true
 has_example (entry.Many selector.RexB first) = true
 
-abbrev pub is_regular : Entry → Bool
+abbrev pub is_regular : OpcodeEntry → Bool
 is_regular it = has_example it && list_all sane (entry_rows it)
 
 one_byte_regular : agree_below (λ opcode. is_regular (entry_at OneByte opcode)) (λ _. true) 256 ≡ true
@@ -106,30 +113,31 @@ pub entry_regular : (where_from : Map) (opcode : ℕ) → opcode < 256 → is_re
 entry_regular OneByte opcode byte = agree_below_at (λ o. is_regular (entry_at OneByte o)) (λ _. true) 256 opcode one_byte_regular byte
 entry_regular TwoByte opcode byte = agree_below_at (λ o. is_regular (entry_at TwoByte o)) (λ _. true) 256 opcode two_byte_regular byte
 
-all_in : (rows : List Row) (row : Row) → list_all sane rows ≡ true → IsIn row rows → sane row ≡ true
+all_in : (rows : List OpcodeRow) (row : OpcodeRow) → list_all sane rows ≡ true → IsIn row rows → sane row ≡ true
 all_in [] row all h = absurd h
-all_in (first ∷ rows) row all (inl is) = let P : Row → Type 0 = λ r. sane r ≡ true in subst P is (and_parts _ _ all).0
+all_in (first ∷ rows) row all (inl is) = let P : OpcodeRow → Type 0 = λ r. sane r ≡ true in subst P is (and_parts _ _ all).0
 all_in (first ∷ rows) row all (inr h) = all_in rows row (and_parts _ _ all).1 h
 
-pub row_sane : (it : Entry) (row : Row) → is_regular it ≡ true → IsIn row (entry_rows it) → sane row ≡ true
+pub row_sane : (it : OpcodeEntry) (row : OpcodeRow) → is_regular it ≡ true → IsIn row (entry_rows it) → sane row ≡ true
 row_sane it row regular h = all_in (entry_rows it) row (and_parts _ _ regular).1 h
 
-not_plain : (l : Layout) → asks_form l ≡ true → is_plain l ≡ false
+not_plain : (l : RowLayout) → asks_form l ≡ true → is_plain l ≡ false
 not_plain layout.Plain h = absurd (cc)
-not_plain layout.ModRm h = refl
+not_plain layout.AnyForm h = refl
 not_plain layout.Memory h = refl
 not_plain layout.Register h = refl
 not_plain layout.Ignored h = refl
 
 -- a ModRM byte and a row that stands with it
-pub record Example (it : Entry) (prefixes : Prefixes) : Type 0 where
+pub record Example (it : OpcodeEntry) (prefixes : Prefixes) : Type 0 where
   pub modrm : ℕ
-  pub row : Row
+  pub byte : modrm < 256
+  pub row : OpcodeRow
   pub listed : IsIn row (entry_rows it)
   pub stands : row_stands row prefixes (modrm ∷ []) ≡ true
   pub more : is_plain row.shape.layout ≡ false
 
-pub record Missed (it : Entry) (prefixes : Prefixes) (modrm : Option ℕ) : Type 0 where
+pub record Missed (it : OpcodeEntry) (prefixes : Prefixes) (modrm : Option ℕ) : Type 0 where
   pub none : modrm ≡ None
   pub example : Example it prefixes
 
@@ -157,6 +165,7 @@ slot_example by first k prefixes op shape small is plain stands =
     let P : ℕ → Type 0 = λ n. IsIn (row_by (when_at by n) op shape) (group_rows by 0 (slots_from first)) in
     record {
       modrm = example shape.layout k;
+      byte = example_byte shape.layout k small;
       row = row_by (when_at by k) op shape;
       listed = subst P at (at_group by 0 (slots_from first) k op shape is);
       stands = and_from _ _ stands (example_form shape.layout k small);
@@ -194,17 +203,17 @@ missed_digit first prefixes regular =
     let plain : is_plain r.shape.layout ≡ false =
     plain_digit r.op r.shape r.place (row_sane (entry.Many selector.Digit first) (row_by (when_at selector.Digit r.place) r.op r.shape) regular listed) in
     slot_example selector.Digit first r.place prefixes r.op r.shape small r.is plain
-    (eq-eqb (middle_field (example r.shape.layout r.place)) r.place (example_reg r.shape.layout r.place small))
+    (eq-eqb (reg_field (example r.shape.layout r.place)) r.place (example_reg r.shape.layout r.place small))
 
 missed_place : (by : Selector) (first : ℕ) (prefixes : Prefixes) (modrm : Option ℕ) → is_regular (entry.Many by first) ≡ true → (place : Option ℕ) → place_in by prefixes modrm ≡ place → picked_at (slots_from first) place modrm ≡ choice.Missing → Missed (entry.Many by first) prefixes modrm
 missed_place by first prefixes modrm regular (Some k) is h = missed_slot by first k prefixes modrm is (slice_index_or (slots_from first) k slot.Empty) refl h
 missed_place selector.Digit first prefixes None regular None is h = record { none = refl; example = missed_digit first prefixes regular }
-missed_place selector.Digit first prefixes (Some m) regular None is h = absurd (some_none (middle_field m) is)
-missed_place selector.OperandSize first prefixes modrm regular None is h = absurd (some_none _ is)
+missed_place selector.Digit first prefixes (Some m) regular None is h = absurd (some_none (reg_field m) is)
+missed_place selector.Size first prefixes modrm regular None is h = absurd (some_none _ is)
 missed_place selector.RexB first prefixes modrm regular None is h = absurd (some_none _ is)
 
 -- where the ModRM byte is needed, it isn't there, and with one more byte a row stands
-pub missing : (it : Entry) (prefixes : Prefixes) (modrm : Option ℕ) → is_regular it ≡ true → chosen it prefixes modrm ≡ choice.Missing → Missed it prefixes modrm
+pub missing : (it : OpcodeEntry) (prefixes : Prefixes) (modrm : Option ℕ) → is_regular it ≡ true → chosen it prefixes modrm ≡ choice.Missing → Missed it prefixes modrm
 missing entry.Absent prefixes modrm regular h = absurd (absent_missing h)
 missing (entry.One op shape) prefixes modrm regular h =
     let t : (modrm ≡ None) × (asks_form shape.layout ≡ true) = missed_test op shape modrm h in
@@ -212,6 +221,7 @@ missing (entry.One op shape) prefixes modrm regular h =
       none = t.0;
       example = record {
         modrm = example shape.layout 0;
+        byte = example_byte shape.layout 0 (omega arith);
         row = row_by Always op shape;
         listed = inl refl;
         stands = example_form shape.layout 0 (omega arith);

@@ -3,20 +3,21 @@ use Rattle.std.proofs.Common.{◌≡◌, ℕ, ◌<◌, ◌+◌, ◌-◌, ◌*◌
 use Rattle.std.specs.Prelude.{is_none, unwrap_or}
 use Rattle.std.specs.List.{list_all}
 use Rattle.std.proofs.lemmas.Bool.{and_parts, or_cases, cases_Bool, cond-true, cond-false, ltb-true, agree_below, agree_below_at}
-use Rattle.decode_fields.specs.declared.parts.ModRm.{ModRm as Fields}
+use Rattle.decode_fields.specs.declared.parts.ModRm.{ModRm}
 use Rattle.decode_fields.specs.declared.parts.Prefixes.{Prefixes}
 use Rattle.decode_fields.specs.declared.place.Place.{Place}
 use Rattle.decode_fields.specs.declared.place.Place.TheVariants.{Nothing, Reg, High, Mem, Value}
 use Rattle.decode_fields.specs.Bounds.{IsHigh, IsLow, IsPlace}
 use Rattle.decode_fields.specs.ModRm.{modrm_byte, place_of, reg_of}
-use Rattle.decode_fields.specs.Number.{IsWidth}
+use Rattle.decode_fields.specs.Widths.{IsWidth}
 use Rattle.decode_fields.specs.Prefixes.{prefixes_of}
-use Rattle.decode_fields.proofs.BoundLaws.{place_of-bound, place_of-high, place_of-low, reg_of-bound, reg_of-low}
+use Rattle.x86_decode.proofs.Bytes.{opcode_byte}
+use Rattle.x86_decode.proofs.BoundLaws.{place_of-bound, place_of-high, place_of-low, reg_of-bound, reg_of-low}
 use Rattle.x86_decode.specs.declared.instruction.Instr.{Instr}
 use Rattle.x86_decode.specs.declared.operation.Op.{Op}
 use Rattle.x86_decode.specs.declared.operation.Op.TheVariants as op
-use Rattle.x86_decode.specs.declared.shape.Layout.{Layout}
-use Rattle.x86_decode.specs.declared.shape.Layout.TheVariants as layout
+use Rattle.x86_decode.specs.declared.shape.RowLayout.{RowLayout}
+use Rattle.x86_decode.specs.declared.shape.RowLayout.TheVariants as layout
 use Rattle.x86_decode.specs.declared.shape.Operand.{Operand}
 use Rattle.x86_decode.specs.declared.shape.Operand.TheVariants as operand
 use Rattle.x86_decode.specs.declared.shape.Width.{Width}
@@ -26,7 +27,7 @@ use Rattle.x86_decode.specs.declared.reader.Map.TheVariants.{OneByte, TwoByte}
 use Rattle.x86_decode.specs.Grid.{entry_at, entry_rows, slots_from}
 use Rattle.x86_decode.specs.Meaning.{byte_place, byte_register, fields_of, opcode_register, operand_place, operand_size, rex_number, width_of}
 use Rattle.x86_decode.specs.Spelling.{Parts, Spells}
-use Rattle.x86_decode.specs.Table.{Row}
+use Rattle.x86_decode.specs.OpcodeTable.{OpcodeRow}
 use Rattle.x86_decode.specs.WellFormed.{HasCondition, IsWellFormed, extends_byte}
 use Rattle.x86_decode.proofs.RowReading.{listed_in}
 use Rattle.x86_decode.proofs.Rows.{IsIn, size_cases}
@@ -41,8 +42,8 @@ width_known width.Quad prefixes = inr (inr (inr refl))
 width_known width.Variable prefixes = inr (size_cases prefixes)
 width_known width.Stack prefixes = stack_width (operand_size prefixes)
 
--- what holds of the fields of ModRm, whatever the layout
-record FieldsOk (rex : Option ℕ) (fields : Fields) : Type 0 where
+-- what holds of the fields of ModRM, whatever the layout
+record FieldsOk (rex : Option ℕ) (fields : ModRm) : Type 0 where
   reg : fields.reg < 16
   reg_low : rex ≡ None → fields.reg < 8
   place : IsPlace fields.place
@@ -67,7 +68,7 @@ small_low byte rex h = let P : ℕ → Type 0 = λ r. byte % 8 + 8 * (r % 2) < 8
 high_small : (number : ℕ) → number < 8 → number - 4 < 4
 high_small number below = omega arith
 
-modrm_ok : (operands : List ℕ) (prefixes : Prefixes) → FieldsOk prefixes.rex (fields_of layout.ModRm operands (rex_number prefixes))
+modrm_ok : (operands : List ℕ) (prefixes : Prefixes) → FieldsOk prefixes.rex (fields_of layout.AnyForm operands (rex_number prefixes))
 modrm_ok operands prefixes = record {
   reg = reg_of-bound operands (rex_number prefixes);
   reg_low = λ h. low_reg operands (rex_number prefixes) (none_rex prefixes h);
@@ -76,9 +77,9 @@ modrm_ok operands prefixes = record {
   place_high = place_of-high operands (rex_number prefixes);
 }
 
-fields_ok : (l : Layout) (operands : List ℕ) (prefixes : Prefixes) → FieldsOk prefixes.rex (fields_of l operands (rex_number prefixes))
+fields_ok : (l : RowLayout) (operands : List ℕ) (prefixes : Prefixes) → FieldsOk prefixes.rex (fields_of l operands (rex_number prefixes))
 fields_ok layout.Plain operands prefixes = record { reg = omega arith; reg_low = λ h. omega arith; place = tt; place_low = λ h. tt; place_high = λ high. high }
-fields_ok layout.ModRm operands prefixes = modrm_ok operands prefixes
+fields_ok layout.AnyForm operands prefixes = modrm_ok operands prefixes
 fields_ok layout.Memory operands prefixes = modrm_ok operands prefixes
 fields_ok layout.Register operands prefixes = modrm_ok operands prefixes
 fields_ok layout.Ignored operands prefixes = record {
@@ -116,7 +117,7 @@ opcode_low prefixes opcode h =
     let P : ℕ → Type 0 = λ r. opcode % 8 + 8 * (r % 2) < 8 in
     subst P (sym (none_rex prefixes h)) (omega arith)
 
-place_ok : (letter : Operand) (prefixes : Prefixes) (opcode : ℕ) (fields : Fields) → FieldsOk prefixes.rex fields → IsPlace (operand_place letter prefixes opcode fields)
+place_ok : (letter : Operand) (prefixes : Prefixes) (opcode : ℕ) (fields : ModRm) → FieldsOk prefixes.rex fields → IsPlace (operand_place letter prefixes opcode fields)
 place_ok operand.Absent prefixes opcode fields ok = tt
 place_ok operand.Eb prefixes opcode fields ok = byte_place_ok prefixes.rex fields.place ok.place ok.place_low
 place_ok operand.Ev prefixes opcode fields ok = ok.place
@@ -143,7 +144,7 @@ is_byte operand.Port = false
 is_byte operand.Constant = false
 
 -- a high byte register comes by a letter of byte operands
-high_byte : (letter : Operand) (prefixes : Prefixes) (opcode : ℕ) (fields : Fields) → FieldsOk prefixes.rex fields → IsHigh (operand_place letter prefixes opcode fields) → is_byte letter ≡ true
+high_byte : (letter : Operand) (prefixes : Prefixes) (opcode : ℕ) (fields : ModRm) → FieldsOk prefixes.rex fields → IsHigh (operand_place letter prefixes opcode fields) → is_byte letter ≡ true
 high_byte operand.Absent prefixes opcode fields ok high = absurd high
 high_byte operand.Eb prefixes opcode fields ok high = refl
 high_byte operand.Ev prefixes opcode fields ok high = absurd (ok.place_high high)
@@ -176,7 +177,7 @@ condition_small (op.Set condition) = nat_lt condition 16
 condition_small (op.Cmov condition) = nat_lt condition 16
 condition_small _ = true
 
-abbrev is_formed : Row → Bool
+abbrev is_formed : OpcodeRow → Bool
 is_formed row =
     (not (is_byte row.shape.to) || is_byte_width row.shape.width)
     && ((not (is_byte row.shape.from) || (is_byte_width row.shape.width || extends_byte row.op))
@@ -194,9 +195,9 @@ rows_formed : (where_from : Map) (opcode : ℕ) → opcode < 256 → list_all is
 rows_formed OneByte opcode byte = agree_below_at (λ o. list_all is_formed (entry_rows (entry_at OneByte o))) (λ _. true) 256 opcode one_byte_formed byte
 rows_formed TwoByte opcode byte = agree_below_at (λ o. list_all is_formed (entry_rows (entry_at TwoByte o))) (λ _. true) 256 opcode two_byte_formed byte
 
-all_in : (rows : List Row) (row : Row) → list_all is_formed rows ≡ true → IsIn row rows → is_formed row ≡ true
+all_in : (rows : List OpcodeRow) (row : OpcodeRow) → list_all is_formed rows ≡ true → IsIn row rows → is_formed row ≡ true
 all_in [] row all h = absurd h
-all_in (first ∷ rows) row all (inl is) = let P : Row → Type 0 = λ r. is_formed r ≡ true in subst P is (and_parts _ _ all).0
+all_in (first ∷ rows) row all (inl is) = let P : OpcodeRow → Type 0 = λ r. is_formed r ≡ true in subst P is (and_parts _ _ all).0
 all_in (first ∷ rows) row all (inr h) = all_in rows row (and_parts _ _ all).1 h
 
 implied : (a b : Bool) → (not a || b) ≡ true → a ≡ true → b ≡ true
@@ -213,11 +214,11 @@ pub well_formed : (instr : Instr) (bytes : List ℕ) → Spells instr bytes → 
 well_formed instr bytes s =
     let parts : Parts = s.parts in
     let prefixes : Prefixes = prefixes_of parts.front in
-    let fields : Fields = fields_of parts.row.shape.layout parts.operands (rex_number prefixes) in
+    let fields : ModRm = fields_of parts.row.shape.layout parts.operands (rex_number prefixes) in
     let ok : FieldsOk prefixes.rex fields = fields_ok parts.row.shape.layout parts.operands prefixes in
     let formed : is_formed parts.row ≡ true =
-    all_in (entry_rows (entry_at parts.map parts.opcode)) parts.row (rows_formed parts.map parts.opcode s.fit.byte)
-    (listed_in parts.map parts.opcode parts.row s.fit.byte s.fit.listed) in
+    all_in (entry_rows (entry_at parts.map parts.opcode)) parts.row (rows_formed parts.map parts.opcode (opcode_byte instr bytes s))
+    (listed_in parts.map parts.opcode parts.row (opcode_byte instr bytes s) s.fit.listed) in
     let outer : ((not (is_byte parts.row.shape.to) || is_byte_width parts.row.shape.width) ≡ true) × (((not (is_byte parts.row.shape.from) || (is_byte_width parts.row.shape.width || extends_byte parts.row.op)) && condition_small parts.row.op) ≡ true) = and_parts _ _ formed in
     let inner : ((not (is_byte parts.row.shape.from) || (is_byte_width parts.row.shape.width || extends_byte parts.row.op)) ≡ true) × (condition_small parts.row.op ≡ true) = and_parts _ _ outer.1 in
     subst IsWellFormed (sym s.meaning) (record {

@@ -3,19 +3,22 @@ use Rattle.std.proofs.Common.{◌≡◌, ℕ, suc, ◌<◌, ◌≤◌, ◌+◌, 
 use Rattle.std.specs.List.{list_all}
 use Rattle.std.proofs.lemmas.Bool.{and_parts, or_cases, eqb-true, agree_below, agree_below_at, not-true}
 use Rattle.decode_fields.specs.declared.parts.Prefixes.{Prefixes}
-use Rattle.decode_fields.specs.Prefixes.{prefixes_of}
-use Rattle.decode_fields.specs.ModRm.{is_register, middle_field, modrm_byte}
-use Rattle.decode_fields.specs.Protected.{is_refused_with, length_after_escape, length_of_bytes}
+use Rattle.decode_fields.specs.Prefixes.{is_prefix, prefixes_of}
+use Rattle.decode_fields.specs.ModRm.{is_register, reg_field, modrm_byte}
+use Rattle.decode_fields.specs.Protected.{is_protected_at, is_refused_with, length_after_escape, length_of_bytes}
 use Rattle.x86_decode.specs.declared.instruction.Instr.{Instr}
-use Rattle.x86_decode.specs.declared.shape.Layout.{Layout}
-use Rattle.x86_decode.specs.declared.shape.Layout.TheVariants as layout
+use Rattle.x86_decode.specs.declared.shape.RowLayout.{RowLayout}
+use Rattle.x86_decode.specs.declared.shape.RowLayout.TheVariants as layout
 use Rattle.x86_decode.specs.declared.reader.Map.{Map}
 use Rattle.x86_decode.specs.declared.reader.Map.TheVariants.{OneByte, TwoByte}
-use Rattle.x86_decode.specs.Decoding.{HasProtected, is_protected}
+use Rattle.x86_decode.specs.Conditions.{is_protected}
+use Rattle.x86_decode.specs.Decoding.{BeginsProtected}
 use Rattle.x86_decode.specs.Grid.{entry_at, entry_rows, slots_from}
 use Rattle.x86_decode.specs.Meaning.{layout_stands, operand_length, row_stands, when_stands}
 use Rattle.x86_decode.specs.Spelling.{Parts, Spells, opcode_bytes}
-use Rattle.x86_decode.specs.Table.{Row, When, Always, Digit, AtSize, AtRexB}
+use Rattle.x86_decode.specs.OpcodeTable.{OpcodeRow, When, Always, Digit, AtSize, AtRexB}
+use Rattle.x86_decode.proofs.Bytes.{opcode_byte}
+use Rattle.x86_decode.proofs.FieldLaws.{FieldLaws}
 use Rattle.x86_decode.proofs.RowReading.{layout_some, listed_in}
 use Rattle.x86_decode.proofs.Rows.{IsIn, is_plain}
 
@@ -25,9 +28,9 @@ is_digit n (Digit k) = nat_eq k n
 is_digit n (AtSize k) = false
 is_digit n (AtRexB k) = false
 
-abbrev is_memory : Layout → Bool
+abbrev is_memory : RowLayout → Bool
 is_memory layout.Plain = false
-is_memory layout.ModRm = false
+is_memory layout.AnyForm = false
 is_memory layout.Memory = true
 is_memory layout.Register = false
 is_memory layout.Ignored = false
@@ -36,19 +39,19 @@ is_memory layout.Ignored = false
 abbrev any_third : ℕ → Bool
 any_third opcode = nat_eq opcode 0x22 || nat_eq opcode 0x23
 
-abbrev of_table : ℕ → Row → Bool
+abbrev of_table : ℕ → OpcodeRow → Bool
 of_table opcode row = (nat_eq opcode 0x01 && (is_digit 2 row.when || is_digit 3 row.when)) && is_memory row.shape.layout
 
-abbrev of_status : ℕ → Row → Bool
+abbrev of_status : ℕ → OpcodeRow → Bool
 of_status opcode row = nat_eq opcode 0x01 && is_digit 6 row.when
 
-abbrev of_task : ℕ → Row → Bool
+abbrev of_task : ℕ → OpcodeRow → Bool
 of_task opcode row = nat_eq opcode 0x00 && (is_digit 2 row.when || is_digit 3 row.when)
 
-abbrev with_third : ℕ → Row → Bool
+abbrev with_third : ℕ → OpcodeRow → Bool
 with_third opcode row = (any_third opcode || (of_table opcode row || (of_status opcode row || of_task opcode row))) && not (is_plain row.shape.layout)
 
-abbrev is_guarded : ℕ → Row → Bool
+abbrev is_guarded : ℕ → OpcodeRow → Bool
 is_guarded opcode row = not (is_protected row.op) || (nat_eq opcode 0x30 || with_third opcode row)
 
 two_byte_guarded : agree_below (λ opcode. list_all (is_guarded opcode) (entry_rows (entry_at TwoByte opcode))) (λ _. true) 256 ≡ true
@@ -59,20 +62,20 @@ one_byte_guarded : agree_below (λ opcode. list_all (λ row. not (is_protected r
 unfolding entry_at slots_from
 one_byte_guarded = refl
 
-all_in : (test : Row → Bool) (rows : List Row) (row : Row) → list_all test rows ≡ true → IsIn row rows → test row ≡ true
+all_in : (test : OpcodeRow → Bool) (rows : List OpcodeRow) (row : OpcodeRow) → list_all test rows ≡ true → IsIn row rows → test row ≡ true
 all_in test [] row all h = absurd h
-all_in test (first ∷ rows) row all (inl is) = let P : Row → Type 0 = λ r. test r ≡ true in subst P is (and_parts _ _ all).0
+all_in test (first ∷ rows) row all (inl is) = let P : OpcodeRow → Type 0 = λ r. test r ≡ true in subst P is (and_parts _ _ all).0
 all_in test (first ∷ rows) row all (inr h) = all_in test rows row (and_parts _ _ all).1 h
 
-digit_reg : (n : ℕ) (w : When) (prefixes : Prefixes) (operands : List ℕ) → is_digit n w ≡ true → when_stands w prefixes operands ≡ true → middle_field (modrm_byte operands) ≡ n
+digit_reg : (n : ℕ) (w : When) (prefixes : Prefixes) (operands : List ℕ) → is_digit n w ≡ true → when_stands w prefixes operands ≡ true → reg_field (modrm_byte operands) ≡ n
 digit_reg n Always prefixes operands h stands = absurd (cc)
 digit_reg n (Digit k) prefixes operands h stands = eqb-true _ _ stands ∙ eqb-true _ _ h
 digit_reg n (AtSize k) prefixes operands h stands = absurd (cc)
 digit_reg n (AtRexB k) prefixes operands h stands = absurd (cc)
 
-memory_mod : (l : Layout) (operands : List ℕ) → is_memory l ≡ true → layout_stands l operands ≡ true → is_register (modrm_byte operands) ≡ false
+memory_mod : (l : RowLayout) (operands : List ℕ) → is_memory l ≡ true → layout_stands l operands ≡ true → is_register (modrm_byte operands) ≡ false
 memory_mod layout.Plain operands h stands = absurd (cc)
-memory_mod layout.ModRm operands h stands = absurd (cc)
+memory_mod layout.AnyForm operands h stands = absurd (cc)
 memory_mod layout.Memory operands h stands = not-true _ stands
 memory_mod layout.Register operands h stands = absurd (cc)
 memory_mod layout.Ignored operands h stands = absurd (cc)
@@ -86,7 +89,7 @@ refused opcode reg register =
     || ((nat_eq opcode 0x01 && nat_eq reg 6)
     || (nat_eq opcode 0x00 && (nat_eq reg 2 || nat_eq reg 3)))))
 
-refused_is : (opcode third : ℕ) → is_refused_with opcode third ≡ refused opcode (middle_field third) (is_register third)
+refused_is : (opcode third : ℕ) → is_refused_with opcode third ≡ refused opcode (reg_field third) (is_register third)
 refused_is opcode third = refl
 
 refused_any : (opcode reg : ℕ) (register : Bool) → any_third opcode ≡ true → refused opcode reg register ≡ true
@@ -117,18 +120,18 @@ refused_task opcode reg register is digit =
     let R : ℕ → Type 0 = λ n. refused 0 n register ≡ true in
     subst P (sym is) (elim digit [ inl two ↦ subst R (sym two) refl | inr three ↦ subst R (sym three) refl ])
 
-two_or_three : (w : When) (prefixes : Prefixes) (operands : List ℕ) → (is_digit 2 w || is_digit 3 w) ≡ true → when_stands w prefixes operands ≡ true → (middle_field (modrm_byte operands) ≡ 2) ⊎ (middle_field (modrm_byte operands) ≡ 3)
+two_or_three : (w : When) (prefixes : Prefixes) (operands : List ℕ) → (is_digit 2 w || is_digit 3 w) ≡ true → when_stands w prefixes operands ≡ true → (reg_field (modrm_byte operands) ≡ 2) ⊎ (reg_field (modrm_byte operands) ≡ 3)
 two_or_three w prefixes operands h stands = elim (or_cases _ _ h) [
   | inl two ↦ inl (digit_reg 2 w prefixes operands two stands)
   | inr three ↦ inr (digit_reg 3 w prefixes operands three stands)
 ]
 
 -- the third byte of such a row is one that is refused
-row_refused : (opcode : ℕ) (row : Row) (prefixes : Prefixes) (operands : List ℕ) → (any_third opcode || (of_table opcode row || (of_status opcode row || of_task opcode row))) ≡ true → row_stands row prefixes operands ≡ true → refused opcode (middle_field (modrm_byte operands)) (is_register (modrm_byte operands)) ≡ true
+row_refused : (opcode : ℕ) (row : OpcodeRow) (prefixes : Prefixes) (operands : List ℕ) → (any_third opcode || (of_table opcode row || (of_status opcode row || of_task opcode row))) ≡ true → row_stands row prefixes operands ≡ true → refused opcode (reg_field (modrm_byte operands)) (is_register (modrm_byte operands)) ≡ true
 row_refused opcode row prefixes operands h stands =
     let when : when_stands row.when prefixes operands ≡ true = (and_parts _ _ stands).0 in
     let form : layout_stands row.shape.layout operands ≡ true = (and_parts _ _ stands).1 in
-    let reg : ℕ = middle_field (modrm_byte operands) in
+    let reg : ℕ = reg_field (modrm_byte operands) in
     let register : Bool = is_register (modrm_byte operands) in
     elim (or_cases _ _ h) [
       | inl any ↦ refused_any opcode reg register any
@@ -164,7 +167,7 @@ third_length opcode third h =
     subst P (sym h) (elim (nat_eq opcode 0x30) as (λ c. nat_lt 0 (cond c 2 (cond true 3 0)) ≡ true) [ true ↦ refl | false ↦ refl ])
 
 -- an encoding with a length stands behind the prefix bytes
-stands_behind : (front : List ℕ) (opcode : ℕ) (operands : List ℕ) → nat_lt 0 (length_after_escape (Some opcode) (slice_get operands 0)) ≡ true → HasProtected (front ++ (0x0F ∷ (opcode ∷ operands)))
+stands_behind : (front : List ℕ) (opcode : ℕ) (operands : List ℕ) → nat_lt 0 (length_after_escape (Some opcode) (slice_get operands 0)) ≡ true → is_protected_at (slice_get (front ++ (0x0F ∷ (opcode ∷ operands)))) (length front) ≡ true
 stands_behind front opcode operands h =
     let rest : List ℕ = 0x0F ∷ (opcode ∷ operands) in
     let whole : List ℕ = front ++ rest in
@@ -175,7 +178,7 @@ stands_behind front opcode operands h =
     let P : Option ℕ → Type 0 = λ b. nat_lt 0 (length_of_bytes b (slice_get whole (length front + 1)) (slice_get whole (length front + 2))) ≡ true in
     let Q : Option ℕ → Type 0 = λ b. nat_lt 0 (length_of_bytes (Some 0x0F) b (slice_get whole (length front + 2))) ≡ true in
     let R : Option ℕ → Type 0 = λ b. nat_lt 0 (length_of_bytes (Some 0x0F) (Some opcode) b) ≡ true in
-    record { place = length front; stands = subst P (sym one) (subst Q (sym two) (subst R (sym three) h)) }
+    subst P (sym one) (subst Q (sym two) (subst R (sym three) h))
 
 third_there : (opcode : ℕ) (operands : List ℕ) → 1 ≤ length operands → is_refused_with opcode (modrm_byte operands) ≡ true → nat_lt 0 (length_after_escape (Some opcode) (slice_get operands 0)) ≡ true
 third_there opcode [] some h = absurd (omega arith)
@@ -185,7 +188,7 @@ not_both : (b : Bool) → not b ≡ true → b ≡ true → ⊥
 not_both true h g = cc
 not_both false h g = cc
 
-guarded_length : (opcode : ℕ) (row : Row) (prefixes : Prefixes) (operands : List ℕ) → is_guarded opcode row ≡ true → is_protected row.op ≡ true → row_stands row prefixes operands ≡ true → length operands ≡ operand_length row.shape prefixes operands → nat_lt 0 (length_after_escape (Some opcode) (slice_get operands 0)) ≡ true
+guarded_length : (opcode : ℕ) (row : OpcodeRow) (prefixes : Prefixes) (operands : List ℕ) → is_guarded opcode row ≡ true → is_protected row.op ≡ true → row_stands row prefixes operands ≡ true → length operands ≡ operand_length row.shape prefixes operands → nat_lt 0 (length_after_escape (Some opcode) (slice_get operands 0)) ≡ true
 guarded_length opcode row prefixes operands guarded protected stands whole = elim (or_cases _ _ guarded) [
   | inl free ↦ absurd (not_both (is_protected row.op) free protected)
   | inr some ↦ elim (or_cases _ _ some) [
@@ -199,29 +202,31 @@ guarded_length opcode row prefixes operands guarded protected stands whole = eli
   ]
 ]
 
-two_byte_law : (bytes front : List ℕ) (opcode : ℕ) (row : Row) (operands : List ℕ) (prefixes : Prefixes) → bytes ≡ front ++ (0x0F ∷ (opcode ∷ operands)) → opcode < 256 → IsIn row (entry_rows (entry_at TwoByte opcode)) → is_protected row.op ≡ true → row_stands row prefixes operands ≡ true → length operands ≡ operand_length row.shape prefixes operands → HasProtected bytes
-two_byte_law bytes front opcode row operands prefixes spelled byte h protected stands whole =
+two_byte_law : (laws : FieldLaws) (bytes front : List ℕ) (opcode : ℕ) (row : OpcodeRow) (operands : List ℕ) (prefixes : Prefixes) → list_all is_prefix front ≡ true → bytes ≡ front ++ (0x0F ∷ (opcode ∷ operands)) → opcode < 256 → IsIn row (entry_rows (entry_at TwoByte opcode)) → is_protected row.op ≡ true → row_stands row prefixes operands ≡ true → length operands ≡ operand_length row.shape prefixes operands → BeginsProtected bytes
+two_byte_law laws bytes front opcode row operands prefixes all spelled byte h protected stands whole =
     let guarded : is_guarded opcode row ≡ true =
     all_in (is_guarded opcode) (entry_rows (entry_at TwoByte opcode)) row
     (agree_below_at (λ o. list_all (is_guarded o) (entry_rows (entry_at TwoByte o))) (λ _. true) 256 opcode two_byte_guarded byte) h in
-    let P : List ℕ → Type 0 = λ b. HasProtected b in
-    subst P (sym spelled) (stands_behind front opcode operands (guarded_length opcode row prefixes operands guarded protected stands whole))
+    let spelling : List ℕ = front ++ (0x0F ∷ (opcode ∷ operands)) in
+    let P : List ℕ → Type 0 = λ b. is_protected_at (slice_get spelling) (length b) ≡ true in
+    subst BeginsProtected (sym spelled) (subst P (sym (laws.prefixes front (opcode ∷ operands) 0x0F all refl))
+    (stands_behind front opcode operands (guarded_length opcode row prefixes operands guarded protected stands whole)))
 
-one_byte_free : (opcode : ℕ) (row : Row) → opcode < 256 → IsIn row (entry_rows (entry_at OneByte opcode)) → is_protected row.op ≡ true → ⊥
+one_byte_free : (opcode : ℕ) (row : OpcodeRow) → opcode < 256 → IsIn row (entry_rows (entry_at OneByte opcode)) → is_protected row.op ≡ true → ⊥
 one_byte_free opcode row byte h protected =
     not_both (is_protected row.op)
     (all_in (λ r. not (is_protected r.op)) (entry_rows (entry_at OneByte opcode)) row
     (agree_below_at (λ o. list_all (λ r. not (is_protected r.op)) (entry_rows (entry_at OneByte o))) (λ _. true) 256 opcode one_byte_guarded byte) h)
     protected
 
-law_by : (bytes front : List ℕ) (where_from : Map) (opcode : ℕ) (row : Row) (operands : List ℕ) (prefixes : Prefixes) → bytes ≡ front ++ (opcode_bytes where_from opcode ++ operands) → opcode < 256 → IsIn row (entry_rows (entry_at where_from opcode)) → is_protected row.op ≡ true → row_stands row prefixes operands ≡ true → length operands ≡ operand_length row.shape prefixes operands → HasProtected bytes
-law_by bytes front OneByte opcode row operands prefixes spelled byte h protected stands whole = absurd (one_byte_free opcode row byte h protected)
-law_by bytes front TwoByte opcode row operands prefixes spelled byte h protected stands whole = two_byte_law bytes front opcode row operands prefixes spelled byte h protected stands whole
+law_by : (laws : FieldLaws) (bytes front : List ℕ) (where_from : Map) (opcode : ℕ) (row : OpcodeRow) (operands : List ℕ) (prefixes : Prefixes) → list_all is_prefix front ≡ true → bytes ≡ front ++ (opcode_bytes where_from opcode ++ operands) → opcode < 256 → IsIn row (entry_rows (entry_at where_from opcode)) → is_protected row.op ≡ true → row_stands row prefixes operands ≡ true → length operands ≡ operand_length row.shape prefixes operands → BeginsProtected bytes
+law_by laws bytes front OneByte opcode row operands prefixes all spelled byte h protected stands whole = absurd (one_byte_free opcode row byte h protected)
+law_by laws bytes front TwoByte opcode row operands prefixes all spelled byte h protected stands whole = two_byte_law laws bytes front opcode row operands prefixes all spelled byte h protected stands whole
 
-pub law : (instr : Instr) (bytes : List ℕ) → Spells instr bytes → is_protected instr.op ≡ true → HasProtected bytes
-law instr bytes s protected =
+pub law : (laws : FieldLaws) (instr : Instr) (bytes : List ℕ) → Spells instr bytes → is_protected instr.op ≡ true → BeginsProtected bytes
+law laws instr bytes s protected =
     let parts : Parts = s.parts in
     let same_op : instr.op ≡ parts.row.op = ap (λ (i : Instr). i.op) s.meaning in
-    law_by bytes parts.front parts.map parts.opcode parts.row parts.operands (prefixes_of parts.front) s.spelled s.fit.byte
-    (listed_in parts.map parts.opcode parts.row s.fit.byte s.fit.listed)
+    law_by laws bytes parts.front parts.map parts.opcode parts.row parts.operands (prefixes_of parts.front) s.fit.prefixes s.spelled (opcode_byte instr bytes s)
+    (listed_in parts.map parts.opcode parts.row (opcode_byte instr bytes s) s.fit.listed)
     (ap is_protected (sym same_op) ∙ protected) s.fit.stands s.fit.whole

@@ -1,3 +1,6 @@
+pub mod FieldLaws
+pub mod BoundLaws
+pub mod Bytes
 pub mod Maps
 pub mod Slots
 pub mod Operands
@@ -8,5 +11,5 @@ pub mod RowFinding
 pub mod Reading
 pub mod Finding
 pub mod Law
-pub mod Answers
 pub mod Forms
+pub mod Answers

@@ -5,7 +5,7 @@ use Rattle.std.specs.Prelude.{map}
 use Rattle.std.specs.List.{range_with_len}
 use Rattle.x86_decode.specs.declared.reader.Map.{Map}
 use Rattle.x86_decode.specs.declared.reader.Map.TheVariants.{OneByte, TwoByte}
-use Rattle.x86_decode.specs.Table.{rows_at, one_byte_table, two_byte_table}
+use Rattle.x86_decode.specs.OpcodeTable.{rows_at, one_byte_table, two_byte_table}
 use Rattle.x86_decode.specs.Grid.{entry_at, entry_rows, slots_from}
 
 one_byte_same : map (λ opcode. rows_at OneByte opcode) (range_with_len 0 256) ≡ map (λ opcode. entry_rows (entry_at OneByte opcode)) (range_with_len 0 256)

@@ -3,58 +3,58 @@ use Rattle.std.proofs.Common.{◌≡◌, ℕ, zero, suc, ◌+◌, ◌/◌, ◌�
 use Rattle.std.specs.Prelude.{Contains}
 use Rattle.std.proofs.lemmas.Bool.{and_from, cases_Bool, cond-true, cond-false, eqb-true, eq-eqb}
 use Rattle.decode_fields.specs.declared.parts.Prefixes.{Prefixes}
-use Rattle.decode_fields.specs.ModRm.{middle_field, modrm_byte, rex_b, rex_w}
+use Rattle.decode_fields.specs.ModRm.{reg_field, modrm_byte, rex_b, rex_w}
 use Rattle.x86_decode.specs.declared.operation.Op.{Op}
 use Rattle.x86_decode.specs.declared.shape.Shape.{Shape}
-use Rattle.x86_decode.specs.declared.shape.Layout.{Layout}
-use Rattle.x86_decode.specs.declared.shape.Layout.TheVariants as layout
-use Rattle.x86_decode.specs.declared.entry.Entry.{Entry}
-use Rattle.x86_decode.specs.declared.entry.Entry.TheVariants as entry
+use Rattle.x86_decode.specs.declared.shape.RowLayout.{RowLayout}
+use Rattle.x86_decode.specs.declared.shape.RowLayout.TheVariants as layout
+use Rattle.x86_decode.specs.declared.entry.OpcodeEntry.{OpcodeEntry}
+use Rattle.x86_decode.specs.declared.entry.OpcodeEntry.TheVariants as entry
 use Rattle.x86_decode.specs.declared.entry.Slot.{Slot}
 use Rattle.x86_decode.specs.declared.entry.Slot.TheVariants as slot
 use Rattle.x86_decode.specs.declared.entry.Selector.{Selector}
 use Rattle.x86_decode.specs.declared.entry.Selector.TheVariants as selector
 use Rattle.x86_decode.specs.declared.choice.Choice.TheVariants as choice
-use Rattle.x86_decode.specs.Table.{Row, When, Always, Digit, AtSize, AtRexB}
+use Rattle.x86_decode.specs.OpcodeTable.{OpcodeRow, When, Always, Digit, AtSize, AtRexB}
 use Rattle.x86_decode.specs.Meaning.{layout_stands, operand_size, rex_number, row_stands, when_stands}
 use Rattle.x86_decode.specs.Grid.{entry_rows, group_rows, size_at, slots_from, when_at}
 use Rattle.x86_decode.specs.Reader.{asks_form, chosen, picked, picked_at, place_in, tested}
 
 -- membership by recursion
-abbrev pub IsIn : Row → List Row → Type 0
+abbrev pub IsIn : OpcodeRow → List OpcodeRow → Type 0
 IsIn row [] = ⊥
 IsIn row (first ∷ rows) = (first ≡ row) ⊎ IsIn row rows
 
-pub is_in : (rows : List Row) (row : Row) → Contains rows row → IsIn row rows
+pub is_in : (rows : List OpcodeRow) (row : OpcodeRow) → Contains rows row → IsIn row rows
 is_in [] row (zero, below, is) = absurd (omega arith)
 is_in [] row (suc k, below, is) = absurd (omega arith)
 is_in (first ∷ rows) row (zero, below, is) = inl is
 is_in (first ∷ rows) row (suc k, below, is) = inr (is_in rows row (k, omega arith, is))
 
-pub contains : (rows : List Row) (row : Row) → IsIn row rows → Contains rows row
+pub contains : (rows : List OpcodeRow) (row : OpcodeRow) → IsIn row rows → Contains rows row
 contains [] row h = absurd h
 contains (first ∷ rows) row (inl is) = (0, omega arith, is)
 contains (first ∷ rows) row (inr later) =
     let found : Contains rows row = contains rows row later in
     (suc found.0, omega (arith, found.1), found.2)
 
-abbrev pub row_by : When → Op → Shape → Row
+abbrev pub row_by : When → Op → Shape → OpcodeRow
 row_by when op shape = record { when = when; op = op; shape = shape }
 
 -- a row of a group stands at a place of it
-pub record At (row : Row) (by : Selector) (place : ℕ) (slots : List Slot) : Type 0 where
+pub record At (row : OpcodeRow) (by : Selector) (place : ℕ) (slots : List Slot) : Type 0 where
   pub further : ℕ
   pub slot : slice_index_or slots further slot.Empty ≡ slot.Row row.op row.shape
   pub when : row.when ≡ when_at by (place + further)
 
-pub in_group : (by : Selector) (place : ℕ) (slots : List Slot) (row : Row) → IsIn row (group_rows by place slots) → At row by place slots
+pub in_group : (by : Selector) (place : ℕ) (slots : List Slot) (row : OpcodeRow) → IsIn row (group_rows by place slots) → At row by place slots
 in_group by place [] row h = absurd h
 in_group by place (slot.Empty ∷ slots) row h =
     let later : At row by (place + 1) slots = in_group by (place + 1) slots row h in
     let at : place + 1 + later.further ≡ place + suc later.further = omega arith in
     record { further = suc later.further; slot = later.slot; when = later.when ∙ ap (when_at by) at }
 in_group by place (slot.Row op shape ∷ slots) row (inl is) =
-    let P : Row → Type 0 = λ r. At r by place (slot.Row op shape ∷ slots) in
+    let P : OpcodeRow → Type 0 = λ r. At r by place (slot.Row op shape ∷ slots) in
     let at : place ≡ place + 0 = omega arith in
     subst P is (record { further = 0; slot = refl; when = ap (when_at by) at })
 in_group by place (slot.Row op shape ∷ slots) row (inr h) =
@@ -108,9 +108,9 @@ reads_modrm (Digit n) = true
 reads_modrm (AtSize n) = false
 reads_modrm (AtRexB n) = false
 
-abbrev pub is_plain : Layout → Bool
+abbrev pub is_plain : RowLayout → Bool
 is_plain layout.Plain = true
-is_plain layout.ModRm = false
+is_plain layout.AnyForm = false
 is_plain layout.Memory = false
 is_plain layout.Register = false
 is_plain layout.Ignored = false
@@ -118,14 +118,14 @@ is_plain layout.Ignored = false
 -- the place of a group that a row's condition names is the one that prefixes and ModRM give
 group_place : (by : Selector) (k : ℕ) (prefixes : Prefixes) (operands : List ℕ) (modrm : Option ℕ) → when_stands (when_at by k) prefixes operands ≡ true → (reads_modrm (when_at by k) ≡ true → modrm ≡ Some (modrm_byte operands)) → place_in by prefixes modrm ≡ Some k
 group_place selector.Digit k prefixes operands modrm stands known = ap (place_in selector.Digit prefixes) (known refl) ∙ ap (λ (n : ℕ). Some n) (eqb-true _ _ stands)
-group_place selector.OperandSize k prefixes operands modrm stands known = ap (λ (n : ℕ). Some n) (size_place (operand_size prefixes) k (size_cases prefixes) (eqb-true _ _ stands))
+group_place selector.Size k prefixes operands modrm stands known = ap (λ (n : ℕ). Some n) (size_place (operand_size prefixes) k (size_cases prefixes) (eqb-true _ _ stands))
 group_place selector.RexB k prefixes operands modrm stands known = ap (λ (n : ℕ). Some n) (eqb-true _ _ stands)
 
 -- the row that stands is the one that is tested
-pub chosen_by : (entry : Entry) (prefixes : Prefixes) (row : Row) (operands : List ℕ) (modrm : Option ℕ) → IsIn row (entry_rows entry) → when_stands row.when prefixes operands ≡ true → (reads_modrm row.when ≡ true → modrm ≡ Some (modrm_byte operands)) → chosen entry prefixes modrm ≡ tested row.op row.shape modrm
+pub chosen_by : (entry : OpcodeEntry) (prefixes : Prefixes) (row : OpcodeRow) (operands : List ℕ) (modrm : Option ℕ) → IsIn row (entry_rows entry) → when_stands row.when prefixes operands ≡ true → (reads_modrm row.when ≡ true → modrm ≡ Some (modrm_byte operands)) → chosen entry prefixes modrm ≡ tested row.op row.shape modrm
 chosen_by entry.Absent prefixes row operands modrm h stands known = absurd h
 chosen_by (entry.One op shape) prefixes row operands modrm (inl is) stands known =
-    let P : Row → Type 0 = λ r. tested op shape modrm ≡ tested r.op r.shape modrm in
+    let P : OpcodeRow → Type 0 = λ r. tested op shape modrm ≡ tested r.op r.shape modrm in
     subst P is refl
 chosen_by (entry.One op shape) prefixes row operands modrm (inr h) stands known = absurd h
 chosen_by (entry.Many by first) prefixes row operands modrm h stands known =
@@ -141,9 +141,9 @@ pub tested_some : (op : Op) (shape : Shape) (modrm : ℕ) → layout_stands shap
 tested_some op shape modrm stands = cond-true (layout_stands shape.layout (modrm ∷ [])) (choice.Row op shape) choice.Absent stands
 
 -- a row without ModRM stands whatever follows
-plain_free : (layout : Layout) (operands : List ℕ) → is_plain layout ≡ true → (asks_form layout ≡ false) × (layout_stands layout operands ≡ true)
+plain_free : (layout : RowLayout) (operands : List ℕ) → is_plain layout ≡ true → (asks_form layout ≡ false) × (layout_stands layout operands ≡ true)
 plain_free layout.Plain operands h = (refl, refl)
-plain_free layout.ModRm operands h = absurd (cc)
+plain_free layout.AnyForm operands h = absurd (cc)
 plain_free layout.Memory operands h = absurd (cc)
 plain_free layout.Register operands h = absurd (cc)
 plain_free layout.Ignored operands h = absurd (cc)
@@ -159,16 +159,16 @@ tested_none op shape = elim (cases_Bool (asks_form shape.layout)) [
 ]
 
 -- a form that isn't asked for stands
-form_free : (layout : Layout) (operands : List ℕ) → asks_form layout ≡ false → layout_stands layout operands ≡ true
+form_free : (layout : RowLayout) (operands : List ℕ) → asks_form layout ≡ false → layout_stands layout operands ≡ true
 form_free layout.Plain operands h = refl
-form_free layout.ModRm operands h = refl
+form_free layout.AnyForm operands h = refl
 form_free layout.Memory operands h = absurd (cc)
 form_free layout.Register operands h = absurd (cc)
 form_free layout.Ignored operands h = refl
 
-pub form_by_byte : (layout : Layout) (operands : List ℕ) → layout_stands layout operands ≡ layout_stands layout (modrm_byte operands ∷ [])
+pub form_by_byte : (layout : RowLayout) (operands : List ℕ) → layout_stands layout operands ≡ layout_stands layout (modrm_byte operands ∷ [])
 form_by_byte layout.Plain operands = refl
-form_by_byte layout.ModRm operands = refl
+form_by_byte layout.AnyForm operands = refl
 form_by_byte layout.Memory operands = refl
 form_by_byte layout.Register operands = refl
 form_by_byte layout.Ignored operands = refl
@@ -223,18 +223,18 @@ pub when_of_place : (by : Selector) (k : ℕ) (prefixes : Prefixes) (modrm : Opt
 when_of_place selector.Digit k prefixes None operands at first = absurd (none_some k at)
 when_of_place selector.Digit k prefixes (Some modrm) operands at (inl none) = absurd (some_none modrm none)
 when_of_place selector.Digit k prefixes (Some modrm) operands at (inr some) =
-    let same : middle_field modrm ≡ k = some_head (middle_field modrm) k at in
+    let same : reg_field modrm ≡ k = some_head (reg_field modrm) k at in
     let byte : modrm ≡ modrm_byte operands = some_head modrm (modrm_byte operands) some in
-    eq-eqb (middle_field (modrm_byte operands)) k (ap middle_field (sym byte) ∙ same)
-when_of_place selector.OperandSize k prefixes modrm operands at first =
+    eq-eqb (reg_field (modrm_byte operands)) k (ap reg_field (sym byte) ∙ same)
+when_of_place selector.Size k prefixes modrm operands at first =
     let same : operand_size prefixes / 32 ≡ k = some_head (operand_size prefixes / 32) k at in
     eq-eqb (operand_size prefixes) (size_at k) (sym (ap size_at (sym same) ∙ size_of_place (operand_size prefixes) (size_cases prefixes)))
 when_of_place selector.RexB k prefixes modrm operands at first =
     eq-eqb (rex_b (rex_number prefixes)) k (some_head (rex_b (rex_number prefixes)) k at)
 
 -- the row that was chosen is one of the entry's, and stands
-pub record Found (entry : Entry) (prefixes : Prefixes) (modrm : Option ℕ) (op : Op) (shape : Shape) : Type 0 where
-  pub row : Row
+pub record Found (entry : OpcodeEntry) (prefixes : Prefixes) (modrm : Option ℕ) (op : Op) (shape : Shape) : Type 0 where
+  pub row : OpcodeRow
   pub listed : IsIn row (entry_rows entry)
   pub op_same : row.op ≡ op
   pub shape_same : row.shape ≡ shape
@@ -258,7 +258,7 @@ found_place : (by : Selector) (first : ℕ) (prefixes : Prefixes) (modrm : Optio
 found_place by first prefixes modrm op shape None is h = absurd (missing_row op shape h)
 found_place by first prefixes modrm op shape (Some k) is h = found_slot by first k prefixes modrm op shape is (slice_index_or (slots_from first) k slot.Empty) refl h
 
-pub found : (entry : Entry) (prefixes : Prefixes) (modrm : Option ℕ) (op : Op) (shape : Shape) → chosen entry prefixes modrm ≡ choice.Row op shape → Found entry prefixes modrm op shape
+pub found : (entry : OpcodeEntry) (prefixes : Prefixes) (modrm : Option ℕ) (op : Op) (shape : Shape) → chosen entry prefixes modrm ≡ choice.Row op shape → Found entry prefixes modrm op shape
 found entry.Absent prefixes modrm op shape h = absurd (absent_row op shape h)
 found (entry.One op' shape') prefixes modrm op shape h =
     let t : Tested op op' shape shape' modrm = tested_row op' shape' modrm op shape h in

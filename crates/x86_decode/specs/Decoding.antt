@@ -1,19 +1,18 @@
--- What the answer of a decoding says of the bytes, and which instructions stand on a protected encoding.
-use Rattle.std.specs.Prelude.{◌≡◌, ℕ, ◌<◌, ◌≤◌, Bool, true, false, ⊤, List, length, take, slice_get}
+-- What the answer of a decoding says of the bytes, and where a load of a protected register has its protected encoding.
+use Rattle.std.specs.Prelude.{◌≡◌, ℕ, ◌<◌, ◌≤◌, true, ⊤, List, length, take, slice_get}
+use Rattle.decode_fields.specs.Prefixes.{prefix_bytes}
 use Rattle.decode_fields.specs.Protected.{is_protected_at}
 use Rattle.x86_decode.specs.declared.instruction.Instr.{Instr}
 use Rattle.x86_decode.specs.declared.instruction.Decoded.{Decoded}
 use Rattle.x86_decode.specs.declared.instruction.Decoded.TheVariants.{Whole, Short, TooLong, Unknown}
-use Rattle.x86_decode.specs.declared.operation.Op.{Op}
-use Rattle.x86_decode.specs.declared.operation.Op.TheVariants.{Movtc, Movtd, Wrmsr, Lgdt, Lidt, Lmsw, Lldt, Ltr}
-use Rattle.x86_decode.specs.Spelling.{IsCut, Spells}
+use Rattle.x86_decode.specs.Spelling.{IsCut, IsLawful}
 
--- the first bytes, this many, spell the instruction
+-- the first bytes, this many, are a lawful spelling of the instruction
 pub record IsFront (instr : Instr) (bytes : List ℕ) (size : ℕ) : Type 0 where
   pub within : size ≤ length bytes
-  pub spells : Spells instr (take size bytes)
+  pub lawful : IsLawful instr (take size bytes)
 
--- no spelling is in front, and the bytes begin none
+-- no lawful spelling is in front, and the bytes begin no spelling
 pub record IsUnknown (bytes : List ℕ) : Type 0 where
   pub no_front : (instr : Instr) (size : ℕ) → IsFront instr bytes size → ⊥
   pub no_cut : IsCut bytes → ⊥
@@ -32,19 +31,6 @@ IfWhole Short P = ⊤
 IfWhole TooLong P = ⊤
 IfWhole Unknown P = ⊤
 
--- the loads of control, debug and model-specific registers, of descriptor tables and of the machine status word
-abbrev pub is_protected : Op → Bool
-is_protected Movtc = true
-is_protected Movtd = true
-is_protected Wrmsr = true
-is_protected Lgdt = true
-is_protected Lidt = true
-is_protected Lmsw = true
-is_protected Lldt = true
-is_protected Ltr = true
-is_protected _ = false
-
--- a protected encoding stands at a place of these bytes
-pub record HasProtected (bytes : List ℕ) : Type 0 where
-  pub place : ℕ
-  pub stands : is_protected_at (slice_get bytes) place ≡ true
+-- a protected encoding stands right behind the prefix bytes
+abbrev pub BeginsProtected : List ℕ → Type 0
+BeginsProtected bytes = is_protected_at (slice_get bytes) (length (prefix_bytes bytes)) ≡ true

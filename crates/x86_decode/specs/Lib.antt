@@ -1,8 +1,12 @@
-pub mod Forms
-pub mod Table
-pub mod Grid
+-- What a reader must believe.
+pub mod RowForms
+pub mod OpcodeTable
+pub mod Conditions
 pub mod Meaning
 pub mod Spelling
 pub mod Decoding
-pub mod Reader
 pub mod WellFormed
+-- Computations that a law says are right.
+pub mod Reader
+-- Words of private clauses and proofs.
+pub mod Grid

@@ -1,26 +1,26 @@
 -- What the fields of a spelling say: operand size, operands, number, and the instruction as a whole.
 use Rattle.std.specs.Prelude.{ℕ, ◌+◌, ◌-◌, ◌*◌, ◌/◌, ◌%◌, ◌^◌, ◌==◌, Bool, true, false, ◌&&◌, not, nat_le, nat_lt, if◌then◌else◌, Option, Some, None, is_none, unwrap_or, List, length, drop, slice_index}
 use Rattle.decode_fields.specs.declared.parts.Prefixes.{Prefixes}
-use Rattle.decode_fields.specs.declared.parts.ModRm.{ModRm as Fields}
+use Rattle.decode_fields.specs.declared.parts.ModRm.{ModRm}
 use Rattle.decode_fields.specs.declared.parts.Rep.{Rep}
 use Rattle.decode_fields.specs.declared.parts.Rep.TheVariants.{No}
 use Rattle.decode_fields.specs.declared.place.Place.{Place}
 use Rattle.decode_fields.specs.declared.place.Place.TheVariants.{Nothing, Reg, High, Mem, Value}
-use Rattle.decode_fields.specs.ModRm.{low_field, middle_field, is_register, modrm_byte, modrm_length, place_of, reg_of, rex_b, rex_w}
-use Rattle.decode_fields.specs.Number.{signed_number}
+use Rattle.decode_fields.specs.ModRm.{rm_field, reg_field, is_register, modrm_byte, modrm_length, place_of, reg_of, rex_b, rex_w}
+use Rattle.decode_fields.specs.Immediates.{signed_number}
 use Rattle.x86_decode.specs.declared.instruction.Instr.{Instr}
 use Rattle.x86_decode.specs.declared.operation.Op.{Op}
 use Rattle.x86_decode.specs.declared.operation.Op.TheVariants.{Movs, Cmps, Stos, Lods, Scas}
 use Rattle.x86_decode.specs.declared.shape.Shape.{Shape}
-use Rattle.x86_decode.specs.declared.shape.Layout.{Layout}
-use Rattle.x86_decode.specs.declared.shape.Layout.TheVariants.{Plain, ModRm, Memory, Register, Ignored}
+use Rattle.x86_decode.specs.declared.shape.RowLayout.{RowLayout}
+use Rattle.x86_decode.specs.declared.shape.RowLayout.TheVariants.{Plain, AnyForm, Memory, Register, Ignored}
 use Rattle.x86_decode.specs.declared.shape.Operand.{Operand}
 use Rattle.x86_decode.specs.declared.shape.Operand.TheVariants.{Absent, Eb, Ev, Gb, Gv, Zb, Zv, Accumulator, Counter, Port, Constant}
 use Rattle.x86_decode.specs.declared.shape.Number.{Number}
 use Rattle.x86_decode.specs.declared.shape.Number.TheVariants.{Zero, One, Ib, Iz, Iv, Jz, Ub, Uw, Cn}
 use Rattle.x86_decode.specs.declared.shape.Width.{Width}
 use Rattle.x86_decode.specs.declared.shape.Width.TheVariants.{Byte, Word, Quad, Variable, Stack}
-use Rattle.x86_decode.specs.Table.{Row, When, Always, Digit, AtSize, AtRexB}
+use Rattle.x86_decode.specs.OpcodeTable.{OpcodeRow, When, Always, Digit, AtSize, AtRexB}
 
 -- the REX byte, or 0 for none
 abbrev pub rex_number : Prefixes → ℕ
@@ -42,26 +42,26 @@ width_of Stack prefixes = if operand_size prefixes == 16 then 16 else 64
 -- what a row asks for stands
 abbrev pub when_stands : When → Prefixes → List ℕ → Bool
 when_stands Always prefixes operands = true
-when_stands (Digit n) prefixes operands = middle_field (modrm_byte operands) == n
+when_stands (Digit n) prefixes operands = reg_field (modrm_byte operands) == n
 when_stands (AtSize size) prefixes operands = operand_size prefixes == size
 when_stands (AtRexB bit) prefixes operands = rex_b (rex_number prefixes) == bit
 
 -- the form of ModRM that a layout asks for stands
-abbrev pub layout_stands : Layout → List ℕ → Bool
+abbrev pub layout_stands : RowLayout → List ℕ → Bool
 layout_stands Plain operands = true
-layout_stands ModRm operands = true
+layout_stands AnyForm operands = true
 layout_stands Memory operands = not (is_register (modrm_byte operands))
 layout_stands Register operands = is_register (modrm_byte operands)
 layout_stands Ignored operands = true
 
 -- the row stands at these prefixes, before these bytes
-abbrev pub row_stands : Row → Prefixes → List ℕ → Bool
+abbrev pub row_stands : OpcodeRow → Prefixes → List ℕ → Bool
 row_stands row prefixes operands = when_stands row.when prefixes operands && layout_stands row.shape.layout operands
 
 -- the bytes of ModRM, SIB and displacement
-abbrev pub layout_length : Layout → List ℕ → ℕ
+abbrev pub layout_length : RowLayout → List ℕ → ℕ
 layout_length Plain operands = 0
-layout_length ModRm operands = modrm_length operands
+layout_length AnyForm operands = modrm_length operands
 layout_length Memory operands = modrm_length operands
 layout_length Register operands = modrm_length operands
 layout_length Ignored operands = 1
@@ -88,15 +88,15 @@ abbrev pub cut_number : ℕ → ℕ → List ℕ → ℕ
 cut_number size width bytes = signed_number (8 * size) bytes % 2 ^ width
 
 -- what ModRM says where a layout has it, and nothing where it hasn't; with mod taken as 3, rm names a register
-abbrev pub fields_of : Layout → List ℕ → ℕ → Fields
+abbrev pub fields_of : RowLayout → List ℕ → ℕ → ModRm
 fields_of Plain operands rex = record { reg = 0; place = Nothing; length = 0 }
-fields_of ModRm operands rex = record { reg = reg_of operands rex; place = place_of operands rex; length = modrm_length operands }
+fields_of AnyForm operands rex = record { reg = reg_of operands rex; place = place_of operands rex; length = modrm_length operands }
 fields_of Memory operands rex = record { reg = reg_of operands rex; place = place_of operands rex; length = modrm_length operands }
 fields_of Register operands rex = record { reg = reg_of operands rex; place = place_of operands rex; length = modrm_length operands }
-fields_of Ignored operands rex = record { reg = reg_of operands rex; place = Reg (low_field (modrm_byte operands) + 8 * rex_b rex); length = 1 }
+fields_of Ignored operands rex = record { reg = reg_of operands rex; place = Reg (rm_field (modrm_byte operands) + 8 * rex_b rex); length = 1 }
 
 -- the same, unless the bytes end before the last of these
-abbrev pub fields_in : Layout → List ℕ → ℕ → Option Fields
+abbrev pub fields_in : RowLayout → List ℕ → ℕ → Option ModRm
 fields_in layout operands rex =
     if nat_lt (length operands) (layout_length layout operands) then None else Some (fields_of layout operands rex)
 
@@ -128,7 +128,7 @@ abbrev pub opcode_register : Prefixes → ℕ → ℕ
 opcode_register prefixes opcode = opcode % 8 + 8 * rex_b (rex_number prefixes)
 
 -- where an operand stands
-abbrev pub operand_place : Operand → Prefixes → ℕ → Fields → Place
+abbrev pub operand_place : Operand → Prefixes → ℕ → ModRm → Place
 operand_place Absent prefixes opcode fields = Nothing
 operand_place Eb prefixes opcode fields = byte_place prefixes.rex fields.place
 operand_place Ev prefixes opcode fields = fields.place
@@ -154,7 +154,7 @@ abbrev pub rep_by : Op → Prefixes → Rep
 rep_by op prefixes = if is_string op then prefixes.rep else No
 
 -- the instruction of a row with these prefixes, opcode, fields of ModRM and bytes behind them
-abbrev pub instr_by : Op → Shape → Prefixes → ℕ → Fields → List ℕ → Instr
+abbrev pub instr_by : Op → Shape → Prefixes → ℕ → ModRm → List ℕ → Instr
 instr_by op shape prefixes opcode fields bytes = record {
   op = op;
   width = width_of shape.width prefixes;

@@ -1,20 +1,21 @@
--- The reader, step by step as the code goes. No public clause names these words; the laws of Spelling are proved over them.
+-- The answer of a decoding as a computation, step by step as the code goes. It is no part of the grammar: a law says
+-- that `decoded_of` is the right answer, and the only one.
 use Rattle.std.specs.Prelude.{ℕ, ◌+◌, ◌/◌, ◌==◌, Bool, true, false, if◌then◌else◌, nat_lt, Option, Some, None, List, [], ◌∷◌, length, drop, slice_get, slice_index_or}
 use Rattle.decode_fields.specs.declared.parts.Prefixes.{Prefixes}
 use Rattle.decode_fields.specs.Prefixes.{prefix_bytes, prefixes_of}
-use Rattle.decode_fields.specs.ModRm.{middle_field, rex_b}
+use Rattle.decode_fields.specs.ModRm.{reg_field, rex_b}
 use Rattle.x86_decode.specs.declared.instruction.Decoded.{Decoded}
 use Rattle.x86_decode.specs.declared.instruction.Decoded.TheVariants.{Whole, Short, TooLong, Unknown}
 use Rattle.x86_decode.specs.declared.operation.Op.{Op}
 use Rattle.x86_decode.specs.declared.shape.Shape.{Shape}
-use Rattle.x86_decode.specs.declared.shape.Layout.{Layout}
-use Rattle.x86_decode.specs.declared.shape.Layout.TheVariants.{Plain, ModRm, Memory, Register, Ignored}
-use Rattle.x86_decode.specs.declared.entry.Entry.{Entry}
-use Rattle.x86_decode.specs.declared.entry.Entry.TheVariants as entry
+use Rattle.x86_decode.specs.declared.shape.RowLayout.{RowLayout}
+use Rattle.x86_decode.specs.declared.shape.RowLayout.TheVariants.{Plain, AnyForm, Memory, Register, Ignored}
+use Rattle.x86_decode.specs.declared.entry.OpcodeEntry.{OpcodeEntry}
+use Rattle.x86_decode.specs.declared.entry.OpcodeEntry.TheVariants as entry
 use Rattle.x86_decode.specs.declared.entry.Slot.{Slot}
 use Rattle.x86_decode.specs.declared.entry.Slot.TheVariants as slot
 use Rattle.x86_decode.specs.declared.entry.Selector.{Selector}
-use Rattle.x86_decode.specs.declared.entry.Selector.TheVariants.{Digit, OperandSize, RexB}
+use Rattle.x86_decode.specs.declared.entry.Selector.TheVariants.{Digit, Size, RexB}
 use Rattle.x86_decode.specs.declared.choice.Choice.{Choice}
 use Rattle.x86_decode.specs.declared.choice.Choice.TheVariants.{Row, Missing, Absent}
 use Rattle.x86_decode.specs.declared.reader.Map.{Map}
@@ -23,9 +24,9 @@ use Rattle.x86_decode.specs.Grid.{entry_at, slots_from}
 use Rattle.x86_decode.specs.Meaning.{instr_of, layout_stands, operand_length, operand_size, rex_number}
 
 -- the layout asks for a form of ModRM
-abbrev pub asks_form : Layout → Bool
+abbrev pub asks_form : RowLayout → Bool
 asks_form Plain = false
-asks_form ModRm = false
+asks_form AnyForm = false
 asks_form Memory = true
 asks_form Register = true
 asks_form Ignored = false
@@ -42,8 +43,8 @@ picked (slot.Row op shape) modrm = tested op shape modrm
 -- the place in a group
 abbrev pub place_in : Selector → Prefixes → Option ℕ → Option ℕ
 place_in Digit prefixes None = None
-place_in Digit prefixes (Some modrm) = Some (middle_field modrm)
-place_in OperandSize prefixes modrm = Some (operand_size prefixes / 32)
+place_in Digit prefixes (Some modrm) = Some (reg_field modrm)
+place_in Size prefixes modrm = Some (operand_size prefixes / 32)
 place_in RexB prefixes modrm = Some (rex_b (rex_number prefixes))
 
 abbrev pub picked_at : List Slot → Option ℕ → Option ℕ → Choice
@@ -51,7 +52,7 @@ picked_at slots None modrm = Missing
 picked_at slots (Some place) modrm = picked (slice_index_or slots place slot.Empty) modrm
 
 -- the row that an entry has at these prefixes and this ModRM byte
-abbrev pub chosen : Entry → Prefixes → Option ℕ → Choice
+abbrev pub chosen : OpcodeEntry → Prefixes → Option ℕ → Choice
 chosen entry.Absent prefixes modrm = Absent
 chosen (entry.One op shape) prefixes modrm = tested op shape modrm
 chosen (entry.Many by first) prefixes modrm = picked_at (slots_from first) (place_in by prefixes modrm) modrm
@@ -94,3 +95,7 @@ answer_of (Whole instr size) length = Whole instr size
 answer_of Short length = if nat_lt length 15 then Short else TooLong
 answer_of TooLong length = TooLong
 answer_of Unknown length = Unknown
+
+-- the answer of a decoding
+abbrev pub decoded_of : List ℕ → Decoded
+decoded_of bytes = answer_of (read_of bytes) (length bytes)

@@ -1,7 +1,7 @@
 -- What holds of every instruction that is spelled: which widths, registers and conditions there are.
 use Rattle.std.specs.Prelude.{◌≡◌, ◌⊎◌, ◌<◌, Bool, true, false, ⊤}
 use Rattle.decode_fields.specs.Bounds.{IsHigh, IsPlace}
-use Rattle.decode_fields.specs.Number.{IsWidth}
+use Rattle.decode_fields.specs.Widths.{IsWidth}
 use Rattle.x86_decode.specs.declared.instruction.Instr.{Instr}
 use Rattle.x86_decode.specs.declared.operation.Op.{Op}
 use Rattle.x86_decode.specs.declared.operation.Op.TheVariants.{J, Set, Cmov, Movzx8, Movsx8}
@@ -19,7 +19,8 @@ extends_byte Movzx8 = true
 extends_byte Movsx8 = true
 extends_byte _ = false
 
--- the width is one of four, operands are among the registers, and a high byte register is an operand of a byte form alone
+-- the width is one of four, operands are among the registers, and a high byte register is an operand of a byte form
+-- alone
 pub record IsWellFormed (instr : Instr) : Type 0 where
   pub width : IsWidth instr.width
   pub to : IsPlace instr.to

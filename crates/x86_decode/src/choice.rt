@@ -1,14 +1,14 @@
 //! Which row of an entry stands, as far as the bytes tell.
 
 ghost use Rattle.std.specs.Prelude.{◌≡◌, ◌<◌, ◌∷◌, [], slice_index_or, IfSome};
-ghost use Rattle.decode_fields.specs.ModRm.{is_register, middle_field, rex_b, rex_w};
+ghost use Rattle.decode_fields.specs.ModRm.{is_register, reg_field, rex_b, rex_w};
 ghost use Rattle.x86_decode.specs.Grid.{slots_from};
 ghost use Rattle.x86_decode.specs.Meaning.{layout_stands, operand_size, rex_number};
 ghost use Rattle.x86_decode.specs.Reader.{asks_form, chosen, picked, picked_at, place_in, tested};
 
-use crate::entry::{Entry, GROUPS, Selector, Slot};
+use crate::entry::{GROUPS, OpcodeEntry, Selector, Slot};
 use crate::operation::Op;
-use crate::shape::{Layout, Shape};
+use crate::shape::{RowLayout, Shape};
 use decode_fields::Prefixes;
 
 #[derive(Clone, Copy)]
@@ -42,21 +42,21 @@ pub(crate) fn size(prefixes: &Prefixes) -> u8
     }
 }
 
-fn needs_form(layout: Layout) -> bool
+fn needs_form(layout: RowLayout) -> bool
     ensures { result ≡ asks_form layout }
 {
     match layout {
-        Layout::Memory | Layout::Register => true,
+        RowLayout::Memory | RowLayout::Register => true,
         _ => false,
     }
 }
 
-fn has_form(layout: Layout, modrm: u8) -> bool
+fn has_form(layout: RowLayout, modrm: u8) -> bool
     ensures { result ≡ layout_stands layout (modrm ∷ []) }
 {
     match layout {
-        Layout::Memory => modrm >> 6 != 3,
-        Layout::Register => modrm >> 6 == 3,
+        RowLayout::Memory => modrm >> 6 != 3,
+        RowLayout::Register => modrm >> 6 == 3,
         _ => true,
     }
 }
@@ -97,7 +97,7 @@ fn place(by: Selector, prefixes: &Prefixes, modrm: Option<u8>) -> Option<usize>
             Some(byte) => Some((byte >> 3 & 7) as usize),
             None => None,
         },
-        Selector::OperandSize => Some((size(prefixes) / 32) as usize),
+        Selector::Size => Some((size(prefixes) / 32) as usize),
         Selector::RexB => Some((rex(prefixes) & 1) as usize),
     }
 }
@@ -127,12 +127,12 @@ fn pick_at(first: u8, place: Option<usize>, modrm: Option<u8>) -> Choice
 }
 
 /// The row that an entry has at these prefixes and, where it is there, this ModRM byte.
-pub(crate) fn choose(entry: Entry, prefixes: &Prefixes, modrm: Option<u8>) -> Choice
+pub(crate) fn choose(entry: OpcodeEntry, prefixes: &Prefixes, modrm: Option<u8>) -> Choice
     ensures { result ≡ chosen entry prefixes.now modrm }
 {
     match entry {
-        Entry::Absent => Choice::Absent,
-        Entry::One(op, shape) => test(op, shape, modrm),
-        Entry::Many(by, first) => pick_at(first, place(by, prefixes, modrm), modrm),
+        OpcodeEntry::Absent => Choice::Absent,
+        OpcodeEntry::One(op, shape) => test(op, shape, modrm),
+        OpcodeEntry::Many(by, first) => pick_at(first, place(by, prefixes, modrm), modrm),
     }
 }

@@ -2,13 +2,13 @@
 
 ghost use Rattle.std.specs.Prelude.{◌≡◌, ◌<◌, ◌≤◌, ◌+◌, ◌^◌, ◌*◌, ◌%◌, ◌⊎◌, length, drop, IfNone, IfSome};
 ghost use Rattle.decode_fields.specs.ModRm.{IsRex, modrm_byte, modrm_length, place_of, reg_of};
-ghost use Rattle.decode_fields.specs.Number.{IsWidth};
+ghost use Rattle.decode_fields.specs.Widths.{IsWidth};
 ghost use Rattle.x86_decode.specs.Meaning.{byte_place, byte_register, cut_number, fields_in, instr_by, is_string, layout_length, number_size, number_value, opcode_register, operand_place, rep_by, width_of};
 
 use crate::choice::{rex, size};
 use crate::instruction::Instr;
 use crate::operation::Op;
-use crate::shape::{Layout, Number, Operand, Shape, Width};
+use crate::shape::{Number, Operand, RowLayout, Shape, Width};
 use decode_fields::{ModRm, Place, Prefixes, Rep, immediate, modrm};
 
 /// The width of a row, in bits.
@@ -145,7 +145,7 @@ fn rep(op: Op, prefixes: &Prefixes) -> Rep
 
 /// ModRM with mod taken as 3.
 fn register_fields(operands: &[u8], rex: u8) -> Option<ModRm>
-    ensures { result ≡ fields_in Layout.Ignored operands.now rex }
+    ensures { result ≡ fields_in RowLayout.Ignored operands.now rex }
 {
     if operands.len() < 1 {
         return None;
@@ -160,19 +160,19 @@ fn register_fields(operands: &[u8], rex: u8) -> Option<ModRm>
 }
 
 /// What ModRM says where the layout has it, unless its bytes are cut.
-pub(crate) fn fields(layout: Layout, operands: &[u8], rex: u8) -> Option<ModRm>
+pub(crate) fn fields(layout: RowLayout, operands: &[u8], rex: u8) -> Option<ModRm>
     requires few { length operands.now ≤ 15 }
     requires known { IsRex rex }
     ensures value { result ≡ fields_in layout operands.now rex }
 {
     match layout {
-        Layout::Plain => Some(ModRm {
+        RowLayout::Plain => Some(ModRm {
             reg: 0,
             place: Place::Nothing,
             length: 0,
         }),
-        Layout::Ignored => register_fields(operands, rex),
-        Layout::ModRm | Layout::Memory | Layout::Register => modrm(operands, rex),
+        RowLayout::Ignored => register_fields(operands, rex),
+        RowLayout::AnyForm | RowLayout::Memory | RowLayout::Register => modrm(operands, rex),
     }
 }
 

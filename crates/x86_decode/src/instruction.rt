@@ -1,3 +1,5 @@
+//! An instruction, and what bytes stand for.
+
 use crate::operation::Op;
 use decode_fields::{Place, Rep};
 
@@ -6,7 +8,7 @@ use decode_fields::{Place, Rep};
 pub struct Instr {
     pub op: Op,
 
-    /// In bits: 8, 16, 32 or 64.
+    /// The operand's width in bits: 8, 16, 32 or 64.
     pub width: u8,
 
     /// The first operand, as a rule the one that is written.
@@ -20,13 +22,15 @@ pub struct Instr {
 
     /// `Rep::No` unless the instruction is a string instruction.
     pub rep: Rep,
+
+    /// Whether F0 stands among the prefix bytes, lawful there or not.
     pub lock: bool,
 }
 
 /// What bytes stand for.
 #[derive(Clone, Copy, Debug, PartialEq, Eq)]
 pub enum Decoded {
-    /// They begin with a spelling of this instruction, which has this length.
+    /// They begin with a lawful spelling of this instruction, which has this length in bytes.
     Whole(Instr, u8),
 
     /// More bytes are needed.

@@ -1,23 +1,38 @@
-//! The decoder: which instruction bytes spell. It meets the grammar of `specs/Spelling.antt` over the table of opcodes in
-//! `specs/Table.antt`, after the SDM, volume 2, in both directions: what it answers stands, and what stands it answers.
-//! It looks at the bytes that it is given and at nothing else, and takes no memory; what an instruction does, and whether
-//! it may, others say.
+//! The decoder: which instruction bytes spell. It meets the grammar of `specs/Spelling.antt` over the table of
+//! opcodes in `specs/OpcodeTable.antt`, after the SDM, volume 2, in both directions: what it answers stands, and what
+//! stands it answers. It looks at the bytes that it is given and at nothing else, and takes no memory; what an
+//! instruction does, and whether it may, others say; under which conditions its operation faults is a table here.
+//! Floor: formats.
 
 #![tactic(auto)]
 
-mod choice;
-mod entry;
-mod fields;
-mod instruction;
-mod one_byte;
 mod operation;
-mod reader;
-mod shape;
-mod two_byte;
+
+pub use operation::Op;
+
+mod instruction;
 
 pub use instruction::{Decoded, Instr};
-pub use operation::Op;
-pub use reader::{decode, spelling_law};
+
+mod conditions;
+
+pub use conditions::{Conditions, UndefinedWhere, conditions_of};
+
+mod shape;
+
+// the tables, whose rows the macros of `entry` write
+mod entry;
+mod one_byte;
+mod two_byte;
+
+// one row: which stands, and what its bytes say
+mod choice;
+mod fields;
+
+// all bytes
+mod reader;
+
+pub use reader::{decode, decoding_law, spelling_law};
 
 #[cfg(test)]
 mod tests;

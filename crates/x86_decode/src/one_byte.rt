@@ -1,282 +1,40 @@
-//! The one-byte opcodes, in their order (SDM volume 2, table A-2).
+//! The one-byte opcodes (SDM volume 2, table A-2): eight columns, the low three bits of the opcode from 0 to 7.
 
-use crate::entry::Entry::{Absent, Many, One};
-use crate::entry::Selector::*;
-use crate::entry::*;
+use crate::entry::{Group, OpcodeEntry, Selector, opcode, opcodes};
 use crate::operation::Op::*;
 use crate::shape::*;
 
-pub(crate) static ONE_BYTE: [Entry; 256] = [
-    // 00
-    One(Add, EB_GB),
-    One(Add, EV_GV),
-    One(Add, GB_EB),
-    One(Add, GV_EV),
-    One(Add, AL_IB),
-    One(Add, AX_IZ),
-    Absent,
-    Absent,
-    One(Or, EB_GB),
-    One(Or, EV_GV),
-    One(Or, GB_EB),
-    One(Or, GV_EV),
-    One(Or, AL_IB),
-    One(Or, AX_IZ),
-    Absent,
-    Absent,
-    // 10
-    One(Adc, EB_GB),
-    One(Adc, EV_GV),
-    One(Adc, GB_EB),
-    One(Adc, GV_EV),
-    One(Adc, AL_IB),
-    One(Adc, AX_IZ),
-    Absent,
-    Absent,
-    One(Sbb, EB_GB),
-    One(Sbb, EV_GV),
-    One(Sbb, GB_EB),
-    One(Sbb, GV_EV),
-    One(Sbb, AL_IB),
-    One(Sbb, AX_IZ),
-    Absent,
-    Absent,
-    // 20
-    One(And, EB_GB),
-    One(And, EV_GV),
-    One(And, GB_EB),
-    One(And, GV_EV),
-    One(And, AL_IB),
-    One(And, AX_IZ),
-    Absent,
-    Absent,
-    One(Sub, EB_GB),
-    One(Sub, EV_GV),
-    One(Sub, GB_EB),
-    One(Sub, GV_EV),
-    One(Sub, AL_IB),
-    One(Sub, AX_IZ),
-    Absent,
-    Absent,
-    // 30
-    One(Xor, EB_GB),
-    One(Xor, EV_GV),
-    One(Xor, GB_EB),
-    One(Xor, GV_EV),
-    One(Xor, AL_IB),
-    One(Xor, AX_IZ),
-    Absent,
-    Absent,
-    One(Cmp, EB_GB),
-    One(Cmp, EV_GV),
-    One(Cmp, GB_EB),
-    One(Cmp, GV_EV),
-    One(Cmp, AL_IB),
-    One(Cmp, AX_IZ),
-    Absent,
-    Absent,
-    // 40
-    Absent,
-    Absent,
-    Absent,
-    Absent,
-    Absent,
-    Absent,
-    Absent,
-    Absent,
-    Absent,
-    Absent,
-    Absent,
-    Absent,
-    Absent,
-    Absent,
-    Absent,
-    Absent,
-    // 50
-    One(Push, PUSH_ZV),
-    One(Push, PUSH_ZV),
-    One(Push, PUSH_ZV),
-    One(Push, PUSH_ZV),
-    One(Push, PUSH_ZV),
-    One(Push, PUSH_ZV),
-    One(Push, PUSH_ZV),
-    One(Push, PUSH_ZV),
-    One(Pop, POP_ZV),
-    One(Pop, POP_ZV),
-    One(Pop, POP_ZV),
-    One(Pop, POP_ZV),
-    One(Pop, POP_ZV),
-    One(Pop, POP_ZV),
-    One(Pop, POP_ZV),
-    One(Pop, POP_ZV),
-    // 60
-    Absent,
-    Absent,
-    Absent,
-    Many(OperandSize, SIGN_EXTEND),
-    Absent,
-    Absent,
-    Absent,
-    Absent,
-    One(Push, PUSH_IZ),
-    One(Imul3, GV_EV_IZ),
-    One(Push, PUSH_IB),
-    One(Imul3, GV_EV_IB),
-    Absent,
-    Absent,
-    Absent,
-    Absent,
-    // 70
-    One(J(0), JB),
-    One(J(1), JB),
-    One(J(2), JB),
-    One(J(3), JB),
-    One(J(4), JB),
-    One(J(5), JB),
-    One(J(6), JB),
-    One(J(7), JB),
-    One(J(8), JB),
-    One(J(9), JB),
-    One(J(10), JB),
-    One(J(11), JB),
-    One(J(12), JB),
-    One(J(13), JB),
-    One(J(14), JB),
-    One(J(15), JB),
-    // 80
-    Many(Digit, ARITH_EB_IB),
-    Many(Digit, ARITH_EV_IZ),
-    Absent,
-    Many(Digit, ARITH_EV_IB),
-    One(Test, EB_GB),
-    One(Test, EV_GV),
-    One(Xchg, EB_GB),
-    One(Xchg, EV_GV),
-    One(Mov, EB_GB),
-    One(Mov, EV_GV),
-    One(Mov, GB_EB),
-    One(Mov, GV_EV),
-    Absent,
-    One(Lea, GV_M),
-    Absent,
-    Many(Digit, STACK_EV),
-    // 90
-    Many(RexB, BY_REX_B),
-    One(Xchg, AX_ZV),
-    One(Xchg, AX_ZV),
-    One(Xchg, AX_ZV),
-    One(Xchg, AX_ZV),
-    One(Xchg, AX_ZV),
-    One(Xchg, AX_ZV),
-    One(Xchg, AX_ZV),
-    Many(OperandSize, WIDEN),
-    Many(OperandSize, DOUBLE),
-    Absent,
-    Absent,
-    One(Pushfq, ALONE_STACK),
-    One(Popfq, ALONE_STACK),
-    Absent,
-    Absent,
-    // A0
-    Absent,
-    Absent,
-    Absent,
-    Absent,
-    One(Movs, ALONE_B),
-    One(Movs, ALONE_V),
-    One(Cmps, ALONE_B),
-    One(Cmps, ALONE_V),
-    One(Test, AL_IB),
-    One(Test, AX_IZ),
-    One(Stos, ALONE_B),
-    One(Stos, ALONE_V),
-    One(Lods, ALONE_B),
-    One(Lods, ALONE_V),
-    One(Scas, ALONE_B),
-    One(Scas, ALONE_V),
-    // B0
-    One(Mov, ZB_IB),
-    One(Mov, ZB_IB),
-    One(Mov, ZB_IB),
-    One(Mov, ZB_IB),
-    One(Mov, ZB_IB),
-    One(Mov, ZB_IB),
-    One(Mov, ZB_IB),
-    One(Mov, ZB_IB),
-    One(Mov, ZV_IV),
-    One(Mov, ZV_IV),
-    One(Mov, ZV_IV),
-    One(Mov, ZV_IV),
-    One(Mov, ZV_IV),
-    One(Mov, ZV_IV),
-    One(Mov, ZV_IV),
-    One(Mov, ZV_IV),
-    // C0
-    Many(Digit, SHIFT_EB_UB),
-    Many(Digit, SHIFT_EV_UB),
-    One(Ret, RET_UW),
-    One(Ret, RET_0),
-    Absent,
-    Absent,
-    Many(Digit, MOV_EB_IB),
-    Many(Digit, MOV_EV_IZ),
-    Absent,
-    One(Leave, ALONE),
-    Absent,
-    Absent,
-    One(Int3, ALONE),
-    One(Int, INT_UB),
-    Absent,
-    Many(OperandSize, LONG_RETURN),
-    // D0
-    Many(Digit, SHIFT_EB_1),
-    Many(Digit, SHIFT_EV_1),
-    Many(Digit, SHIFT_EB_CL),
-    Many(Digit, SHIFT_EV_CL),
-    Absent,
-    Absent,
-    Absent,
-    Absent,
-    Absent,
-    Absent,
-    Absent,
-    Absent,
-    Absent,
-    Absent,
-    Absent,
-    Absent,
-    // E0
-    One(Loopne, JB),
-    One(Loope, JB),
-    One(Loop, JB),
-    One(Jrcxz, JB),
-    One(In, AL_UB),
-    Absent,
-    One(Out, UB_AL),
-    Absent,
-    One(Call, JZ),
-    One(Jmp, JZ),
-    Absent,
-    One(Jmp, JB),
-    One(In, AL_DX),
-    Absent,
-    One(Out, DX_AL),
-    Absent,
-    // F0
-    Absent,
-    Absent,
-    Absent,
-    Absent,
-    One(Hlt, ALONE),
-    One(Cmc, ALONE),
-    Many(Digit, UNARY_EB),
-    Many(Digit, UNARY_EV),
-    One(Clc, ALONE),
-    One(Stc, ALONE),
-    One(Cli, ALONE),
-    One(Sti, ALONE),
-    One(Cld, ALONE),
-    One(Std, ALONE),
-    Many(Digit, STEP_EB),
-    Many(Digit, STEP_EV),
-];
+pub(crate) static ONE_BYTE: [OpcodeEntry; 256] = opcodes! {
+    0x00 { [Add EB_GB] [Add EV_GV] [Add GB_EB] [Add GV_EV] [Add AL_IB] [Add AX_IZ] __ __ }
+    0x08 { [Or EB_GB]  [Or EV_GV]  [Or GB_EB]  [Or GV_EV]  [Or AL_IB]  [Or AX_IZ]  __ __ }
+    0x10 { [Adc EB_GB] [Adc EV_GV] [Adc GB_EB] [Adc GV_EV] [Adc AL_IB] [Adc AX_IZ] __ __ }
+    0x18 { [Sbb EB_GB] [Sbb EV_GV] [Sbb GB_EB] [Sbb GV_EV] [Sbb AL_IB] [Sbb AX_IZ] __ __ }
+    0x20 { [And EB_GB] [And EV_GV] [And GB_EB] [And GV_EV] [And AL_IB] [And AX_IZ] __ __ }
+    0x28 { [Sub EB_GB] [Sub EV_GV] [Sub GB_EB] [Sub GV_EV] [Sub AL_IB] [Sub AX_IZ] __ __ }
+    0x30 { [Xor EB_GB] [Xor EV_GV] [Xor GB_EB] [Xor GV_EV] [Xor AL_IB] [Xor AX_IZ] __ __ }
+    0x38 { [Cmp EB_GB] [Cmp EV_GV] [Cmp GB_EB] [Cmp GV_EV] [Cmp AL_IB] [Cmp AX_IZ] __ __ }
+    0x40 { __ __ __ __ __ __ __ __ }
+    0x48 { __ __ __ __ __ __ __ __ }
+    0x50 { [Push PUSH_ZV] [Push PUSH_ZV] [Push PUSH_ZV] [Push PUSH_ZV] [Push PUSH_ZV] [Push PUSH_ZV] [Push PUSH_ZV] [Push PUSH_ZV] }
+    0x58 { [Pop POP_ZV]   [Pop POP_ZV]   [Pop POP_ZV]   [Pop POP_ZV]   [Pop POP_ZV]   [Pop POP_ZV]   [Pop POP_ZV]   [Pop POP_ZV] }
+    0x60 { __             __               __             (Size SignExtend) __ __ __ __ }
+    0x68 { [Push PUSH_IZ] [Imul3 GV_EV_IZ] [Push PUSH_IB] [Imul3 GV_EV_IB]  __ __ __ __ }
+    0x70 { [J(0) JB] [J(1) JB] [J(2) JB]  [J(3) JB]  [J(4) JB]  [J(5) JB]  [J(6) JB]  [J(7) JB] }
+    0x78 { [J(8) JB] [J(9) JB] [J(10) JB] [J(11) JB] [J(12) JB] [J(13) JB] [J(14) JB] [J(15) JB] }
+    0x80 { (Digit Group1EbIb) (Digit Group1EvIz) __          (Digit Group1EvIb) [Test EB_GB] [Test EV_GV] [Xchg EB_GB] [Xchg EV_GV] }
+    0x88 { [Mov EB_GB]        [Mov EV_GV]        [Mov GB_EB] [Mov GV_EV]        __           [Lea GV_M]   __           (Digit Group1A) }
+    0x90 { (RexB NopXchg) [Xchg AX_ZV]  [Xchg AX_ZV] [Xchg AX_ZV] [Xchg AX_ZV]         [Xchg AX_ZV]        [Xchg AX_ZV] [Xchg AX_ZV] }
+    0x98 { (Size Widen)   (Size Double) __           __           [Pushfq ALONE_STACK] [Popfq ALONE_STACK] __           __ }
+    0xA0 { __           __           __             __             [Movs ALONE_B] [Movs ALONE_V] [Cmps ALONE_B] [Cmps ALONE_V] }
+    0xA8 { [Test AL_IB] [Test AX_IZ] [Stos ALONE_B] [Stos ALONE_V] [Lods ALONE_B] [Lods ALONE_V] [Scas ALONE_B] [Scas ALONE_V] }
+    0xB0 { [Mov ZB_IB] [Mov ZB_IB] [Mov ZB_IB] [Mov ZB_IB] [Mov ZB_IB] [Mov ZB_IB] [Mov ZB_IB] [Mov ZB_IB] }
+    0xB8 { [Mov ZV_IV] [Mov ZV_IV] [Mov ZV_IV] [Mov ZV_IV] [Mov ZV_IV] [Mov ZV_IV] [Mov ZV_IV] [Mov ZV_IV] }
+    0xC0 { (Digit Group2EbUb) (Digit Group2EvUb) [Ret RET_UW] [Ret RET_0] __           __           (Digit Group11Eb) (Digit Group11Ev) }
+    0xC8 { __                 [Leave ALONE]      __           __          [Int3 ALONE] [Int INT_UB] __                (Size LongReturn) }
+    0xD0 { (Digit Group2Eb1) (Digit Group2Ev1) (Digit Group2EbCl) (Digit Group2EvCl) __ __ __ __ }
+    0xD8 { __                __                __                 __                 __ __ __ __ }
+    0xE0 { [Loopne JB] [Loope JB] [Loop JB] [Jrcxz JB] [In AL_UB] __ [Out UB_AL] __ }
+    0xE8 { [Call JZ]   [Jmp JZ]   __        [Jmp JB]   [In AL_DX] __ [Out DX_AL] __ }
+    0xF0 { __          __          __          __          [Hlt ALONE] [Cmc ALONE] (Digit Group3Eb) (Digit Group3Ev) }
+    0xF8 { [Clc ALONE] [Stc ALONE] [Cli ALONE] [Sti ALONE] [Cld ALONE] [Std ALONE] (Digit Group4)   (Digit Group5) }
+};

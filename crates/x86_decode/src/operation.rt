@@ -1,3 +1,5 @@
+//! The operations.
+
 /// An operation, named as in the SDM, volume 2. `J`, `Set` and `Cmov` hold their condition, the low four bits of the
 /// opcode. Names end in what tells one form from another: `Movfc`, `Movtc` and `Movtd` move from and to a control
 /// register and to a debug register, `Movzx8` takes a source of 8 bits, and `Imul3` has an immediate.

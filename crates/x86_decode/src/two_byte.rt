@@ -1,282 +1,40 @@
-//! The opcodes after 0F, in their order (SDM volume 2, table A-3).
+//! The opcodes after 0F (SDM volume 2, table A-3): eight columns, the low three bits of the opcode from 0 to 7.
 
-use crate::entry::Entry::{Absent, Many, One};
-use crate::entry::Selector::*;
-use crate::entry::*;
+use crate::entry::{Group, OpcodeEntry, Selector, opcode, opcodes};
 use crate::operation::Op::*;
 use crate::shape::*;
 
-pub(crate) static TWO_BYTE: [Entry; 256] = [
-    // 00
-    Many(Digit, TASK),
-    Many(Digit, TABLE),
-    Absent,
-    Absent,
-    Absent,
-    Absent,
-    Absent,
-    Absent,
-    Absent,
-    Absent,
-    Absent,
-    One(Ud2, ALONE),
-    Absent,
-    Absent,
-    Absent,
-    Absent,
-    // 10
-    Absent,
-    Absent,
-    Absent,
-    Absent,
-    Absent,
-    Absent,
-    Absent,
-    Absent,
-    Absent,
-    Absent,
-    Absent,
-    Absent,
-    Absent,
-    Absent,
-    One(Nop, NO_ACCESS),
-    One(Nop, NO_ACCESS),
-    // 20
-    One(Movfc, RQ_CN),
-    Absent,
-    One(Movtc, CN_RQ),
-    One(Movtd, CN_RQ),
-    Absent,
-    Absent,
-    Absent,
-    Absent,
-    Absent,
-    Absent,
-    Absent,
-    Absent,
-    Absent,
-    Absent,
-    Absent,
-    Absent,
-    // 30
-    One(Wrmsr, ALONE),
-    Absent,
-    Absent,
-    Absent,
-    Absent,
-    Absent,
-    Absent,
-    Absent,
-    Absent,
-    Absent,
-    Absent,
-    Absent,
-    Absent,
-    Absent,
-    Absent,
-    Absent,
-    // 40
-    One(Cmov(0), GV_EV),
-    One(Cmov(1), GV_EV),
-    One(Cmov(2), GV_EV),
-    One(Cmov(3), GV_EV),
-    One(Cmov(4), GV_EV),
-    One(Cmov(5), GV_EV),
-    One(Cmov(6), GV_EV),
-    One(Cmov(7), GV_EV),
-    One(Cmov(8), GV_EV),
-    One(Cmov(9), GV_EV),
-    One(Cmov(10), GV_EV),
-    One(Cmov(11), GV_EV),
-    One(Cmov(12), GV_EV),
-    One(Cmov(13), GV_EV),
-    One(Cmov(14), GV_EV),
-    One(Cmov(15), GV_EV),
-    // 50
-    Absent,
-    Absent,
-    Absent,
-    Absent,
-    Absent,
-    Absent,
-    Absent,
-    Absent,
-    Absent,
-    Absent,
-    Absent,
-    Absent,
-    Absent,
-    Absent,
-    Absent,
-    Absent,
-    // 60
-    Absent,
-    Absent,
-    Absent,
-    Absent,
-    Absent,
-    Absent,
-    Absent,
-    Absent,
-    Absent,
-    Absent,
-    Absent,
-    Absent,
-    Absent,
-    Absent,
-    Absent,
-    Absent,
-    // 70
-    Absent,
-    Absent,
-    Absent,
-    Absent,
-    Absent,
-    Absent,
-    Absent,
-    Absent,
-    Absent,
-    Absent,
-    Absent,
-    Absent,
-    Absent,
-    Absent,
-    Absent,
-    Absent,
-    // 80
-    One(J(0), JZ),
-    One(J(1), JZ),
-    One(J(2), JZ),
-    One(J(3), JZ),
-    One(J(4), JZ),
-    One(J(5), JZ),
-    One(J(6), JZ),
-    One(J(7), JZ),
-    One(J(8), JZ),
-    One(J(9), JZ),
-    One(J(10), JZ),
-    One(J(11), JZ),
-    One(J(12), JZ),
-    One(J(13), JZ),
-    One(J(14), JZ),
-    One(J(15), JZ),
-    // 90
-    One(Set(0), EB),
-    One(Set(1), EB),
-    One(Set(2), EB),
-    One(Set(3), EB),
-    One(Set(4), EB),
-    One(Set(5), EB),
-    One(Set(6), EB),
-    One(Set(7), EB),
-    One(Set(8), EB),
-    One(Set(9), EB),
-    One(Set(10), EB),
-    One(Set(11), EB),
-    One(Set(12), EB),
-    One(Set(13), EB),
-    One(Set(14), EB),
-    One(Set(15), EB),
-    // A0
-    Absent,
-    Absent,
-    Absent,
-    One(Bt, RV_GV),
-    Absent,
-    Absent,
-    Absent,
-    Absent,
-    Absent,
-    Absent,
-    Absent,
-    One(Bts, RV_GV),
-    Absent,
-    Absent,
-    Many(Digit, FENCES),
-    One(Imul, GV_EV),
-    // B0
-    One(Cmpxchg, EB_GB),
-    One(Cmpxchg, EV_GV),
-    Absent,
-    One(Btr, RV_GV),
-    Absent,
-    Absent,
-    One(Movzx8, GV_EB),
-    One(Movzx16, GV_EV),
-    Absent,
-    Absent,
-    Many(Digit, BIT_EV_IB),
-    One(Btc, RV_GV),
-    One(Bsf, GV_EV),
-    One(Bsr, GV_EV),
-    One(Movsx8, GV_EB),
-    One(Movsx16, GV_EV),
-    // C0
-    One(Xadd, EB_GB),
-    One(Xadd, EV_GV),
-    Absent,
-    Absent,
-    Absent,
-    Absent,
-    Absent,
-    Absent,
-    Many(OperandSize, SWAP),
-    Many(OperandSize, SWAP),
-    Many(OperandSize, SWAP),
-    Many(OperandSize, SWAP),
-    Many(OperandSize, SWAP),
-    Many(OperandSize, SWAP),
-    Many(OperandSize, SWAP),
-    Many(OperandSize, SWAP),
-    // D0
-    Absent,
-    Absent,
-    Absent,
-    Absent,
-    Absent,
-    Absent,
-    Absent,
-    Absent,
-    Absent,
-    Absent,
-    Absent,
-    Absent,
-    Absent,
-    Absent,
-    Absent,
-    Absent,
-    // E0
-    Absent,
-    Absent,
-    Absent,
-    Absent,
-    Absent,
-    Absent,
-    Absent,
-    Absent,
-    Absent,
-    Absent,
-    Absent,
-    Absent,
-    Absent,
-    Absent,
-    Absent,
-    Absent,
-    // F0
-    Absent,
-    Absent,
-    Absent,
-    Absent,
-    Absent,
-    Absent,
-    Absent,
-    Absent,
-    Absent,
-    Absent,
-    Absent,
-    Absent,
-    Absent,
-    Absent,
-    Absent,
-    Absent,
-];
+pub(crate) static TWO_BYTE: [OpcodeEntry; 256] = opcodes! {
+    0x00 { (Digit Group6) (Digit Group7) __ __          __ __ __ __ }
+    0x08 { __             __             __ [Ud2 ALONE] __ __ __ __ }
+    0x10 { __ __ __ __ __ __ __              __ }
+    0x18 { __ __ __ __ __ __ [Nop NO_ACCESS] [Nop NO_ACCESS] }
+    0x20 { [Movfc RQ_CN] __ [Movtc CN_RQ] [Movtd CN_RQ] __ __ __ __ }
+    0x28 { __            __ __            __            __ __ __ __ }
+    0x30 { [Wrmsr ALONE] __ __ __ __ __ __ __ }
+    0x38 { __            __ __ __ __ __ __ __ }
+    0x40 { [Cmov(0) GV_EV] [Cmov(1) GV_EV] [Cmov(2) GV_EV]  [Cmov(3) GV_EV]  [Cmov(4) GV_EV]  [Cmov(5) GV_EV]  [Cmov(6) GV_EV]  [Cmov(7) GV_EV] }
+    0x48 { [Cmov(8) GV_EV] [Cmov(9) GV_EV] [Cmov(10) GV_EV] [Cmov(11) GV_EV] [Cmov(12) GV_EV] [Cmov(13) GV_EV] [Cmov(14) GV_EV] [Cmov(15) GV_EV] }
+    0x50 { __ __ __ __ __ __ __ __ }
+    0x58 { __ __ __ __ __ __ __ __ }
+    0x60 { __ __ __ __ __ __ __ __ }
+    0x68 { __ __ __ __ __ __ __ __ }
+    0x70 { __ __ __ __ __ __ __ __ }
+    0x78 { __ __ __ __ __ __ __ __ }
+    0x80 { [J(0) JZ] [J(1) JZ] [J(2) JZ]  [J(3) JZ]  [J(4) JZ]  [J(5) JZ]  [J(6) JZ]  [J(7) JZ] }
+    0x88 { [J(8) JZ] [J(9) JZ] [J(10) JZ] [J(11) JZ] [J(12) JZ] [J(13) JZ] [J(14) JZ] [J(15) JZ] }
+    0x90 { [Set(0) EB] [Set(1) EB] [Set(2) EB]  [Set(3) EB]  [Set(4) EB]  [Set(5) EB]  [Set(6) EB]  [Set(7) EB] }
+    0x98 { [Set(8) EB] [Set(9) EB] [Set(10) EB] [Set(11) EB] [Set(12) EB] [Set(13) EB] [Set(14) EB] [Set(15) EB] }
+    0xA0 { __ __ __ [Bt RV_GV]  __ __ __              __ }
+    0xA8 { __ __ __ [Bts RV_GV] __ __ (Digit Group15) [Imul GV_EV] }
+    0xB0 { [Cmpxchg EB_GB] [Cmpxchg EV_GV] __             [Btr RV_GV] __          __          [Movzx8 GV_EB] [Movzx16 GV_EV] }
+    0xB8 { __              __              (Digit Group8) [Btc RV_GV] [Bsf GV_EV] [Bsr GV_EV] [Movsx8 GV_EB] [Movsx16 GV_EV] }
+    0xC0 { [Xadd EB_GB] [Xadd EV_GV] __          __          __          __          __          __ }
+    0xC8 { (Size Swap)  (Size Swap)  (Size Swap) (Size Swap) (Size Swap) (Size Swap) (Size Swap) (Size Swap) }
+    0xD0 { __ __ __ __ __ __ __ __ }
+    0xD8 { __ __ __ __ __ __ __ __ }
+    0xE0 { __ __ __ __ __ __ __ __ }
+    0xE8 { __ __ __ __ __ __ __ __ }
+    0xF0 { __ __ __ __ __ __ __ __ }
+    0xF8 { __ __ __ __ __ __ __ __ }
+};

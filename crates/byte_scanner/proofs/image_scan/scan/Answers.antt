@@ -1,4 +1,4 @@
-use Rattle.std.proofs.Common.{◌≡◌, ℕ, ◌<◌, length, arith}
+use Rattle.std.proofs.Common.{◌<◌, length, arith}
 use Rattle.elf_image.specs.Pages.{pages_of}
 use Rattle.byte_scanner.proofs.AllPages.{first_is, none_is}
 use Rattle.byte_scanner.proofs.image_scan.scan.Goals as goal

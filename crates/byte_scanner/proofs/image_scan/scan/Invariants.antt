@@ -1,6 +1,7 @@
 use Rattle.std.proofs.Common.{ℕ, ◌*◌, ◌<◌, get_or}
 use Rattle.elf_image.specs.Pages.{pages_of}
-use Rattle.byte_scanner.specs.Code.{code_at, IsClean}
+use Rattle.byte_scanner.specs.ImageCode.{code_at}
+use Rattle.byte_scanner.specs.PageScan.{IsClean}
 use Rattle.byte_scanner.proofs.image_scan.scan.Given as goal
 
 -- the pages so far hold no encoding

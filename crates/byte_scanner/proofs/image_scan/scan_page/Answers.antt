@@ -1,6 +1,6 @@
-use Rattle.std.proofs.Common.{◌≡◌, ◌+◌, ◌*◌, ◌<◌, ℕ, get_or, take, arith}
+use Rattle.std.proofs.Common.{◌*◌, get_or, take, arith}
 use Rattle.elf_image.specs.Pages.{pages_of}
-use Rattle.byte_scanner.specs.Code.{code_at}
+use Rattle.byte_scanner.specs.ImageCode.{code_at}
 use Rattle.byte_scanner.proofs.OnePage.{clean_below, clean_nowhere, first_on}
 use Rattle.byte_scanner.proofs.image_scan.scan_page.Goals as goal
 

@@ -1,7 +1,8 @@
-use Rattle.std.proofs.Common.{◌≡◌, ◌+◌, ◌*◌, ◌/◌, ◌<◌, ℕ, List, ◌++◌, true, false, sym, ap, ◌∙◌, subst, arith, take, drop, length, get_or, refl, IsTrue}
+use Rattle.std.proofs.Common.{◌≡◌, ◌+◌, ◌*◌, ◌/◌, ℕ, List, true, false, sym, ap, ◌∙◌, subst, arith, drop, get_or}
 use Rattle.std.proofs.lemmas.List.{take_all}
 use Rattle.elf_image.specs.Pages.{byte_of, is_executable, pages_of}
-use Rattle.byte_scanner.specs.Code.{Shows, code_at}
+use Rattle.byte_scanner.specs.ImageCode.{code_at}
+use Rattle.byte_scanner.specs.PageScan.{Shows}
 use Rattle.byte_scanner.proofs.Windows.{filled_fits, fits, front, shows_both, shows_page, two_more}
 use Rattle.byte_scanner.proofs.window.fill.Goals as goal
 

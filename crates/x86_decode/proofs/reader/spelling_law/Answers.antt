@@ -1,11 +1,22 @@
 use Rattle.x86_decode.proofs.Answers.{one_spelling}
+use Rattle.x86_decode.proofs.FieldLaws.{FieldLaws}
 use Rattle.x86_decode.proofs.Forms.{well_formed}
 use Rattle.x86_decode.proofs.Law.{law}
 use Rattle.x86_decode.proofs.reader.spelling_law.Goals as goal
 
 pub returns : goal.returns
-returns c = record {
-  one = λ instr other bytes more s t. one_spelling instr other bytes more s t;
-  formed = λ instr bytes s. well_formed instr bytes s;
-  protected = λ instr bytes s protected. law instr bytes s protected;
-}
+returns c =
+    let laws : FieldLaws = record {
+      front = c.prefixes_law.ensures.front;
+      all = c.prefixes_law.ensures.all;
+      ends = c.prefixes_law.ensures.ends;
+      prefixes = c.longer_law.ensures.prefixes;
+      modrm = c.longer_law.ensures.modrm;
+      needed = c.longer_law.ensures.needed;
+      immediate = c.longer_law.ensures.immediate;
+    } in
+    record {
+      one = λ instr other bytes more s t. one_spelling laws instr other bytes more s t;
+      formed = λ instr bytes s. well_formed instr bytes s;
+      protected = λ instr bytes s protected. law laws instr bytes s protected;
+    }

@@ -1,6 +1,6 @@
 use Rattle.std.proofs.Common.{◌≡◌, ◌/◌, ℕ, List, length, ap, sym, ◌∙◌, arith}
-use Rattle.elf_image.specs.declared.elf.TheConstants.{PAGE_SIZE}
 use Rattle.elf_image.specs.Elf.{e_entry}
+use Rattle.elf_image.specs.Home.{page_size}
 use Rattle.elf_image.specs.Pages.{is_executable}
 use Rattle.elf_image.proofs.FormLaws.{has_header}
 use Rattle.elf_image.proofs.PageLaws.{entry_page}
@@ -12,6 +12,6 @@ xword-requires c = omega (arith, has_header c.self.inside.bytes.items c.self.inv
 pub returns-clause-code : goal.returns-clause-code
 returns-clause-code c =
     let read : c.xword.result ≡ e_entry c.self.inside.bytes.items = c.xword.ensures ∙ ap e_entry c.deref.ensures.value in
-    ap (λ (n : ℕ). is_executable c.args.self.now (n / PAGE_SIZE)) read
-    ∙ ap (λ (b : List ℕ). is_executable b (e_entry c.self.inside.bytes.items / PAGE_SIZE)) (sym c.self.view_is)
+    ap (λ (n : ℕ). is_executable c.args.self.now (n / page_size)) read
+    ∙ ap (λ (b : List ℕ). is_executable b (e_entry c.self.inside.bytes.items / page_size)) (sym c.self.view_is)
     ∙ entry_page _ _ c.self.invariant

@@ -1,8 +1,7 @@
 use Rattle.std.proofs.Common.{ℕ, List, ap, ◌∙◌, arith}
 use Rattle.elf_image.specs.declared.program_header.ProgramHeader.{ProgramHeader}
 use Rattle.std.specs.Prelude.{filter, sum_by}
-use Rattle.elf_image.specs.declared.elf.TheConstants.{PF_X}
-use Rattle.elf_image.specs.Elf.{has_flag}
+use Rattle.elf_image.specs.Elf.{has_flag, pf_x}
 use Rattle.elf_image.specs.Pages.{executable_page_count}
 use Rattle.elf_image.specs.Segments.{pages_touched}
 use Rattle.elf_image.proofs.PageLaws.{executable_bounds, executable_count}
@@ -10,7 +9,7 @@ use Rattle.elf_image.proofs.image_file.Image.executable_pages.Goals as goal
 
 -- the pages of the segments that may be executed
 code_pages : List ProgramHeader → ℕ
-code_pages segs = sum_by pages_touched (filter (λ s. has_flag s PF_X) segs)
+code_pages segs = sum_by pages_touched (filter (λ s. has_flag s pf_x) segs)
 
 pub overflow_cast-result : goal.overflow_cast-result
 unfolding code_pages

@@ -1,8 +1,7 @@
 use Rattle.std.proofs.Common.{◌&&◌, ℕ, List, ap, sym, ◌∙◌}
 use Rattle.std.specs.List.{list_any}
-use Rattle.elf_image.specs.declared.elf.TheConstants.{PF_W}
 use Rattle.elf_image.specs.declared.program_header.ProgramHeader.{ProgramHeader}
-use Rattle.elf_image.specs.Elf.{has_flag}
+use Rattle.elf_image.specs.Elf.{has_flag, pf_w}
 use Rattle.elf_image.specs.Pages.{is_writable}
 use Rattle.elf_image.specs.Segments.{touches}
 use Rattle.elf_image.proofs.PageLaws.{writable_by}
@@ -11,6 +10,6 @@ use Rattle.elf_image.proofs.image_file.Image.is_writable.Goals as goal
 pub returns : goal.returns
 returns c =
     c.is_writable.ensures
-    ∙ ap (λ (segs : List ProgramHeader). list_any (λ s. touches s c.args.page && has_flag s PF_W) segs) c.as_slice.ensures.value
+    ∙ ap (λ (segs : List ProgramHeader). list_any (λ s. touches s c.args.page && has_flag s pf_w) segs) c.as_slice.ensures.value
     ∙ sym (writable_by _ _ c.self.invariant c.args.page)
     ∙ ap (λ (b : List ℕ). is_writable b c.args.page) c.self.view_is

@@ -1,7 +1,7 @@
 use Rattle.std.proofs.Common.{◌≡◌, ◌+◌, ◌*◌, ◌<◌, ◌≤◌, ℕ, List, get_or, ap, sym, ◌∙◌, subst, arith}
+use Rattle.elf_image.specs.Home.{home_end, home_start, page_size}
 use Rattle.elf_image.specs.declared.program_header.ProgramHeader.{ProgramHeader}
 use Rattle.std.specs.List.{flat_map}
-use Rattle.elf_image.specs.declared.elf.TheConstants.{HOME_START, HOME_END, PAGE_SIZE}
 use Rattle.elf_image.specs.Pages.{page_count, pages_of}
 use Rattle.elf_image.specs.Segments.{pages_of_segment, total_pages}
 use Rattle.elf_image.proofs.PageLaws.{count_is, page_in_home, pages_are}
@@ -24,7 +24,7 @@ returns-clause-above c =
     c.nth_page.ensures
     ∙ ap (λ (segs : List ProgramHeader). get_or (flat_map pages_of_segment segs) c.args.i 0) c.as_slice.ensures.value
     ∙ ap (λ (ps : List ℕ). get_or ps c.args.i 0) (sym (pages_are _ _ c.self.invariant)) in
-    let P : ℕ → Type 0 = λ n. HOME_START ≤ PAGE_SIZE * n in
+    let P : ℕ → Type 0 = λ n. home_start ≤ page_size * n in
     subst P (sym same) (page_in_home _ _ c.self.invariant c.args.i inside).0
 
 pub returns-clause-below : goal.returns-clause-below
@@ -34,5 +34,5 @@ returns-clause-below c =
     c.nth_page.ensures
     ∙ ap (λ (segs : List ProgramHeader). get_or (flat_map pages_of_segment segs) c.args.i 0) c.as_slice.ensures.value
     ∙ ap (λ (ps : List ℕ). get_or ps c.args.i 0) (sym (pages_are _ _ c.self.invariant)) in
-    let P : ℕ → Type 0 = λ n. PAGE_SIZE * n + PAGE_SIZE ≤ HOME_END in
+    let P : ℕ → Type 0 = λ n. page_size * n + page_size ≤ home_end in
     subst P (sym same) (page_in_home _ _ c.self.invariant c.args.i inside).1

@@ -6,7 +6,7 @@ use Rattle.x86_decode.specs.declared.operation.Op.TheVariants.{Add, Or, Adc, Sbb
 use Rattle.x86_decode.specs.declared.reader.Map.{Map}
 use Rattle.x86_decode.specs.declared.reader.Map.TheVariants.{OneByte, TwoByte}
 use Rattle.x86_decode.specs.declared.shape.Shape.{Shape}
-use Rattle.x86_decode.specs.Forms.{alone, alone_stack, alone_b, alone_v, no_access, fence, eb, ev, eb_gb, ev_gv, gb_eb, gv_ev, gv_eb, gv_m, rv_gv, gv_ev_ib, gv_ev_iz, eb_ib, ev_ib, ev_iz, eb_ub, ev_ub, eb_1, ev_1, eb_cl, ev_cl, zb_ib, zv_iv, zv, ax_zv, al_ib, ax_iz, al_ub, ub_al, al_dx, dx_al, push_zv, push_ib, push_iz, push_ev, pop_zv, pop_ev, near_ev, jb, jz, ret_0, ret_uw, int_ub, system_ew, system_m, rq_cn, cn_rq}
+use Rattle.x86_decode.specs.RowForms.{alone, alone_stack, alone_b, alone_v, no_access, fence, eb, ev, eb_gb, ev_gv, gb_eb, gv_ev, gv_eb, gv_m, rv_gv, gv_ev_ib, gv_ev_iz, eb_ib, ev_ib, ev_iz, eb_ub, ev_ub, eb_1, ev_1, eb_cl, ev_cl, zb_ib, zv_iv, zv, ax_zv, al_ib, ax_iz, al_ub, ub_al, al_dx, dx_al, push_zv, push_ib, push_iz, push_ev, pop_zv, pop_ev, near_ev, jb, jz, ret_0, ret_uw, int_ub, system_ew, system_m, rq_cn, cn_rq}
 
 -- what a row asks for besides its opcode: nothing; reg of ModRM (/0 to /7); an operand size; REX.B clear or set
 pub data When : Type 0 where
@@ -16,68 +16,68 @@ pub data When : Type 0 where
   AtRexB : ℕ → When
 
 -- a row: when it stands, its operation, and its form
-pub record Row : Type 0 where
+pub record OpcodeRow : Type 0 where
   pub when : When
   pub op : Op
   pub shape : Shape
 
 -- a row that stands at the opcodes from first to last
-pub record Line : Type 0 where
+pub record OpcodeLine : Type 0 where
   pub first : ℕ
   pub last : ℕ
-  pub row : Row
+  pub row : OpcodeRow
 
 -- a row at the opcodes from first to last
-abbrev pub line : ℕ → ℕ → When → Op → Shape → List Line
+abbrev pub line : ℕ → ℕ → When → Op → Shape → List OpcodeLine
 line first last when op shape = record { first = first; last = last; row = record { when = when; op = op; shape = shape } } ∷ []
 
 -- a row at one opcode, whatever else
-abbrev pub at : ℕ → Op → Shape → List Line
+abbrev pub at : ℕ → Op → Shape → List OpcodeLine
 at opcode op shape = line opcode opcode Always op shape
 
 -- the row /n at an opcode
-abbrev pub digit : ℕ → ℕ → Op → Shape → List Line
+abbrev pub digit : ℕ → ℕ → Op → Shape → List OpcodeLine
 digit opcode n op shape = line opcode opcode (Digit n) op shape
 
 -- groups of lines, one behind the other
-abbrev pub all_of : List (List Line) → List Line
+abbrev pub all_of : List (List OpcodeLine) → List OpcodeLine
 all_of groups = flat_map (λ lines. lines) groups
 
 -- the six forms of an arithmetic operation
-abbrev pub arithmetic : ℕ → Op → List Line
+abbrev pub arithmetic : ℕ → Op → List OpcodeLine
 arithmetic first op = all_of (
     at first op eb_gb ∷ at (first + 1) op ev_gv ∷ at (first + 2) op gb_eb ∷ at (first + 3) op gv_ev ∷
     at (first + 4) op al_ib ∷ at (first + 5) op ax_iz ∷ [])
 
 -- the same eight operations by digit
-abbrev pub arithmetic_group : ℕ → Shape → List Line
+abbrev pub arithmetic_group : ℕ → Shape → List OpcodeLine
 arithmetic_group opcode shape = all_of (
     digit opcode 0 Add shape ∷ digit opcode 1 Or shape ∷ digit opcode 2 Adc shape ∷ digit opcode 3 Sbb shape ∷
     digit opcode 4 And shape ∷ digit opcode 5 Sub shape ∷ digit opcode 6 Xor shape ∷ digit opcode 7 Cmp shape ∷ [])
 
 -- rotates and shifts; /2, /3 and /6 are no rows
-abbrev pub shift_group : ℕ → Shape → List Line
+abbrev pub shift_group : ℕ → Shape → List OpcodeLine
 shift_group opcode shape = all_of (
     digit opcode 0 Rol shape ∷ digit opcode 1 Ror shape ∷ digit opcode 4 Shl shape ∷ digit opcode 5 Shr shape ∷
     digit opcode 7 Sar shape ∷ [])
 
 -- TEST with an immediate, and what has one operand
-abbrev pub unary_group : ℕ → Shape → Shape → List Line
+abbrev pub unary_group : ℕ → Shape → Shape → List OpcodeLine
 unary_group opcode test shape = all_of (
     digit opcode 0 Test test ∷ digit opcode 2 Not shape ∷ digit opcode 3 Neg shape ∷ digit opcode 4 Mul shape ∷
     digit opcode 5 Imul shape ∷ digit opcode 6 Div shape ∷ digit opcode 7 Idiv shape ∷ [])
 
 -- an operation for each condition, from an opcode on
-abbrev pub conditional : ℕ → (ℕ → Op) → Shape → List Line
+abbrev pub conditional : ℕ → (ℕ → Op) → Shape → List OpcodeLine
 conditional first op shape = flat_map (λ condition. at (first + condition) (op condition) shape) (range_with_len 0 16)
 
 -- a name for each operand size
-abbrev pub by_size : ℕ → Op → Op → Op → List Line
+abbrev pub by_size : ℕ → Op → Op → Op → List OpcodeLine
 by_size opcode at_16 at_32 at_64 = all_of (
     line opcode opcode (AtSize 16) at_16 alone_v ∷ line opcode opcode (AtSize 32) at_32 alone_v ∷
     line opcode opcode (AtSize 64) at_64 alone_v ∷ [])
 
-unfoldable pub one_byte_table : List Line
+unfoldable pub one_byte_table : List OpcodeLine
 one_byte_table = all_of (
     arithmetic 0x00 Add ∷
     arithmetic 0x08 Or ∷
@@ -173,7 +173,7 @@ one_byte_table = all_of (
     digit 0xFF 6 Push push_ev ∷
     [])
 
-unfoldable pub two_byte_table : List Line
+unfoldable pub two_byte_table : List OpcodeLine
 two_byte_table = all_of (
     digit 0x00 2 Lldt system_ew ∷
     digit 0x00 3 Ltr system_ew ∷
@@ -216,18 +216,18 @@ two_byte_table = all_of (
     line 0xC8 0xCF (AtSize 64) Bswap zv ∷
     [])
 
-abbrev pub table_of : Map → List Line
+abbrev pub table_of : Map → List OpcodeLine
 table_of OneByte = one_byte_table
 table_of TwoByte = two_byte_table
 
 -- the line stands at this opcode
-abbrev pub covers : ℕ → Line → Bool
+abbrev pub covers : ℕ → OpcodeLine → Bool
 covers opcode it = nat_le it.first opcode && nat_le opcode it.last
 
 -- the rows of a table at an opcode
-abbrev pub rows_of : List Line → ℕ → List Row
+abbrev pub rows_of : List OpcodeLine → ℕ → List OpcodeRow
 rows_of lines opcode = map (λ it. it.row) (filter (covers opcode) lines)
 
 -- the rows at an opcode of a map
-abbrev pub rows_at : Map → ℕ → List Row
+abbrev pub rows_at : Map → ℕ → List OpcodeRow
 rows_at where_from opcode = rows_of (table_of where_from) opcode

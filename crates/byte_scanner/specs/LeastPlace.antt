@@ -1,5 +1,5 @@
 -- The least place with a protected encoding, and that there is none.
-use Rattle.std.specs.Prelude.{◌≡◌, ℕ, ◌<◌, Option, Bool, true, false}
+use Rattle.std.specs.Prelude.{◌≡◌, ℕ, ◌<◌, Option, true, false}
 use Rattle.decode_fields.specs.Protected.{is_protected_at}
 
 -- no protected encoding stands at a place below the limit

@@ -1,9 +1,12 @@
--- The forms of rows, in the letters of the SDM, volume 2, appendix A.2: E the operand by mod and rm, G the one by reg,
--- R a general register by rm, Z one by the opcode's low bits, C a control or debug register, M a memory form; b a byte,
--- v the operand size, q 64 bits. Behind `to` and `from` stand the number of the row and the width.
+-- The forms of rows, in the letters of the SDM, volume 2, appendix A.2: E the operand by mod and rm, G the one by
+-- reg, R a general register by rm, C a control register by reg, I an immediate, J a displacement, M a place in
+-- memory; b a byte, w a word, z a word or doubleword, q a quadword, v the operand size. Two letters aren't the
+-- manual's: Z is a register by the opcode's low bits, which the manual names register by register, and U an immediate
+-- without a sign, where the manual has I for both and U for a vector register. C stands for a debug register too,
+-- where the manual has D. Behind `to` and `from` stand the number of the row and the width.
 use Rattle.x86_decode.specs.declared.shape.Shape.{Shape}
-use Rattle.x86_decode.specs.declared.shape.Layout.{Layout}
-use Rattle.x86_decode.specs.declared.shape.Layout.TheVariants.{Plain, ModRm, Memory, Register, Ignored}
+use Rattle.x86_decode.specs.declared.shape.RowLayout.{RowLayout}
+use Rattle.x86_decode.specs.declared.shape.RowLayout.TheVariants.{Plain, AnyForm, Memory, Register, Ignored}
 use Rattle.x86_decode.specs.declared.shape.Operand.{Operand}
 use Rattle.x86_decode.specs.declared.shape.Operand.TheVariants.{Absent, Eb, Ev, Gb, Gv, Zb, Zv, Accumulator, Counter, Port, Constant}
 use Rattle.x86_decode.specs.declared.shape.Number.{Number}
@@ -11,7 +14,7 @@ use Rattle.x86_decode.specs.declared.shape.Number.TheVariants.{Zero, One, Ib, Iz
 use Rattle.x86_decode.specs.declared.shape.Width.{Width}
 use Rattle.x86_decode.specs.declared.shape.Width.TheVariants.{Byte, Word, Quad, Variable, Stack}
 
-abbrev pub shape : Layout → Operand → Operand → Number → Width → Shape
+abbrev pub shape : RowLayout → Operand → Operand → Number → Width → Shape
 shape layout to from number width = record { layout = layout; to = to; from = from; number = number; width = width }
 
 abbrev pub alone : Shape
@@ -27,31 +30,31 @@ abbrev pub alone_v : Shape
 alone_v = shape Plain Absent Absent Zero Variable
 
 abbrev pub no_access : Shape
-no_access = shape ModRm Absent Absent Zero Quad
+no_access = shape AnyForm Absent Absent Zero Quad
 
 abbrev pub fence : Shape
 fence = shape Register Absent Absent Zero Quad
 
 abbrev pub eb : Shape
-eb = shape ModRm Eb Absent Zero Byte
+eb = shape AnyForm Eb Absent Zero Byte
 
 abbrev pub ev : Shape
-ev = shape ModRm Ev Absent Zero Variable
+ev = shape AnyForm Ev Absent Zero Variable
 
 abbrev pub eb_gb : Shape
-eb_gb = shape ModRm Eb Gb Zero Byte
+eb_gb = shape AnyForm Eb Gb Zero Byte
 
 abbrev pub ev_gv : Shape
-ev_gv = shape ModRm Ev Gv Zero Variable
+ev_gv = shape AnyForm Ev Gv Zero Variable
 
 abbrev pub gb_eb : Shape
-gb_eb = shape ModRm Gb Eb Zero Byte
+gb_eb = shape AnyForm Gb Eb Zero Byte
 
 abbrev pub gv_ev : Shape
-gv_ev = shape ModRm Gv Ev Zero Variable
+gv_ev = shape AnyForm Gv Ev Zero Variable
 
 abbrev pub gv_eb : Shape
-gv_eb = shape ModRm Gv Eb Zero Variable
+gv_eb = shape AnyForm Gv Eb Zero Variable
 
 abbrev pub gv_m : Shape
 gv_m = shape Memory Gv Ev Zero Variable
@@ -60,37 +63,37 @@ abbrev pub rv_gv : Shape
 rv_gv = shape Register Ev Gv Zero Variable
 
 abbrev pub gv_ev_ib : Shape
-gv_ev_ib = shape ModRm Gv Ev Ib Variable
+gv_ev_ib = shape AnyForm Gv Ev Ib Variable
 
 abbrev pub gv_ev_iz : Shape
-gv_ev_iz = shape ModRm Gv Ev Iz Variable
+gv_ev_iz = shape AnyForm Gv Ev Iz Variable
 
 abbrev pub eb_ib : Shape
-eb_ib = shape ModRm Eb Constant Ib Byte
+eb_ib = shape AnyForm Eb Constant Ib Byte
 
 abbrev pub ev_ib : Shape
-ev_ib = shape ModRm Ev Constant Ib Variable
+ev_ib = shape AnyForm Ev Constant Ib Variable
 
 abbrev pub ev_iz : Shape
-ev_iz = shape ModRm Ev Constant Iz Variable
+ev_iz = shape AnyForm Ev Constant Iz Variable
 
 abbrev pub eb_ub : Shape
-eb_ub = shape ModRm Eb Constant Ub Byte
+eb_ub = shape AnyForm Eb Constant Ub Byte
 
 abbrev pub ev_ub : Shape
-ev_ub = shape ModRm Ev Constant Ub Variable
+ev_ub = shape AnyForm Ev Constant Ub Variable
 
 abbrev pub eb_1 : Shape
-eb_1 = shape ModRm Eb Constant One Byte
+eb_1 = shape AnyForm Eb Constant One Byte
 
 abbrev pub ev_1 : Shape
-ev_1 = shape ModRm Ev Constant One Variable
+ev_1 = shape AnyForm Ev Constant One Variable
 
 abbrev pub eb_cl : Shape
-eb_cl = shape ModRm Eb Counter Zero Byte
+eb_cl = shape AnyForm Eb Counter Zero Byte
 
 abbrev pub ev_cl : Shape
-ev_cl = shape ModRm Ev Counter Zero Variable
+ev_cl = shape AnyForm Ev Counter Zero Variable
 
 abbrev pub zb_ib : Shape
 zb_ib = shape Plain Zb Constant Ib Byte
@@ -132,16 +135,16 @@ abbrev pub push_iz : Shape
 push_iz = shape Plain Absent Constant Iz Stack
 
 abbrev pub push_ev : Shape
-push_ev = shape ModRm Absent Ev Zero Stack
+push_ev = shape AnyForm Absent Ev Zero Stack
 
 abbrev pub pop_zv : Shape
 pop_zv = shape Plain Zv Absent Zero Stack
 
 abbrev pub pop_ev : Shape
-pop_ev = shape ModRm Ev Absent Zero Stack
+pop_ev = shape AnyForm Ev Absent Zero Stack
 
 abbrev pub near_ev : Shape
-near_ev = shape ModRm Absent Ev Zero Quad
+near_ev = shape AnyForm Absent Ev Zero Quad
 
 abbrev pub jb : Shape
 jb = shape Plain Absent Constant Ib Quad
@@ -159,7 +162,7 @@ abbrev pub int_ub : Shape
 int_ub = shape Plain Absent Constant Ub Quad
 
 abbrev pub system_ew : Shape
-system_ew = shape ModRm Absent Ev Zero Word
+system_ew = shape AnyForm Absent Ev Zero Word
 
 abbrev pub system_m : Shape
 system_m = shape Memory Absent Ev Zero Quad

@@ -1,0 +1,793 @@
+//! Opcodes after 0F (SDM volume 2, table A-3) at the operand sizes 16, 32 and 64.
+//! Written by examples/opcodes/make_vectors.py.
+
+#[rattlefmt::skip]
+pub(super) static FROM_0F_00: [u8; 8326] = *b"\
+# 0F 00/2 LLDT Ew
+66 0F 00 D7 = LLDT 16 - r7
+66 47 0F 00 54 8B F0 = LLDT 16 - [r11+r9*4-16]
+0F 00 54 8B F0 = LLDT 16 - [r3+r1*4-16]
+44 0F 00 D7 = LLDT 16 - r7
+48 0F 00 15 FE FF FF FF = LLDT 16 - [rip-2]
+4F 0F 00 D2 = LLDT 16 - r10
+# 0F 00/3 LTR Ew
+66 0F 00 DF = LTR 16 - r7
+66 47 0F 00 5C 8B F0 = LTR 16 - [r11+r9*4-16]
+0F 00 5C 8B F0 = LTR 16 - [r3+r1*4-16]
+44 0F 00 DF = LTR 16 - r7
+48 0F 00 1D FE FF FF FF = LTR 16 - [rip-2]
+4F 0F 00 DA = LTR 16 - r10
+0F 00 00 = Unknown
+0F 00 C0 = Unknown
+0F 00 08 = Unknown
+0F 00 C8 = Unknown
+0F 00 20 = Unknown
+0F 00 E0 = Unknown
+0F 00 28 = Unknown
+0F 00 E8 = Unknown
+0F 00 30 = Unknown
+0F 00 F0 = Unknown
+0F 00 38 = Unknown
+0F 00 F8 = Unknown
+# 0F 01/2 LGDT Ms
+66 47 0F 01 54 8B F0 = LGDT 64 - [r11+r9*4-16]
+0F 01 54 8B F0 = LGDT 64 - [r3+r1*4-16]
+48 0F 01 15 FE FF FF FF = LGDT 64 - [rip-2]
+# 0F 01/3 LIDT Ms
+66 47 0F 01 5C 8B F0 = LIDT 64 - [r11+r9*4-16]
+0F 01 5C 8B F0 = LIDT 64 - [r3+r1*4-16]
+48 0F 01 1D FE FF FF FF = LIDT 64 - [rip-2]
+# 0F 01/6 LMSW Ew
+66 0F 01 F7 = LMSW 16 - r7
+66 47 0F 01 74 8B F0 = LMSW 16 - [r11+r9*4-16]
+0F 01 74 8B F0 = LMSW 16 - [r3+r1*4-16]
+44 0F 01 F7 = LMSW 16 - r7
+48 0F 01 35 FE FF FF FF = LMSW 16 - [rip-2]
+4F 0F 01 F2 = LMSW 16 - r10
+# 0F 01/7 INVLPG Mb
+66 47 0F 01 7C 8B F0 = INVLPG 64 - [r11+r9*4-16]
+0F 01 7C 8B F0 = INVLPG 64 - [r3+r1*4-16]
+48 0F 01 3D FE FF FF FF = INVLPG 64 - [rip-2]
+0F 01 00 = Unknown
+0F 01 C0 = Unknown
+0F 01 08 = Unknown
+0F 01 C8 = Unknown
+0F 01 D0 = Unknown
+0F 01 D8 = Unknown
+0F 01 20 = Unknown
+0F 01 E0 = Unknown
+0F 01 28 = Unknown
+0F 01 E8 = Unknown
+0F 01 F8 = Unknown
+0F 02 = Unknown
+0F 03 = Unknown
+0F 04 = Unknown
+0F 05 = Unknown
+0F 06 = Unknown
+0F 07 = Unknown
+0F 08 = Unknown
+0F 09 = Unknown
+0F 0A = Unknown
+# 0F 0B UD2
+66 0F 0B = UD2 64 - -
+0F 0B = UD2 64 - -
+41 0F 0B = UD2 64 - -
+48 0F 0B = UD2 64 - -
+0F 0C = Unknown
+0F 0D = Unknown
+0F 0E = Unknown
+0F 0F = Unknown
+0F 10 = Unknown
+0F 11 = Unknown
+0F 12 = Unknown
+0F 13 = Unknown
+0F 14 = Unknown
+0F 15 = Unknown
+0F 16 = Unknown
+0F 17 = Unknown
+0F 18 = Unknown
+0F 19 = Unknown
+0F 1A = Unknown
+0F 1B = Unknown
+0F 1C = Unknown
+0F 1D = Unknown
+# 0F 1E NOP Ev (no access)
+66 0F 1E E7 = NOP 64 - -
+66 47 0F 1E 74 8B F0 = NOP 64 - -
+0F 1E 74 8B F0 = NOP 64 - -
+44 0F 1E E7 = NOP 64 - -
+48 0F 1E 35 FE FF FF FF = NOP 64 - -
+4F 0F 1E F2 = NOP 64 - -
+# 0F 1F NOP Ev (no access)
+66 0F 1F E7 = NOP 64 - -
+66 47 0F 1F 74 8B F0 = NOP 64 - -
+0F 1F 74 8B F0 = NOP 64 - -
+44 0F 1F E7 = NOP 64 - -
+48 0F 1F 35 FE FF FF FF = NOP 64 - -
+4F 0F 1F F2 = NOP 64 - -
+# 0F 20 MOVFC Rq,Cq
+66 0F 20 E7 = MOVFC 64 r7 - 4
+0F 20 74 = MOVFC 64 r4 - 6
+48 0F 20 35 = MOVFC 64 r5 - 6
+4F 0F 20 F2 = MOVFC 64 r10 - E
+0F 21 = Unknown
+# 0F 22 MOVTC Cq,Rq
+66 0F 22 E7 = MOVTC 64 - r7 4
+0F 22 74 = MOVTC 64 - r4 6
+48 0F 22 35 = MOVTC 64 - r5 6
+4F 0F 22 F2 = MOVTC 64 - r10 E
+# 0F 23 MOVTD Dq,Rq
+66 0F 23 E7 = MOVTD 64 - r7 4
+0F 23 74 = MOVTD 64 - r4 6
+48 0F 23 35 = MOVTD 64 - r5 6
+4F 0F 23 F2 = MOVTD 64 - r10 E
+0F 24 = Unknown
+0F 25 = Unknown
+0F 26 = Unknown
+0F 27 = Unknown
+0F 28 = Unknown
+0F 29 = Unknown
+0F 2A = Unknown
+0F 2B = Unknown
+0F 2C = Unknown
+0F 2D = Unknown
+0F 2E = Unknown
+0F 2F = Unknown
+# 0F 30 WRMSR
+66 0F 30 = WRMSR 64 - -
+0F 30 = WRMSR 64 - -
+41 0F 30 = WRMSR 64 - -
+48 0F 30 = WRMSR 64 - -
+0F 31 = Unknown
+0F 32 = Unknown
+0F 33 = Unknown
+0F 34 = Unknown
+0F 35 = Unknown
+0F 36 = Unknown
+0F 37 = Unknown
+0F 38 = Unknown
+0F 39 = Unknown
+0F 3A = Unknown
+0F 3B = Unknown
+0F 3C = Unknown
+0F 3D = Unknown
+0F 3E = Unknown
+0F 3F = Unknown
+# 0F 40 CMOVcc Gv,Ev
+66 0F 40 E7 = CMOV.0 16 r4 r7
+66 47 0F 40 74 8B F0 = CMOV.0 16 r14 [r11+r9*4-16]
+0F 40 74 8B F0 = CMOV.0 32 r6 [r3+r1*4-16]
+44 0F 40 E7 = CMOV.0 32 r12 r7
+48 0F 40 35 FE FF FF FF = CMOV.0 64 r6 [rip-2]
+4F 0F 40 F2 = CMOV.0 64 r14 r10
+# 0F 41 CMOVcc Gv,Ev
+66 0F 41 E7 = CMOV.1 16 r4 r7
+66 47 0F 41 74 8B F0 = CMOV.1 16 r14 [r11+r9*4-16]
+0F 41 74 8B F0 = CMOV.1 32 r6 [r3+r1*4-16]
+44 0F 41 E7 = CMOV.1 32 r12 r7
+48 0F 41 35 FE FF FF FF = CMOV.1 64 r6 [rip-2]
+4F 0F 41 F2 = CMOV.1 64 r14 r10
+# 0F 42 CMOVcc Gv,Ev
+66 0F 42 E7 = CMOV.2 16 r4 r7
+66 47 0F 42 74 8B F0 = CMOV.2 16 r14 [r11+r9*4-16]
+0F 42 74 8B F0 = CMOV.2 32 r6 [r3+r1*4-16]
+44 0F 42 E7 = CMOV.2 32 r12 r7
+48 0F 42 35 FE FF FF FF = CMOV.2 64 r6 [rip-2]
+4F 0F 42 F2 = CMOV.2 64 r14 r10
+# 0F 43 CMOVcc Gv,Ev
+66 0F 43 E7 = CMOV.3 16 r4 r7
+66 47 0F 43 74 8B F0 = CMOV.3 16 r14 [r11+r9*4-16]
+0F 43 74 8B F0 = CMOV.3 32 r6 [r3+r1*4-16]
+44 0F 43 E7 = CMOV.3 32 r12 r7
+48 0F 43 35 FE FF FF FF = CMOV.3 64 r6 [rip-2]
+4F 0F 43 F2 = CMOV.3 64 r14 r10
+# 0F 44 CMOVcc Gv,Ev
+66 0F 44 E7 = CMOV.4 16 r4 r7
+66 47 0F 44 74 8B F0 = CMOV.4 16 r14 [r11+r9*4-16]
+0F 44 74 8B F0 = CMOV.4 32 r6 [r3+r1*4-16]
+44 0F 44 E7 = CMOV.4 32 r12 r7
+48 0F 44 35 FE FF FF FF = CMOV.4 64 r6 [rip-2]
+4F 0F 44 F2 = CMOV.4 64 r14 r10
+# 0F 45 CMOVcc Gv,Ev
+66 0F 45 E7 = CMOV.5 16 r4 r7
+66 47 0F 45 74 8B F0 = CMOV.5 16 r14 [r11+r9*4-16]
+0F 45 74 8B F0 = CMOV.5 32 r6 [r3+r1*4-16]
+44 0F 45 E7 = CMOV.5 32 r12 r7
+48 0F 45 35 FE FF FF FF = CMOV.5 64 r6 [rip-2]
+4F 0F 45 F2 = CMOV.5 64 r14 r10
+# 0F 46 CMOVcc Gv,Ev
+66 0F 46 E7 = CMOV.6 16 r4 r7
+66 47 0F 46 74 8B F0 = CMOV.6 16 r14 [r11+r9*4-16]
+0F 46 74 8B F0 = CMOV.6 32 r6 [r3+r1*4-16]
+44 0F 46 E7 = CMOV.6 32 r12 r7
+48 0F 46 35 FE FF FF FF = CMOV.6 64 r6 [rip-2]
+4F 0F 46 F2 = CMOV.6 64 r14 r10
+# 0F 47 CMOVcc Gv,Ev
+66 0F 47 E7 = CMOV.7 16 r4 r7
+66 47 0F 47 74 8B F0 = CMOV.7 16 r14 [r11+r9*4-16]
+0F 47 74 8B F0 = CMOV.7 32 r6 [r3+r1*4-16]
+44 0F 47 E7 = CMOV.7 32 r12 r7
+48 0F 47 35 FE FF FF FF = CMOV.7 64 r6 [rip-2]
+4F 0F 47 F2 = CMOV.7 64 r14 r10
+# 0F 48 CMOVcc Gv,Ev
+66 0F 48 E7 = CMOV.8 16 r4 r7
+66 47 0F 48 74 8B F0 = CMOV.8 16 r14 [r11+r9*4-16]
+0F 48 74 8B F0 = CMOV.8 32 r6 [r3+r1*4-16]
+44 0F 48 E7 = CMOV.8 32 r12 r7
+48 0F 48 35 FE FF FF FF = CMOV.8 64 r6 [rip-2]
+4F 0F 48 F2 = CMOV.8 64 r14 r10
+# 0F 49 CMOVcc Gv,Ev
+66 0F 49 E7 = CMOV.9 16 r4 r7
+66 47 0F 49 74 8B F0 = CMOV.9 16 r14 [r11+r9*4-16]
+0F 49 74 8B F0 = CMOV.9 32 r6 [r3+r1*4-16]
+44 0F 49 E7 = CMOV.9 32 r12 r7
+48 0F 49 35 FE FF FF FF = CMOV.9 64 r6 [rip-2]
+4F 0F 49 F2 = CMOV.9 64 r14 r10
+# 0F 4A CMOVcc Gv,Ev
+66 0F 4A E7 = CMOV.A 16 r4 r7
+66 47 0F 4A 74 8B F0 = CMOV.A 16 r14 [r11+r9*4-16]
+0F 4A 74 8B F0 = CMOV.A 32 r6 [r3+r1*4-16]
+44 0F 4A E7 = CMOV.A 32 r12 r7
+48 0F 4A 35 FE FF FF FF = CMOV.A 64 r6 [rip-2]
+4F 0F 4A F2 = CMOV.A 64 r14 r10
+# 0F 4B CMOVcc Gv,Ev
+66 0F 4B E7 = CMOV.B 16 r4 r7
+66 47 0F 4B 74 8B F0 = CMOV.B 16 r14 [r11+r9*4-16]
+0F 4B 74 8B F0 = CMOV.B 32 r6 [r3+r1*4-16]
+44 0F 4B E7 = CMOV.B 32 r12 r7
+48 0F 4B 35 FE FF FF FF = CMOV.B 64 r6 [rip-2]
+4F 0F 4B F2 = CMOV.B 64 r14 r10
+# 0F 4C CMOVcc Gv,Ev
+66 0F 4C E7 = CMOV.C 16 r4 r7
+66 47 0F 4C 74 8B F0 = CMOV.C 16 r14 [r11+r9*4-16]
+0F 4C 74 8B F0 = CMOV.C 32 r6 [r3+r1*4-16]
+44 0F 4C E7 = CMOV.C 32 r12 r7
+48 0F 4C 35 FE FF FF FF = CMOV.C 64 r6 [rip-2]
+4F 0F 4C F2 = CMOV.C 64 r14 r10
+# 0F 4D CMOVcc Gv,Ev
+66 0F 4D E7 = CMOV.D 16 r4 r7
+66 47 0F 4D 74 8B F0 = CMOV.D 16 r14 [r11+r9*4-16]
+0F 4D 74 8B F0 = CMOV.D 32 r6 [r3+r1*4-16]
+44 0F 4D E7 = CMOV.D 32 r12 r7
+48 0F 4D 35 FE FF FF FF = CMOV.D 64 r6 [rip-2]
+4F 0F 4D F2 = CMOV.D 64 r14 r10
+# 0F 4E CMOVcc Gv,Ev
+66 0F 4E E7 = CMOV.E 16 r4 r7
+66 47 0F 4E 74 8B F0 = CMOV.E 16 r14 [r11+r9*4-16]
+0F 4E 74 8B F0 = CMOV.E 32 r6 [r3+r1*4-16]
+44 0F 4E E7 = CMOV.E 32 r12 r7
+48 0F 4E 35 FE FF FF FF = CMOV.E 64 r6 [rip-2]
+4F 0F 4E F2 = CMOV.E 64 r14 r10
+# 0F 4F CMOVcc Gv,Ev
+66 0F 4F E7 = CMOV.F 16 r4 r7
+66 47 0F 4F 74 8B F0 = CMOV.F 16 r14 [r11+r9*4-16]
+0F 4F 74 8B F0 = CMOV.F 32 r6 [r3+r1*4-16]
+44 0F 4F E7 = CMOV.F 32 r12 r7
+48 0F 4F 35 FE FF FF FF = CMOV.F 64 r6 [rip-2]
+4F 0F 4F F2 = CMOV.F 64 r14 r10
+0F 50 = Unknown
+0F 51 = Unknown
+0F 52 = Unknown
+0F 53 = Unknown
+0F 54 = Unknown
+0F 55 = Unknown
+0F 56 = Unknown
+0F 57 = Unknown
+0F 58 = Unknown
+0F 59 = Unknown
+0F 5A = Unknown
+0F 5B = Unknown
+0F 5C = Unknown
+0F 5D = Unknown
+0F 5E = Unknown
+0F 5F = Unknown
+0F 60 = Unknown
+0F 61 = Unknown
+0F 62 = Unknown
+0F 63 = Unknown
+0F 64 = Unknown
+0F 65 = Unknown
+0F 66 = Unknown
+0F 67 = Unknown
+0F 68 = Unknown
+0F 69 = Unknown
+0F 6A = Unknown
+0F 6B = Unknown
+0F 6C = Unknown
+0F 6D = Unknown
+0F 6E = Unknown
+0F 6F = Unknown
+0F 70 = Unknown
+0F 71 = Unknown
+0F 72 = Unknown
+0F 73 = Unknown
+0F 74 = Unknown
+0F 75 = Unknown
+0F 76 = Unknown
+0F 77 = Unknown
+0F 78 = Unknown
+0F 79 = Unknown
+0F 7A = Unknown
+0F 7B = Unknown
+0F 7C = Unknown
+0F 7D = Unknown
+0F 7E = Unknown
+0F 7F = Unknown
+";
+
+#[rattlefmt::skip]
+pub(super) static FROM_0F_80: [u8; 9803] = *b"\
+# 0F 80 Jcc Jz (f64)
+66 0F 80 A4 B3 C2 D1 = J.0 64 - imm FFFFFFFFD1C2B3A4
+0F 80 A4 B3 C2 D1 = J.0 64 - imm FFFFFFFFD1C2B3A4
+41 0F 80 A4 B3 C2 D1 = J.0 64 - imm FFFFFFFFD1C2B3A4
+48 0F 80 A4 B3 C2 D1 = J.0 64 - imm FFFFFFFFD1C2B3A4
+# 0F 81 Jcc Jz (f64)
+66 0F 81 A4 B3 C2 D1 = J.1 64 - imm FFFFFFFFD1C2B3A4
+0F 81 A4 B3 C2 D1 = J.1 64 - imm FFFFFFFFD1C2B3A4
+41 0F 81 A4 B3 C2 D1 = J.1 64 - imm FFFFFFFFD1C2B3A4
+48 0F 81 A4 B3 C2 D1 = J.1 64 - imm FFFFFFFFD1C2B3A4
+# 0F 82 Jcc Jz (f64)
+66 0F 82 A4 B3 C2 D1 = J.2 64 - imm FFFFFFFFD1C2B3A4
+0F 82 A4 B3 C2 D1 = J.2 64 - imm FFFFFFFFD1C2B3A4
+41 0F 82 A4 B3 C2 D1 = J.2 64 - imm FFFFFFFFD1C2B3A4
+48 0F 82 A4 B3 C2 D1 = J.2 64 - imm FFFFFFFFD1C2B3A4
+# 0F 83 Jcc Jz (f64)
+66 0F 83 A4 B3 C2 D1 = J.3 64 - imm FFFFFFFFD1C2B3A4
+0F 83 A4 B3 C2 D1 = J.3 64 - imm FFFFFFFFD1C2B3A4
+41 0F 83 A4 B3 C2 D1 = J.3 64 - imm FFFFFFFFD1C2B3A4
+48 0F 83 A4 B3 C2 D1 = J.3 64 - imm FFFFFFFFD1C2B3A4
+# 0F 84 Jcc Jz (f64)
+66 0F 84 A4 B3 C2 D1 = J.4 64 - imm FFFFFFFFD1C2B3A4
+0F 84 A4 B3 C2 D1 = J.4 64 - imm FFFFFFFFD1C2B3A4
+41 0F 84 A4 B3 C2 D1 = J.4 64 - imm FFFFFFFFD1C2B3A4
+48 0F 84 A4 B3 C2 D1 = J.4 64 - imm FFFFFFFFD1C2B3A4
+# 0F 85 Jcc Jz (f64)
+66 0F 85 A4 B3 C2 D1 = J.5 64 - imm FFFFFFFFD1C2B3A4
+0F 85 A4 B3 C2 D1 = J.5 64 - imm FFFFFFFFD1C2B3A4
+41 0F 85 A4 B3 C2 D1 = J.5 64 - imm FFFFFFFFD1C2B3A4
+48 0F 85 A4 B3 C2 D1 = J.5 64 - imm FFFFFFFFD1C2B3A4
+# 0F 86 Jcc Jz (f64)
+66 0F 86 A4 B3 C2 D1 = J.6 64 - imm FFFFFFFFD1C2B3A4
+0F 86 A4 B3 C2 D1 = J.6 64 - imm FFFFFFFFD1C2B3A4
+41 0F 86 A4 B3 C2 D1 = J.6 64 - imm FFFFFFFFD1C2B3A4
+48 0F 86 A4 B3 C2 D1 = J.6 64 - imm FFFFFFFFD1C2B3A4
+# 0F 87 Jcc Jz (f64)
+66 0F 87 A4 B3 C2 D1 = J.7 64 - imm FFFFFFFFD1C2B3A4
+0F 87 A4 B3 C2 D1 = J.7 64 - imm FFFFFFFFD1C2B3A4
+41 0F 87 A4 B3 C2 D1 = J.7 64 - imm FFFFFFFFD1C2B3A4
+48 0F 87 A4 B3 C2 D1 = J.7 64 - imm FFFFFFFFD1C2B3A4
+# 0F 88 Jcc Jz (f64)
+66 0F 88 A4 B3 C2 D1 = J.8 64 - imm FFFFFFFFD1C2B3A4
+0F 88 A4 B3 C2 D1 = J.8 64 - imm FFFFFFFFD1C2B3A4
+41 0F 88 A4 B3 C2 D1 = J.8 64 - imm FFFFFFFFD1C2B3A4
+48 0F 88 A4 B3 C2 D1 = J.8 64 - imm FFFFFFFFD1C2B3A4
+# 0F 89 Jcc Jz (f64)
+66 0F 89 A4 B3 C2 D1 = J.9 64 - imm FFFFFFFFD1C2B3A4
+0F 89 A4 B3 C2 D1 = J.9 64 - imm FFFFFFFFD1C2B3A4
+41 0F 89 A4 B3 C2 D1 = J.9 64 - imm FFFFFFFFD1C2B3A4
+48 0F 89 A4 B3 C2 D1 = J.9 64 - imm FFFFFFFFD1C2B3A4
+# 0F 8A Jcc Jz (f64)
+66 0F 8A A4 B3 C2 D1 = J.A 64 - imm FFFFFFFFD1C2B3A4
+0F 8A A4 B3 C2 D1 = J.A 64 - imm FFFFFFFFD1C2B3A4
+41 0F 8A A4 B3 C2 D1 = J.A 64 - imm FFFFFFFFD1C2B3A4
+48 0F 8A A4 B3 C2 D1 = J.A 64 - imm FFFFFFFFD1C2B3A4
+# 0F 8B Jcc Jz (f64)
+66 0F 8B A4 B3 C2 D1 = J.B 64 - imm FFFFFFFFD1C2B3A4
+0F 8B A4 B3 C2 D1 = J.B 64 - imm FFFFFFFFD1C2B3A4
+41 0F 8B A4 B3 C2 D1 = J.B 64 - imm FFFFFFFFD1C2B3A4
+48 0F 8B A4 B3 C2 D1 = J.B 64 - imm FFFFFFFFD1C2B3A4
+# 0F 8C Jcc Jz (f64)
+66 0F 8C A4 B3 C2 D1 = J.C 64 - imm FFFFFFFFD1C2B3A4
+0F 8C A4 B3 C2 D1 = J.C 64 - imm FFFFFFFFD1C2B3A4
+41 0F 8C A4 B3 C2 D1 = J.C 64 - imm FFFFFFFFD1C2B3A4
+48 0F 8C A4 B3 C2 D1 = J.C 64 - imm FFFFFFFFD1C2B3A4
+# 0F 8D Jcc Jz (f64)
+66 0F 8D A4 B3 C2 D1 = J.D 64 - imm FFFFFFFFD1C2B3A4
+0F 8D A4 B3 C2 D1 = J.D 64 - imm FFFFFFFFD1C2B3A4
+41 0F 8D A4 B3 C2 D1 = J.D 64 - imm FFFFFFFFD1C2B3A4
+48 0F 8D A4 B3 C2 D1 = J.D 64 - imm FFFFFFFFD1C2B3A4
+# 0F 8E Jcc Jz (f64)
+66 0F 8E A4 B3 C2 D1 = J.E 64 - imm FFFFFFFFD1C2B3A4
+0F 8E A4 B3 C2 D1 = J.E 64 - imm FFFFFFFFD1C2B3A4
+41 0F 8E A4 B3 C2 D1 = J.E 64 - imm FFFFFFFFD1C2B3A4
+48 0F 8E A4 B3 C2 D1 = J.E 64 - imm FFFFFFFFD1C2B3A4
+# 0F 8F Jcc Jz (f64)
+66 0F 8F A4 B3 C2 D1 = J.F 64 - imm FFFFFFFFD1C2B3A4
+0F 8F A4 B3 C2 D1 = J.F 64 - imm FFFFFFFFD1C2B3A4
+41 0F 8F A4 B3 C2 D1 = J.F 64 - imm FFFFFFFFD1C2B3A4
+48 0F 8F A4 B3 C2 D1 = J.F 64 - imm FFFFFFFFD1C2B3A4
+# 0F 90 SETcc Eb
+66 0F 90 E7 = SET.0 8 bh -
+66 47 0F 90 74 8B F0 = SET.0 8 [r11+r9*4-16] -
+0F 90 74 8B F0 = SET.0 8 [r3+r1*4-16] -
+44 0F 90 E7 = SET.0 8 r7 -
+48 0F 90 35 FE FF FF FF = SET.0 8 [rip-2] -
+4F 0F 90 F2 = SET.0 8 r10 -
+# 0F 91 SETcc Eb
+66 0F 91 E7 = SET.1 8 bh -
+66 47 0F 91 74 8B F0 = SET.1 8 [r11+r9*4-16] -
+0F 91 74 8B F0 = SET.1 8 [r3+r1*4-16] -
+44 0F 91 E7 = SET.1 8 r7 -
+48 0F 91 35 FE FF FF FF = SET.1 8 [rip-2] -
+4F 0F 91 F2 = SET.1 8 r10 -
+# 0F 92 SETcc Eb
+66 0F 92 E7 = SET.2 8 bh -
+66 47 0F 92 74 8B F0 = SET.2 8 [r11+r9*4-16] -
+0F 92 74 8B F0 = SET.2 8 [r3+r1*4-16] -
+44 0F 92 E7 = SET.2 8 r7 -
+48 0F 92 35 FE FF FF FF = SET.2 8 [rip-2] -
+4F 0F 92 F2 = SET.2 8 r10 -
+# 0F 93 SETcc Eb
+66 0F 93 E7 = SET.3 8 bh -
+66 47 0F 93 74 8B F0 = SET.3 8 [r11+r9*4-16] -
+0F 93 74 8B F0 = SET.3 8 [r3+r1*4-16] -
+44 0F 93 E7 = SET.3 8 r7 -
+48 0F 93 35 FE FF FF FF = SET.3 8 [rip-2] -
+4F 0F 93 F2 = SET.3 8 r10 -
+# 0F 94 SETcc Eb
+66 0F 94 E7 = SET.4 8 bh -
+66 47 0F 94 74 8B F0 = SET.4 8 [r11+r9*4-16] -
+0F 94 74 8B F0 = SET.4 8 [r3+r1*4-16] -
+44 0F 94 E7 = SET.4 8 r7 -
+48 0F 94 35 FE FF FF FF = SET.4 8 [rip-2] -
+4F 0F 94 F2 = SET.4 8 r10 -
+# 0F 95 SETcc Eb
+66 0F 95 E7 = SET.5 8 bh -
+66 47 0F 95 74 8B F0 = SET.5 8 [r11+r9*4-16] -
+0F 95 74 8B F0 = SET.5 8 [r3+r1*4-16] -
+44 0F 95 E7 = SET.5 8 r7 -
+48 0F 95 35 FE FF FF FF = SET.5 8 [rip-2] -
+4F 0F 95 F2 = SET.5 8 r10 -
+# 0F 96 SETcc Eb
+66 0F 96 E7 = SET.6 8 bh -
+66 47 0F 96 74 8B F0 = SET.6 8 [r11+r9*4-16] -
+0F 96 74 8B F0 = SET.6 8 [r3+r1*4-16] -
+44 0F 96 E7 = SET.6 8 r7 -
+48 0F 96 35 FE FF FF FF = SET.6 8 [rip-2] -
+4F 0F 96 F2 = SET.6 8 r10 -
+# 0F 97 SETcc Eb
+66 0F 97 E7 = SET.7 8 bh -
+66 47 0F 97 74 8B F0 = SET.7 8 [r11+r9*4-16] -
+0F 97 74 8B F0 = SET.7 8 [r3+r1*4-16] -
+44 0F 97 E7 = SET.7 8 r7 -
+48 0F 97 35 FE FF FF FF = SET.7 8 [rip-2] -
+4F 0F 97 F2 = SET.7 8 r10 -
+# 0F 98 SETcc Eb
+66 0F 98 E7 = SET.8 8 bh -
+66 47 0F 98 74 8B F0 = SET.8 8 [r11+r9*4-16] -
+0F 98 74 8B F0 = SET.8 8 [r3+r1*4-16] -
+44 0F 98 E7 = SET.8 8 r7 -
+48 0F 98 35 FE FF FF FF = SET.8 8 [rip-2] -
+4F 0F 98 F2 = SET.8 8 r10 -
+# 0F 99 SETcc Eb
+66 0F 99 E7 = SET.9 8 bh -
+66 47 0F 99 74 8B F0 = SET.9 8 [r11+r9*4-16] -
+0F 99 74 8B F0 = SET.9 8 [r3+r1*4-16] -
+44 0F 99 E7 = SET.9 8 r7 -
+48 0F 99 35 FE FF FF FF = SET.9 8 [rip-2] -
+4F 0F 99 F2 = SET.9 8 r10 -
+# 0F 9A SETcc Eb
+66 0F 9A E7 = SET.A 8 bh -
+66 47 0F 9A 74 8B F0 = SET.A 8 [r11+r9*4-16] -
+0F 9A 74 8B F0 = SET.A 8 [r3+r1*4-16] -
+44 0F 9A E7 = SET.A 8 r7 -
+48 0F 9A 35 FE FF FF FF = SET.A 8 [rip-2] -
+4F 0F 9A F2 = SET.A 8 r10 -
+# 0F 9B SETcc Eb
+66 0F 9B E7 = SET.B 8 bh -
+66 47 0F 9B 74 8B F0 = SET.B 8 [r11+r9*4-16] -
+0F 9B 74 8B F0 = SET.B 8 [r3+r1*4-16] -
+44 0F 9B E7 = SET.B 8 r7 -
+48 0F 9B 35 FE FF FF FF = SET.B 8 [rip-2] -
+4F 0F 9B F2 = SET.B 8 r10 -
+# 0F 9C SETcc Eb
+66 0F 9C E7 = SET.C 8 bh -
+66 47 0F 9C 74 8B F0 = SET.C 8 [r11+r9*4-16] -
+0F 9C 74 8B F0 = SET.C 8 [r3+r1*4-16] -
+44 0F 9C E7 = SET.C 8 r7 -
+48 0F 9C 35 FE FF FF FF = SET.C 8 [rip-2] -
+4F 0F 9C F2 = SET.C 8 r10 -
+# 0F 9D SETcc Eb
+66 0F 9D E7 = SET.D 8 bh -
+66 47 0F 9D 74 8B F0 = SET.D 8 [r11+r9*4-16] -
+0F 9D 74 8B F0 = SET.D 8 [r3+r1*4-16] -
+44 0F 9D E7 = SET.D 8 r7 -
+48 0F 9D 35 FE FF FF FF = SET.D 8 [rip-2] -
+4F 0F 9D F2 = SET.D 8 r10 -
+# 0F 9E SETcc Eb
+66 0F 9E E7 = SET.E 8 bh -
+66 47 0F 9E 74 8B F0 = SET.E 8 [r11+r9*4-16] -
+0F 9E 74 8B F0 = SET.E 8 [r3+r1*4-16] -
+44 0F 9E E7 = SET.E 8 r7 -
+48 0F 9E 35 FE FF FF FF = SET.E 8 [rip-2] -
+4F 0F 9E F2 = SET.E 8 r10 -
+# 0F 9F SETcc Eb
+66 0F 9F E7 = SET.F 8 bh -
+66 47 0F 9F 74 8B F0 = SET.F 8 [r11+r9*4-16] -
+0F 9F 74 8B F0 = SET.F 8 [r3+r1*4-16] -
+44 0F 9F E7 = SET.F 8 r7 -
+48 0F 9F 35 FE FF FF FF = SET.F 8 [rip-2] -
+4F 0F 9F F2 = SET.F 8 r10 -
+0F A0 = Unknown
+0F A1 = Unknown
+0F A2 = Unknown
+# 0F A3 BT Rv,Gv
+66 0F A3 E7 = BT 16 r7 r4
+44 0F A3 E7 = BT 32 r7 r12
+4F 0F A3 F2 = BT 64 r10 r14
+0F A3 00 = Unknown
+0F A4 = Unknown
+0F A5 = Unknown
+0F A6 = Unknown
+0F A7 = Unknown
+0F A8 = Unknown
+0F A9 = Unknown
+0F AA = Unknown
+# 0F AB BTS Rv,Gv
+66 0F AB E7 = BTS 16 r7 r4
+44 0F AB E7 = BTS 32 r7 r12
+4F 0F AB F2 = BTS 64 r10 r14
+0F AB 00 = Unknown
+0F AC = Unknown
+0F AD = Unknown
+# 0F AE/5 LFENCE (register form)
+66 0F AE EF = NOP 64 - -
+44 0F AE EF = NOP 64 - -
+4F 0F AE EA = NOP 64 - -
+# 0F AE/6 MFENCE (register form)
+66 0F AE F7 = NOP 64 - -
+44 0F AE F7 = NOP 64 - -
+4F 0F AE F2 = NOP 64 - -
+# 0F AE/7 SFENCE (register form)
+66 0F AE FF = NOP 64 - -
+44 0F AE FF = NOP 64 - -
+4F 0F AE FA = NOP 64 - -
+0F AE 00 = Unknown
+0F AE C0 = Unknown
+0F AE 08 = Unknown
+0F AE C8 = Unknown
+0F AE 10 = Unknown
+0F AE D0 = Unknown
+0F AE 18 = Unknown
+0F AE D8 = Unknown
+0F AE 20 = Unknown
+0F AE E0 = Unknown
+0F AE 28 = Unknown
+0F AE 30 = Unknown
+0F AE 38 = Unknown
+# 0F AF IMUL Gv,Ev
+66 0F AF E7 = IMUL 16 r4 r7
+66 47 0F AF 74 8B F0 = IMUL 16 r14 [r11+r9*4-16]
+0F AF 74 8B F0 = IMUL 32 r6 [r3+r1*4-16]
+44 0F AF E7 = IMUL 32 r12 r7
+48 0F AF 35 FE FF FF FF = IMUL 64 r6 [rip-2]
+4F 0F AF F2 = IMUL 64 r14 r10
+# 0F B0 CMPXCHG Eb,Gb
+66 0F B0 E7 = CMPXCHG 8 bh ah
+66 47 0F B0 74 8B F0 = CMPXCHG 8 [r11+r9*4-16] r14
+0F B0 74 8B F0 = CMPXCHG 8 [r3+r1*4-16] dh
+44 0F B0 E7 = CMPXCHG 8 r7 r12
+48 0F B0 35 FE FF FF FF = CMPXCHG 8 [rip-2] r6
+4F 0F B0 F2 = CMPXCHG 8 r10 r14
+# 0F B1 CMPXCHG Ev,Gv
+66 0F B1 E7 = CMPXCHG 16 r7 r4
+66 47 0F B1 74 8B F0 = CMPXCHG 16 [r11+r9*4-16] r14
+0F B1 74 8B F0 = CMPXCHG 32 [r3+r1*4-16] r6
+44 0F B1 E7 = CMPXCHG 32 r7 r12
+48 0F B1 35 FE FF FF FF = CMPXCHG 64 [rip-2] r6
+4F 0F B1 F2 = CMPXCHG 64 r10 r14
+0F B2 = Unknown
+# 0F B3 BTR Rv,Gv
+66 0F B3 E7 = BTR 16 r7 r4
+44 0F B3 E7 = BTR 32 r7 r12
+4F 0F B3 F2 = BTR 64 r10 r14
+0F B3 00 = Unknown
+0F B4 = Unknown
+0F B5 = Unknown
+# 0F B6 MOVZX Gv,Eb
+66 0F B6 E7 = MOVZX8 16 r4 bh
+66 47 0F B6 74 8B F0 = MOVZX8 16 r14 [r11+r9*4-16]
+0F B6 74 8B F0 = MOVZX8 32 r6 [r3+r1*4-16]
+44 0F B6 E7 = MOVZX8 32 r12 r7
+48 0F B6 35 FE FF FF FF = MOVZX8 64 r6 [rip-2]
+4F 0F B6 F2 = MOVZX8 64 r14 r10
+# 0F B7 MOVZX Gv,Ew
+66 0F B7 E7 = MOVZX16 16 r4 r7
+66 47 0F B7 74 8B F0 = MOVZX16 16 r14 [r11+r9*4-16]
+0F B7 74 8B F0 = MOVZX16 32 r6 [r3+r1*4-16]
+44 0F B7 E7 = MOVZX16 32 r12 r7
+48 0F B7 35 FE FF FF FF = MOVZX16 64 r6 [rip-2]
+4F 0F B7 F2 = MOVZX16 64 r14 r10
+";
+
+#[rattlefmt::skip]
+pub(super) static FROM_0F_B8: [u8; 5100] = *b"\
+0F B8 = Unknown
+0F B9 = Unknown
+# 0F BA/4 BT Ev,Ib
+66 0F BA E7 91 = BT 16 r7 imm FF91
+66 47 0F BA 64 8B F0 91 = BT 16 [r11+r9*4-16] imm FF91
+0F BA 64 8B F0 91 = BT 32 [r3+r1*4-16] imm FFFFFF91
+44 0F BA E7 91 = BT 32 r7 imm FFFFFF91
+48 0F BA 25 FE FF FF FF 91 = BT 64 [rip-2] imm FFFFFFFFFFFFFF91
+4F 0F BA E2 91 = BT 64 r10 imm FFFFFFFFFFFFFF91
+# 0F BA/5 BTS Ev,Ib
+66 0F BA EF 91 = BTS 16 r7 imm FF91
+66 47 0F BA 6C 8B F0 91 = BTS 16 [r11+r9*4-16] imm FF91
+0F BA 6C 8B F0 91 = BTS 32 [r3+r1*4-16] imm FFFFFF91
+44 0F BA EF 91 = BTS 32 r7 imm FFFFFF91
+48 0F BA 2D FE FF FF FF 91 = BTS 64 [rip-2] imm FFFFFFFFFFFFFF91
+4F 0F BA EA 91 = BTS 64 r10 imm FFFFFFFFFFFFFF91
+# 0F BA/6 BTR Ev,Ib
+66 0F BA F7 91 = BTR 16 r7 imm FF91
+66 47 0F BA 74 8B F0 91 = BTR 16 [r11+r9*4-16] imm FF91
+0F BA 74 8B F0 91 = BTR 32 [r3+r1*4-16] imm FFFFFF91
+44 0F BA F7 91 = BTR 32 r7 imm FFFFFF91
+48 0F BA 35 FE FF FF FF 91 = BTR 64 [rip-2] imm FFFFFFFFFFFFFF91
+4F 0F BA F2 91 = BTR 64 r10 imm FFFFFFFFFFFFFF91
+# 0F BA/7 BTC Ev,Ib
+66 0F BA FF 91 = BTC 16 r7 imm FF91
+66 47 0F BA 7C 8B F0 91 = BTC 16 [r11+r9*4-16] imm FF91
+0F BA 7C 8B F0 91 = BTC 32 [r3+r1*4-16] imm FFFFFF91
+44 0F BA FF 91 = BTC 32 r7 imm FFFFFF91
+48 0F BA 3D FE FF FF FF 91 = BTC 64 [rip-2] imm FFFFFFFFFFFFFF91
+4F 0F BA FA 91 = BTC 64 r10 imm FFFFFFFFFFFFFF91
+0F BA 00 = Unknown
+0F BA C0 = Unknown
+0F BA 08 = Unknown
+0F BA C8 = Unknown
+0F BA 10 = Unknown
+0F BA D0 = Unknown
+0F BA 18 = Unknown
+0F BA D8 = Unknown
+# 0F BB BTC Rv,Gv
+66 0F BB E7 = BTC 16 r7 r4
+44 0F BB E7 = BTC 32 r7 r12
+4F 0F BB F2 = BTC 64 r10 r14
+0F BB 00 = Unknown
+# 0F BC BSF Gv,Ev
+66 0F BC E7 = BSF 16 r4 r7
+66 47 0F BC 74 8B F0 = BSF 16 r14 [r11+r9*4-16]
+0F BC 74 8B F0 = BSF 32 r6 [r3+r1*4-16]
+44 0F BC E7 = BSF 32 r12 r7
+48 0F BC 35 FE FF FF FF = BSF 64 r6 [rip-2]
+4F 0F BC F2 = BSF 64 r14 r10
+# 0F BD BSR Gv,Ev
+66 0F BD E7 = BSR 16 r4 r7
+66 47 0F BD 74 8B F0 = BSR 16 r14 [r11+r9*4-16]
+0F BD 74 8B F0 = BSR 32 r6 [r3+r1*4-16]
+44 0F BD E7 = BSR 32 r12 r7
+48 0F BD 35 FE FF FF FF = BSR 64 r6 [rip-2]
+4F 0F BD F2 = BSR 64 r14 r10
+# 0F BE MOVSX Gv,Eb
+66 0F BE E7 = MOVSX8 16 r4 bh
+66 47 0F BE 74 8B F0 = MOVSX8 16 r14 [r11+r9*4-16]
+0F BE 74 8B F0 = MOVSX8 32 r6 [r3+r1*4-16]
+44 0F BE E7 = MOVSX8 32 r12 r7
+48 0F BE 35 FE FF FF FF = MOVSX8 64 r6 [rip-2]
+4F 0F BE F2 = MOVSX8 64 r14 r10
+# 0F BF MOVSX Gv,Ew
+66 0F BF E7 = MOVSX16 16 r4 r7
+66 47 0F BF 74 8B F0 = MOVSX16 16 r14 [r11+r9*4-16]
+0F BF 74 8B F0 = MOVSX16 32 r6 [r3+r1*4-16]
+44 0F BF E7 = MOVSX16 32 r12 r7
+48 0F BF 35 FE FF FF FF = MOVSX16 64 r6 [rip-2]
+4F 0F BF F2 = MOVSX16 64 r14 r10
+# 0F C0 XADD Eb,Gb
+66 0F C0 E7 = XADD 8 bh ah
+66 47 0F C0 74 8B F0 = XADD 8 [r11+r9*4-16] r14
+0F C0 74 8B F0 = XADD 8 [r3+r1*4-16] dh
+44 0F C0 E7 = XADD 8 r7 r12
+48 0F C0 35 FE FF FF FF = XADD 8 [rip-2] r6
+4F 0F C0 F2 = XADD 8 r10 r14
+# 0F C1 XADD Ev,Gv
+66 0F C1 E7 = XADD 16 r7 r4
+66 47 0F C1 74 8B F0 = XADD 16 [r11+r9*4-16] r14
+0F C1 74 8B F0 = XADD 32 [r3+r1*4-16] r6
+44 0F C1 E7 = XADD 32 r7 r12
+48 0F C1 35 FE FF FF FF = XADD 64 [rip-2] r6
+4F 0F C1 F2 = XADD 64 r10 r14
+0F C2 = Unknown
+0F C3 = Unknown
+0F C4 = Unknown
+0F C5 = Unknown
+0F C6 = Unknown
+0F C7 = Unknown
+# 0F C8 BSWAP Zv (size 32 or 64)
+0F C8 = BSWAP 32 r0 -
+41 0F C8 = BSWAP 32 r8 -
+48 0F C8 = BSWAP 64 r0 -
+49 0F C8 = BSWAP 64 r8 -
+66 0F C8 = Unknown
+# 0F C9 BSWAP Zv (size 32 or 64)
+0F C9 = BSWAP 32 r1 -
+41 0F C9 = BSWAP 32 r9 -
+48 0F C9 = BSWAP 64 r1 -
+49 0F C9 = BSWAP 64 r9 -
+66 0F C9 = Unknown
+# 0F CA BSWAP Zv (size 32 or 64)
+0F CA = BSWAP 32 r2 -
+41 0F CA = BSWAP 32 r10 -
+48 0F CA = BSWAP 64 r2 -
+49 0F CA = BSWAP 64 r10 -
+66 0F CA = Unknown
+# 0F CB BSWAP Zv (size 32 or 64)
+0F CB = BSWAP 32 r3 -
+41 0F CB = BSWAP 32 r11 -
+48 0F CB = BSWAP 64 r3 -
+49 0F CB = BSWAP 64 r11 -
+66 0F CB = Unknown
+# 0F CC BSWAP Zv (size 32 or 64)
+0F CC = BSWAP 32 r4 -
+41 0F CC = BSWAP 32 r12 -
+48 0F CC = BSWAP 64 r4 -
+49 0F CC = BSWAP 64 r12 -
+66 0F CC = Unknown
+# 0F CD BSWAP Zv (size 32 or 64)
+0F CD = BSWAP 32 r5 -
+41 0F CD = BSWAP 32 r13 -
+48 0F CD = BSWAP 64 r5 -
+49 0F CD = BSWAP 64 r13 -
+66 0F CD = Unknown
+# 0F CE BSWAP Zv (size 32 or 64)
+0F CE = BSWAP 32 r6 -
+41 0F CE = BSWAP 32 r14 -
+48 0F CE = BSWAP 64 r6 -
+49 0F CE = BSWAP 64 r14 -
+66 0F CE = Unknown
+# 0F CF BSWAP Zv (size 32 or 64)
+0F CF = BSWAP 32 r7 -
+41 0F CF = BSWAP 32 r15 -
+48 0F CF = BSWAP 64 r7 -
+49 0F CF = BSWAP 64 r15 -
+66 0F CF = Unknown
+0F D0 = Unknown
+0F D1 = Unknown
+0F D2 = Unknown
+0F D3 = Unknown
+0F D4 = Unknown
+0F D5 = Unknown
+0F D6 = Unknown
+0F D7 = Unknown
+0F D8 = Unknown
+0F D9 = Unknown
+0F DA = Unknown
+0F DB = Unknown
+0F DC = Unknown
+0F DD = Unknown
+0F DE = Unknown
+0F DF = Unknown
+0F E0 = Unknown
+0F E1 = Unknown
+0F E2 = Unknown
+0F E3 = Unknown
+0F E4 = Unknown
+0F E5 = Unknown
+0F E6 = Unknown
+0F E7 = Unknown
+0F E8 = Unknown
+0F E9 = Unknown
+0F EA = Unknown
+0F EB = Unknown
+0F EC = Unknown
+0F ED = Unknown
+0F EE = Unknown
+0F EF = Unknown
+0F F0 = Unknown
+0F F1 = Unknown
+0F F2 = Unknown
+0F F3 = Unknown
+0F F4 = Unknown
+0F F5 = Unknown
+0F F6 = Unknown
+0F F7 = Unknown
+0F F8 = Unknown
+0F F9 = Unknown
+0F FA = Unknown
+0F FB = Unknown
+0F FC = Unknown
+0F FD = Unknown
+0F FE = Unknown
+0F FF = Unknown
+";
