@@ -5,13 +5,13 @@ use Rattle.std.proofs.lemmas.List.Quantifiers.{position-Some}
 use Rattle.std.proofs.Math.Nat.{pow-suc, pow-succ', div-div-eq-div-mul, div-one, mod-one, one-le-pow, mod-eq_of_lt}
 use Rattle.std.proofs.Math.Arith.{mod-mul}
 use Rattle.std.specs.List.{position}
-use Rattle.nk_bits.specs.Memory.{byte_at, number_at, entry_in}
+use Rattle.phys_mem.specs.Memory.{byte_at, number_at, entry_in}
 use Rattle.elf_image.specs.Pages.{pages_of, page_count}
 use Rattle.boot_map.specs.declared.part.Part.{Part}
 use Rattle.boot_map.specs.declared.part.Part.TheVariants.{Root, SlotTable, AreaDirectory, AreaTable, ImageDirectory, WriteLog, WrittenBits, RegionBook, Descriptors, RangeTable, ImagePage, MapRoot, MapDirectory, MapTable, Free}
 use Rattle.boot_map.specs.Division.{Division, IsLayout, division_of, free_start, map_start, map_tables, pages_start, tables_start, page_in}
 use Rattle.boot_map.specs.Parts.{part_at}
-use Rattle.boot_map.specs.Entries.{area_entry, entry_at, entry_of_part, leaf, link, map_directory_entry, map_entry, mapped_leaf, page_leaf, placed_leaf, range_link, read_leaf, write_leaf, fetch_leaf, table_level}
+use Rattle.boot_map.specs.OpeningEntries.{area_entry, opening_entry, entry_of_part, leaf, link, map_directory_entry, map_entry, mapped_leaf, page_leaf, placed_leaf, range_link, read_leaf, write_leaf, fetch_leaf, table_level}
 use Rattle.boot_map.specs.Opening.{IsOpening, byte_in, byte_of_number, byte_of_part, entry_byte}
 use Rattle.boot_map.proofs.FillLaws.{byte_of_frame}
 
@@ -124,8 +124,8 @@ table_byte b d (MapTable k) o is = refl
 table_byte b d _ o is = absurd (omega (arith, is))
 
 -- in an opening memory each entry of a table stands as eight bytes
-pub entry_stands : (b m : List ℕ) (frames f i : ℕ) → IsOpening b frames m → IsLayout b (division_of b frames) → f < frames → i < 512 → 0 < table_level (part_at (division_of b frames) f) → entry_in m f i ≡ entry_at b frames f i
-unfolding entry_in entry_at
+pub entry_stands : (b m : List ℕ) (frames f i : ℕ) → IsOpening b frames m → IsLayout b (division_of b frames) → f < frames → i < 512 → 0 < table_level (part_at (division_of b frames) f) → entry_in m f i ≡ opening_entry b frames f i
+unfolding entry_in opening_entry
 entry_stands b m frames f i opening layout in_memory small table =
     let d : Division = division_of b frames in
     let part : Part = part_at d f in

@@ -5,8 +5,8 @@ use Rattle.std.proofs.lemmas.Bool.{cases_lt, le-ltb, ne_eqb, cond-false}
 use Rattle.std.proofs.lemmas.List.{get_or_append_left, get_or-append_right, get_or-take, get_or-drop, length-take}
 use Rattle.std.proofs.Math.Seq.{take-length}
 use borrow.Rule.Slice.PartMut.{put_mid}
-use Rattle.nk_bits.specs.Memory.{byte_at}
-use Rattle.phys_mem.specs.Frames.{with_frame}
+use Rattle.phys_mem.specs.Memory.{byte_at}
+use Rattle.phys_mem.specs.FrameLends.{with_frame}
 use Rattle.boot_map.specs.declared.part.Part.TheVariants.{Free}
 use Rattle.boot_map.specs.Division.{Division, division_of, free_start, map_start, pages_start, tables_start}
 use Rattle.boot_map.specs.Parts.{part_at}

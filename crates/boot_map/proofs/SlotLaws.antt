@@ -11,12 +11,13 @@ use Rattle.std.specs.List.{position, position_or_len, range_with_len}
 use Rattle.nk_bits.specs.declared.leaf.Rights.{Rights}
 use Rattle.nk_bits.specs.declared.leaf.Leaf.{Leaf}
 use Rattle.nk_bits.specs.Paging.{all_rights, common, frame_of, is_executable, is_large, is_missing, is_present, is_user, is_writable, page_index, rights_of, walk, walk_from}
-use Rattle.nk_bits.proofs.WalkLaws.{walk_by_level}
 use Rattle.elf_image.specs.Pages.{IsPageList, is_page, pages_of}
 use Rattle.boot_map.specs.Division.{Division, IsLayout, division_of, free_start, is_touched, page_in, pages_start, ranges_of, tables_start}
 use Rattle.boot_map.specs.Parts.{part_at}
-use Rattle.boot_map.specs.Entries.{area_entry, entry_at, entry_of_part, fetch_leaf, leaf, link, page_entry, placed_leaf, range_entry, range_link, read_leaf, slot_entry, write_leaf}
-use Rattle.boot_map.specs.Slot.{area_leaf, fetchable, image_leaf, readable, slot_leaf, slot_start, writable}
+use Rattle.boot_map.specs.OpeningEntries.{area_entry, opening_entry, entry_of_part, fetch_leaf, leaf, link, page_entry, placed_leaf, range_entry, range_link, read_leaf, slot_entry, write_leaf}
+use Rattle.boot_map.specs.FixedFrames.{opening_root, slot_table}
+use Rattle.boot_map.specs.KernelSlot.{area_leaf, fetchable, image_leaf, readable, slot_leaf, slot_start, writable}
+use Rattle.boot_map.proofs.WalkSchema.{walk_by_level}
 use Rattle.boot_map.proofs.WalkLaws.{entry_within, frame_of_link, missing_zero, index_small, range_table_part}
 
 -- what a look-up makes of a link
@@ -37,7 +38,7 @@ rights_of_link g small =
     λ j. record { can_write = write j; user = user j; exec = not (exec j) }
 
 -- a look-up that finds a link goes on in the table that it names
-step_link : (t : ℕ → ℕ → ℕ) (frames page level f g : ℕ) → t f (page_index page (suc level)) ≡ link g → g < frames → g < 2 ^ 40 →
+pub step_link : (t : ℕ → ℕ → ℕ) (frames page level f g : ℕ) → t f (page_index page (suc level)) ≡ link g → g < frames → g < 2 ^ 40 →
     walk_from t frames page (suc level) f all_rights ≡ walk_from t frames page level g all_rights
 unfolding walk_from
 step_link t frames page level f g is inside small =
@@ -46,7 +47,7 @@ step_link t frames page level f g is inside small =
     ∙ (λ j. walk_from t frames page level (frame_of_link g small j) (common all_rights (rights_of_link g small j)))
 
 -- a look-up that finds 0 ends the walk
-step_none : (t : ℕ → ℕ → ℕ) (frames page level f : ℕ) → t f (page_index page (suc level)) ≡ 0 → result_ok (walk_from t frames page (suc level) f all_rights) ≡ None
+pub step_none : (t : ℕ → ℕ → ℕ) (frames page level f : ℕ) → t f (page_index page (suc level)) ≡ 0 → result_ok (walk_from t frames page (suc level) f all_rights) ≡ None
 unfolding walk_from
 step_none t frames page level f is =
     ap (λ e. result_ok (if is_missing frames (suc level) e then Err (suc level) else walk_from t frames page level (frame_of e) (common all_rights (rights_of e)))) is
@@ -56,7 +57,7 @@ step_none t frames page level f is =
 unfoldable pub Shows : ℕ → ℕ → Option Leaf → Type 0
 Shows frames e o = (t : ℕ → ℕ → ℕ) (page f : ℕ) → t f (page_index page 1) ≡ e → result_ok (walk_from t frames page 1 f all_rights) ≡ o
 
-shows_none : (frames : ℕ) → Shows frames 0 None
+pub shows_none : (frames : ℕ) → Shows frames 0 None
 unfolding Shows
 shows_none frames t page f is = step_none t frames page 0 f is
 
@@ -68,7 +69,7 @@ shows_leaf frames e g r present names inside rights t page f is =
     ∙ ap result_ok (cond-false _ _ _ there)
     ∙ (λ j. Some (record { frame = names j; rights = common all_rights (rights j) }))
 
-shows_read : (frames g : ℕ) → g < frames → g < 2 ^ 40 → Shows frames (read_leaf g) (Some (readable g))
+pub shows_read : (frames g : ℕ) → g < frames → g < 2 ^ 40 → Shows frames (read_leaf g) (Some (readable g))
 unfolding leaf is_present frame_of is_writable is_user is_executable
 shows_read frames g inside small =
     let present : ((2 ^ 63 + 4096 * g + 33) % 2 == 1) ≡ true = eq-eqb _ _ (omega arith) in
@@ -78,7 +79,7 @@ shows_read frames g inside small =
     let exec : ((2 ^ 63 + 4096 * g + 33) / 2 ^ 63 % 2 == 1) ≡ true = eq-eqb _ _ (omega arith) in
     shows_leaf frames (read_leaf g) g _ present names inside (λ j. record { can_write = write j; user = user j; exec = not (exec j) })
 
-shows_write : (frames g : ℕ) → g < frames → g < 2 ^ 40 → Shows frames (write_leaf g) (Some (writable g))
+pub shows_write : (frames g : ℕ) → g < frames → g < 2 ^ 40 → Shows frames (write_leaf g) (Some (writable g))
 unfolding leaf is_present frame_of is_writable is_user is_executable
 shows_write frames g inside small =
     let present : ((2 ^ 63 + 4096 * g + 99) % 2 == 1) ≡ true = eq-eqb _ _ (omega arith) in
@@ -99,7 +100,7 @@ shows_fetch frames g inside small =
     shows_leaf frames (fetch_leaf g) g _ present names inside (λ j. record { can_write = write j; user = user j; exec = not (exec j) })
 
 -- a choice among entries shows as the choice among leaves
-shows_choice : (frames : ℕ) (c : Bool) (e h : ℕ) (o p : Option Leaf) → Shows frames e o → Shows frames h p → Shows frames (cond c e h) (cond c o p)
+pub shows_choice : (frames : ℕ) (c : Bool) (e h : ℕ) (o p : Option Leaf) → Shows frames e o → Shows frames h p → Shows frames (cond c e h) (cond c o p)
 shows_choice frames true e h o p first second = first
 shows_choice frames false e h o p first second = second
 
@@ -165,15 +166,15 @@ kept_at p a (suc n) i low high passes =
 
 -- what the opening's tables hold for the kernel slot
 table_entries : (b : List ℕ) (frames i : ℕ) → i < 512 →
-    (entry_at b frames 6 i ≡ slot_entry i) × (entry_at b frames 7 i ≡ cond (i == 0) (link 8) 0) × (entry_at b frames 8 i ≡ area_entry i) × (entry_at b frames 9 i ≡ range_entry (division_of b frames) i)
+    (opening_entry b frames 6 i ≡ slot_entry i) × (opening_entry b frames 7 i ≡ cond (i == 0) (link 8) 0) × (opening_entry b frames 8 i ≡ area_entry i) × (opening_entry b frames 9 i ≡ range_entry (division_of b frames) i)
 unfolding part_at
 table_entries b frames i small = (entry_within b frames 6 i small, entry_within b frames 7 i small, entry_within b frames 8 i small, entry_within b frames 9 i small)
 
-root_entry_511 : (b : List ℕ) (frames : ℕ) → entry_at b frames 5 511 ≡ link 6
-unfolding entry_at part_at
+pub root_entry_511 : (b : List ℕ) (frames : ℕ) → opening_entry b frames opening_root 511 ≡ link slot_table
+unfolding opening_entry part_at
 root_entry_511 b frames = refl
 
-range_table_entry : (b : List ℕ) (frames k i : ℕ) → k < length (ranges_of b) → i < 512 → entry_at b frames (tables_start (division_of b frames) + k) i ≡ page_entry b (division_of b frames) k i
+range_table_entry : (b : List ℕ) (frames k i : ℕ) → k < length (ranges_of b) → i < 512 → opening_entry b frames (tables_start (division_of b frames) + k) i ≡ page_entry b (division_of b frames) k i
 range_table_entry b frames k i within small =
     let d : Division = division_of b frames in
     entry_within b frames (tables_start d + k) i small ∙ ap (λ part. entry_of_part b d part i) (range_table_part d k within)
@@ -200,7 +201,7 @@ untouched b r i page list small within is none =
     absurd (nowhere_at (ranges_of b) r none kept.0 kept.1 kept.2))
 
 -- the digits in base 512 of a page of the slot
-slot_indices : (page : ℕ) → slot_start ≤ page → page < 2 ^ 52 →
+pub slot_indices : (page : ℕ) → slot_start ≤ page → page < 2 ^ 52 →
     (page_index page 4 ≡ 511) × (page_index page 3 ≡ (page - slot_start) / 262144) × (page_index page 2 ≡ (page - slot_start) / 512 % 512) × (page_index page 1 ≡ (page - slot_start) % 512)
 unfolding page_index
 slot_indices page low high = (omega arith, omega arith, omega arith, omega arith)
@@ -218,13 +219,13 @@ outside_third page low other = elim (cases_lt page (page_in 0 0)) [ inl before �
 
 -- the nested area: the first of its ranges, page by page
 area_walk : (b : List ℕ) (frames page : ℕ) → IsPageList b (pages_of b) → 512 ≤ frames → slot_start ≤ page → page < slot_start + 512 →
-    result_ok (walk_from (entry_at b frames) frames page 1 8 all_rights) ≡ slot_leaf b frames page
+    result_ok (walk_from (opening_entry b frames) frames page 1 8 all_rights) ≡ slot_leaf b frames page
 unfolding slot_leaf Shows
 area_walk b frames page list least low high =
     let i : ℕ = page - slot_start in
     let index : page_index page 1 ≡ i = (slot_indices page low (omega arith)).3 ∙ omega arith in
-    let entry : entry_at b frames 8 (page_index page 1) ≡ area_entry i = (table_entries b frames (page_index page 1) (index_small page 1)).2 ∙ ap area_entry index in
-    let shown : result_ok (walk_from (entry_at b frames) frames page 1 8 all_rights) ≡ area_leaf i = area_shows frames i least (entry_at b frames) page 8 entry in
+    let entry : opening_entry b frames 8 (page_index page 1) ≡ area_entry i = (table_entries b frames (page_index page 1) (index_small page 1)).2 ∙ ap area_entry index in
+    let shown : result_ok (walk_from (opening_entry b frames) frames page 1 8 all_rights) ≡ area_leaf i = area_shows frames i least (opening_entry b frames) page 8 entry in
     elim (cases_lt page (slot_start + 32)) [
       | inl area ↦ shown ∙ sym (cond-true (nat_lt page (slot_start + 32)) _ _ (lt-ltb page (slot_start + 32) area))
       | inr past ↦ shown ∙ area_past i (omega arith) ∙ sym (no_leaf b frames page past (outside_home b page list (inl (omega arith))))
@@ -232,14 +233,14 @@ area_walk b frames page list least low high =
 
 -- the image: a level 2 table, and a level 1 table for each range that it touches
 image_walk : (b : List ℕ) (frames page : ℕ) → IsPageList b (pages_of b) → IsLayout b (division_of b frames) → slot_start ≤ page → page < 2 ^ 52 → (page - slot_start) / 262144 ≡ 510 →
-    (o : Option ℕ) → position (λ x. x == page_index page 2) (ranges_of b) ≡ o → result_ok (walk_from (entry_at b frames) frames page 2 9 all_rights) ≡ slot_leaf b frames page
+    (o : Option ℕ) → position (λ x. x == page_index page 2) (ranges_of b) ≡ o → result_ok (walk_from (opening_entry b frames) frames page 2 9 all_rights) ≡ slot_leaf b frames page
 unfolding slot_leaf Shows
 image_walk b frames page list layout low high home None at =
     let d : Division = division_of b frames in
     let r : ℕ = page_index page 2 in
     let place : page ≡ page_in r (page_index page 1) = omega (arith, (slot_indices page low high).2, (slot_indices page low high).3) in
-    let entry : entry_at b frames 9 r ≡ 0 = (table_entries b frames r (index_small page 2)).3 ∙ ap (range_link d) at in
-    step_none (entry_at b frames) frames page 1 9 entry
+    let entry : opening_entry b frames 9 r ≡ 0 = (table_entries b frames r (index_small page 2)).3 ∙ ap (range_link d) at in
+    step_none (opening_entry b frames) frames page 1 9 entry
     ∙ sym (no_leaf b frames page (omega arith) (untouched b r (page_index page 1) page list (index_small page 2) (index_small page 1) place at))
 image_walk b frames page list layout low high home (Some k) at =
     let d : Division = division_of b frames in
@@ -251,19 +252,19 @@ image_walk b frames page list layout low high home (Some k) at =
     let found = position-Some (λ x. x == r) (ranges_of b) k 0 at in
     let range : get_or (ranges_of b) k 0 ≡ r = eqb-true _ _ found.1 in
     let place : page_in (get_or (ranges_of b) k 0) i ≡ page = ap (λ x. page_in x i) range ∙ omega (arith, (slot_indices page low high).2, (slot_indices page low high).3) in
-    let link_entry : entry_at b frames 9 r ≡ link g = (table_entries b frames r (index_small page 2)).3 ∙ ap (range_link d) at in
-    let leaf_entry : entry_at b frames g i ≡ placed_leaf b d page (position (λ m. m == page) (pages_of b)) =
+    let link_entry : opening_entry b frames 9 r ≡ link g = (table_entries b frames r (index_small page 2)).3 ∙ ap (range_link d) at in
+    let leaf_entry : opening_entry b frames g i ≡ placed_leaf b d page (position (λ m. m == page) (pages_of b)) =
     range_table_entry b frames k i found.0 (index_small page 1) ∙ ap (λ n. placed_leaf b d n (position (λ m. m == n) (pages_of b))) place in
-    ap result_ok (step_link (entry_at b frames) frames page 1 9 g link_entry (omega (arith, found.0)) (omega (arith, found.0)))
+    ap result_ok (step_link (opening_entry b frames) frames page 1 9 g link_entry (omega (arith, found.0)) (omega (arith, found.0)))
     ∙ placed_shows b d frames page (position (λ m. m == page) (pages_of b)) (omega arith)
-    (λ j e. omega (arith, (position-Some (λ m. m == page) (pages_of b) j 0 e).0)) (entry_at b frames) page g leaf_entry
+    (λ j e. omega (arith, (position-Some (λ m. m == page) (pages_of b) j 0 e).0)) (opening_entry b frames) page g leaf_entry
     ∙ sym (cond-false (nat_lt page (slot_start + 32)) _ _ (le-ltb page (slot_start + 32) (omega arith)))
 
 -- the whole slot
 pub slot_walk : (b : List ℕ) (frames page : ℕ) → IsLayout b (division_of b frames) → IsPageList b (pages_of b) → slot_start ≤ page → page < 2 ^ 52 →
-    result_ok (walk (entry_at b frames) frames 5 page) ≡ slot_leaf b frames page
+    result_ok (walk (opening_entry b frames) frames opening_root page) ≡ slot_leaf b frames page
 slot_walk b frames page layout list low high =
-    let t : ℕ → ℕ → ℕ = entry_at b frames in
+    let t : ℕ → ℕ → ℕ = opening_entry b frames in
     let least : 512 ≤ frames = layout.least in
     let index = slot_indices page low high in
     let third : ℕ = (page - slot_start) / 262144 in
@@ -271,7 +272,7 @@ slot_walk b frames page layout list low high =
     let root : t 5 (page_index page 4) ≡ link 6 = ap (t 5) index.0 ∙ root_entry_511 b frames in
     let slot : t 6 (page_index page 3) ≡ slot_entry third = (table_entries b frames (page_index page 3) (index_small page 3)).0 ∙ ap slot_entry index.1 in
     let area : t 7 (page_index page 2) ≡ cond (second == 0) (link 8) 0 = (table_entries b frames (page_index page 2) (index_small page 2)).1 ∙ ap (λ i. cond (i == 0) (link 8) 0) index.2 in
-    ap result_ok (walk_by_level t frames 5 page ∙ step_link t frames page 3 5 6 root (omega arith) (omega arith))
+    ap result_ok (walk_by_level t frames opening_root page ∙ step_link t frames page 3 5 6 root (omega arith) (omega arith))
     ∙ elim (cases_eq third 0) [
       | inl first ↦
           ap result_ok (step_link t frames page 2 6 7 (slot ∙ ap slot_entry first) (omega arith) (omega arith))

@@ -4,16 +4,17 @@ use Rattle.std.proofs.lemmas.Bool.{cond_both, cond-true, cond-false, ltb-true, l
 use Rattle.std.proofs.lemmas.List.Quantifiers.{position-Some}
 use Rattle.std.specs.List.{position}
 use Rattle.nk_bits.specs.declared.leaf.Rights.{Rights}
-use Rattle.nk_bits.specs.Memory.{entry_in}
+use Rattle.phys_mem.specs.Memory.{entry_in}
 use Rattle.nk_bits.specs.Paging.{all_rights, common, frame_of, is_missing, is_present, page_index, rights_of, walk}
-use Rattle.nk_bits.proofs.WalkLaws.{walk_alike, walk_by_level}
 use Rattle.boot_map.specs.declared.part.Part.{Part}
 use Rattle.boot_map.specs.declared.part.Part.TheVariants.{Root, SlotTable, AreaDirectory, ImageDirectory, RangeTable, MapRoot, MapDirectory, MapTable, Free}
 use Rattle.boot_map.specs.Division.{Division, IsLayout, division_of, free_start, map_start, map_tables, pages_start, tables_start}
 use Rattle.boot_map.specs.Parts.{part_at, sized_part}
-use Rattle.boot_map.specs.Entries.{entry_at, entry_of_part, link, map_directory_entry, range_entry, range_link, table_level}
+use Rattle.boot_map.specs.OpeningEntries.{opening_entry, entry_of_part, link, map_directory_entry, range_entry, range_link, table_level}
 use Rattle.boot_map.specs.Opening.{IsOpening}
+use Rattle.boot_map.specs.FixedFrames.{opening_root}
 use Rattle.boot_map.proofs.EntryLaws.{entry_stands}
+use Rattle.boot_map.proofs.WalkSchema.{walk_alike, walk_by_level}
 
 -- an entry that is 0, or a link to a table of this level
 abbrev pub Leads : Division → ℕ → ℕ → Type 0
@@ -30,7 +31,7 @@ choice_leads d level true x y h g = h
 choice_leads d level false x y h g = g
 
 -- which part some frames belong to
-sized_at : (d : Division) (f : ℕ) → 64 ≤ f → part_at d f ≡ sized_part d f
+pub sized_at : (d : Division) (f : ℕ) → 64 ≤ f → part_at d f ≡ sized_part d f
 unfolding part_at
 sized_at d f from = cond-false (nat_lt f 64) _ _ (le-ltb f 64 from)
 
@@ -47,19 +48,29 @@ mapped_at d f from =
     sized_at d f (omega arith) ∙ cond-false (nat_lt f (tables_start d)) _ _ (le-ltb _ _ (omega arith))
     ∙ cond-false (nat_lt f (pages_start d)) _ _ (le-ltb _ _ (omega arith)) ∙ cond-false (nat_lt f (map_start d)) _ _ (le-ltb _ _ from)
 
+pub map_root_part : (d : Division) → part_at d (map_start d) ≡ MapRoot
+map_root_part d = mapped_at d (map_start d) (omega arith) ∙ cond-true (map_start d == map_start d) _ _ (eq-eqb _ _ refl)
+
+pub map_directory_part : (d : Division) → part_at d (map_start d + 1) ≡ MapDirectory
+map_directory_part d =
+    mapped_at d (map_start d + 1) (omega arith) ∙ cond-false (map_start d + 1 == map_start d) _ _ (ne_eqb _ _ (λ e. absurd (omega (arith, e))))
+    ∙ cond-true (map_start d + 1 == map_start d + 1) _ _ (eq-eqb _ _ refl)
+
+pub map_table_part : (d : Division) (i : ℕ) → i < map_tables d → part_at d (map_start d + 2 + i) ≡ MapTable i
+map_table_part d i small =
+    let place : map_start d + 2 + i - (map_start d + 2) ≡ i = omega arith in
+    mapped_at d (map_start d + 2 + i) (omega arith) ∙ cond-false (map_start d + 2 + i == map_start d) _ _ (ne_eqb _ _ (λ e. absurd (omega (arith, e))))
+    ∙ cond-false (map_start d + 2 + i == map_start d + 1) _ _ (ne_eqb _ _ (λ e. absurd (omega (arith, e))))
+    ∙ cond-true (nat_lt (map_start d + 2 + i) (free_start d)) _ _ (lt-ltb _ _ (omega arith)) ∙ ap MapTable place
+
 map_root_at : (d : Division) → table_level (part_at d (map_start d)) ≡ 3
-map_root_at d = ap table_level (mapped_at d (map_start d) (omega arith) ∙ cond-true (map_start d == map_start d) _ _ (eq-eqb _ _ refl))
+map_root_at d = ap table_level (map_root_part d)
 
 map_directory_at : (d : Division) → table_level (part_at d (map_start d + 1)) ≡ 2
-map_directory_at d =
-    ap table_level (mapped_at d (map_start d + 1) (omega arith) ∙ cond-false (map_start d + 1 == map_start d) _ _ (ne_eqb _ _ (λ e. absurd (omega (arith, e))))
-    ∙ cond-true (map_start d + 1 == map_start d + 1) _ _ (eq-eqb _ _ refl))
+map_directory_at d = ap table_level (map_directory_part d)
 
 map_table_at : (d : Division) (i : ℕ) → i < map_tables d → table_level (part_at d (map_start d + 2 + i)) ≡ 1
-map_table_at d i small =
-    ap table_level (mapped_at d (map_start d + 2 + i) (omega arith) ∙ cond-false (map_start d + 2 + i == map_start d) _ _ (ne_eqb _ _ (λ e. absurd (omega (arith, e))))
-    ∙ cond-false (map_start d + 2 + i == map_start d + 1) _ _ (ne_eqb _ _ (λ e. absurd (omega (arith, e))))
-    ∙ cond-true (nat_lt (map_start d + 2 + i) (free_start d)) _ _ (lt-ltb _ _ (omega arith)))
+map_table_at d i small = ap table_level (map_table_part d i small)
 
 low_at : (d : Division) → (table_level (part_at d 6) ≡ 3) × (table_level (part_at d 7) ≡ 2) × (table_level (part_at d 8) ≡ 1) × (table_level (part_at d 9) ≡ 2)
 unfolding part_at
@@ -105,7 +116,7 @@ pub frame_of_link : (f : ℕ) → f < 2 ^ 40 → frame_of (link f) ≡ f
 unfolding frame_of link
 frame_of_link f small = omega arith
 
-frame_in_memory : (frames level e : ℕ) → is_missing frames level e ≡ false → frame_of e < frames
+pub frame_in_memory : (frames level e : ℕ) → is_missing frames level e ≡ false → frame_of e < frames
 unfolding is_missing
 frame_in_memory frames level e there = leb-false frames (frame_of e) (or_parts _ _ (or_parts _ _ there).0).1
 
@@ -122,35 +133,35 @@ pub index_small : (page level : ℕ) → page_index page level < 512
 unfolding page_index
 index_small page level = omega arith
 
-pub entry_within : (b : List ℕ) (frames f i : ℕ) → i < 512 → entry_at b frames f i ≡ entry_of_part b (division_of b frames) (part_at (division_of b frames) f) i
-unfolding entry_at
+pub entry_within : (b : List ℕ) (frames f i : ℕ) → i < 512 → opening_entry b frames f i ≡ entry_of_part b (division_of b frames) (part_at (division_of b frames) f) i
+unfolding opening_entry
 entry_within b frames f i small = cond-true (nat_lt i 512) _ _ (lt-ltb i 512 small)
 
-carries : (b : List ℕ) (frames page : ℕ) → free_start (division_of b frames) ≤ 2 ^ 40 → (level f : ℕ) (r : Rights) → IsTableAt (division_of b frames) (suc level) f r →
-    is_missing frames (suc level) (entry_at b frames f (page_index page (suc level))) ≡ false →
-    IsTableAt (division_of b frames) level (frame_of (entry_at b frames f (page_index page (suc level)))) (common r (rights_of (entry_at b frames f (page_index page (suc level)))))
+pub carries : (b : List ℕ) (frames page : ℕ) → free_start (division_of b frames) ≤ 2 ^ 40 → (level f : ℕ) (r : Rights) → IsTableAt (division_of b frames) (suc level) f r →
+    is_missing frames (suc level) (opening_entry b frames f (page_index page (suc level))) ≡ false →
+    IsTableAt (division_of b frames) level (frame_of (opening_entry b frames f (page_index page (suc level)))) (common r (rights_of (opening_entry b frames f (page_index page (suc level)))))
 carries b frames page most zero f r table there = tt
 carries b frames page most (suc level) f r table there =
     let d : Division = division_of b frames in
     let i : ℕ = page_index page (suc (suc level)) in
-    let leads : Leads d (suc level) (entry_at b frames f i) =
+    let leads : Leads d (suc level) (opening_entry b frames f i) =
     subst (Leads d (suc level)) (sym (entry_within b frames f i (index_small page (suc (suc level))))) (entry_leads b d (part_at d f) level i most table.1) in
-    (frame_in_memory frames (suc (suc level)) (entry_at b frames f i) there, led d frames (suc (suc level)) (suc level) (entry_at b frames f i) leads there)
+    (frame_in_memory frames (suc (suc level)) (opening_entry b frames f i) there, led d frames (suc (suc level)) (suc level) (opening_entry b frames f i) leads there)
 
-root_at : (d : Division) → table_level (part_at d 5) ≡ 4
+root_at : (d : Division) → table_level (part_at d opening_root) ≡ 4
 unfolding part_at
 root_at d = refl
 
 -- the walk over the opening memory is that over the opening's entries
-pub same_walk : (b m : List ℕ) (frames page : ℕ) → IsOpening b frames m → IsLayout b (division_of b frames) → walk (entry_in m) frames 5 page ≡ walk (entry_at b frames) frames 5 page
+pub same_walk : (b m : List ℕ) (frames page : ℕ) → IsOpening b frames m → IsLayout b (division_of b frames) → walk (entry_in m) frames opening_root page ≡ walk (opening_entry b frames) frames opening_root page
 same_walk b m frames page opening layout =
     let d : Division = division_of b frames in
     let least : 512 ≤ frames = layout.least in
     let most : frames ≤ 16384 = layout.most in
     let room : free_start d ≤ frames = layout.room in
     let small : free_start d ≤ 2 ^ 40 = omega arith in
-    walk_by_level (entry_in m) frames 5 page
-    ∙ walk_alike (entry_at b frames) frames page (IsTableAt d) (carries b frames page small) (entry_in m)
+    walk_by_level (entry_in m) frames opening_root page
+    ∙ walk_alike (opening_entry b frames) frames page (IsTableAt d) (carries b frames page small) (entry_in m)
     (λ level f r table. entry_stands b m frames f (page_index page (suc level)) opening layout table.0 (index_small page (suc level)) (omega (arith, table.1)))
-    4 5 all_rights (omega arith, root_at d)
-    ∙ sym (walk_by_level (entry_at b frames) frames 5 page)
+    4 opening_root all_rights (omega arith, root_at d)
+    ∙ sym (walk_by_level (opening_entry b frames) frames opening_root page)

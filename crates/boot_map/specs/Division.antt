@@ -1,12 +1,12 @@
 -- How the frames of memory are divided at the opening of an image, the file b: how many of each, and where each begins.
 use Rattle.std.specs.Prelude.{◌≡◌, ℕ, ◌+◌, ◌*◌, ◌/◌, ◌≤◌, Bool, List, length, filter}
 use Rattle.std.specs.List.{list_any, range_with_len}
-use Rattle.elf_image.specs.declared.elf.TheConstants.{HOME_START, PAGE_SIZE}
+use Rattle.elf_image.specs.Home.{home_start, page_size}
 use Rattle.elf_image.specs.Pages.{is_page, page_count}
 
 -- the number of the page that stands at this index of this range of the image's home; a range has 512 pages, 2 MiB
 abbrev pub page_in : ℕ → ℕ → ℕ
-page_in range index = HOME_START / PAGE_SIZE + 512 * range + index
+page_in range index = home_start / page_size + 512 * range + index
 
 -- some page of the range is the image's
 unfoldable pub is_touched : List ℕ → ℕ → Bool

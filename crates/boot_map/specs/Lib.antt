@@ -1,6 +1,8 @@
+-- What a reader must believe.
+pub mod FixedFrames
 pub mod Division
 pub mod Parts
-pub mod Kinds
-pub mod Entries
+pub mod OpeningKinds
+pub mod OpeningEntries
 pub mod Opening
-pub mod Slot
+pub mod KernelSlot

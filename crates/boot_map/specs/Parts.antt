@@ -1,22 +1,23 @@
 -- Which part of memory a frame belongs to at the opening, by the order of the frames.
 use Rattle.std.specs.Prelude.{ℕ, ◌+◌, ◌-◌, ◌<◌, ◌==◌, nat_lt, if◌then◌else◌, length}
 use Rattle.boot_map.specs.declared.part.Part.{Part}
-use Rattle.boot_map.specs.declared.part.Part.TheVariants.{Vectors, GateText, HandlerSlot, TrapStack, NestedStack, Root, SlotTable, AreaDirectory, AreaTable, ImageDirectory, Pool, WriteLog, WrittenBits, RegionBook, Descriptors, RangeTable, ImagePage, MapRoot, MapDirectory, MapTable, Free}
+use Rattle.boot_map.specs.declared.part.Part.TheVariants.{IdtAndTss, GateText, HandlerSlot, TrapStack, NestedStack, Root, SlotTable, AreaDirectory, AreaTable, ImageDirectory, Pool, WriteLog, WrittenBits, RegionBook, Descriptors, RangeTable, ImagePage, MapRoot, MapDirectory, MapTable, Free}
+use Rattle.boot_map.specs.FixedFrames.{area_directory, area_table, gate_text, handler_slot, idt_and_tss, image_directory, nested_stack, opening_root, slot_table, trap_stack}
 use Rattle.boot_map.specs.Division.{Division, map_tables, tables_start, pages_start, map_start, free_start}
 
 -- the 64 frames that every opening has alike
 abbrev pub common_part : ℕ → Part
 common_part f =
-    if f == 0 then Vectors
-    else if f == 1 then GateText
-    else if f == 2 then HandlerSlot
-    else if f == 3 then TrapStack
-    else if f == 4 then NestedStack
-    else if f == 5 then Root
-    else if f == 6 then SlotTable
-    else if f == 7 then AreaDirectory
-    else if f == 8 then AreaTable
-    else if f == 9 then ImageDirectory
+    if f == idt_and_tss then IdtAndTss
+    else if f == gate_text then GateText
+    else if f == handler_slot then HandlerSlot
+    else if f == trap_stack then TrapStack
+    else if f == nested_stack then NestedStack
+    else if f == opening_root then Root
+    else if f == slot_table then SlotTable
+    else if f == area_directory then AreaDirectory
+    else if f == area_table then AreaTable
+    else if f == image_directory then ImageDirectory
     else if nat_lt f 26 then Pool
     else if nat_lt f 42 then WriteLog
     else if nat_lt f 60 then WrittenBits

@@ -2,9 +2,13 @@
 
 ghost use Rattle.std.specs.Prelude.{◌≡◌, ◌+◌, ◌*◌, ◌<◌, ◌≤◌, length};
 ghost use Rattle.boot_map.specs.Division.{IsLayout};
-ghost use Rattle.boot_map.specs.Entries.{area_entry, entry_at, entry_of_part, fetch_leaf, link, map_directory_entry, map_entry, mapped_leaf, page_entry, page_leaf, range_entry, read_leaf, root_entry, slot_entry, write_leaf};
+ghost use Rattle.boot_map.specs.OpeningEntries.{area_entry, opening_entry, entry_of_part, fetch_leaf, link, map_directory_entry, map_entry, mapped_leaf, page_entry, page_leaf, range_entry, read_leaf, root_entry, slot_entry, write_leaf};
 ghost use Rattle.boot_map.specs.Parts.{IsPartOf};
 
+use crate::fixed_frames::{
+    AREA_DIRECTORY, AREA_TABLE, GATE_TEXT, HANDLER_SLOT, IDT_AND_TSS, IMAGE_DIRECTORY,
+    NESTED_STACK, SLOT_TABLE, TRAP_STACK,
+};
 use crate::image_pages::{page_in, place_of};
 use crate::layout::Layout;
 use crate::part::Part;
@@ -25,28 +29,28 @@ const NO_EXEC: u64 = 1 << 63;
 /// The number of entries in a table.
 pub const ENTRIES: usize = 512;
 
-#[tactic(auto, unfolding(crate::specs::Entries::link))]
+#[tactic(auto, unfolding(crate::specs::OpeningEntries::link))]
 fn link(frame: u32) -> u64
     ensures { result ≡ link frame }
 {
     4096 * frame as u64 + LINK
 }
 
-#[tactic(auto, unfolding(crate::specs::Entries::leaf))]
+#[tactic(auto, unfolding(crate::specs::OpeningEntries::leaf))]
 fn read_leaf(frame: u32) -> u64
     ensures { result ≡ read_leaf frame }
 {
     NO_EXEC + 4096 * frame as u64 + READ
 }
 
-#[tactic(auto, unfolding(crate::specs::Entries::leaf))]
+#[tactic(auto, unfolding(crate::specs::OpeningEntries::leaf))]
 fn write_leaf(frame: u32) -> u64
     ensures { result ≡ write_leaf frame }
 {
     NO_EXEC + 4096 * frame as u64 + WRITE
 }
 
-#[tactic(auto, unfolding(crate::specs::Entries::leaf))]
+#[tactic(auto, unfolding(crate::specs::OpeningEntries::leaf))]
 fn fetch_leaf(frame: u32) -> u64
     ensures { result ≡ fetch_leaf frame }
 {
@@ -57,8 +61,8 @@ fn slot_entry(index: usize) -> u64
     ensures { result ≡ slot_entry index }
 {
     match index {
-        0 => link(7),
-        510 => link(9),
+        0 => link(AREA_DIRECTORY),
+        510 => link(IMAGE_DIRECTORY),
         _ => 0,
     }
 }
@@ -67,11 +71,11 @@ fn area_entry(index: usize) -> u64
     ensures { result ≡ area_entry index }
 {
     match index {
-        0 => read_leaf(0),
-        1 => fetch_leaf(1),
-        2 => read_leaf(2),
-        3 => write_leaf(3),
-        4 => read_leaf(4),
+        0 => read_leaf(IDT_AND_TSS),
+        1 => fetch_leaf(GATE_TEXT),
+        2 => read_leaf(HANDLER_SLOT),
+        3 => write_leaf(TRAP_STACK),
+        4 => read_leaf(NESTED_STACK),
         16..=31 => read_leaf(10 + (index - 16) as u32),
         _ => 0,
     }
@@ -96,7 +100,7 @@ impl Layout {
     {
         match index {
             256 => link(self.map_start()),
-            511 => link(6),
+            511 => link(SLOT_TABLE),
             _ => 0,
         }
     }
@@ -166,7 +170,7 @@ impl Layout {
         match part {
             Part::Root => self.root_entry(index),
             Part::SlotTable => slot_entry(index),
-            Part::AreaDirectory if index == 0 => link(8),
+            Part::AreaDirectory if index == 0 => link(AREA_TABLE),
             Part::AreaTable => area_entry(index),
             Part::ImageDirectory => self.range_entry(index),
             Part::RangeTable(table) => self.page_entry(image, table, index),
@@ -177,14 +181,14 @@ impl Layout {
         }
     }
 
-    /// The entry at an index, at most 511, of a frame at the opening of the image whose layout this is; 0 where the frame
-    /// is no table.
-    #[tactic(auto, unfolding(crate::specs::Entries::entry_at))]
+    /// The entry at an index, at most 511, of a frame at the opening of the image whose layout this is; 0 where the
+    /// frame is no table.
+    #[tactic(auto, unfolding(crate::specs::OpeningEntries::opening_entry))]
     pub fn entry(&self, image: &Image, frame: u32, index: usize) -> u64
         requires layout { IsLayout image.now self.now }
         requires frame { frame < self.now.frames }
         requires index { index ≤ 511 }
-        ensures { result ≡ entry_at image.now self.now.frames frame index }
+        ensures { result ≡ opening_entry image.now self.now.frames frame index }
     {
         self.entry_of_part(image, self.part(frame), index)
     }

@@ -12,9 +12,10 @@ use elf_image::Image;
 /// The number of the first page of the image's home.
 pub const HOME_PAGE: u64 = 0xF_FFFF_FFF8_0000;
 
-/// The number of ranges in the image's home, and the number of pages in a range.
+/// The number of ranges in the image's home.
 pub const RANGES: usize = 512;
 
+/// The number of pages in a range.
 pub const RANGE_PAGES: u64 = 512;
 
 /// The number of bytes in a page.
@@ -32,7 +33,8 @@ fn page_number(image: &Image, place: u32) -> u64
 fn pages_before(image: &Image, page: u64) -> u32
     ensures within { result ≤ page_count image.now }
     ensures before { (i : ℕ) → i < result → slice_index (pages_of image.now) i < page }
-    ensures rest { (i : ℕ) → result ≤ i → i < page_count image.now → page ≤ slice_index (pages_of image.now) i }
+    ensures rest { (i : ℕ) → result ≤ i → i < page_count image.now
+        → page ≤ slice_index (pages_of image.now) i }
     ensures list { IsPageList image.now (pages_of image.now) }
 {
     let mut low = 0;

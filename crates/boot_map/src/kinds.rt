@@ -2,7 +2,7 @@
 
 ghost use Rattle.std.specs.Prelude.{◌≡◌, ◌<◌};
 ghost use Rattle.boot_map.specs.Division.{IsLayout};
-ghost use Rattle.boot_map.specs.Kinds.{kind_at, kind_of_part};
+ghost use Rattle.boot_map.specs.OpeningKinds.{kind_at, kind_of_part};
 ghost use Rattle.boot_map.specs.Parts.{IsPartOf};
 
 use crate::layout::Layout;
@@ -17,7 +17,7 @@ impl Layout {
         ensures { result ≡ kind_of_part image.now part }
     {
         match part {
-            Part::Vectors | Part::GateText | Part::HandlerSlot | Part::NestedStack => Kind::Fixed,
+            Part::IdtAndTss | Part::GateText | Part::HandlerSlot | Part::NestedStack => Kind::Fixed,
             Part::SlotTable | Part::AreaDirectory | Part::AreaTable => Kind::Fixed,
             Part::ImageDirectory | Part::RangeTable(_) => Kind::Fixed,
             Part::TrapStack => Kind::Trap,
@@ -34,7 +34,7 @@ impl Layout {
     }
 
     /// The kind of a frame at the opening of the image whose layout this is.
-    #[tactic(auto, unfolding(crate::specs::Kinds::kind_at))]
+    #[tactic(auto, unfolding(crate::specs::OpeningKinds::kind_at))]
     pub fn kind(&self, image: &Image, frame: u32) -> Kind
         requires layout { IsLayout image.now self.now }
         requires frame { frame < self.now.frames }

@@ -1,33 +1,97 @@
 //! What follows from the definitions of the opening for those who read its memory.
 
-ghost use Rattle.std.specs.Prelude.{◌≡◌, ℕ, ◌^◌, ◌<◌, ◌≤◌, List};
+ghost use Rattle.std.specs.Prelude.{◌≡◌, ◌⊎◌, ℕ, ◌+◌, ◌*◌, ◌^◌, ◌<◌, ◌≤◌, true, false, List, IfOk, IfSome, length, slice_index};
 ghost use Rattle.std.specs.Result.{result_ok};
-ghost use Rattle.nk_bits.specs.Memory.{entry_in};
-ghost use Rattle.nk_bits.specs.Paging.{walk};
-ghost use Rattle.elf_image.specs.Pages.{IsPageList, pages_of};
-ghost use Rattle.boot_map.specs.Division.{IsLayout, division_of};
-ghost use Rattle.boot_map.specs.Entries.{entry_at, table_level};
+ghost use Rattle.phys_mem.specs.Memory.{byte_at, entry_in};
+ghost use Rattle.nk_bits.specs.declared.kind.Kind.TheVariants.{Code, Fixed, Table, Trap};
+ghost use Rattle.nk_bits.specs.Kinds.{allows, is_storable, kind_of};
+ghost use Rattle.nk_bits.specs.Paging.{is_canonical_page, slot_value, walk};
+ghost use Rattle.gate_text.specs.Listing.{gate_byte};
+ghost use Rattle.elf_image.specs.Pages.{IsPageList, byte_of, page_count, pages_of};
+ghost use Rattle.boot_map.specs.FixedFrames.{area_directory, area_table, gate_text, handler_slot, idt_and_tss, image_directory, nested_stack, opening_root, slot_table, trap_stack};
+ghost use Rattle.boot_map.specs.Division.{IsLayout, division_of, pages_start};
+ghost use Rattle.boot_map.specs.OpeningKinds.{kind_at, kinds};
+ghost use Rattle.boot_map.specs.OpeningEntries.{opening_entry, link, table_level};
 ghost use Rattle.boot_map.specs.Opening.{IsOpening};
 ghost use Rattle.boot_map.specs.Parts.{part_at};
-ghost use Rattle.boot_map.specs.Slot.{slot_leaf, slot_start};
+ghost use Rattle.boot_map.specs.KernelSlot.{HoldsSlot, IsCodePage, slot_leaf, slot_start};
 
-/// The entries of the opening's tables stand in its memory, so that the walk from the opening's root finds in memory what
-/// it finds in the entries.
+/// The entries of the opening's tables stand in its memory, so that the walk from the opening's root finds in memory
+/// what it finds in the entries.
 #[tactic(auto, using(crate::proofs::EntryLaws::entry_stands, crate::proofs::WalkLaws::same_walk))]
 pub fn tables_law()
     ensures entries { (b m : List ℕ) (frames f i : ℕ) → IsOpening b frames m
         → IsLayout b (division_of b frames) → f < frames → i < 512
         → 0 < table_level (part_at (division_of b frames) f)
-        → entry_in m f i ≡ entry_at b frames f i }
+        → entry_in m f i ≡ opening_entry b frames f i }
     ensures walk { (b m : List ℕ) (frames page : ℕ) → IsOpening b frames m
         → IsLayout b (division_of b frames)
-        → walk (entry_in m) frames 5 page ≡ walk (entry_at b frames) frames 5 page }
+        → walk (entry_in m) frames opening_root page
+        ≡ walk (opening_entry b frames) frames opening_root page }
 {}
 
-/// The walk of a page of the kernel slot finds the slot's linear layout.
-#[tactic(auto, using(crate::proofs::SlotLaws::slot_walk))]
+/// The walk of a page of the kernel slot finds the slot's linear layout: from the opening's root, and from any root
+/// whose entry 511 is the slot's, over any tables that hold the slot; the opening's memory holds it.
 pub fn slot_law()
-    ensures { (b : List ℕ) (frames page : ℕ) → IsLayout b (division_of b frames) → IsPageList b (pages_of b)
-        → slot_start ≤ page → page < 2 ^ 52
-        → result_ok (walk (entry_at b frames) frames 5 page) ≡ slot_leaf b frames page }
+    ensures opening { (b : List ℕ) (frames page : ℕ) → IsLayout b (division_of b frames)
+        → IsPageList b (pages_of b) → slot_start ≤ page → page < 2 ^ 52
+        → result_ok (walk (opening_entry b frames) frames opening_root page) ≡ slot_leaf b frames page }
+    ensures any { (b : List ℕ) (frames root page : ℕ) (t : ℕ → ℕ → ℕ)
+        → IsLayout b (division_of b frames) → IsPageList b (pages_of b)
+        → HoldsSlot b frames t → t root 511 ≡ slot_value → slot_start ≤ page → page < 2 ^ 52
+        → result_ok (walk t frames root page) ≡ slot_leaf b frames page }
+    ensures held { (b m : List ℕ) (frames : ℕ) → IsOpening b frames m
+        → IsLayout b (division_of b frames) → HoldsSlot b frames (entry_in m) }
+    ensures link { link slot_table ≡ slot_value }
+{}
+
+/// What the leaves of the kernel slot grant: none is the user's, each names a frame in memory; an executable one is the
+/// gates' or that of an executable page of the image, whose frame is code; a writable one names a frame that may be
+/// stored to.
+pub fn slot_leaf_law()
+    ensures supervisor { (b : List ℕ) (frames page : ℕ)
+        → IfSome (slot_leaf b frames page) (λ leaf. leaf.rights.user ≡ false) }
+    ensures in_memory { (b : List ℕ) (frames page : ℕ) → IsLayout b (division_of b frames)
+        → IfSome (slot_leaf b frames page) (λ leaf. leaf.frame < frames) }
+    ensures executable { (b : List ℕ) (frames page : ℕ) → IfSome (slot_leaf b frames page)
+        (λ leaf. leaf.rights.exec ≡ true
+        → ((page ≡ slot_start + 1) × (leaf.frame ≡ gate_text))
+        ⊎ IsCodePage b frames page leaf.frame) }
+    ensures code { (b : List ℕ) (frames page frame : ℕ) → IsCodePage b frames page frame
+        → kind_at b frames frame ≡ Code }
+    ensures writable { (b : List ℕ) (frames page : ℕ) → IfSome (slot_leaf b frames page)
+        (λ leaf. leaf.rights.can_write ≡ true → is_storable (kind_at b frames leaf.frame) ≡ true) }
+{}
+
+/// The kinds of the frames that every opening has at the same place, and the list of the kinds of all frames.
+pub fn opening_kinds_law()
+    ensures fixed { (b : List ℕ) (frames : ℕ)
+        → (kind_at b frames idt_and_tss ≡ Fixed) × (kind_at b frames gate_text ≡ Fixed)
+        × (kind_at b frames handler_slot ≡ Fixed) × (kind_at b frames nested_stack ≡ Fixed)
+        × (kind_at b frames slot_table ≡ Fixed) × (kind_at b frames area_directory ≡ Fixed)
+        × (kind_at b frames area_table ≡ Fixed) × (kind_at b frames image_directory ≡ Fixed) }
+    ensures trap { (b : List ℕ) (frames : ℕ) → kind_at b frames trap_stack ≡ Trap }
+    ensures root { (b : List ℕ) (frames : ℕ) → kind_at b frames opening_root ≡ Table 4 }
+    ensures count { (b : List ℕ) (frames : ℕ) → length (kinds b frames) ≡ frames }
+    ensures each { (b : List ℕ) (frames frame : ℕ) → frame < frames
+        → kind_of (kinds b frames) frame ≡ kind_at b frames frame }
+{}
+
+/// The bytes of the gates' text and of the image's pages in the opening's memory.
+pub fn opening_bytes_law()
+    ensures gates { (b m : List ℕ) (frames o : ℕ) → IsOpening b frames m
+        → IsLayout b (division_of b frames) → o < 4096 → byte_at m (4096 * gate_text + o) ≡ gate_byte o }
+    ensures image { (b m : List ℕ) (frames place o : ℕ) → IsOpening b frames m
+        → IsLayout b (division_of b frames) → place < page_count b → o < 4096
+        → byte_at m (4096 * (pages_start (division_of b frames) + place) + o)
+        ≡ byte_of b (4096 * slice_index (pages_of b) place + o) }
+{}
+
+/// Outside the kernel slot the walk of a canonical page from the opening's root grants only what the kind of the frame
+/// that it finds allows.
+pub fn opening_respects_law()
+    ensures { (b : List ℕ) (frames page : ℕ) → IsLayout b (division_of b frames)
+        → IsPageList b (pages_of b) → is_canonical_page page ≡ true → page < slot_start
+        → IfOk (walk (opening_entry b frames) frames opening_root page)
+        (λ leaf. allows (kind_of (kinds b frames) leaf.frame) leaf.rights ≡ true) }
 {}

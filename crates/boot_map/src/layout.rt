@@ -51,7 +51,8 @@ impl Layout {
         ensures ok { IfOk result (λ layout. layout ≡ division_of image.now frames) }
         ensures layout { IfOk result (λ layout. IsLayout image.now layout) }
         ensures room { IsOk result ↔ (need image.now frames ≤ frames) }
-        ensures err { IfErr result (λ fault. fault ≡ record { need = need image.now frames; have = frames }) }
+        ensures err { IfErr result
+            (λ fault. fault ≡ record { need = need image.now frames; have = frames }) }
     {
         let layout = Layout {
             frames,

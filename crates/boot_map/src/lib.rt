@@ -1,11 +1,13 @@
 //! Lays out memory at the opening of an image: which frame serves what, the kind of each frame, the entries of the page
 //! tables and every byte. It meets the definitions of `specs/`, from `Division.antt` (how many frames of each part) to
 //! `Opening.antt` (the byte at each place). It reads the image through its public questions and writes nothing but the
-//! memory that it makes; registers, the walk of the tables and what happens afterwards it leaves to others.
+//! memory that it makes; registers, the walk of the tables and what happens afterwards it leaves to others. Floor:
+//! memory.
 
 #![tactic(auto)]
 
-// The image's pages, and the part of each frame.
+// The image's pages, and the part of each frame, some of which stand at one place.
+mod fixed_frames;
 mod image_pages;
 mod layout;
 mod part;
@@ -13,13 +15,19 @@ mod part;
 // What the parts hold.
 mod entries;
 mod kinds;
-mod vectors;
+mod traps;
 
 // The memory, and what follows for those who read it.
 mod laws;
 mod opening;
 
-pub use laws::{slot_law, tables_law};
+pub use fixed_frames::{
+    AREA_DIRECTORY, AREA_TABLE, GATE_TEXT, HANDLER_SLOT, IDT_AND_TSS, IMAGE_DIRECTORY,
+    NESTED_STACK, OPENING_ROOT, SLOT_TABLE, TRAP_STACK, fixed_frames_law,
+};
+pub use laws::{
+    opening_bytes_law, opening_kinds_law, opening_respects_law, slot_law, slot_leaf_law, tables_law,
+};
 pub use layout::{Layout, NoRoom};
 pub use opening::{NoMemory, prepare};
 

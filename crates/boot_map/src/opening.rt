@@ -3,14 +3,14 @@
 ghost use Rattle.std.specs.Prelude.{◌≡◌, ℕ, ◌+◌, ◌*◌, ◌<◌, ◌≤◌, IfOk, length, slice_index};
 ghost use Rattle.gate_text.specs.Listing.{gate_byte};
 ghost use Rattle.boot_map.specs.Division.{IsLayout, free_start};
-ghost use Rattle.boot_map.specs.Entries.{entry_of_part};
-ghost use Rattle.boot_map.specs.Opening.{IsFilled, IsOpening, byte_of_part, entry_byte, handler_byte, vectors_byte};
+ghost use Rattle.boot_map.specs.OpeningEntries.{entry_of_part};
+ghost use Rattle.boot_map.specs.Opening.{IsFilled, IsOpening, byte_of_part, entry_byte, handler_byte, idt_and_tss_byte};
 ghost use Rattle.boot_map.specs.Parts.{IsPartOf, part_at};
 
 use crate::entries::ENTRIES;
 use crate::layout::Layout;
 use crate::part::Part;
-use crate::vectors::{handler_byte, vectors_byte};
+use crate::traps::{handler_byte, idt_and_tss_byte};
 use elf_image::Image;
 use phys_mem::PhysMem;
 use std::alloc::Global;
@@ -19,12 +19,12 @@ use std::alloc::Global;
 #[derive(Clone, Copy, Debug, PartialEq, Eq)]
 pub struct NoMemory;
 
-fn fill_vectors(bytes: &mut [u8])
+fn fill_idt_and_tss(bytes: &mut [u8])
     requires { length bytes.old ≡ 4096 }
-    ensures { IsFilled vectors_byte bytes.new }
+    ensures { IsFilled idt_and_tss_byte bytes.new }
 {
     for (offset, byte) in bytes.iter_mut().enumerate() {
-        *byte = vectors_byte(offset);
+        *byte = idt_and_tss_byte(offset);
     }
 }
 
@@ -65,7 +65,7 @@ fn fill(layout: &Layout, image: &Image, part: Part, bytes: &mut [u8])
     ensures { IsFilled (byte_of_part image.now layout.now part) bytes.new }
 {
     match part {
-        Part::Vectors => fill_vectors(bytes),
+        Part::IdtAndTss => fill_idt_and_tss(bytes),
         Part::GateText => fill_gate_text(bytes),
         Part::HandlerSlot => fill_handler_slot(bytes),
         Part::Root

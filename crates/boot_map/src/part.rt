@@ -3,12 +3,17 @@
 ghost use Rattle.std.specs.Prelude.{◌≡◌, ◌<◌};
 ghost use Rattle.boot_map.specs.Parts.{common_part};
 
+use crate::fixed_frames::{
+    AREA_DIRECTORY, AREA_TABLE, GATE_TEXT, HANDLER_SLOT, IDT_AND_TSS, IMAGE_DIRECTORY,
+    NESTED_STACK, OPENING_ROOT, SLOT_TABLE, TRAP_STACK,
+};
+
 /// What a frame serves at the opening, in the order of the frames. Tables and pages of which there are several have
 /// their index.
 #[derive(Clone, Copy, Debug, PartialEq, Eq)]
 pub enum Part {
-    /// The interrupt descriptor table, and the task-state segment.
-    Vectors,
+    /// The interrupt descriptor table and the task-state segment.
+    IdtAndTss,
     GateText,
     /// The address of the outer kernel's trap handler.
     HandlerSlot,
@@ -45,16 +50,16 @@ pub fn common_part(frame: u32) -> Part
     ensures { result ≡ common_part frame }
 {
     match frame {
-        0 => Part::Vectors,
-        1 => Part::GateText,
-        2 => Part::HandlerSlot,
-        3 => Part::TrapStack,
-        4 => Part::NestedStack,
-        5 => Part::Root,
-        6 => Part::SlotTable,
-        7 => Part::AreaDirectory,
-        8 => Part::AreaTable,
-        9 => Part::ImageDirectory,
+        IDT_AND_TSS => Part::IdtAndTss,
+        GATE_TEXT => Part::GateText,
+        HANDLER_SLOT => Part::HandlerSlot,
+        TRAP_STACK => Part::TrapStack,
+        NESTED_STACK => Part::NestedStack,
+        OPENING_ROOT => Part::Root,
+        SLOT_TABLE => Part::SlotTable,
+        AREA_DIRECTORY => Part::AreaDirectory,
+        AREA_TABLE => Part::AreaTable,
+        IMAGE_DIRECTORY => Part::ImageDirectory,
         10..=25 => Part::Pool,
         26..=41 => Part::WriteLog,
         42..=59 => Part::WrittenBits,

@@ -1,3 +1,5 @@
+//! The opening of an image of one page, and of a large one: division, kinds, entries and bytes.
+
 use super::*;
 use elf_image::Image;
 use nk_bits::Kind;

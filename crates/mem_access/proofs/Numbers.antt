@@ -1,11 +1,11 @@
 -- Numbers by their bytes: one byte more, two parts, and stores one by one.
-use Rattle.std.proofs.Common.{◌≡◌, ℕ, zero, suc, ◌+◌, ◌-◌, ◌*◌, ◌/◌, ◌%◌, ◌^◌, ◌<◌, ◌≤◌, List, [], ◌∷◌, ◌++◌, set, arith, refl, sym, ap, ◌∙◌}
+use Rattle.std.proofs.Common.{◌≡◌, ℕ, zero, suc, ◌+◌, ◌-◌, ◌*◌, ◌/◌, ◌%◌, ◌^◌, ◌<◌, ◌≤◌, List, ◌++◌, set, arith, refl, sym, ap, ◌∙◌}
 use Rattle.std.proofs.Math.Nat.{pow-suc, pow-le-pow_right, mul-le-mul_left}
 use Rattle.std.proofs.lemmas.Nat.{pow-add}
 use Rattle.nk_bits.specs.declared.leaf.Target.{Target}
-use Rattle.nk_bits.specs.Memory.{byte_at, number_at, stores, stored}
-use Rattle.nk_bits.specs.Accesses.{first_part, value_at, stores_at}
-use Rattle.nk_bits.proofs.MemoryLaws.{stored-append}
+use Rattle.phys_mem.specs.Memory.{byte_at, number_at, stores, stored}
+use Rattle.nk_bits.specs.Accesses.{first_part}
+use Rattle.page_walk.specs.MemoryAccess.{value_at, stores_at}
 
 -- a number of one byte more
 pub number_first : (m : List ℕ) (n k p q : ℕ) → n ≡ suc k → q ≡ p + 1 → number_at m n p ≡ byte_at m p + 256 * number_at m k q
@@ -39,6 +39,13 @@ parts_fit low k high n few below above =
     let most : 256 ^ (k + n) ≤ 256 ^ 8 = pow-le-pow_right (omega arith) few in
     let split : 256 ^ k * (high + 1) ≡ 256 ^ k * high + 256 ^ k = omega arith in
     omega (arith, power, whole, most, split, below)
+
+pub parts_bound : (low k high n : ℕ) → low < 256 ^ k → high < 256 ^ n → low + 256 ^ k * high < 256 ^ (k + n)
+parts_bound low k high n below above =
+    let power : 256 ^ k * (high + 1) ≤ 256 ^ k * 256 ^ n = mul-le-mul_left (256 ^ k) (omega (arith, above)) in
+    let whole : 256 ^ (k + n) ≡ 256 ^ k * 256 ^ n = pow-add 256 k n in
+    let split : 256 ^ k * (high + 1) ≡ 256 ^ k * high + 256 ^ k = omega arith in
+    omega (arith, power, whole, split, below)
 
 pub shifted : (low k high n : ℕ) → k + n ≤ 8 → low < 256 ^ k → high < 256 ^ n → low + high * 2 ^ (8 * k) % 2 ^ 64 ≡ low + 256 ^ k * high
 shifted low k high n few below above =
@@ -82,16 +89,18 @@ module _ (m : List ℕ) (va width part : ℕ) (target : Target) (is : part ≡ f
       let first : low ≡ number_at m (first_part va width) target.first = read ∙ ap (λ x. number_at m x target.first) is in
       omega (arith, first, nothing)
 
-  pub one_part : (l : List ℕ) (value : ℕ) → part ≡ width → l ≡ stored m (stores part target.first value) → l ≡ stored m (stores_at va width target value)
-  one_part l value all put =
-      put ∙ ap (λ x. stored m (stores x target.first value)) is
-      ∙ sym (stored-append m (stores (first_part va width) target.first value) (stores (width - first_part va width) target.second (value / 256 ^ first_part va width))
-      ∙ store_none (stored m (stores (first_part va width) target.first value)) (width - first_part va width) target.second (value / 256 ^ first_part va width) (omega (arith, all, is)))
+  -- stores in two parts are those of the one and then of the other
+  module _ (stored-append : (m : List ℕ) (ws more : List (ℕ × ℕ)) → stored m (ws ++ more) ≡ stored (stored m ws) more) where
+    pub one_part : (l : List ℕ) (value : ℕ) → part ≡ width → l ≡ stored m (stores part target.first value) → l ≡ stored m (stores_at va width target value)
+    one_part l value all put =
+        put ∙ ap (λ x. stored m (stores x target.first value)) is
+        ∙ sym (stored-append m (stores (first_part va width) target.first value) (stores (width - first_part va width) target.second (value / 256 ^ first_part va width))
+        ∙ store_none (stored m (stores (first_part va width) target.first value)) (width - first_part va width) target.second (value / 256 ^ first_part va width) (omega (arith, all, is)))
 
-  pub two_parts : (l n : List ℕ) (value rest : ℕ) → rest ≡ value / 256 ^ part → l ≡ stored m (stores part target.first value) → n ≡ stored l (stores (width - part) target.second rest) →
-      n ≡ stored m (stores_at va width target value)
-  two_parts l n value rest left put then_put =
-      then_put
-      ∙ ap (λ (x : List ℕ × ℕ). stored x.0 (stores (width - part) target.second x.1)) (λ j. (put j, left j))
-      ∙ ap (λ x. stored (stored m (stores x target.first value)) (stores (width - x) target.second (value / 256 ^ x))) is
-      ∙ sym (stored-append m (stores (first_part va width) target.first value) (stores (width - first_part va width) target.second (value / 256 ^ first_part va width)))
+    pub two_parts : (l n : List ℕ) (value rest : ℕ) → rest ≡ value / 256 ^ part → l ≡ stored m (stores part target.first value) → n ≡ stored l (stores (width - part) target.second rest) →
+        n ≡ stored m (stores_at va width target value)
+    two_parts l n value rest left put then_put =
+        then_put
+        ∙ ap (λ (x : List ℕ × ℕ). stored x.0 (stores (width - part) target.second x.1)) (λ j. (put j, left j))
+        ∙ ap (λ x. stored (stored m (stores x target.first value)) (stores (width - x) target.second (value / 256 ^ x))) is
+        ∙ sym (stored-append m (stores (first_part va width) target.first value) (stores (width - first_part va width) target.second (value / 256 ^ first_part va width)))

@@ -1,9 +1,8 @@
 -- How the bytes of an access lie on its pages, and that the places found are those of a target.
-use Rattle.std.proofs.Common.{◌≡◌, ℕ, ◌+◌, ◌-◌, ◌%◌, ◌<◌, ◌≤◌, ◌⊎◌, true, false, arith, refl, sym, inl, inr}
-use Rattle.std.proofs.Math.Nat.{min-le_left, min-le_right, min-eq_left}
+use Rattle.std.proofs.Common.{◌≡◌, ℕ, ◌+◌, ◌-◌, ◌%◌, ◌≤◌, false, arith, refl}
+use Rattle.std.proofs.Math.Nat.{min-le_right, min-eq_left}
 use borrow.Author.Tests.{ltb-false}
 use Rattle.nk_bits.specs.Accesses.{IsTarget, first_part, crosses}
-use Rattle.mem_access.specs.Views.{IsWidth}
 
 -- the first page has room for its part
 pub part_room : (va width : ℕ) → first_part va width ≤ 4096 - va % 4096

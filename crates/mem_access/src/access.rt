@@ -1,19 +1,17 @@
-//! Loads, stores and fetches.
+//! Loads, stores and fetches. A width is in bytes: 1, 2, 4 or 8.
 
-ghost use Rattle.std.specs.Prelude.{◌≡◌, ◌+◌, ◌-◌, ◌*◌, ◌%◌, ◌<◌, ◌≤◌, ◌⊎◌, IsTrue, IfOk, OnErr, length};
-ghost use Rattle.nk_bits.specs.Memory.{stored};
-ghost use Rattle.nk_bits.specs.Access.{Write};
-ghost use Rattle.nk_bits.specs.Accesses.{NamesFramesIn, IsTarget, accessed, completed, loaded, fetched, written, stores_at, has_canonical_bytes as all_canonical};
-ghost use Rattle.mem_access.specs.Views.{view_under, IsWidth};
-ghost use Rattle.mem_access.specs.Answers.{done};
-ghost use Rattle.mem_access.specs.Requests.{access_of, view_by};
+ghost use Rattle.std.specs.Prelude.{◌≡◌, ◌+◌, ◌-◌, ◌*◌, ◌%◌, ◌^◌, ◌<◌, ◌≤◌, ◌⊎◌, IsTrue, IfOk, OnErr, length};
+ghost use Rattle.phys_mem.specs.Memory.{stored};
+ghost use Rattle.nk_bits.specs.declared.access.Access.TheVariants.{Write};
+ghost use Rattle.nk_bits.specs.Translations.{NamesFramesIn};
+ghost use Rattle.nk_bits.specs.Outcomes.{outcome_of};
+ghost use Rattle.nk_bits.specs.Accesses.{IsAccessSize, IsTarget, accessed, completed, has_canonical_bytes};
+ghost use Rattle.page_walk.specs.MemoryAccess.{fetched, loaded, saved, stores_at, view_of, written};
 
 use crate::bytes::{read, write};
-use crate::control::Control;
 use crate::pages::reach;
-use crate::request::{Purpose, Request};
 use crate::span::{crosses, has_canonical_bytes, next_page};
-use nk_bits::{AccessFault, Target};
+use nk_bits::{Access, AccessFault, Control, Target, span_law};
 use phys_mem::PhysMem;
 use tlb_model::Tlb;
 
@@ -29,15 +27,14 @@ pub fn load(
     width: u8,
 ) -> Result<u64, AccessFault>
     requires cpl { (cpl ≡ 0) ⊎ (cpl ≡ 3) }
-    requires width { IsWidth width }
+    requires width { IsAccessSize width }
     requires root { 4096 * control.now.root < length mem.now }
     requires frames { NamesFramesIn (length mem.now) tlb.old }
-    ensures value { result ≡ (loaded mem.now (view_under mem.now control.now cpl) tlb.old va width).answer }
-    ensures tlb { tlb.new ≡ (loaded mem.now (view_under mem.now control.now cpl) tlb.old va width).tlb }
+    ensures outcome { outcome_of result tlb.new ≡ loaded mem.now (view_of mem.now control.now cpl) tlb.old va width }
+    ensures bound { IfOk result (λ value. value < 256 ^ width) }
     ensures frames { NamesFramesIn (length mem.now) tlb.new }
 {
-    let request = Request::new(Purpose::Read, control, cpl);
-    match access(mem, tlb, &request, va, width) {
+    match access(mem, tlb, Access::Read, control, cpl, va, width) {
         Ok(target) => Ok(read(mem, &target, va, width)),
         Err(fault) => Err(fault),
     }
@@ -55,21 +52,19 @@ pub fn check_store(
     width: u8,
 ) -> Result<Target, AccessFault>
     requires cpl { (cpl ≡ 0) ⊎ (cpl ≡ 3) }
-    requires width { IsWidth width }
+    requires width { IsAccessSize width }
     requires root { 4096 * control.now.root < length mem.now }
     requires frames { NamesFramesIn (length mem.now) tlb.old }
-    ensures target { result ≡ (accessed (view_under mem.now control.now cpl) Write tlb.old va width).answer }
-    ensures tlb { tlb.new ≡ (accessed (view_under mem.now control.now cpl) Write tlb.old va width).tlb }
+    ensures outcome { outcome_of result tlb.new ≡ accessed (view_of mem.now control.now cpl) Write tlb.old va width }
     ensures frames { NamesFramesIn (length mem.now) tlb.new }
     ensures places { IfOk result (λ target. IsTarget (length mem.now) va width target) }
 {
-    let request = Request::new(Purpose::Write, control, cpl);
-    access(mem, tlb, &request, va, width)
+    access(mem, tlb, Access::Write, control, cpl, va, width)
 }
 
 /// Puts the `width` low bytes of `value` at the places of a write from `va` on that was judged before.
 pub fn commit(mem: &mut PhysMem, target: &Target, va: u64, width: u8, value: u64)
-    requires width { IsWidth width }
+    requires width { IsAccessSize width }
     requires target { IsTarget (length mem.old) va width target.now }
     ensures stored { mem.new ≡ stored mem.old (stores_at va width target.now value) }
     ensures length { length mem.new ≡ length mem.old }
@@ -91,12 +86,12 @@ pub fn store(
     value: u64,
 ) -> Result<(), AccessFault>
     requires cpl { (cpl ≡ 0) ⊎ (cpl ≡ 3) }
-    requires width { IsWidth width }
+    requires width { IsAccessSize width }
     requires root { 4096 * control.now.root < length mem.old }
     requires frames { NamesFramesIn (length mem.old) tlb.old }
-    ensures result { result ≡ done (accessed (view_under mem.old control.now cpl) Write tlb.old va width).answer }
-    ensures tlb { tlb.new ≡ (accessed (view_under mem.old control.now cpl) Write tlb.old va width).tlb }
-    ensures memory { mem.new ≡ written mem.old va width value (accessed (view_under mem.old control.now cpl) Write tlb.old va width).answer }
+    ensures outcome { outcome_of result tlb.new ≡ saved (view_of mem.old control.now cpl) tlb.old va width }
+    ensures memory { mem.new ≡ written mem.old va width value
+        (accessed (view_of mem.old control.now cpl) Write tlb.old va width).answer }
     ensures refused { OnErr result (mem.new ≡ mem.old) }
     ensures length { length mem.new ≡ length mem.old }
     ensures frames { NamesFramesIn (length mem.new) tlb.new }
@@ -123,12 +118,10 @@ pub fn fetch_byte(
     requires cpl { (cpl ≡ 0) ⊎ (cpl ≡ 3) }
     requires root { 4096 * control.now.root < length mem.now }
     requires frames { NamesFramesIn (length mem.now) tlb.old }
-    ensures byte { result ≡ (fetched mem.now (view_under mem.now control.now cpl) tlb.old va).answer }
-    ensures tlb { tlb.new ≡ (fetched mem.now (view_under mem.now control.now cpl) tlb.old va).tlb }
+    ensures outcome { outcome_of result tlb.new ≡ fetched mem.now (view_of mem.now control.now cpl) tlb.old va }
     ensures frames { NamesFramesIn (length mem.now) tlb.new }
 {
-    let request = Request::new(Purpose::Fetch, control, cpl);
-    match access(mem, tlb, &request, va, 1) {
+    match access(mem, tlb, Access::Fetch, control, cpl, va, 1) {
         Ok(target) => Ok(mem.load8(target.first)),
         Err(fault) => Err(fault),
     }
@@ -138,23 +131,25 @@ pub fn fetch_byte(
 fn access(
     mem: &PhysMem,
     tlb: &mut Tlb,
-    request: &Request,
+    access: Access,
+    control: &Control,
+    cpl: u8,
     va: u64,
     width: u8,
 ) -> Result<Target, AccessFault>
     requires width { (1 ≤ width) × (width ≤ 8) }
-    requires root { 4096 * request.now.root < length mem.now }
+    requires root { 4096 * control.now.root < length mem.now }
     requires frames { NamesFramesIn (length mem.now) tlb.old }
-    ensures target { result ≡ (accessed (view_by mem.now request.now) (access_of request.now.purpose) tlb.old va width).answer }
-    ensures tlb { tlb.new ≡ (accessed (view_by mem.now request.now) (access_of request.now.purpose) tlb.old va width).tlb }
+    ensures outcome { outcome_of result tlb.new ≡ accessed (view_of mem.now control.now cpl) access tlb.old va width }
     ensures frames { NamesFramesIn (length mem.now) tlb.new }
     ensures places { IfOk result (λ target. IsTarget (length mem.now) va width target) }
 {
+    span_law();
     if !has_canonical_bytes(va, width) {
         return Err(AccessFault::NonCanonical);
     }
-    match reach(mem, tlb, request, va) {
-        Ok(first) => complete(mem, tlb, request, va, width, first),
+    match reach(mem, tlb, access, control, cpl, va) {
+        Ok(first) => complete(mem, tlb, access, control, cpl, va, width, first),
         Err(fault) => Err(fault),
     }
 }
@@ -163,26 +158,29 @@ fn access(
 fn complete(
     mem: &PhysMem,
     tlb: &mut Tlb,
-    request: &Request,
+    access: Access,
+    control: &Control,
+    cpl: u8,
     va: u64,
     width: u8,
     first: u64,
 ) -> Result<Target, AccessFault>
     requires width { (1 ≤ width) × (width ≤ 8) }
-    requires root { 4096 * request.now.root < length mem.now }
+    requires root { 4096 * control.now.root < length mem.now }
     requires frames { NamesFramesIn (length mem.now) tlb.old }
-    requires canonical { IsTrue (all_canonical va width) }
+    requires canonical { IsTrue (has_canonical_bytes va width) }
     requires agrees { first % 4096 ≡ va % 4096 }
     requires inside { first + (4096 - va % 4096) ≤ length mem.now }
-    ensures target { result ≡ (completed (view_by mem.now request.now) (access_of request.now.purpose) va width first tlb.old).answer }
-    ensures tlb { tlb.new ≡ (completed (view_by mem.now request.now) (access_of request.now.purpose) va width first tlb.old).tlb }
+    ensures outcome { outcome_of result tlb.new
+        ≡ completed (view_of mem.now control.now cpl) access va width first tlb.old }
     ensures frames { NamesFramesIn (length mem.now) tlb.new }
     ensures places { IfOk result (λ target. IsTarget (length mem.now) va width target) }
 {
+    span_law();
     if !crosses(va, width) {
         return Ok(Target { first, second: 0 });
     }
-    match reach(mem, tlb, request, next_page(va)) {
+    match reach(mem, tlb, access, control, cpl, next_page(va)) {
         Ok(second) => Ok(Target { first, second }),
         Err(fault) => Err(fault),
     }

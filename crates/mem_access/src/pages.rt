@@ -1,31 +1,40 @@
 //! The pages of an access: each is looked up and judged.
 
 ghost use Rattle.std.specs.Prelude.{◌≡◌, ℕ, ◌+◌, ◌-◌, ◌*◌, ◌/◌, ◌%◌, ◌^◌, ◌<◌, ◌≤◌, IsTrue, IfOk, IfSome, length};
-ghost use Rattle.nk_bits.specs.Memory.{entry_in};
+ghost use Rattle.phys_mem.specs.Memory.{entry_in};
 ghost use Rattle.nk_bits.specs.Paging.{page_of, is_canonical};
-ghost use Rattle.nk_bits.specs.Tlb.{translation, tlb_after};
-ghost use Rattle.nk_bits.specs.Accesses.{NamesFramesIn, reached, judged, place_in};
-ghost use Rattle.mem_access.specs.Requests.{access_of, view_by};
+ghost use Rattle.nk_bits.specs.Translations.{NamesFramesIn, translation, tlb_after};
+ghost use Rattle.nk_bits.specs.Outcomes.{outcome_of};
+ghost use Rattle.nk_bits.specs.Accesses.{reached, judged, place_in};
+ghost use Rattle.page_walk.specs.MemoryAccess.{view_of};
 
-use crate::request::Request;
-use nk_bits::{AccessFault, Leaf};
+use crate::rights::{fault_code, may};
+use nk_bits::{Access, AccessFault, Control, Leaf, access_law, translation_law};
 use page_walk::walk;
 use phys_mem::PhysMem;
 use tlb_model::Tlb;
 
-/// The place in memory of the byte at `va`, once its page is found and judged. A page that faults loses its translation.
-pub fn reach(mem: &PhysMem, tlb: &mut Tlb, request: &Request, va: u64) -> Result<u64, AccessFault>
-    requires root { 4096 * request.now.root < length mem.now }
+/// The place in memory of the byte at `va`, once its page is found and judged. A page that faults loses its
+/// translation.
+pub fn reach(
+    mem: &PhysMem,
+    tlb: &mut Tlb,
+    access: Access,
+    control: &Control,
+    cpl: u8,
+    va: u64,
+) -> Result<u64, AccessFault>
+    requires root { 4096 * control.now.root < length mem.now }
     requires frames { NamesFramesIn (length mem.now) tlb.old }
     requires canonical { IsTrue (is_canonical va) }
-    ensures result { result ≡ (reached (view_by mem.now request.now) (access_of request.now.purpose) tlb.old va).answer }
-    ensures tlb { tlb.new ≡ (reached (view_by mem.now request.now) (access_of request.now.purpose) tlb.old va).tlb }
+    ensures outcome { outcome_of result tlb.new ≡ reached (view_of mem.now control.now cpl) access tlb.old va }
     ensures frames { NamesFramesIn (length mem.now) tlb.new }
     ensures agrees { IfOk result (λ place. place % 4096 ≡ va % 4096) }
     ensures inside { IfOk result (λ place. place + (4096 - va % 4096) ≤ length mem.now) }
 {
-    let leaf = translate(mem, tlb, request.root, va);
-    let answer = judge(mem, request, va, leaf);
+    access_law();
+    let leaf = translate(mem, tlb, control.root, va);
+    let answer = judge(mem, access, control, cpl, va, leaf);
     if answer.is_err() {
         tlb.drop_page(page(va));
     }
@@ -41,6 +50,7 @@ fn translate(mem: &PhysMem, tlb: &mut Tlb, root: u32, va: u64) -> Option<Leaf>
     ensures tlb { tlb.new ≡ tlb_after (entry_in mem.now) (length mem.now / 4096) root tlb.old (page_of va) }
     ensures frame { IfSome result (λ leaf. 4096 * leaf.frame < length mem.now) }
 {
+    translation_law();
     if let Some(leaf) = tlb.look(page(va)) {
         return Some(leaf);
     }
@@ -54,16 +64,23 @@ fn translate(mem: &PhysMem, tlb: &mut Tlb, root: u32, va: u64) -> Option<Leaf>
 }
 
 /// The place of the byte at `va` where its page's translation serves the access.
-fn judge(mem: &PhysMem, request: &Request, va: u64, leaf: Option<Leaf>) -> Result<u64, AccessFault>
+fn judge(
+    mem: &PhysMem,
+    access: Access,
+    control: &Control,
+    cpl: u8,
+    va: u64,
+    leaf: Option<Leaf>,
+) -> Result<u64, AccessFault>
     requires frame { IfSome leaf (λ leaf. 4096 * leaf.frame < length mem.now) }
-    ensures result { result ≡ judged (view_by mem.now request.now) (access_of request.now.purpose) va leaf }
+    ensures result { result ≡ judged (view_of mem.now control.now cpl) access va leaf }
     ensures agrees { IfOk result (λ place. place % 4096 ≡ va % 4096) }
     ensures inside { IfOk result (λ place. place + (4096 - va % 4096) ≤ length mem.now) }
 {
     match leaf {
-        Some(leaf) if request.is_served_by(leaf.rights) => Ok(place_of(mem, leaf, va)),
+        Some(leaf) if may(access, leaf.rights, control, cpl) => Ok(place_of(mem, leaf, va)),
         _ => Err(AccessFault::Page {
-            code: request.fault_code(leaf.is_some()),
+            code: fault_code(access, cpl, leaf.is_some()),
             address: va,
         }),
     }

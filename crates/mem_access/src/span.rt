@@ -1,7 +1,7 @@
-//! The bytes of an access by address: whether each is canonical, and how they lie on pages.
+//! The bytes of an access by address: whether each is canonical, and how they lie on pages. A width is in bytes.
 
 ghost use Rattle.std.specs.Prelude.{◌≡◌, ◌+◌, ◌-◌, ◌*◌, ◌/◌, ◌%◌, ◌^◌, ◌<◌, ◌≤◌};
-ghost use Rattle.nk_bits.specs.Accesses.{has_canonical_bytes as all_canonical, crosses as has_second_page, first_part as part_of, next_page as page_after};
+ghost use Rattle.nk_bits.specs.Accesses.{has_canonical_bytes, crosses, first_part, next_page};
 
 use nk_bits::canonical;
 
@@ -10,7 +10,7 @@ const PAGE_BYTES: u64 = 4096;
 /// Whether each byte's address is canonical; addresses wrap at 2^64.
 #[tactic(auto, unfolding(nk_bits::specs::Accesses::has_canonical_bytes))]
 pub fn has_canonical_bytes(va: u64, width: u8) -> bool
-    ensures { result ≡ all_canonical va width }
+    ensures { result ≡ has_canonical_bytes va width }
 {
     (0..width).all(|k| canonical(va.wrapping_add(u64::from(k))))
 }
@@ -18,7 +18,7 @@ pub fn has_canonical_bytes(va: u64, width: u8) -> bool
 /// Whether the access has a second page.
 #[tactic(auto, unfolding(nk_bits::specs::Accesses::crosses))]
 pub fn crosses(va: u64, width: u8) -> bool
-    ensures { result ≡ has_second_page va width }
+    ensures { result ≡ crosses va width }
 {
     va % PAGE_BYTES + u64::from(width) > PAGE_BYTES
 }
@@ -26,7 +26,7 @@ pub fn crosses(va: u64, width: u8) -> bool
 /// How many of the bytes lie on the first page.
 #[tactic(auto, unfolding(nk_bits::specs::Accesses::first_part))]
 pub fn first_part(va: u64, width: u8) -> u8
-    ensures part { result ≡ part_of va width }
+    ensures part { result ≡ first_part va width }
     ensures bound { result ≤ width }
     ensures room { result ≤ 4096 - va % 4096 }
 {
@@ -37,7 +37,7 @@ pub fn first_part(va: u64, width: u8) -> u8
 /// The address of the first byte of the next page.
 #[tactic(auto, unfolding(nk_bits::specs::Accesses::next_page))]
 pub fn next_page(va: u64) -> u64
-    ensures page { result ≡ page_after va }
+    ensures page { result ≡ next_page va }
     ensures start { result % 4096 ≡ 0 }
 {
     (va / PAGE_BYTES * PAGE_BYTES).wrapping_add(PAGE_BYTES)

@@ -1,9 +1,9 @@
-//! Accesses over small memories, by the rules of SDM volume 3, 4.6 to 4.10: the tables stand in frames 1 to 4, and pages 0
-//! and 1 in frames 8 and 9.
+//! Accesses over small memories, by the rules of SDM volume 3, 4.6 to 4.10: the tables stand in frames 1 to 4, and
+//! pages 0 and 1 in frames 8 and 9.
 
 ghost use Rattle.std.specs.Prelude.{◌≡◌, ◌*◌, ◌<◌, ◌⊎◌, IfOk, length};
-ghost use Rattle.nk_bits.specs.Accesses.{NamesFramesIn};
-ghost use Rattle.mem_access.specs.Views.{IsWidth};
+ghost use Rattle.nk_bits.specs.Accesses.{IsAccessSize};
+ghost use Rattle.nk_bits.specs.Translations.{NamesFramesIn};
 
 use super::{AccessFault, Control, Target, check_store, commit, fetch_byte, load, store};
 use phys_mem::{NoMemory, PhysMem};
@@ -12,16 +12,16 @@ use std::test::Fail;
 use tlb_model::Tlb;
 
 /// Flags of an entry: P, R/W and U/S.
-const ALL: u64 = 0x7;
+pub const ALL: u64 = 0x7;
 
-const READ_ONLY: u64 = 0x5;
+pub const READ_ONLY: u64 = 0x5;
 
 const SUPERVISOR: u64 = 0x3;
 
 const ABSENT: u64 = 0x6;
 
 /// WP and SMEP are set.
-const CONTROL: Control = Control {
+pub const CONTROL: Control = Control {
     cr0: 0x8001_0011,
     cr2: 0,
     root: 1,
@@ -38,7 +38,7 @@ const WITHOUT_WP: Control = Control {
 };
 
 /// A memory with pages 0 and 1, whose leaves have these flags.
-fn memory(alloc: Global, first: u64, second: u64) -> Result<PhysMem, NoMemory>
+pub fn memory(alloc: Global, first: u64, second: u64) -> Result<PhysMem, NoMemory>
     requires first { first < 4096 }
     requires second { second < 4096 }
     ensures { IfOk result (λ mem. length mem ≡ 65536) }
@@ -147,7 +147,7 @@ fn refusals(
     code: u64,
 ) -> u8
     requires cpl { (cpl ≡ 0) ⊎ (cpl ≡ 3) }
-    requires width { IsWidth width }
+    requires width { IsAccessSize width }
     requires length { length mem.old ≡ 65536 }
     requires root { 4096 * control.now.root < length mem.old }
     requires frames { NamesFramesIn (length mem.old) tlb.old }

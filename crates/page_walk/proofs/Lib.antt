@@ -1,1 +1,3 @@
-pub mod LookUps
+mod LookUps
+mod Places
+mod WorkedBytes

@@ -1,1 +1,4 @@
-pub mod Outcomes
+-- What a reader must believe.
+pub mod WalkAnswers
+pub mod MemoryAccess
+pub mod AccessPlans

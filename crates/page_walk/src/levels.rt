@@ -1,11 +1,11 @@
 //! The look-ups of a walk, one a level.
 
 ghost use Rattle.std.specs.Prelude.{◌≡◌, ◌+◌, ◌*◌, ◌/◌, ◌<◌, ◌≤◌, false, IsTrue, IfOk, IfErr, length};
-ghost use Rattle.nk_bits.specs.Memory.{entry_in};
-ghost use Rattle.nk_bits.specs.Paging.{page_of, page_index, is_canonical, is_missing as is_missing_entry, frame_of, common as granted_by_both, walk as walk_of, walk_from};
-ghost use Rattle.page_walk.specs.Outcomes.{leaf_or_level};
+ghost use Rattle.phys_mem.specs.Memory.{entry_in};
+ghost use Rattle.nk_bits.specs.Paging.{page_of, page_index, is_canonical, is_missing, frame_of, common, walk, walk_from};
+ghost use Rattle.page_walk.specs.WalkAnswers.{leaf_or_level};
 
-use nk_bits::{Entry, Leaf, Rights, index};
+use nk_bits::{Entry, Leaf, Rights, index, walk_law};
 use phys_mem::PhysMem;
 
 /// An entry on the path of a walk is missing: it isn't present, names a frame outside memory, or names a large page.
@@ -31,17 +31,18 @@ const ALL: Rights = Rights {
     exec: true,
 };
 
-/// Finds the frame of the page of a canonical address, and the rights common to its four entries, from the table of level
-/// 4 in frame `root` down: SDM volume 3, 4.5.
+/// Finds the frame of the page of a canonical address, and the rights common to its four entries, from the table of
+/// level 4 in frame `root` down: SDM volume 3, 4.5.
 ///
 /// Returns `Missing` with the first level whose entry is missing.
 pub fn walk(mem: &PhysMem, root: u32, va: u64) -> Result<Leaf, Missing>
     requires root { 4096 * root < length mem.now }
     requires canonical { IsTrue (is_canonical va) }
-    ensures result { leaf_or_level result ≡ walk_of (entry_in mem.now) (length mem.now / 4096) root (page_of va) }
+    ensures result { leaf_or_level result ≡ walk (entry_in mem.now) (length mem.now / 4096) root (page_of va) }
     ensures frame { IfOk result (λ leaf. 4096 * leaf.frame < length mem.now) }
     ensures level { IfErr result (λ missing. (1 ≤ missing.level) × (missing.level ≤ 4)) }
 {
+    walk_law();
     let start = Reached {
         frame: root,
         rights: ALL,
@@ -53,10 +54,12 @@ pub fn walk(mem: &PhysMem, root: u32, va: u64) -> Result<Leaf, Missing>
 fn descend(mem: &PhysMem, level: u8, reached: Reached, va: u64) -> Result<Leaf, Missing>
     requires level { level ≤ 4 }
     requires frame { 4096 * reached.frame < length mem.now }
-    ensures result { leaf_or_level result ≡ walk_from (entry_in mem.now) (length mem.now / 4096) (page_of va) level reached.frame reached.rights }
+    ensures result { leaf_or_level result
+        ≡ walk_from (entry_in mem.now) (length mem.now / 4096) (page_of va) level reached.frame reached.rights }
     ensures frame { IfOk result (λ leaf. 4096 * leaf.frame < length mem.now) }
     ensures level { IfErr result (λ missing. (1 ≤ missing.level) × (missing.level ≤ level)) }
 {
+    walk_law();
     if level == 0 {
         return Ok(Leaf {
             frame: reached.frame,
@@ -87,7 +90,7 @@ fn entry_at(mem: &PhysMem, table: u32, level: u8, va: u64) -> Entry
 
 /// Whether an entry of a table of this level leads nowhere, in a memory of so many frames.
 fn is_missing(entry: Entry, level: u8, frames: u32) -> bool
-    ensures value { result ≡ is_missing_entry frames level entry.0 }
+    ensures value { result ≡ is_missing frames level entry.0 }
     ensures frame { result ≡ false → frame_of entry.0 < frames }
 {
     let is_outside = entry.frame() >= u64::from(frames);
@@ -97,7 +100,7 @@ fn is_missing(entry: Entry, level: u8, frames: u32) -> bool
 
 /// The rights that both grant.
 fn common(one: Rights, other: Rights) -> Rights
-    ensures value { result ≡ granted_by_both one other }
+    ensures value { result ≡ common one other }
 {
     Rights {
         can_write: one.can_write && other.can_write,

@@ -1,11 +1,20 @@
-//! The walk over the page tables in memory: SDM volume 3, 4.5. It finds the frame and the rights of a page, or the first
-//! level whose entry is missing, exactly as `nk_bits` defines the walk over the table function of a memory. It reads
-//! memory and changes nothing; what a walk is made for, and the translations that are kept, are left to others.
+//! The walk over the page tables in memory: SDM volume 3, 4.5. It finds the frame and the rights of a page, or the
+//! first level whose entry is missing, exactly as `nk_bits` defines the walk over a table function, here that of a
+//! memory. Paging meets memory in `specs/MemoryAccess.antt`, which says what an access by linear address reads and
+//! leaves. The crate reads memory and changes nothing; what a walk is made for, and the translations that are kept, are
+//! left to others. Floor: memory.
 #![tactic(auto)]
 
+// The walk, and the accesses that an instruction plans.
 mod levels;
+mod plan;
+
+// What follows from the definitions.
+mod laws;
 #[cfg(test)]
 mod tests;
 
+pub use laws::places_law;
 pub use levels::{Missing, walk};
 pub use nk_bits::Leaf;
+pub use plan::{Gathered, Plan, Source, Span, SpanFault};

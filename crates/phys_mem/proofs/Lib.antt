@@ -1,3 +1,9 @@
-pub mod FrameLaws
+mod EntryPlaces
+mod FrameBytes
+mod MemoryLaws
 mod Patches
+mod Rows
+mod RunLaws
+mod Sharing
 mod Words
+mod WorkedMemory

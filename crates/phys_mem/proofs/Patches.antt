@@ -2,9 +2,9 @@
 use Rattle.std.proofs.Common.{◌≡◌, ℕ, ◌+◌, ◌≤◌, List, length, replicate, ap, ◌∙◌, arith}
 use Rattle.std.proofs.lemmas.List.{length-replicate}
 use Rattle.std.proofs.Math.Seq.{sets, sets-eq}
-use Rattle.nk_bits.specs.Memory.{patched}
-use Rattle.raw_block.specs.Runs.{with_run}
-use Rattle.raw_block.proofs.RunLaws.{with_run-fits, length-with_run}
+use Rattle.phys_mem.specs.Memory.{patched}
+use Rattle.phys_mem.specs.Runs.{with_run}
+use Rattle.phys_mem.proofs.RunLaws.{with_run-fits, length-with_run}
 
 -- bytes set in turn are a patch
 pub sets-patched : (m : List ℕ) (p : ℕ) (bs : List ℕ) → p + length bs ≤ length m → sets m p bs ≡ patched m p bs

@@ -4,7 +4,7 @@ use Rattle.std.specs.Int.{from_le_bytes, to_le_bytes, bytes_low_first, byte_at}
 use Rattle.std.proofs.lemmas.List.{get_or-take, get_or-drop}
 use Rattle.std.proofs.Math.Nat.{div-div-eq-div-mul, pow-suc, div-one}
 use Rattle.std.proofs.Math.Seq.{sets}
-use Rattle.nk_bits.specs.Memory.{number_at, stores, stored, patched}
+use Rattle.phys_mem.specs.Memory.{number_at, stores, stored, patched}
 use Rattle.phys_mem.proofs.Patches.{sets-patched}
 
 -- byte i of a run of eight is that of the memory

@@ -1,1 +1,8 @@
-pub mod Frames
+-- What a reader must believe.
+pub mod Memory
+pub mod Runs
+pub mod FrameLends
+-- Words of private clauses and proofs.
+pub mod Ownership
+pub mod CellsLends
+pub mod BlockLends

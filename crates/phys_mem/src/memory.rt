@@ -1,13 +1,12 @@
+//! The memory, over its one block of bytes.
+
 ghost use Rattle.std.specs.Prelude.{◌≡◌, ℕ, ◌+◌, ◌*◌, ◌<◌, ◌≤◌, IfOk, List, length};
 ghost use Rattle.std.specs.Borrow.{sem};
-ghost use Rattle.nk_bits.specs.Memory.{byte_at, number_at, stores, stored, frame_bytes, frame_zeroed};
+ghost use Rattle.phys_mem.specs.Memory.{IsBytes, byte_at, number_at, stores, stored, frame_bytes, frame_zeroed};
 
-use raw_block::RawBlock;
+use crate::block::RawBlock;
 use std::alloc::Global;
 use std::marker::Model;
-
-/// The most frames that a memory has.
-pub const MAX_FRAMES: u32 = 16_384;
 
 const FRAME_BYTES: usize = 4096;
 
@@ -24,21 +23,20 @@ pub struct PhysMem {
 
 impl Model for PhysMem {
     ghost use Rattle.std.specs.Prelude.{ℕ, ◌≡◌, ◌*◌, ◌≤◌, List, length};
-    ghost use Rattle.phys_mem.specs.declared.memory.TheConstants.{MAX_FRAMES};
 
     ghost Value = { List ℕ };
 
     ghost view = { λ m. m.block };
 
-    ghost invariant = { λ m. (1 ≤ m.frames) × (m.frames ≤ MAX_FRAMES) × (length m.block ≡ 4096 * m.frames) };
+    ghost invariant = { λ m. (1 ≤ m.frames) × (m.frames ≤ 16384) × (length m.block ≡ 4096 * m.frames) };
 }
 
 impl PhysMem {
-    ghost use Rattle.phys_mem.specs.Frames.{LendsFrame};
+    ghost use Rattle.phys_mem.specs.FrameLends.{LendsFrame};
 
     /// A memory of `frames` frames, from 1 to 16,384.
     pub fn new(alloc: Global, frames: u32) -> Result<PhysMem, NoMemory>
-        requires { (1 ≤ frames) × (frames ≤ MAX_FRAMES) }
+        requires { (1 ≤ frames) × (frames ≤ 16384) }
         ensures length { IfOk result (λ m. length m ≡ 4096 * frames) }
         ensures zeroed { IfOk result (λ m. (p : ℕ) → byte_at m p ≡ 0) }
     {
@@ -48,13 +46,22 @@ impl PhysMem {
         }
     }
 
+    /// The number of frames, 1 to 16,384.
     pub fn frames(&self) -> u32
         ensures length { 4096 * result ≡ length self.now }
-        ensures bounds { (1 ≤ result) × (result ≤ MAX_FRAMES) }
+        ensures bounds { (1 ≤ result) × (result ≤ 16384) }
     {
         self.frames
     }
 
+    /// Each element of the list that a contract sees is a byte.
+    pub fn bytes_law(&self)
+        ensures { IsBytes self.now }
+    {
+        let _all = self.block.run(0, self.block.len());
+    }
+
+    /// The byte at a place.
     pub fn load8(&self, at: u64) -> u8
         requires { at < length self.now }
         ensures { result ≡ byte_at self.now at }
@@ -71,6 +78,7 @@ impl PhysMem {
         u64::from_le_bytes(*bytes)
     }
 
+    /// Stores one byte.
     pub fn store8(&mut self, at: u64, value: u8)
         requires { at < length self.old }
         ensures stored { self.new ≡ stored self.old (stores 1 at value) }
@@ -109,6 +117,7 @@ impl PhysMem {
         self.block.run_mut(start, FRAME_BYTES)
     }
 
+    /// Makes every byte of a frame 0.
     pub fn zero_frame(&mut self, frame: u32)
         requires { 4096 * frame < length self.old }
         ensures zeroed { self.new ≡ frame_zeroed self.old frame }

@@ -1,3 +1,7 @@
+//! The memory at worked values, and beside a plain vector over a stated row of operations.
+
+mod blocks;
+
 ghost use Rattle.std.specs.Prelude.{◌+◌, ◌≤◌, length};
 
 use super::*;

@@ -5,7 +5,7 @@ use Rattle.std.specs.List.{find}
 use Rattle.std.specs.Option.{option_map}
 use Rattle.std.proofs.lemmas.List.{length-append, drop-append-le}
 use Rattle.nk_bits.specs.declared.leaf.Leaf.{Leaf}
-use Rattle.nk_bits.specs.Tlb.{look, youngest}
+use Rattle.nk_bits.specs.Translations.{look, youngest}
 
 -- a look-up finds the leaf of the first pair of the page
 pub look-find : (tlb : List (ℕ × Leaf)) (page : ℕ) → look tlb page ≡ option_map (λ pair. pair.1) (find (λ pair. pair.0 == page) tlb)

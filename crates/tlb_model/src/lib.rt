@@ -1,7 +1,7 @@
 //! The translations that the processor keeps (SDM volume 3, 4.10.2): a list of at most 1,024 pairs of a page number
 //! and its leaf, youngest last, with the operations that `nk_bits` defines on such lists. Its room is taken when it is
 //! made; no later call takes memory. When a translation is filled, used or dropped is left to the access and to the
-//! instructions.
+//! instructions. Floor: memory.
 #![tactic(auto)]
 
 mod translations;

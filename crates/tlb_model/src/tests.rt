@@ -1,3 +1,5 @@
+//! The list of translations at worked values: youngest last, 1,024 at most.
+
 use crate::Tlb;
 use nk_bits::{Leaf, Rights};
 use std::test::Fail;

@@ -1,6 +1,8 @@
+//! The list of translations.
+
 ghost use Rattle.std.specs.Prelude.{◌≡◌, ℕ, ◌≤◌, IfOk, List, [], ◌∷◌, ◌++◌, ◌==◌, length, vec_capacity};
 ghost use Rattle.std.specs.List.{find};
-ghost use Rattle.nk_bits.specs.Tlb.{capacity, look, dropped, youngest, filled, flushed, HasDistinctPages};
+ghost use Rattle.nk_bits.specs.Translations.{capacity, look, dropped, youngest, filled, flushed, HasDistinctPages};
 
 use nk_bits::Leaf;
 use std::alloc::Global;
@@ -22,7 +24,7 @@ pub struct Tlb {
 impl Model for Tlb {
     ghost use Rattle.std.specs.Prelude.{ℕ, ◌≤◌, List, length, vec_capacity};
     ghost use Rattle.nk_bits.specs.declared.leaf.Leaf.{Leaf};
-    ghost use Rattle.nk_bits.specs.Tlb.{capacity, HasDistinctPages};
+    ghost use Rattle.nk_bits.specs.Translations.{capacity, HasDistinctPages};
 
     ghost Value = { List (ℕ × Leaf) };
 
@@ -44,7 +46,7 @@ impl Tlb {
         }
     }
 
-    /// The leaf that is kept for a page.
+    /// The leaf that is kept for a page. It looks at each pair in turn.
     pub fn look(&self, page: u64) -> Option<Leaf>
         ensures found { result ≡ look self.now page }
         ensures bound { length self.now ≤ capacity }

@@ -1,5 +1,5 @@
 use Rattle.std.proofs.Common.{◌+◌, ◌*◌, ◌≤◌, ◌∙◌, length, arith}
-use Rattle.boot_map.specs.Entries.{entry_of_part}
+use Rattle.boot_map.specs.OpeningEntries.{entry_of_part}
 use Rattle.boot_map.proofs.FillLaws.{entry_more}
 use Rattle.boot_map.proofs.opening.fill_table.Goals as goal
 

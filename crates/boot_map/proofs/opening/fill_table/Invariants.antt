@@ -1,5 +1,5 @@
 use Rattle.std.proofs.Common.{◌≡◌, ℕ, ◌*◌, ◌<◌, get_or}
-use Rattle.boot_map.specs.Entries.{entry_of_part}
+use Rattle.boot_map.specs.OpeningEntries.{entry_of_part}
 use Rattle.boot_map.specs.Opening.{entry_byte}
 use Rattle.boot_map.proofs.opening.fill_table.Given as goal
 

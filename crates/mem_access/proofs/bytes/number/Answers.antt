@@ -1,6 +1,6 @@
-use Rattle.std.proofs.Common.{◌≡◌, ℕ, ◌+◌, ◌-◌, ◌*◌, ◌^◌, ◌<◌, ◌≤◌, arith, ap, sym, ◌∙◌}
+use Rattle.std.proofs.Common.{◌≡◌, ◌+◌, ◌-◌, ◌*◌, ◌^◌, ◌<◌, arith, ap, sym, ◌∙◌}
 use Rattle.std.proofs.Math.Nat.{one-le-pow}
-use Rattle.nk_bits.specs.Memory.{byte_at}
+use Rattle.phys_mem.specs.Memory.{byte_at}
 use Rattle.mem_access.proofs.Numbers.{number_none, next_bound, next_value, eight_bytes}
 use Rattle.mem_access.proofs.bytes.number.Goals as goal
 

@@ -1,5 +1,5 @@
 use Rattle.std.proofs.Common.{◌≡◌, ◌+◌, ◌-◌, ◌^◌, ◌<◌}
-use Rattle.nk_bits.specs.Memory.{number_at}
+use Rattle.phys_mem.specs.Memory.{number_at}
 use Rattle.mem_access.proofs.bytes.number.Given as goal
 
 abbrev pub invariant-loop-offset : goal.invariant-loop-offset

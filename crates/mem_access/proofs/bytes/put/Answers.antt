@@ -1,5 +1,5 @@
 use Rattle.std.proofs.Common.{◌≡◌, ◌+◌, ◌-◌, ◌/◌, ◌%◌, arith, refl, ap, sym, ◌∙◌}
-use Rattle.nk_bits.specs.Memory.{stores, stored}
+use Rattle.phys_mem.specs.Memory.{stores, stored}
 use Rattle.mem_access.proofs.Numbers.{store_first, store_none}
 use Rattle.mem_access.proofs.bytes.put.Goals as goal
 

@@ -1,5 +1,5 @@
 use Rattle.std.proofs.Common.{◌≡◌, ◌+◌, ◌-◌, length}
-use Rattle.nk_bits.specs.Memory.{stores, stored}
+use Rattle.phys_mem.specs.Memory.{stores, stored}
 use Rattle.mem_access.proofs.bytes.put.Given as goal
 
 abbrev pub invariant-loop-offset : goal.invariant-loop-offset

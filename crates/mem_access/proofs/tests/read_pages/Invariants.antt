@@ -1,5 +1,5 @@
 use Rattle.std.proofs.Common.{length}
-use Rattle.nk_bits.specs.Accesses.{NamesFramesIn}
+use Rattle.nk_bits.specs.Translations.{NamesFramesIn}
 use Rattle.mem_access.proofs.tests.read_pages.Given as goal
 
 abbrev pub invariant-loop-page : goal.invariant-loop-page

@@ -1,7 +1,6 @@
 use Rattle.std.proofs.Common.{arith, sym, ap, ◌∙◌, ◌/◌, length}
-use Rattle.nk_bits.specs.Memory.{entry_in}
+use Rattle.phys_mem.specs.Memory.{entry_in}
 use Rattle.nk_bits.specs.Paging.{page_of, walk_from, common}
-use Rattle.nk_bits.proofs.WalkLaws.{walk_end}
 use Rattle.page_walk.proofs.LookUps.{missing_here, past_here}
 use Rattle.page_walk.proofs.levels.+descend.Goals as goal
 
@@ -12,15 +11,18 @@ returns-then-level-eq0-clause-result t c =
     let frames = length a.mem.now / 4096 in
     sym
     (ap (λ level. walk_from tables frames (page_of a.va) level a.reached.frame a.reached.rights) c.if-level-eq0.true
-    ∙ walk_end tables frames (page_of a.va) a.reached.frame a.reached.rights)
+    ∙ c.walk_law.ensures.end tables frames (page_of a.va) a.reached.frame a.reached.rights)
 
 pub returns-then-is_missing-clause-result : goal.returns-then-is_missing-clause-result
 returns-then-is_missing-clause-result t c =
     let a = c.args in
     sym
     (missing_here (entry_in a.mem.now) (length a.mem.now / 4096) c.frames-frames.result (page_of a.va) a.level a.reached.frame
-    c.entry_at-entry.result.0 a.reached.rights c.is_missing.result (omega (arith, c.frames-frames.ensures.length))
-    c.entry_at-entry.ensures.value (omega arith) c.is_missing.ensures.value c.if-is_missing.true)
+    c.entry_at-entry.result.0 a.reached.rights c.is_missing.result
+    (c.walk_law.ensures.past (entry_in a.mem.now) (length a.mem.now / 4096) (page_of a.va) a.level a.reached.frame a.reached.rights (omega arith))
+    (c.walk_law.ensures.missing (entry_in a.mem.now) (length a.mem.now / 4096) (page_of a.va) a.level a.reached.frame a.reached.rights (omega arith))
+    (omega (arith, c.frames-frames.ensures.length))
+    c.entry_at-entry.ensures.value c.is_missing.ensures.value c.if-is_missing.true)
 
 pub returns-clause-result : goal.returns-clause-result
 returns-clause-result t c =
@@ -28,6 +30,9 @@ returns-clause-result t c =
     c.descend.ensures.result
     ∙ sym
     (past_here (entry_in a.mem.now) (length a.mem.now / 4096) c.frames-frames.result (page_of a.va) a.level a.reached.frame
-    c.entry_at-entry.result.0 a.reached.rights c.is_missing.result (omega (arith, c.frames-frames.ensures.length))
-    c.entry_at-entry.ensures.value (omega arith) c.is_missing.ensures.value c.if-is_missing.false c.frame.result c.common.result
+    c.entry_at-entry.result.0 a.reached.rights c.is_missing.result
+    (c.walk_law.ensures.past (entry_in a.mem.now) (length a.mem.now / 4096) (page_of a.va) a.level a.reached.frame a.reached.rights (omega arith))
+    (c.walk_law.ensures.missing (entry_in a.mem.now) (length a.mem.now / 4096) (page_of a.va) a.level a.reached.frame a.reached.rights (omega arith))
+    (omega (arith, c.frames-frames.ensures.length))
+    c.entry_at-entry.ensures.value c.is_missing.ensures.value c.if-is_missing.false c.frame.result c.common.result
     c.frame.ensures.value (c.common.ensures.value ∙ ap (λ x. common a.reached.rights x) c.rights.ensures.value))

@@ -1,5 +1,5 @@
 use Rattle.std.proofs.Common.{rules}
-use Rattle.nk_bits.specs.Memory.{entry_in}
+use Rattle.phys_mem.specs.Memory.{entry_in}
 use Rattle.page_walk.proofs.levels.entry_at.Goals as goal
 
 pub returns : goal.returns

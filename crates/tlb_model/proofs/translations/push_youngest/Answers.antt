@@ -1,7 +1,7 @@
 use Rattle.std.proofs.Common.{◌≡◌, ℕ, ◌∷◌, ◌++◌, [], ap, ◌∙◌, sym, Vec, Global, arith}
 use Rattle.std.proofs.lemmas.Grind.{common_steps}
 use Rattle.nk_bits.specs.declared.leaf.Leaf.{Leaf}
-use Rattle.nk_bits.specs.Tlb.{capacity}
+use Rattle.nk_bits.specs.Translations.{capacity}
 use Rattle.tlb_model.proofs.Pairs.{youngest_full, youngest_room}
 use Rattle.tlb_model.proofs.translations.push_youngest.Goals as goal
 use Rattle.tlb_model.proofs.translations.push_youngest.Goals.{then-len-eq-CAPACITY, else-len-eq-CAPACITY}

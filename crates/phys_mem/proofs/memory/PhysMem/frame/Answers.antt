@@ -1,4 +1,4 @@
-use Rattle.nk_bits.specs.Memory.{frame_bytes}
+use Rattle.phys_mem.specs.Memory.{frame_bytes}
 use Rattle.std.proofs.Common.{rules}
 use Rattle.phys_mem.proofs.memory.PhysMem.frame.Goals as goal
 

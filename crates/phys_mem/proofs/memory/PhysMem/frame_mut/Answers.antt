@@ -1,4 +1,4 @@
-use Rattle.nk_bits.specs.Memory.{frame_bytes, patched}
+use Rattle.phys_mem.specs.Memory.{frame_bytes, patched}
 use Rattle.std.proofs.Common.{rules}
 use Rattle.phys_mem.proofs.memory.PhysMem.frame_mut.Goals as goal
 

@@ -1,7 +1,7 @@
 use Rattle.std.proofs.Common.{◌≡◌, sym, ap, ◌∙◌, take, drop, w64, lit≤}
 use Rattle.std.proofs.lemmas.List.{take-take}
 use Rattle.std.specs.Int.{from_le_bytes}
-use Rattle.raw_block.specs.Runs.{run_at}
+use Rattle.phys_mem.specs.Runs.{run_at}
 use Rattle.phys_mem.proofs.Words.{number_at-le}
 use Rattle.phys_mem.proofs.memory.PhysMem.load64.Goals as goal
 

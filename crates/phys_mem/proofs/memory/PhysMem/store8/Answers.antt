@@ -1,5 +1,5 @@
 use Rattle.std.proofs.Common.{rules}
-use Rattle.nk_bits.specs.Memory.{stores, stored}
+use Rattle.phys_mem.specs.Memory.{stores, stored}
 use Rattle.phys_mem.proofs.memory.PhysMem.store8.Goals as goal
 
 pub returns-clause-stored : goal.returns-clause-stored

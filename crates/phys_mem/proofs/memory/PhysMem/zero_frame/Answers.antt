@@ -1,5 +1,5 @@
 use Rattle.std.proofs.Common.{◌+◌, ◌*◌, ◌≤◌, length, replicate, arith, ◌∙◌, ap}
-use Rattle.nk_bits.specs.Memory.{frame_zeroed}
+use Rattle.phys_mem.specs.Memory.{frame_zeroed}
 use Rattle.phys_mem.proofs.Patches.{with_run-zeroed, length-put}
 use Rattle.phys_mem.proofs.memory.PhysMem.zero_frame.Goals as goal
 

@@ -1,7 +1,7 @@
 use Rattle.std.proofs.Common.{ap, ◌∙◌, sym, subst, arith}
 use Rattle.std.proofs.lemmas.Grind.{common_steps}
-use Rattle.nk_bits.specs.Tlb.{dropped, HasDistinctPages}
-use Rattle.nk_bits.proofs.TlbLaws.{distinct_dropped}
+use Rattle.nk_bits.specs.Translations.{dropped, HasDistinctPages}
+use Rattle.tlb_model.proofs.PairLaws.{distinct_dropped}
 use Rattle.tlb_model.proofs.translations.Tlb.drop_page.Goals as goal
 
 distinct : (c : goal.After-remove_page) → HasDistinctPages c.remove_page.new.pairs.items

@@ -1,6 +1,6 @@
 use Rattle.std.proofs.Common.{◌≡◌, ◌≤◌, ◌∷◌, ◌++◌, [], ap, ◌∙◌, sym, subst, length}
-use Rattle.nk_bits.specs.Tlb.{capacity, filled, youngest, HasDistinctPages}
-use Rattle.nk_bits.proofs.TlbLaws.{distinct_filled, length-filled}
+use Rattle.nk_bits.specs.Translations.{capacity, filled, youngest, HasDistinctPages}
+use Rattle.tlb_model.proofs.PairLaws.{distinct_filled, length-filled}
 use Rattle.tlb_model.proofs.translations.Tlb.fill.Goals as goal
 
 pairs_after : (c : goal.After-push_youngest) →

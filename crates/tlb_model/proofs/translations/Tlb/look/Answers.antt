@@ -1,6 +1,6 @@
 use Rattle.std.proofs.Common.{◌≡◌, ap, ◌∙◌, sym, rules}
 use Rattle.std.specs.Option.{option_map}
-use Rattle.nk_bits.specs.Tlb.{look}
+use Rattle.nk_bits.specs.Translations.{look}
 use Rattle.tlb_model.proofs.Pairs.{look-find}
 use Rattle.tlb_model.proofs.translations.Tlb.look.Goals as goal
 

@@ -1,5 +1,5 @@
 use Rattle.std.proofs.Common.{arith}
-use Rattle.nk_bits.specs.Tlb.{capacity}
+use Rattle.nk_bits.specs.Translations.{capacity}
 use Rattle.tlb_model.proofs.translations.Tlb.new.Goals as goal
 
 pub invariant_of-result : goal.invariant_of-result

@@ -1,4 +1,0 @@
-pub mod BlockLends
-pub mod CellsLends
-pub mod Ownership
-pub mod Runs
