@@ -1,2 +1,8 @@
+-- What a reader must believe.
 pub mod Registers
-pub mod View
+pub mod Operands
+pub mod Combinations
+pub mod OperationForms
+pub mod OperandPlans
+pub mod OperandOutcomes
+pub mod Effects

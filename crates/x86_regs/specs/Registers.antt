@@ -1,8 +1,9 @@
--- The parts of the general registers that instructions name, and partial writes.
+-- The parts of the general registers that instructions name, and partial writes (SDM volume 1, 3.4.1). A width is in
+-- bits.
 use Rattle.std.specs.Prelude.{◌≡◌, ℕ, ◌+◌, ◌*◌, ◌/◌, ◌%◌, ◌^◌, ◌<◌, List, slice_index, slice_set, nat_le, if◌then◌else◌}
 use Rattle.decode_fields.specs.declared.place.Place.{Place}
 use Rattle.decode_fields.specs.declared.place.Place.TheVariants.{Nothing, Reg, High, Mem, Value}
-use Rattle.decode_fields.specs.Number.{IsWidth}
+use Rattle.decode_fields.specs.Widths.{IsWidth}
 
 -- a general register and a width, or the second byte of one of the first four
 abbrev pub IsRegister : Place → ℕ → Type 0
@@ -22,7 +23,7 @@ held general Value w = 0
 
 -- the register after a write of w bits: 32 bits clear its upper half, and 8 or 16 keep the bits above
 abbrev pub low_written : ℕ → ℕ → ℕ → ℕ
-low_written w old value = (if nat_le 32 w then value % 2 ^ w else old / 2 ^ w * 2 ^ w + value % 2 ^ w)
+low_written w old value = if nat_le 32 w then value % 2 ^ w else old / 2 ^ w * 2 ^ w + value % 2 ^ w
 
 -- the register after a write of its bits 15 to 8, which keeps the bits above and below
 abbrev pub high_written : ℕ → ℕ → ℕ

@@ -1,3 +1,5 @@
+//! What passes between the processor and the delivery of a trap, and its return.
+
 /// What IRETQ pops, in the order in which it stands from RSP up (SDM volume 3, 6.14.3).
 #[derive(Clone, Copy, Debug, PartialEq, Eq)]
 pub struct Frame {

@@ -1,3 +1,5 @@
+//! What an instruction does that didn't fault.
+
 use crate::delivery::Frame;
 use crate::registers::Regs;
 use nk_bits::Target;
@@ -54,4 +56,14 @@ pub enum Act {
     Idt(u64, u16),
     /// INVLPG of the page with this number: its linear address divided by 4,096.
     DropPage(u64),
+}
+
+/// What an instruction does with the values that it read, before its write is checked.
+#[derive(Clone, Copy, Debug, PartialEq, Eq)]
+pub struct Change {
+    /// The registers after it.
+    pub regs: Regs,
+    /// The number that is written, where a write was checked.
+    pub value: u64,
+    pub act: Act,
 }

@@ -1,3 +1,5 @@
+//! The faults of instructions.
+
 /// An instruction's fault (SDM volume 3, 6.15).
 #[derive(Clone, Copy, Debug, PartialEq, Eq)]
 pub enum Fault {

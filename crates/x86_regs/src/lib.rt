@@ -1,18 +1,38 @@
 //! The registers of the processor, with reads and partial writes of the general ones (SDM volume 1, 3.4.1), and the
 //! plain values that pass between the parts of one turn: an instruction's effect or fault, the frame of a return, and
 //! the places of the tables of delivery. It meets the definitions of `specs/`; what an instruction does to registers
-//! and memory is left to the crates above.
+//! and memory is left to the crates above. Floor: processor.
 #![tactic(auto)]
 
+// The registers, and the operands that name them.
+mod operands;
+mod registers;
+
+// The form of an operation, which says what its accesses are, and the conditions on flags.
+mod conditions;
+mod form;
+
+// What an instruction does or raises, and what passes to and from a delivery.
 mod delivery;
 mod effects;
 mod faults;
-mod registers;
+mod flag_changes;
+mod refusals;
+mod writes;
 
+pub use conditions::{bit, condition_stands};
 pub use delivery::{Frame, Tables};
-pub use effects::{Act, Effect, Write};
+pub use effects::{Act, Change, Effect, Write};
 pub use faults::Fault;
-pub use registers::Regs;
+pub use flag_changes::{DF, IF, change_flag};
+pub use form::{Form, instr_form};
+pub use operands::{
+    RAX, RBP, RCX, RDI, RDX, RSI, RSP, fallen, from_address, from_source, going_on, lowered,
+    next_of, place_span, pop_source, push_span, risen, stack_span, string_span, to_source,
+};
+pub use refusals::{raised, refusal};
+pub use registers::{Regs, held, low, with_register, written};
+pub use writes::write_of;
 
 #[cfg(test)]
 mod tests;

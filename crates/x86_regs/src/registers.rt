@@ -1,6 +1,10 @@
+//! The general registers, with reads and partial writes. A width is in bits: 8, 16, 32 or 64.
+
 ghost use Rattle.std.specs.Prelude.{◌≡◌, ◌+◌, ◌*◌, ◌/◌, ◌%◌, ◌^◌, ◌<◌};
-ghost use Rattle.decode_fields.specs.Number.{IsWidth};
+ghost use Rattle.decode_fields.specs.Bounds.{IsPlace};
+ghost use Rattle.decode_fields.specs.Widths.{IsWidth};
 ghost use Rattle.x86_regs.specs.Registers.{IsRegister, held, low_written, high_written, written};
+ghost use Rattle.x86_regs.specs.Operands.{with_register};
 
 use decode_fields::Place;
 
@@ -24,11 +28,7 @@ impl Regs {
         requires { IsRegister place.now width }
         ensures { result ≡ held self.now.general place.now width }
     {
-        match *place {
-            Place::Reg(number) => low(width, self.general[number as usize]),
-            Place::High(number) => self.general[number as usize] >> 8 & 0xff,
-            Place::Nothing | Place::Mem(_) | Place::Value => unreachable!(),
-        }
+        held(&self.general, place, width)
     }
 
     /// Writes a register or a part of it: a write of 32 bits clears the upper half, and a smaller one keeps the bits
@@ -37,21 +37,56 @@ impl Regs {
         requires { IsRegister place.now width }
         ensures { self.new ≡ record self.old { general = written self.old.general place.now width value } }
     {
-        match *place {
-            Place::Reg(number) => {
-                let old = self.general[number as usize];
-                self.general[number as usize] = low_written(width, old, value);
-            }
-            Place::High(number) => {
-                let old = self.general[number as usize];
-                self.general[number as usize] = high_written(old, value);
-            }
-            Place::Nothing | Place::Mem(_) | Place::Value => unreachable!(),
-        }
+        self.general = written(&self.general, place, width, value);
     }
 }
 
-fn low(width: u8, value: u64) -> u64
+/// What a register or a part of it holds, and 0 for a place of another kind.
+pub fn held(general: &[u64; 16], place: &Place, width: u8) -> u64
+    requires width { IsWidth width }
+    requires place { IsPlace place.now }
+    ensures { result ≡ held general.now place.now width }
+{
+    match *place {
+        Place::Reg(number) => low(width, general[number as usize]),
+        Place::High(number) => general[number as usize] >> 8 & 0xff,
+        Place::Nothing | Place::Mem(_) | Place::Value => 0,
+    }
+}
+
+/// The registers after a write to one of them or to a part of it; a place of another kind leaves them.
+pub fn written(general: &[u64; 16], place: &Place, width: u8, value: u64) -> [u64; 16]
+    requires width { IsWidth width }
+    requires place { IsPlace place.now }
+    ensures { result ≡ written general.now place.now width value }
+{
+    let mut after = *general;
+    match *place {
+        Place::Reg(number) => {
+            let old = general[number as usize];
+            after[number as usize] = low_written(width, old, value);
+        }
+        Place::High(number) => {
+            let old = general[number as usize];
+            after[number as usize] = high_written(old, value);
+        }
+        Place::Nothing | Place::Mem(_) | Place::Value => {}
+    }
+    after
+}
+
+/// The registers with this one whole.
+pub fn with_register(general: &[u64; 16], number: u8, value: u64) -> [u64; 16]
+    requires { number < 16 }
+    ensures { result ≡ with_register general.now number value }
+{
+    let mut after = *general;
+    after[number as usize] = value;
+    after
+}
+
+/// The low bits of a number, as many as the width.
+pub fn low(width: u8, value: u64) -> u64
     requires { IsWidth width }
     ensures { result ≡ value % 2 ^ width }
 {

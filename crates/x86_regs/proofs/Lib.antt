@@ -1,0 +1,6 @@
+mod WorkedEffectsAccesses
+mod WorkedEffectsArithmetic
+mod WorkedEffectsFlow
+mod WorkedEffectsMoves
+mod WorkedEffectsSystem
+mod WorkedState

@@ -1,0 +1,100 @@
+-- The form of each operation: which accesses it makes and what it does with what it reads. Operations of one form
+-- differ in their arithmetic alone.
+use Rattle.x86_decode.specs.declared.operation.Op.{Op}
+use Rattle.x86_decode.specs.declared.operation.Op.TheVariants as op
+use Rattle.x86_regs.specs.declared.form.Form.{Form}
+use Rattle.x86_regs.specs.declared.form.Form.TheVariants.{Combine, Compare, Move, Address, Exchange, ExchangeAdd, CompareExchange, ScanBits, Widen, Double, Multiply, Divide, Push, PushFlags, Pop, PopFlags, Leave, MoveString, StoreString, LoadString, CompareStrings, ScanString, Branch, Call, Return, CountDown, Trap, TrapReturn, ChangeFlag, Halt, Input, Output, FromControl, ToControl, LoadTable, DropPage, Nothing}
+
+-- the form of an operation; IMUL of one operand has that of MUL, which an instruction tells
+abbrev pub form_of : Op → Form
+form_of op.Add = Combine
+form_of op.Or = Combine
+form_of op.Adc = Combine
+form_of op.Sbb = Combine
+form_of op.And = Combine
+form_of op.Sub = Combine
+form_of op.Xor = Combine
+form_of op.Cmp = Compare
+form_of op.Test = Compare
+form_of op.Not = Combine
+form_of op.Neg = Combine
+form_of op.Inc = Combine
+form_of op.Dec = Combine
+form_of op.Mul = Multiply
+form_of op.Imul = Combine
+form_of op.Imul3 = Combine
+form_of op.Div = Divide
+form_of op.Idiv = Divide
+form_of op.Rol = Combine
+form_of op.Ror = Combine
+form_of op.Shl = Combine
+form_of op.Shr = Combine
+form_of op.Sar = Combine
+form_of op.Bt = Compare
+form_of op.Bts = Combine
+form_of op.Btr = Combine
+form_of op.Btc = Combine
+form_of op.Bsf = ScanBits
+form_of op.Bsr = ScanBits
+form_of op.Mov = Move
+form_of op.Movsxd = Move
+form_of op.Movzx8 = Move
+form_of op.Movzx16 = Move
+form_of op.Movsx8 = Move
+form_of op.Movsx16 = Move
+form_of op.Lea = Address
+form_of op.Xchg = Exchange
+form_of op.Xadd = ExchangeAdd
+form_of op.Cmpxchg = CompareExchange
+form_of op.Bswap = Combine
+form_of (op.Cmov condition) = Combine
+form_of (op.Set condition) = Move
+form_of op.Cbw = Widen
+form_of op.Cwde = Widen
+form_of op.Cdqe = Widen
+form_of op.Cwd = Double
+form_of op.Cdq = Double
+form_of op.Cqo = Double
+form_of op.Push = Push
+form_of op.Pop = Pop
+form_of op.Pushfq = PushFlags
+form_of op.Popfq = PopFlags
+form_of op.Leave = Leave
+form_of op.Movs = MoveString
+form_of op.Cmps = CompareStrings
+form_of op.Stos = StoreString
+form_of op.Lods = LoadString
+form_of op.Scas = ScanString
+form_of (op.J condition) = Branch
+form_of op.Jmp = Branch
+form_of op.Call = Call
+form_of op.Ret = Return
+form_of op.Loop = CountDown
+form_of op.Loope = CountDown
+form_of op.Loopne = CountDown
+form_of op.Jrcxz = CountDown
+form_of op.Int3 = Trap
+form_of op.Int = Trap
+form_of op.Iretq = TrapReturn
+form_of op.Ud2 = Nothing
+form_of op.Nop = Nothing
+form_of op.Cmc = ChangeFlag
+form_of op.Clc = ChangeFlag
+form_of op.Stc = ChangeFlag
+form_of op.Cli = ChangeFlag
+form_of op.Sti = ChangeFlag
+form_of op.Cld = ChangeFlag
+form_of op.Std = ChangeFlag
+form_of op.Hlt = Halt
+form_of op.In = Input
+form_of op.Out = Output
+form_of op.Movfc = FromControl
+form_of op.Movtc = ToControl
+form_of op.Movtd = Nothing
+form_of op.Wrmsr = Nothing
+form_of op.Lldt = Nothing
+form_of op.Ltr = Nothing
+form_of op.Lgdt = Nothing
+form_of op.Lidt = LoadTable
+form_of op.Lmsw = Nothing
+form_of op.Invlpg = DropPage
