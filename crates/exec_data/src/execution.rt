@@ -1,0 +1,136 @@
+//! The effect of an instruction: its conditions, its accesses in order, its outcome, and the check of its write.
+
+ghost use Rattle.std.specs.Prelude.{◌≡◌, ◌⊎◌, ◌*◌, ◌<◌, IfOk, IsTrue, length};
+ghost use Rattle.nk_bits.specs.Outcomes.{outcome_of};
+ghost use Rattle.nk_bits.specs.Translations.{NamesFramesIn};
+ghost use Rattle.page_walk.specs.MemoryAccess.{view_of};
+ghost use Rattle.page_walk.specs.AccessPlans.{IsChecked, IsSized};
+ghost use Rattle.x86_decode.specs.WellFormed.{IsWellFormed};
+ghost use Rattle.x86_regs.specs.OperandPlans.{instr_form};
+ghost use Rattle.x86_regs.specs.Effects.{FitsIn, HasAccessSize, concluded, effect_of, planned_effect};
+ghost use Rattle.exec_data.specs.DataForms.{is_data_form};
+
+use crate::outcomes::outcome_by;
+use crate::plans::plan_by;
+use mem_access::{check_span, gather};
+use nk_bits::Control;
+use page_walk::{Gathered, Plan};
+use phys_mem::PhysMem;
+use tlb_model::Tlb;
+use x86_decode::Instr;
+use x86_regs::{Change, Effect, Fault, Form, Regs, instr_form, next_of, raised, refusal, write_of};
+
+/// Whether `effect` takes the instructions of a form.
+pub fn is_data_form(form: Form) -> bool
+    ensures { result ≡ is_data_form form }
+{
+    match form {
+        Form::Combine | Form::Compare | Form::Move | Form::Address => true,
+        Form::Exchange | Form::ExchangeAdd | Form::CompareExchange => true,
+        Form::ScanBits | Form::Widen | Form::Double | Form::Multiply | Form::Divide => true,
+        Form::Push | Form::Pop | Form::Leave => true,
+        Form::MoveString | Form::StoreString | Form::LoadString => true,
+        Form::CompareStrings | Form::ScanString => true,
+        Form::ChangeFlag | Form::Nothing => true,
+        _ => false,
+    }
+}
+
+/// The effect of an instruction of `size` bytes that stands at RIP: the registers after it, and its write, which is
+/// judged and not made. Only the translations kept change.
+///
+/// Fails with the first fault of the instruction, in the order of its conditions, its accesses, its outcome and the
+/// check of its write.
+#[tactic(auto, using(crate::proofs::Forms::data_effect), unfolding(x86_regs::specs::Effects::effect_of))]
+pub fn effect(
+    instr: &Instr,
+    size: u8,
+    regs: &Regs,
+    control: &Control,
+    mem: &PhysMem,
+    tlb: &mut Tlb,
+) -> Result<Effect, Fault>
+    requires formed { IsWellFormed instr.now }
+    requires row { IsTrue (is_data_form (instr_form instr.now)) }
+    requires cpl { (regs.now.cpl ≡ 0) ⊎ (regs.now.cpl ≡ 3) }
+    requires root { 4096 * control.now.root < length mem.now }
+    requires frames { NamesFramesIn (length mem.now) tlb.old }
+    ensures outcome { outcome_of result tlb.new
+        ≡ effect_of instr.now size regs.now control.now mem.now tlb.old }
+    ensures frames { NamesFramesIn (length mem.now) tlb.new }
+    ensures places { IfOk result (λ effect. FitsIn (length mem.now) effect.write) }
+    ensures sized { IfOk result (λ effect. HasAccessSize effect.write) }
+{
+    if let Some(fault) = refusal(instr, regs.cpl) {
+        return Err(fault);
+    }
+    planned_effect(instr_form(instr), instr, size, regs, control, mem, tlb)
+}
+
+/// The effect of an instruction that its conditions don't refuse.
+fn planned_effect(
+    form: Form,
+    instr: &Instr,
+    size: u8,
+    regs: &Regs,
+    control: &Control,
+    mem: &PhysMem,
+    tlb: &mut Tlb,
+) -> Result<Effect, Fault>
+    requires formed { IsWellFormed instr.now }
+    requires row { IsTrue (is_data_form form) }
+    requires cpl { (regs.now.cpl ≡ 0) ⊎ (regs.now.cpl ≡ 3) }
+    requires root { 4096 * control.now.root < length mem.now }
+    requires frames { NamesFramesIn (length mem.now) tlb.old }
+    ensures outcome { outcome_of result tlb.new
+        ≡ planned_effect form instr.now size regs.now control.now mem.now
+        (view_of mem.now control.now regs.now.cpl) tlb.old }
+    ensures frames { NamesFramesIn (length mem.now) tlb.new }
+    ensures places { IfOk result (λ effect. FitsIn (length mem.now) effect.write) }
+    ensures sized { IfOk result (λ effect. HasAccessSize effect.write) }
+{
+    let plan = plan_by(form, instr, size, regs);
+    let found = match gather(mem, tlb, control, regs.cpl, &plan) {
+        Ok(found) => found,
+        Err(it) => return Err(raised(it)),
+    };
+    let outcome = outcome_by(form, instr, next_of(regs, size), regs, &found);
+    conclude(mem, tlb, control, regs.cpl, &plan, &found, outcome)
+}
+
+/// The outcome's fault, or its change once its write is checked.
+fn conclude(
+    mem: &PhysMem,
+    tlb: &mut Tlb,
+    control: &Control,
+    cpl: u8,
+    plan: &Plan,
+    found: &Gathered,
+    outcome: Result<Change, Fault>,
+) -> Result<Effect, Fault>
+    requires cpl { (cpl ≡ 0) ⊎ (cpl ≡ 3) }
+    requires sized { IsSized plan.now.last }
+    requires sized_both { IsSized plan.now.both }
+    requires checked { IsChecked (length mem.now) plan.now.both found.now.both }
+    requires root { 4096 * control.now.root < length mem.now }
+    requires frames { NamesFramesIn (length mem.now) tlb.old }
+    ensures outcome { outcome_of result tlb.new
+        ≡ concluded (view_of mem.now control.now cpl) plan.now found.now outcome tlb.old }
+    ensures frames { NamesFramesIn (length mem.now) tlb.new }
+    ensures places { IfOk result (λ effect. FitsIn (length mem.now) effect.write) }
+    ensures sized { IfOk result (λ effect. HasAccessSize effect.write) }
+{
+    let change = match outcome {
+        Ok(change) => change,
+        Err(fault) => return Err(fault),
+    };
+    let last = match check_span(mem, tlb, control, cpl, plan.last) {
+        Ok(last) => last,
+        Err(it) => return Err(raised(it)),
+    };
+    Ok(Effect {
+        regs: change.regs,
+        write: write_of(plan, found, last, change.value),
+        act: change.act,
+    })
+}

@@ -1,0 +1,30 @@
+//! What the instructions of arithmetic, of moves, of the stack and of strings do, and those that change a flag or
+//! nothing. It meets the definition of an effect of `x86_regs` on these forms: the registers after an instruction and
+//! its one write, or its fault. It reads memory and changes the translations kept; it writes no byte and takes no
+//! memory. Floor: processor.
+#![tactic(auto)]
+
+// The arithmetic: what an operation makes of the values of its operands.
+mod bits;
+mod combinations;
+mod movements;
+mod numbers;
+mod sums;
+
+// What each form makes of the values that it reads.
+mod changes;
+mod stack;
+mod strings;
+mod wide;
+
+// Which accesses each form makes, and what it does with what they read.
+mod outcomes;
+mod plans;
+
+// The call.
+mod execution;
+
+pub use execution::{effect, is_data_form};
+
+#[cfg(test)]
+mod tests;

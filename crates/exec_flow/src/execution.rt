@@ -1,0 +1,163 @@
+//! The effect of an instruction: its conditions, its accesses in order, its outcome, and the check of its write.
+
+ghost use Rattle.std.specs.Prelude.{◌≡◌, ◌⊎◌, ◌*◌, ◌<◌, IsTrue, IfOk, length};
+ghost use Rattle.nk_bits.specs.Translations.{NamesFramesIn};
+ghost use Rattle.nk_bits.specs.Outcomes.{outcome_of};
+ghost use Rattle.page_walk.specs.AccessPlans.{IsChecked, IsPlan};
+ghost use Rattle.page_walk.specs.MemoryAccess.{view_of};
+ghost use Rattle.x86_decode.specs.WellFormed.{IsWellFormed};
+ghost use Rattle.x86_regs.specs.OperandPlans.{instr_form};
+ghost use Rattle.x86_regs.specs.Effects.{FitsIn, HasAccessSize, concluded, effect_by, effect_of, planned_effect};
+ghost use Rattle.exec_flow.specs.FlowForms.{is_flow_form};
+
+use crate::outcomes::outcome_by;
+use crate::plans::plan_by;
+use crate::traps::return_effect;
+use mem_access::{check_span, gather};
+use nk_bits::Control;
+use page_walk::{Gathered, Plan};
+use phys_mem::PhysMem;
+use tlb_model::Tlb;
+use x86_decode::Instr;
+use x86_regs::{Change, Effect, Fault, Form, Regs, instr_form, next_of, raised, refusal, write_of};
+
+/// Whether `effect` takes the instructions of a form.
+pub fn is_flow_form(form: Form) -> bool
+    ensures { result ≡ is_flow_form form }
+{
+    match form {
+        Form::Branch | Form::Call | Form::Return | Form::CountDown => true,
+        Form::Trap | Form::TrapReturn => true,
+        Form::PushFlags | Form::PopFlags | Form::ChangeFlag => true,
+        Form::Halt | Form::Input | Form::Output => true,
+        Form::FromControl | Form::ToControl | Form::LoadTable | Form::DropPage => true,
+        Form::Nothing => true,
+        _ => false,
+    }
+}
+
+/// What an instruction of flow or of the system does, which has this length in bytes: the registers after it, its one
+/// write, whose places are found but not yet written, and what it asks of the processor.
+///
+/// Fails with the first fault of the instruction: #UD and #GP by its conditions, a fault of a read, #GP by a branch's
+/// target or a value for a control register, a fault of its write. Registers and memory stay as they were; translations
+/// may have changed.
+#[tactic(auto, unfolding(x86_regs::specs::Effects::effect_of))]
+pub fn effect(
+    instr: &Instr,
+    size: u8,
+    regs: &Regs,
+    control: &Control,
+    mem: &PhysMem,
+    tlb: &mut Tlb,
+) -> Result<Effect, Fault>
+    requires formed { IsWellFormed instr.now }
+    requires row { IsTrue (is_flow_form (instr_form instr.now)) }
+    requires cpl { (regs.now.cpl ≡ 0) ⊎ (regs.now.cpl ≡ 3) }
+    requires root { 4096 * control.now.root < length mem.now }
+    requires frames { NamesFramesIn (length mem.now) tlb.old }
+    ensures outcome { outcome_of result tlb.new
+        ≡ effect_of instr.now size regs.now control.now mem.now tlb.old }
+    ensures frames { NamesFramesIn (length mem.now) tlb.new }
+    ensures places { IfOk result (λ effect. FitsIn (length mem.now) effect.write) }
+    ensures sized { IfOk result (λ effect. HasAccessSize effect.write) }
+{
+    match refusal(instr, regs.cpl) {
+        Some(fault) => Err(fault),
+        None => effect_by(instr_form(instr), instr, size, regs, control, mem, tlb),
+    }
+}
+
+fn effect_by(
+    form: Form,
+    instr: &Instr,
+    size: u8,
+    regs: &Regs,
+    control: &Control,
+    mem: &PhysMem,
+    tlb: &mut Tlb,
+) -> Result<Effect, Fault>
+    requires formed { IsWellFormed instr.now }
+    requires row { IsTrue (is_flow_form form) }
+    requires cpl { (regs.now.cpl ≡ 0) ⊎ (regs.now.cpl ≡ 3) }
+    requires root { 4096 * control.now.root < length mem.now }
+    requires frames { NamesFramesIn (length mem.now) tlb.old }
+    ensures outcome { outcome_of result tlb.new
+        ≡ effect_by form instr.now size regs.now control.now mem.now
+        (view_of mem.now control.now regs.now.cpl) tlb.old }
+    ensures frames { NamesFramesIn (length mem.now) tlb.new }
+    ensures places { IfOk result (λ effect. FitsIn (length mem.now) effect.write) }
+    ensures sized { IfOk result (λ effect. HasAccessSize effect.write) }
+{
+    match form {
+        Form::TrapReturn => return_effect(next_of(regs, size), regs, control, mem, tlb),
+        _ => planned_effect(form, instr, size, regs, control, mem, tlb),
+    }
+}
+
+fn planned_effect(
+    form: Form,
+    instr: &Instr,
+    size: u8,
+    regs: &Regs,
+    control: &Control,
+    mem: &PhysMem,
+    tlb: &mut Tlb,
+) -> Result<Effect, Fault>
+    requires formed { IsWellFormed instr.now }
+    requires row { IsTrue (is_flow_form form) }
+    requires cpl { (regs.now.cpl ≡ 0) ⊎ (regs.now.cpl ≡ 3) }
+    requires root { 4096 * control.now.root < length mem.now }
+    requires frames { NamesFramesIn (length mem.now) tlb.old }
+    ensures outcome { outcome_of result tlb.new
+        ≡ planned_effect form instr.now size regs.now control.now mem.now
+        (view_of mem.now control.now regs.now.cpl) tlb.old }
+    ensures frames { NamesFramesIn (length mem.now) tlb.new }
+    ensures places { IfOk result (λ effect. FitsIn (length mem.now) effect.write) }
+    ensures sized { IfOk result (λ effect. HasAccessSize effect.write) }
+{
+    let plan = plan_by(form, instr, size, regs);
+    let found = match gather(mem, tlb, control, regs.cpl, &plan) {
+        Ok(found) => found,
+        Err(fault) => return Err(raised(fault)),
+    };
+    let next = next_of(regs, size);
+    let change = outcome_by(form, instr, next, regs, control, mem.frames(), &found);
+    conclude(mem, tlb, control, regs.cpl, &plan, &found, change)
+}
+
+/// The outcome's fault, or its change once its write is checked.
+fn conclude(
+    mem: &PhysMem,
+    tlb: &mut Tlb,
+    control: &Control,
+    cpl: u8,
+    plan: &Plan,
+    found: &Gathered,
+    change: Result<Change, Fault>,
+) -> Result<Effect, Fault>
+    requires cpl { (cpl ≡ 0) ⊎ (cpl ≡ 3) }
+    requires plan { IsPlan plan.now }
+    requires both { IsChecked (length mem.now) plan.now.both found.now.both }
+    requires root { 4096 * control.now.root < length mem.now }
+    requires frames { NamesFramesIn (length mem.now) tlb.old }
+    ensures outcome { outcome_of result tlb.new
+        ≡ concluded (view_of mem.now control.now cpl) plan.now found.now change tlb.old }
+    ensures frames { NamesFramesIn (length mem.now) tlb.new }
+    ensures places { IfOk result (λ effect. FitsIn (length mem.now) effect.write) }
+    ensures sized { IfOk result (λ effect. HasAccessSize effect.write) }
+{
+    let change = match change {
+        Ok(change) => change,
+        Err(fault) => return Err(fault),
+    };
+    let last = match check_span(mem, tlb, control, cpl, plan.last) {
+        Ok(last) => last,
+        Err(fault) => return Err(raised(fault)),
+    };
+    Ok(Effect {
+        regs: change.regs,
+        write: write_of(plan, found, last, change.value),
+        act: change.act,
+    })
+}
