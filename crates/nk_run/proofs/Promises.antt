@@ -1,49 +1,46 @@
--- From what a call says in the end, and how that is written, to two of the top call's promises.
-use Rattle.std.proofs.Common.{◌≡◌, ◌≢◌, ℕ, ◌<◌, ◌≤◌, ◌⊎◌, inl, inr, Bool, true, false, cond, List, [], ◌∷◌, length, Option, Some, None, Contains, MatchOption, IsSome, IsSomeAnd, arith, refl, sym, ◌∙◌, ap, subst, nat_lt, nat_le}
+-- From what the top call says in the end, and how that is written, to its promises.
+use Rattle.std.proofs.Common.{◌≡◌, ℕ, ◌≤◌, ◌⊎◌, inl, inr, List, length, Option, Some, None, MatchOption, IsSome, IsSomeAnd, arith, refl, sym, ◌∙◌, ap, subst}
 use Rattle.std.proofs.lemmas.Bool.{le-ltb, le-leb}
-use Rattle.std.proofs.lemmas.List.Elements.{Contains-get_or}
-use Rattle.std.specs.Prelude.{unwrap_or, ⊤}
-use Rattle.std.specs.Io.KnownBytes.{Appends}
-use Rattle.nk_host.specs.Faults.{Rose, RoseTo}
+use Rattle.std.specs.Prelude.{⊤}
+use Rattle.nk_host.specs.Told.{IfTold}
 use Rattle.elf_image.specs.Rows.{first_fault}
-use Rattle.byte_scanner.specs.Found.{first_found}
+use Rattle.byte_scanner.specs.FirstFound.{first_found}
 use Rattle.boot_map.specs.Division.{need}
-use Rattle.nk_run.specs.declared.lines.TheConstants.{FILE_LIMIT}
-use Rattle.nk_run.specs.declared.words.Command.{Command}
-use Rattle.nk_run.specs.declared.words.Command.TheVariants.{Scan, Map}
-use Rattle.nk_run.specs.declared.words.Role.{Role}
-use Rattle.nk_run.specs.declared.words.Role.TheVariants.{Image}
-use Rattle.nk_run.specs.Words.{command_of, name_in}
-use Rattle.nk_run.specs.Outcome.{Files, Answer, Verdict, passes, decided, first_verdict, checks_of, text_of, outcome, outcome_of, fetched, formed, clean, roomy, image_checks, file_in}
-use Rattle.nk_run.specs.Clauses.{Counts, HasRoom, IsDone, IsFaultless, IsGoodImage, IsOutside, IsText}
-use Rattle.nk_run.specs.Replies.{IsWritten, Says}
+use Rattle.nk_run.specs.declared.command_line.Command.{Command}
+use Rattle.nk_run.specs.declared.command_line.Command.TheVariants.{Scan, Map}
+use Rattle.nk_run.specs.declared.command_line.Role.TheVariants.{Image}
+use Rattle.nk_run.specs.CommandLine.{command_of, name_in}
+use Rattle.nk_run.specs.Lines.{longest_file}
+use Rattle.nk_run.specs.Witness.{Change, Files, ShelfState, Witness}
+use Rattle.nk_run.specs.Outcome.{Answer, Verdict, passes, decided, first_verdict, checks_of, text_of, outcome, outcome_of, fetched, formed, clean, roomy, file_in}
+use Rattle.nk_run.specs.Clauses.{HasRoom, IsComplete, IsCutByCount, IsCutWritten, IsDoable, IsDone, IsFaultless, IsGoodImage, IsOutside, IsStatus, IsText, IsUnreadByCount, IsUnreadWritten, IsUsage, IsUsageAlone, IsWantWritten, MaySay, Promises, TookAll, TookPrefix}
+use Rattle.nk_run.specs.Replies.{CommandSays, IsAnswered, IsWritten, Says, SaysUsage}
 
-whatever : (o : Option Answer) (P : Answer → Type 0) → ((a : Answer) → P a) → MatchOption o ⊤ P
-whatever None P h = tt
-whatever (Some a) P h = h a
+-- what holds of files that may be told, where it holds of those that are
+if_told : (told : Option Files) (P : Files → Type 0) → ((files : Files) → told ≡ Some files → P files) → IfTold told P
+if_told None P h = tt
+if_told (Some files) P h = h files refl
 
--- the text that is written whole is the outcome's
-pub text_promised : (words : List (List ℕ)) (told : Option Files) (before now : Counts) (taken after : Option (List ℕ)) (sink_before sink_now status : ℕ) (text : List ℕ) (result : ℕ)
-    → Says words told before now status text → IsWritten taken after sink_before sink_now status text result → IsText words told taken after result
-text_promised words None before now taken after sink_before sink_now status text result says written = tt
-text_promised words (Some files) before now taken after sink_before sink_now status text result says (inr cut) =
-    whatever (outcome words files) _ (λ a. inl (inr (inl cut.0)))
-text_promised words (Some files) before now taken after sink_before sink_now status text result (inl unread) (inl whole) =
-    whatever (outcome words files) _ (λ a. inl (inl (whole.0 ∙ unread.status_is)))
-text_promised words (Some files) before now taken after sink_before sink_now status text result (inr (inl want)) (inl whole) =
-    whatever (outcome words files) _ (λ a. inl (inr (inr (whole.0 ∙ want.want.status_is))))
-text_promised words (Some files) before now taken after sink_before sink_now status text result (inr (inr other)) (inl whole) =
-    let P : Option Answer → Type 0 = λ o. MatchOption o ⊤ (λ answer. IsOutside result ⊎ Appends taken after answer.text) in
-    subst P (sym other.outcome_is) (inr whole.1)
+-- and what holds of those that are
+told_at : (told : Option Files) (P : Files → Type 0) (files : Files) → told ≡ Some files → IfTold told P → P files
+told_at told P files e h = let Q : Option Files → Type 0 = λ t. IfTold t P in subst Q e h
 
 some_and : {A : Type 0} (o : Option A) (P : A → Type 0) → IsSomeAnd o P → (x : A) × (o ≡ Some x) × P x
 some_and None P h = absurd h
 some_and (Some x) P h = (x, refl, h)
 
+is_some_and : {A : Type 0} (o : Option A) (P : A → Type 0) → IsSomeAnd o P → o ≡ None → ⊥
+is_some_and None P h e = h
+is_some_and (Some x) P h e = cc
+
+not_none : {A : Type 0} (o : Option A) → IsSome o → o ≡ None → ⊥
+not_none None h e = cc
+not_none (Some x) h e = cc
+
 -- the checks on a good image pass
 module _ (words : List (List ℕ)) (files : Files) (image : List ℕ) (held : files (name_in words Image) ≡ Some image) (good : IsGoodImage image) where
   fetch_passes : fetched Image (files (name_in words Image)) ≡ passes
-  fetch_passes = rw held (rw (le-ltb FILE_LIMIT (length image) good.within) refl)
+  fetch_passes = rw held (rw (le-ltb longest_file (length image) good.within) refl)
 
   file_is : file_in files words Image ≡ image
   file_is = rw held refl
@@ -68,29 +65,193 @@ module _ (words : List (List ℕ)) (files : Files) (image : List ℕ) (held : fi
       ap (λ (c : Option Command). outcome_of c words files) asked
       ∙ ap (λ (v : Verdict). decided v (record { status = 0; text = text_of command files words })) (checks_pass command room)
 
--- a command's words have a name for its image
-two_words : (words : List (List ℕ)) (command : Command) → command_of words ≡ Some command → 1 < length words
-two_words [] command h = cc
-two_words (name ∷ []) command h = cc
-two_words (name ∷ (image ∷ rest)) command h = omega arith
+-- words without a form have the usage line for their outcome
+formless_outcome : (words : List (List ℕ)) (files : Files) (status : ℕ) (text : List ℕ) → SaysUsage words status text
+    → outcome words files ≡ Some (record { status = status; text = text })
+formless_outcome words files status text plain =
+    ap (λ (c : Option Command). outcome_of c words files) plain.formless
+    ∙ rw (plain.status_is, plain.text_is) refl
 
-named : (words : List (List ℕ)) (role : Role) (command : Command) → command_of words ≡ Some command → Contains words (name_in words role)
-named words Image command h = Contains-get_or words 1 [] (two_words words command h)
+-- what a command says is said of words that have a form
+has_form : (words : List (List ℕ)) (shelf : Change ShelfState) (status : ℕ) (text : List ℕ)
+    → CommandSays words shelf status text → command_of words ≡ None → ⊥
+has_form words shelf status text (inl said) none = is_some_and (command_of words) _ said.unread.asked none
+has_form words shelf status text (inr (inl want)) none = not_none (command_of words) want.asked none
+has_form words shelf status text (inr (inr other)) none = not_none (command_of words) other.asked none
+
+outside_any : (o : Option Answer) (status : ℕ) (P : Answer → Type 0) → IsOutside status
+    → MatchOption o (IsOutside status) (λ answer. IsOutside status ⊎ P answer)
+outside_any None status P h = h
+outside_any (Some answer) status P h = inl h
+
+outside_text : (o : Option Answer) (status : ℕ) (P : Answer → Type 0) → IsOutside status
+    → MatchOption o ⊤ (λ answer. IsOutside status ⊎ P answer)
+outside_text None status P h = tt
+outside_text (Some answer) status P h = inl h
+
+want_any : (o : Option Answer) (status : ℕ) → status ≡ 5
+    → MatchOption o (status ≡ 5) (λ answer. (status ≡ answer.status) ⊎ (status ≡ 5))
+want_any None status h = h
+want_any (Some answer) status h = inr h
 
 status_of : (a b : Answer) → Some a ≡ Some b → a.status ≡ b.status
 status_of a b h = cc
 
--- what was asked of a good image is done
-pub done_promised : (words : List (List ℕ)) (told : Option Files) (before now : Counts) (taken after : Option (List ℕ)) (sink_before sink_now status : ℕ) (text : List ℕ) (result : ℕ)
-    → Says words told before now status text → IsWritten taken after sink_before sink_now status text result → IsDone words told before now sink_before sink_now result
-done_promised words None before now taken after sink_before sink_now status text result says written = tt
-done_promised words (Some files) before now taken after sink_before sink_now status text result says (inr cut) = λ wanted faultless. absurd (faultless.1 cut.1)
-done_promised words (Some files) before now taken after sink_before sink_now status text result (inl said) (inl whole) = λ wanted faultless.
-    let (command, asked, rest) = some_and (command_of words) _ wanted in
-    absurd (faultless.0 (name_in words said.role) (named words said.role command asked) said.unread.rose)
-done_promised words (Some files) before now taken after sink_before sink_now status text result (inr (inl want)) (inl whole) = λ wanted faultless.
-    inr (whole.0 ∙ want.want.status_is)
-done_promised words (Some files) before now taken after sink_before sink_now status text result (inr (inr other)) (inl whole) = λ wanted faultless.
-    let (command, asked, rest) = some_and (command_of words) _ wanted in
-    let (image, held, fits) = some_and (files (name_in words Image)) _ rest in
-    inl (whole.0 ∙ status_of _ _ (sym other.outcome_is ∙ outcome_good words files image held fits.0 command asked fits.1))
+module _ (seen : Witness) (status : ℕ) (text : List ℕ) (result : ℕ) where
+  -- what is said and written is the outcome
+  record IsOutcome (files : Files) : Type 0 where
+    is : outcome seen.words files ≡ Some (record { status = status; text = text })
+    status_is : result ≡ status
+    taken : TookAll seen.sink text
+
+  status_range : Says seen.words seen.shelf status text → IsWritten seen.sink status text result → result ≤ 7
+  status_range says (inr cut) = omega (arith, cut.0)
+  status_range (inl plain) (inl whole) = omega (arith, whole.0, plain.status_is)
+  status_range (inr (inl said)) (inl whole) = omega (arith, whole.0, said.status_is)
+  status_range (inr (inr (inl want))) (inl whole) = omega (arith, whole.0, want.want.status_is)
+  status_range (inr (inr (inr other))) (inl whole) = omega (arith, whole.0, other.own.small)
+
+  usage : Says seen.words seen.shelf status text → IsWritten seen.sink status text result → IsUsage seen result
+  usage (inl plain) (inl whole) = λ none. inl (whole.0 ∙ plain.status_is, subst (TookAll seen.sink) plain.text_is whole.1)
+  usage (inl plain) (inr cut) = λ none. inr (cut.0, subst (TookPrefix seen.sink) plain.text_is cut.2)
+  usage (inr command) written = λ none. absurd (has_form seen.words seen.shelf status text command none)
+
+  usage_alone : Says seen.words seen.shelf status text → IsWritten seen.sink status text result → IsUsageAlone seen result
+  usage_alone (inl plain) written = λ two. plain.formless
+  usage_alone (inr command) (inr cut) = λ two. absurd (omega (arith, cut.0, two))
+  usage_alone (inr (inl said)) (inl whole) = λ two. absurd (omega (arith, whole.0, said.status_is, two))
+  usage_alone (inr (inr (inl want))) (inl whole) = λ two. absurd (omega (arith, whole.0, want.want.status_is, two))
+  usage_alone (inr (inr (inr other))) (inl whole) = λ two. absurd (other.own.not_usage (sym whole.0 ∙ two))
+
+  unread_by_count : Says seen.words seen.shelf status text → IsWritten seen.sink status text result → IsUnreadByCount seen result
+  unread_by_count says (inr cut) = λ three. absurd (omega (arith, cut.0, three))
+  unread_by_count (inl plain) (inl whole) = λ three. absurd (omega (arith, whole.0, plain.status_is, three))
+  unread_by_count (inr (inl said)) (inl whole) = λ three. (said.role, said.unread.asked, said.unread.rose)
+  unread_by_count (inr (inr (inl want))) (inl whole) = λ three. absurd (omega (arith, whole.0, want.want.status_is, three))
+  unread_by_count (inr (inr (inr other))) (inl whole) = λ three. absurd (other.own.not_unread (sym whole.0 ∙ three))
+
+  not_four : Says seen.words seen.shelf status text → status ≡ 4 → ⊥
+  not_four (inl plain) four = omega (arith, plain.status_is, four)
+  not_four (inr (inl said)) four = omega (arith, said.status_is, four)
+  not_four (inr (inr (inl want))) four = omega (arith, want.want.status_is, four)
+  not_four (inr (inr (inr other))) four = other.own.not_cut four
+
+  cut_by_count : Says seen.words seen.shelf status text → IsWritten seen.sink status text result → IsCutByCount seen result
+  cut_by_count says (inr cut) = λ four. cut.1
+  cut_by_count says (inl whole) = λ four. absurd (not_four says (sym whole.0 ∙ four))
+
+  -- what is written whole is the outcome, or the status is one of the outside
+  whole_outcome : (files : Files) → seen.shelf.before.files ≡ Some files → Says seen.words seen.shelf status text
+      → IsWritten seen.sink status text result → IsOutside result ⊎ IsOutcome files
+  whole_outcome files e says (inr cut) = inl (inr (inl cut.0))
+  whole_outcome files e (inl plain) (inl whole) =
+      inr (record { is = formless_outcome seen.words files status text plain; status_is = whole.0; taken = whole.1 })
+  whole_outcome files e (inr (inl said)) (inl whole) = inl (inl (whole.0 ∙ said.status_is))
+  whole_outcome files e (inr (inr (inl want))) (inl whole) = inl (inr (inr (whole.0 ∙ want.want.status_is)))
+  whole_outcome files e (inr (inr (inr other))) (inl whole) =
+      inr (record { is = told_at seen.shelf.before.files _ files e other.outcome_is; status_is = whole.0; taken = whole.1 })
+
+  status_with : (files : Files) → IsOutside result ⊎ IsOutcome files
+      → MatchOption (outcome seen.words files) (IsOutside result) (λ answer. IsOutside result ⊎ (result ≡ answer.status))
+  status_with files (inl outside) = outside_any (outcome seen.words files) result _ outside
+  status_with files (inr o) =
+      let P : Option Answer → Type 0 = λ a. MatchOption a (IsOutside result) (λ answer. IsOutside result ⊎ (result ≡ answer.status)) in
+      subst P (sym o.is) (inr o.status_is)
+
+  text_with : (files : Files) → IsOutside result ⊎ IsOutcome files
+      → MatchOption (outcome seen.words files) ⊤ (λ answer. IsOutside result ⊎ TookAll seen.sink answer.text)
+  text_with files (inl outside) = outside_text (outcome seen.words files) result _ outside
+  text_with files (inr o) =
+      let P : Option Answer → Type 0 = λ a. MatchOption a ⊤ (λ answer. IsOutside result ⊎ TookAll seen.sink answer.text) in
+      subst P (sym o.is) (inr o.taken)
+
+  outcome_status : Says seen.words seen.shelf status text → IsWritten seen.sink status text result → IsStatus seen result
+  outcome_status says written =
+      if_told seen.shelf.before.files _ (λ files e. status_with files (whole_outcome files e says written))
+
+  outcome_text : Says seen.words seen.shelf status text → IsWritten seen.sink status text result → IsText seen result
+  outcome_text says written =
+      if_told seen.shelf.before.files _ (λ files e. text_with files (whole_outcome files e says written))
+
+  unread_written : Says seen.words seen.shelf status text → IsWritten seen.sink status text result → IsUnreadWritten seen result
+  unread_written says (inr cut) = λ three. absurd (omega (arith, cut.0, three))
+  unread_written (inl plain) (inl whole) = λ three. absurd (omega (arith, whole.0, plain.status_is, three))
+  unread_written (inr (inl said)) (inl whole) = λ three. (said.role, said.unread, subst (TookAll seen.sink) said.text_is whole.1)
+  unread_written (inr (inr (inl want))) (inl whole) = λ three. absurd (omega (arith, whole.0, want.want.status_is, three))
+  unread_written (inr (inr (inr other))) (inl whole) = λ three. absurd (other.own.not_unread (sym whole.0 ∙ three))
+
+  want_written : Says seen.words seen.shelf status text → IsWritten seen.sink status text result → IsWantWritten seen result
+  want_written says (inr cut) = λ five. absurd (omega (arith, cut.0, five))
+  want_written (inl plain) (inl whole) = λ five. absurd (omega (arith, whole.0, plain.status_is, five))
+  want_written (inr (inl said)) (inl whole) = λ five. absurd (omega (arith, whole.0, said.status_is, five))
+  want_written (inr (inr (inl want))) (inl whole) = λ five. subst (TookAll seen.sink) want.want.text_is whole.1
+  want_written (inr (inr (inr other))) (inl whole) = λ five. absurd (other.own.not_want (sym whole.0 ∙ five))
+
+  may_say_outcome : (files : Files) → outcome seen.words files ≡ Some (record { status = status; text = text }) → MaySay seen files text
+  may_say_outcome files e =
+      let P : Option Answer → Type 0 = λ a. IsSomeAnd a (λ answer. text ≡ answer.text) in inr (inr (subst P (sym e) refl))
+
+  may_say : (files : Files) → seen.shelf.before.files ≡ Some files → Says seen.words seen.shelf status text → MaySay seen files text
+  may_say files e (inl plain) = may_say_outcome files (formless_outcome seen.words files status text plain)
+  may_say files e (inr (inl said)) = inr (inl (said.role, said.unread, said.text_is))
+  may_say files e (inr (inr (inl want))) = inl want.want.text_is
+  may_say files e (inr (inr (inr other))) = may_say_outcome files (told_at seen.shelf.before.files _ files e other.outcome_is)
+
+  cut_with : (files : Files) → seen.shelf.before.files ≡ Some files → Says seen.words seen.shelf status text
+      → IsWritten seen.sink status text result → result ≡ 4 → (begun : List ℕ) × MaySay seen files begun × TookPrefix seen.sink begun
+  cut_with files e says (inr cut) four = (text, may_say files e says, cut.2)
+  cut_with files e says (inl whole) four = absurd (not_four says (sym whole.0 ∙ four))
+
+  cut_written : Says seen.words seen.shelf status text → IsWritten seen.sink status text result → IsCutWritten seen result
+  cut_written says written = if_told seen.shelf.before.files _ (λ files e. cut_with files e says written)
+
+  -- without a fault, there was no memory, or what is written is the outcome
+  faultless : IsFaultless seen → (files : Files) → seen.shelf.before.files ≡ Some files → Says seen.words seen.shelf status text
+      → IsWritten seen.sink status text result → (result ≡ 5) ⊎ IsOutcome files
+  faultless none files e says (inr cut) = absurd (none.1 cut.1)
+  faultless none files e (inl plain) (inl whole) =
+      inr (record { is = formless_outcome seen.words files status text plain; status_is = whole.0; taken = whole.1 })
+  faultless none files e (inr (inl said)) (inl whole) = absurd (none.0 said.role said.unread.asked said.unread.rose)
+  faultless none files e (inr (inr (inl want))) (inl whole) = inl (whole.0 ∙ want.want.status_is)
+  faultless none files e (inr (inr (inr other))) (inl whole) =
+      inr (record { is = told_at seen.shelf.before.files _ files e other.outcome_is; status_is = whole.0; taken = whole.1 })
+
+  complete_with : (files : Files) → (result ≡ 5) ⊎ IsOutcome files
+      → MatchOption (outcome seen.words files) (result ≡ 5) (λ answer. (result ≡ answer.status) ⊎ (result ≡ 5))
+  complete_with files (inl want) = want_any (outcome seen.words files) result want
+  complete_with files (inr o) =
+      let P : Option Answer → Type 0 = λ a. MatchOption a (result ≡ 5) (λ answer. (result ≡ answer.status) ⊎ (result ≡ 5)) in
+      subst P (sym o.is) (inl o.status_is)
+
+  complete : Says seen.words seen.shelf status text → IsWritten seen.sink status text result → IsComplete seen result
+  complete says written =
+      if_told seen.shelf.before.files _ (λ files e none. complete_with files (faultless none files e says written))
+
+  done_with : (files : Files) → IsSomeAnd (command_of seen.words) (λ command. IsDoable command seen.words files)
+      → (result ≡ 5) ⊎ IsOutcome files → (result ≡ 0) ⊎ (result ≡ 5)
+  done_with files wanted (inl want) = inr want
+  done_with files wanted (inr o) =
+      let (command, asked, doable) = some_and (command_of seen.words) _ wanted in
+      let (image, held, fits) = some_and (files (name_in seen.words Image)) _ doable in
+      inl (o.status_is ∙ status_of _ _ (sym o.is ∙ outcome_good seen.words files image held fits.0 command asked fits.1))
+
+  done : Says seen.words seen.shelf status text → IsWritten seen.sink status text result → IsDone seen result
+  done says written =
+      if_told seen.shelf.before.files _ (λ files e wanted none. done_with files wanted (faultless none files e says written))
+
+pub promised : (seen : Witness) (result : ℕ) → IsAnswered seen result → Promises seen result
+promised seen result r = record {
+  status_range = status_range seen r.status r.text result r.says r.written;
+  usage = usage seen r.status r.text result r.says r.written;
+  usage_alone = usage_alone seen r.status r.text result r.says r.written;
+  unread_by_count = unread_by_count seen r.status r.text result r.says r.written;
+  cut_by_count = cut_by_count seen r.status r.text result r.says r.written;
+  outcome_status = outcome_status seen r.status r.text result r.says r.written;
+  outcome_text = outcome_text seen r.status r.text result r.says r.written;
+  unread_written = unread_written seen r.status r.text result r.says r.written;
+  want_written = want_written seen r.status r.text result r.says r.written;
+  cut_written = cut_written seen r.status r.text result r.says r.written;
+  files_stay = r.files_stay;
+  complete = complete seen r.status r.text result r.says r.written;
+  done = done seen r.status r.text result r.says r.written;
+}

@@ -1,97 +1,118 @@
--- What the top call promises of the words, of what the shelf and the sink tell, and of their counts of faults. `told` are
--- the shelf's files and `before` and `now` its counts, at the call and at the return; `taken` and `after` are the bytes that the
--- sink took, at the same two moments.
-use Rattle.std.specs.Prelude.{◌≡◌, ◌≢◌, ℕ, ◌≤◌, ◌⊎◌, List, [], ◌∷◌, Contains, length, Option, None, Some, MatchOption, IsSome, IsSomeAnd, ⊤}
+-- What the top call promises, in the order of the record `Promises` at the end: each promise is over what the call saw
+-- and its status.
+use Rattle.std.specs.Prelude.{◌≡◌, ℕ, ◌≤◌, ◌⊎◌, List, length, None, MatchOption, IsSomeAnd, ⊤}
 use Rattle.std.specs.Io.KnownBytes.{Appends}
-use Rattle.nk_host.specs.Faults.{Rose, RoseTo}
+use Rattle.nk_host.specs.FaultCounts.{Rose, RoseTo}
 use Rattle.nk_host.specs.Taken.{AppendsPrefix}
 use Rattle.nk_host.specs.Told.{IfTold}
-use Rattle.nk_run.specs.declared.lines.TheConstants.{FILE_LIMIT}
-use Rattle.nk_run.specs.declared.words.Command.{Command}
-use Rattle.nk_run.specs.declared.words.Command.TheVariants.{Scan, Map}
-use Rattle.nk_run.specs.declared.words.Role.{Role}
-use Rattle.nk_run.specs.declared.words.Role.TheVariants.{Image}
-use Rattle.nk_run.specs.Words.{command_of, name_in, roles_of}
 use Rattle.elf_image.specs.Rows.{first_fault}
-use Rattle.byte_scanner.specs.Found.{first_found}
+use Rattle.byte_scanner.specs.FirstFound.{first_found}
 use Rattle.boot_map.specs.Division.{need}
-use Rattle.nk_run.specs.Lines.{no_memory_line, unread_line}
-use Rattle.nk_run.specs.Outcome.{Files, Answer, checks_of, outcome, IsReached}
+use Rattle.nk_run.specs.declared.command_line.Command.{Command}
+use Rattle.nk_run.specs.declared.command_line.Command.TheVariants.{Scan, Map}
+use Rattle.nk_run.specs.declared.command_line.Role.{Role}
+use Rattle.nk_run.specs.declared.command_line.Role.TheVariants.{Image}
+use Rattle.nk_run.specs.CommandLine.{command_of, name_in, IsAsked}
+use Rattle.nk_run.specs.Lines.{longest_file, no_memory_line, unread_line, usage_line}
+use Rattle.nk_run.specs.Witness.{Change, Files, ShelfState, SinkState, Witness}
+use Rattle.nk_run.specs.Outcome.{checks_of, outcome, IsReached}
 
--- counts of faults, by the bytes of names
-abbrev pub Counts : Type 0
-Counts = List ℕ → ℕ
+-- the count of faults of the name of a role's file rose
+abbrev pub NameRose : List (List ℕ) → Change ShelfState → Role → Type 0
+NameRose words shelf role = Rose shelf.before.faults shelf.after.faults (name_in words role)
+
+-- the sink's count of faults rose
+abbrev pub SinkRose : Change SinkState → Type 0
+SinkRose sink = RoseTo sink.before.faults sink.after.faults
+
+-- the sink took the whole text, or a prefix of it
+abbrev pub TookAll : Change SinkState → List ℕ → Type 0
+TookAll sink text = Appends sink.before.taken sink.after.taken text
+
+abbrev pub TookPrefix : Change SinkState → List ℕ → Type 0
+TookPrefix sink text = AppendsPrefix sink.before.taken sink.after.taken text
+
+-- the fetch of a role's file failed: the role is the command's, its name's count rose, and where files are told the
+-- checks before that fetch pass on them
+pub record IsUnread (words : List (List ℕ)) (shelf : Change ShelfState) (role : Role) : Type 0 where
+  pub asked : IsAsked words role
+  pub rose : NameRose words shelf role
+  pub reached : IfTold shelf.before.files
+      (λ files. IsSomeAnd (command_of words) (λ command. IsReached role (checks_of command files words)))
 
 -- the statuses of a fault of the outside (3 of the shelf, 4 of the sink) and of want of memory (5)
 abbrev pub IsOutside : ℕ → Type 0
 IsOutside status = (status ≡ 3) ⊎ ((status ≡ 4) ⊎ (status ≡ 5))
 
--- the count of a word, taken as a name, rose
-abbrev pub SomeWordRose : List (List ℕ) → Counts → Counts → Type 0
-SomeWordRose words before now = (name : List ℕ) × Contains words name × Rose before now name
+-- words without a form are answered with status 2 and the usage line, or cut with status 4 at a prefix of that line
+abbrev pub IsUsage : Witness → ℕ → Type 0
+IsUsage seen status = command_of seen.words ≡ None →
+    ((status ≡ 2) × TookAll seen.sink usage_line) ⊎ ((status ≡ 4) × TookPrefix seen.sink usage_line)
 
--- the fetch of a role's file failed: the role is the command's, its name's count rose, and where files are told the
--- checks before that fetch pass on them
-pub record IsUnread (words : List (List ℕ)) (told : Option Files) (before now : Counts) (role : Role) : Type 0 where
-  pub asked : IsSomeAnd (command_of words) (λ command. Contains (roles_of command) role)
-  pub rose : Rose before now (name_in words role)
-  pub reached : IfTold told (λ files. IsSomeAnd (command_of words) (λ command. IsReached role (checks_of command files words)))
+-- status 2 comes for no other words
+abbrev pub IsUsageAlone : Witness → ℕ → Type 0
+IsUsageAlone seen status = status ≡ 2 → command_of seen.words ≡ None
 
--- status 3 comes only with a word's count, status 4 only with the sink's, and neither status 3 nor 5 for words without a form
-abbrev pub IsUnreadByCount : List (List ℕ) → Counts → Counts → ℕ → Type 0
-IsUnreadByCount words before now status = status ≡ 3 → SomeWordRose words before now
+-- status 3 comes only where the count of the name of one of the command's files rose
+abbrev pub IsUnreadByCount : Witness → ℕ → Type 0
+IsUnreadByCount seen status =
+    status ≡ 3 → (role : Role) × IsAsked seen.words role × NameRose seen.words seen.shelf role
 
-abbrev pub IsCutByCount : ℕ → ℕ → ℕ → Type 0
-IsCutByCount before now status = status ≡ 4 → RoseTo before now
-
-abbrev pub IsUsageKept : List (List ℕ) → ℕ → Type 0
-IsUsageKept words status = command_of words ≡ None → (status ≢ 3) × (status ≢ 5)
+-- status 4 comes only where the sink's count rose
+abbrev pub IsCutByCount : Witness → ℕ → Type 0
+IsCutByCount seen status = status ≡ 4 → SinkRose seen.sink
 
 -- the status is the outcome's, or one of those of the outside; where the outcome is undefined it is one of these
-abbrev pub IsStatus : List (List ℕ) → Option Files → ℕ → Type 0
-IsStatus words told status = IfTold told (λ files.
-    MatchOption (outcome words files) (IsOutside status) (λ answer. IsOutside status ⊎ (status ≡ answer.status)))
+abbrev pub IsStatus : Witness → ℕ → Type 0
+IsStatus seen status = IfTold seen.shelf.before.files (λ files.
+    MatchOption (outcome seen.words files)
+    (IsOutside status)
+    (λ answer. IsOutside status ⊎ (status ≡ answer.status)))
 
--- with any other status than those of the outside, the bytes appended are the outcome's text
-abbrev pub IsText : List (List ℕ) → Option Files → Option (List ℕ) → Option (List ℕ) → ℕ → Type 0
-IsText words told taken after status = IfTold told (λ files.
-    MatchOption (outcome words files) ⊤ (λ answer. IsOutside status ⊎ Appends taken after answer.text))
+-- with any other status than those of the outside, the bytes taken are the outcome's text
+abbrev pub IsText : Witness → ℕ → Type 0
+IsText seen status = IfTold seen.shelf.before.files (λ files.
+    MatchOption (outcome seen.words files) ⊤ (λ answer. IsOutside status ⊎ TookAll seen.sink answer.text))
 
--- with status 3 the bytes appended are the line of a role whose fetch failed
-abbrev pub IsUnreadWritten : List (List ℕ) → Option Files → Counts → Counts → Option (List ℕ) → Option (List ℕ) → ℕ → Type 0
-IsUnreadWritten words told before now taken after status =
-    status ≡ 3 → (role : Role) × IsUnread words told before now role × Appends taken after (unread_line role)
+-- with status 3 they are the line of a role whose fetch failed
+abbrev pub IsUnreadWritten : Witness → ℕ → Type 0
+IsUnreadWritten seen status =
+    status ≡ 3 → (role : Role) × IsUnread seen.words seen.shelf role × TookAll seen.sink (unread_line role)
 
 -- with status 5 they are that there was no memory
-abbrev pub IsWantWritten : Option (List ℕ) → Option (List ℕ) → ℕ → Type 0
-IsWantWritten taken after status = status ≡ 5 → Appends taken after no_memory_line
+abbrev pub IsWantWritten : Witness → ℕ → Type 0
+IsWantWritten seen status = status ≡ 5 → TookAll seen.sink no_memory_line
 
--- a text that the call may begin to write
-abbrev pub MaySay : List (List ℕ) → Files → Counts → Counts → List ℕ → Type 0
-MaySay words files before now text =
+-- a text that may be begun
+abbrev pub MaySay : Witness → Files → List ℕ → Type 0
+MaySay seen files text =
     (text ≡ no_memory_line)
-    ⊎ (((role : Role) × IsUnread words (Some files) before now role × (text ≡ unread_line role))
-    ⊎ IsSomeAnd (outcome words files) (λ answer. text ≡ answer.text))
+    ⊎ (((role : Role) × IsUnread seen.words seen.shelf role × (text ≡ unread_line role))
+    ⊎ IsSomeAnd (outcome seen.words files) (λ answer. text ≡ answer.text))
 
--- with status 4 the bytes appended are a prefix of such a text
-abbrev pub IsCutWritten : List (List ℕ) → Option Files → Counts → Counts → Option (List ℕ) → Option (List ℕ) → ℕ → Type 0
-IsCutWritten words told before now taken after status = IfTold told (λ files.
-    status ≡ 4 → (text : List ℕ) × MaySay words files before now text × AppendsPrefix taken after text)
+-- with status 4 they are a prefix of such a text
+abbrev pub IsCutWritten : Witness → ℕ → Type 0
+IsCutWritten seen status = IfTold seen.shelf.before.files (λ files.
+    status ≡ 4 → (text : List ℕ) × MaySay seen files text × TookPrefix seen.sink text)
 
--- no count of a word rose and none stands at its type's end, and the same of the sink's
-abbrev pub IsFaultless : List (List ℕ) → Counts → Counts → ℕ → ℕ → Type 0
-IsFaultless words before now sink_before sink_now =
-    ((name : List ℕ) → Contains words name → ¬ (Rose before now name)) × ¬ (RoseTo sink_before sink_now)
+-- the shelf's files stay as they were
+abbrev pub AreKept : Witness → Type 0
+AreKept seen = seen.shelf.after.files ≡ seen.shelf.before.files
 
--- without a fault, the status is the outcome's or that of want of memory; where the outcome is undefined it is the latter
-abbrev pub IsComplete : List (List ℕ) → Option Files → Counts → Counts → ℕ → ℕ → ℕ → Type 0
-IsComplete words told before now sink_before sink_now status = IfTold told (λ files.
-    IsFaultless words before now sink_before sink_now →
-    MatchOption (outcome words files) (status ≡ 5) (λ answer. (status ≡ answer.status) ⊎ (status ≡ 5)))
+-- no count of the name of one of the command's files rose and none stands at its type's end, nor does the sink's
+abbrev pub IsFaultless : Witness → Type 0
+IsFaultless seen =
+    ((role : Role) → IsAsked seen.words role → ¬ (NameRose seen.words seen.shelf role)) × ¬ (SinkRose seen.sink)
+
+-- without a fault the status is the outcome's or that of want of memory; where the outcome is undefined it is the
+-- latter
+abbrev pub IsComplete : Witness → ℕ → Type 0
+IsComplete seen status = IfTold seen.shelf.before.files (λ files. IsFaultless seen →
+    MatchOption (outcome seen.words files) (status ≡ 5) (λ answer. (status ≡ answer.status) ⊎ (status ≡ 5)))
 
 -- the image is held within the limit, has no fault, and holds no protected encoding in its code
 pub record IsGoodImage (b : List ℕ) : Type 0 where
-  pub within : length b ≤ FILE_LIMIT
+  pub within : length b ≤ longest_file
   pub formed : first_fault b ≡ None
   pub clean : first_found b ≡ None
 
@@ -100,8 +121,32 @@ abbrev pub HasRoom : Command → List ℕ → Type 0
 HasRoom Scan b = ⊤
 HasRoom (Map frames va) b = need b frames ≤ frames
 
--- what was asked of a good image that has room is done: without a fault the status is 0, or that of want of memory
-abbrev pub IsDone : List (List ℕ) → Option Files → Counts → Counts → ℕ → ℕ → ℕ → Type 0
-IsDone words told before now sink_before sink_now status = IfTold told (λ files.
-    IsSomeAnd (command_of words) (λ command. IsSomeAnd (files (name_in words Image)) (λ image. IsGoodImage image × HasRoom command image)) →
-    IsFaultless words before now sink_before sink_now → (status ≡ 0) ⊎ (status ≡ 5))
+-- what the words ask for can be done with the files
+abbrev pub IsDoable : Command → List (List ℕ) → Files → Type 0
+IsDoable command words files =
+    IsSomeAnd (files (name_in words Image)) (λ image. IsGoodImage image × HasRoom command image)
+
+-- what can be done is done: without a fault the status is 0, or that of want of memory
+abbrev pub IsDone : Witness → ℕ → Type 0
+IsDone seen status = IfTold seen.shelf.before.files (λ files.
+    IsSomeAnd (command_of seen.words) (λ command. IsDoable command seen.words files) →
+    IsFaultless seen → (status ≡ 0) ⊎ (status ≡ 5))
+
+pub record Promises (seen : Witness) (status : ℕ) : Type 0 where
+  pub status_range : status ≤ 7
+  -- words without a form, and the counts: over every shelf and sink, whether they tell their content or not
+  pub usage : IsUsage seen status
+  pub usage_alone : IsUsageAlone seen status
+  pub unread_by_count : IsUnreadByCount seen status
+  pub cut_by_count : IsCutByCount seen status
+  -- otherwise status and text are the outcome's
+  pub outcome_status : IsStatus seen status
+  pub outcome_text : IsText seen status
+  -- what is written with the statuses of the outside
+  pub unread_written : IsUnreadWritten seen status
+  pub want_written : IsWantWritten seen status
+  pub cut_written : IsCutWritten seen status
+  pub files_stay : AreKept seen
+  -- without a fault of the outside the work is done, if memory is given
+  pub complete : IsComplete seen status
+  pub done : IsDone seen status

@@ -1,7 +1,10 @@
-pub mod Numbers
-pub mod Words
+-- What a reader must believe.
+pub mod NumberWords
+pub mod CommandLine
 pub mod Lines
+pub mod Witness
 pub mod Outcome
 pub mod Clauses
+-- Words of private clauses and proofs.
 pub mod ReplyText
 pub mod Replies

@@ -1,15 +1,19 @@
 -- The lines that the program writes, byte for byte. Lists of bytes nest to the right, as a format writes them.
-use Rattle.std.specs.Prelude.{ℕ, ◌++◌, ◌-◌, ◌^◌, if◌then◌else◌, List, [], ◌∷◌, false, codes, Result, Ok, Err}
+use Rattle.std.specs.Prelude.{ℕ, ◌++◌, ◌-◌, ◌^◌, if◌then◌else◌, List, [], false, codes, Result, Ok, Err}
 use Rattle.std.specs.Fmt.{decimal, digits, padded_integral, format_spec}
 use Rattle.hex.specs.Hex.{encode_lower}
 use Rattle.nk_bits.specs.declared.leaf.Leaf.{Leaf}
 use Rattle.nk_bits.specs.declared.leaf.Rights.{Rights}
-use Rattle.nk_run.specs.declared.words.Role.{Role}
-use Rattle.nk_run.specs.declared.words.Role.TheVariants.{Image}
+use Rattle.nk_run.specs.declared.command_line.Role.{Role}
+use Rattle.nk_run.specs.declared.command_line.Role.TheVariants.{Image}
 
 -- a number of at most 64 bits as 16 hexadecimal digits
 unfoldable pub hex_16 : ℕ → List ℕ
 hex_16 n = padded_integral (format_spec 32 0 4 16 (2 ^ 64 - 1)) false [] (digits 16 false n)
+
+-- the most bytes of a file that is read: 64 MiB
+abbrev pub longest_file : ℕ
+longest_file = 67108864
 
 -- a role's word
 abbrev pub role_text : Role → List ℕ
@@ -28,20 +32,23 @@ unfoldable pub unread_line : Role → List ℕ
 unread_line role = codes "unread " ++ (role_text role ++ codes "\n")
 
 -- a file has more bytes than the limit
-unfoldable pub longer_line : Role → ℕ → List ℕ
-longer_line role limit = codes "longer " ++ (role_text role ++ (codes " " ++ (decimal limit ++ codes "\n")))
+unfoldable pub longer_line : Role → List ℕ
+longer_line role = codes "longer " ++ (role_text role ++ (codes " " ++ (decimal longest_file ++ codes "\n")))
 
 -- the image's first fault: its number, its name and its value
 unfoldable pub image_line : ℕ → List ℕ → ℕ → List ℕ
-image_line number name value = codes "image " ++ (decimal number ++ (codes " " ++ (name ++ (codes " " ++ (decimal value ++ codes "\n")))))
+image_line number name value =
+    codes "image " ++ (decimal number ++ (codes " " ++ (name ++ (codes " " ++ (decimal value ++ codes "\n")))))
 
 -- the least address with a protected encoding, and the encoding's bytes
 unfoldable pub protected_line : ℕ → List ℕ → List ℕ
-protected_line address bytes = codes "protected " ++ (hex_16 address ++ (codes " " ++ (encode_lower bytes ++ codes "\n")))
+protected_line address bytes =
+    codes "protected " ++ (hex_16 address ++ (codes " " ++ (encode_lower bytes ++ codes "\n")))
 
 -- the image is admitted: its entry and the number of its executable pages
 unfoldable pub admitted_line : ℕ → ℕ → List ℕ
-admitted_line entry pages = codes "admitted entry " ++ (hex_16 entry ++ (codes " pages " ++ (decimal pages ++ codes "\n")))
+admitted_line entry pages =
+    codes "admitted entry " ++ (hex_16 entry ++ (codes " pages " ++ (decimal pages ++ codes "\n")))
 
 -- the opening needs more frames than there are
 unfoldable pub noroom_line : ℕ → ℕ → List ℕ

@@ -1,28 +1,24 @@
 -- The outcome of words and files: status and text without a fault of the outside and without want of memory. It is a
 -- list of checks in order; the first that doesn't pass decides, and where all pass the command's text is written.
-use Rattle.std.specs.Prelude.{◌≡◌, ℕ, List, [], ◌∷◌, ◌++◌, length, take, Option, None, Some, Result, if◌then◌else◌, nat_lt, nat_le, unwrap_or, ⊤}
+use Rattle.std.specs.Prelude.{ℕ, List, [], ◌∷◌, ◌++◌, length, take, Option, None, Some, Result, if◌then◌else◌, nat_lt, nat_le, unwrap_or, MatchBool, ⊤}
 use Rattle.elf_image.specs.declared.fault.ImageFault.{ImageFault}
-use Rattle.elf_image.specs.Faults.{number_of, name_of}
+use Rattle.elf_image.specs.ImageFaults.{number_of, name_of}
 use Rattle.elf_image.specs.Rows.{first_fault}
 use Rattle.elf_image.specs.Pages.{entry_of, executable_page_count}
 use Rattle.byte_scanner.specs.declared.encoding.Found.{Found}
-use Rattle.byte_scanner.specs.Found.{first_found}
+use Rattle.byte_scanner.specs.FirstFound.{first_found}
 use Rattle.nk_bits.specs.declared.leaf.Leaf.{Leaf}
 use Rattle.nk_bits.specs.Paging.{page_of, walk}
 use Rattle.boot_map.specs.Division.{need}
-use Rattle.boot_map.specs.Entries.{entry_at}
-use Rattle.nk_run.specs.declared.lines.TheConstants.{FILE_LIMIT}
-use Rattle.nk_run.specs.declared.opening_walk.TheConstants.{OPENING_ROOT}
-use Rattle.nk_run.specs.declared.words.Command.{Command}
-use Rattle.nk_run.specs.declared.words.Command.TheVariants.{Scan, Map}
-use Rattle.nk_run.specs.declared.words.Role.{Role}
-use Rattle.nk_run.specs.declared.words.Role.TheVariants.{Image}
-use Rattle.nk_run.specs.Words.{command_of, name_in}
-use Rattle.nk_run.specs.Lines.{usage_line, longer_line, image_line, protected_line, admitted_line, noroom_line, walk_line}
-
--- files, by the bytes of their names
-abbrev pub Files : Type 0
-Files = List ℕ → Option (List ℕ)
+use Rattle.boot_map.specs.FixedFrames.{opening_root}
+use Rattle.boot_map.specs.OpeningEntries.{opening_entry}
+use Rattle.nk_run.specs.declared.command_line.Command.{Command}
+use Rattle.nk_run.specs.declared.command_line.Command.TheVariants.{Scan, Map}
+use Rattle.nk_run.specs.declared.command_line.Role.{Role}
+use Rattle.nk_run.specs.declared.command_line.Role.TheVariants.{Image}
+use Rattle.nk_run.specs.CommandLine.{command_of, is_same, name_in}
+use Rattle.nk_run.specs.Witness.{Files}
+use Rattle.nk_run.specs.Lines.{longest_file, usage_line, longer_line, image_line, protected_line, admitted_line, noroom_line, walk_line}
 
 -- a status and the text that goes with it
 pub record Answer : Type 0 where
@@ -50,7 +46,8 @@ abbrev pub first_verdict : List Check → Verdict
 first_verdict [] = passes
 first_verdict (check ∷ checks) = unless_ended check.finds (first_verdict checks)
 
--- that verdict decides, and where all checks pass the command's own answer is given; nothing is decided where a file isn't held
+-- that verdict decides, and where all checks pass the command's own answer is given; nothing is decided where a file
+-- isn't held
 abbrev pub decided : Verdict → Answer → Option Answer
 decided passes answer = Some answer
 decided (ends other) answer = Some other
@@ -63,7 +60,8 @@ test verdict = record { fetches = None; finds = verdict }
 -- the fetch of a role's file: it has to be held, and to have at most the limit's number of bytes
 abbrev pub fetched : Role → Option (List ℕ) → Verdict
 fetched role None = unheld
-fetched role (Some file) = if nat_lt FILE_LIMIT (length file) then ends (record { status = 7; text = longer_line role FILE_LIMIT }) else passes
+fetched role (Some file) =
+    if nat_lt longest_file (length file) then ends (record { status = 7; text = longer_line role }) else passes
 
 abbrev pub fetch : Files → List (List ℕ) → Role → Check
 fetch files words role = record { fetches = Some role; finds = fetched role (files (name_in words role)) }
@@ -75,12 +73,14 @@ file_in files words role = unwrap_or (files (name_in words role)) []
 -- the image has a fault: its first is named
 abbrev pub formed : Option ImageFault → Verdict
 formed None = passes
-formed (Some fault) = ends (record { status = 1; text = image_line (number_of fault.kind) (name_of fault.kind) fault.value })
+formed (Some fault) =
+    ends (record { status = 1; text = image_line (number_of fault.kind) (name_of fault.kind) fault.value })
 
 -- a protected encoding stands in the image's code: the least address is named
 abbrev pub clean : Option Found → Verdict
 clean None = passes
-clean (Some found) = ends (record { status = 1; text = protected_line found.at (take found.count found.bytes) })
+clean (Some found) =
+    ends (record { status = 1; text = protected_line found.at (take found.count found.bytes) })
 
 -- the checks on the image that every command makes
 abbrev pub image_checks : Files → List (List ℕ) → List Check
@@ -92,25 +92,29 @@ image_checks files words =
 
 -- the opening of the image has room in a memory of so many frames
 abbrev pub roomy : ℕ → ℕ → Verdict
-roomy need frames = if nat_le need frames then passes else ends (record { status = 1; text = noroom_line need frames })
+roomy need frames =
+    if nat_le need frames then passes else ends (record { status = 1; text = noroom_line need frames })
 
 -- what the opening tables give for an address, by the walk from the opening's root
 abbrev pub translation_of : List ℕ → ℕ → ℕ → Result Leaf ℕ
-translation_of image frames va = walk (entry_at image frames) frames OPENING_ROOT (page_of va)
+translation_of image frames va = walk (opening_entry image frames) frames opening_root (page_of va)
 
 -- the checks of a command, in order, and its text where all pass
 abbrev pub checks_of : Command → Files → List (List ℕ) → List Check
 checks_of Scan files words = image_checks files words
-checks_of (Map frames va) files words = image_checks files words ++ test (roomy (need (file_in files words Image) frames) frames) ∷ []
+checks_of (Map frames va) files words =
+    image_checks files words ++ test (roomy (need (file_in files words Image) frames) frames) ∷ []
 
 abbrev pub text_of : Command → Files → List (List ℕ) → List ℕ
-text_of Scan files words = let image = file_in files words Image in admitted_line (entry_of image) (executable_page_count image)
+text_of Scan files words =
+    let image = file_in files words Image in admitted_line (entry_of image) (executable_page_count image)
 text_of (Map frames va) files words = walk_line (translation_of (file_in files words Image) frames va)
 
 -- the outcome of the words, of which the command is what they spell
 abbrev pub outcome_of : Option Command → List (List ℕ) → Files → Option Answer
 outcome_of None words files = Some (record { status = 2; text = usage_line })
-outcome_of (Some command) words files = decided (first_verdict (checks_of command files words)) (record { status = 0; text = text_of command files words })
+outcome_of (Some command) words files =
+    decided (first_verdict (checks_of command files words)) (record { status = 0; text = text_of command files words })
 
 abbrev pub outcome : List (List ℕ) → Files → Option Answer
 outcome words files = outcome_of (command_of words) words files
@@ -124,7 +128,7 @@ DoesPass unheld = ⊥
 -- this check fetches a role's file, or it passes and a later one does
 abbrev pub IsReachedAfter : Option Role → Role → Verdict → Type 0 → Type 0
 IsReachedAfter None role finds later = DoesPass finds × later
-IsReachedAfter (Some Image) Image finds later = ⊤
+IsReachedAfter (Some other) role finds later = MatchBool (is_same other role) ⊤ (DoesPass finds × later)
 
 -- the checks fetch a role's file, and those before that fetch pass
 abbrev pub IsReached : Role → List Check → Type 0

@@ -1,29 +1,46 @@
-//! What the words ask for, answered over the shelf's files.
+//! What the words ask for, done over the shelf's files and written to the sink.
 ghost use Rattle.std.specs.Prelude.{◌≡◌, map};
 ghost use Rattle.std.specs.String.{string_bytes};
-ghost use Rattle.nk_run.specs.ReplyText.{text_of};
-ghost use Rattle.nk_run.specs.Replies.{Says};
+ghost use Rattle.nk_run.specs.Lines.{usage_line};
+ghost use Rattle.nk_run.specs.Witness.{shelf_change, sink_change};
+ghost use Rattle.nk_run.specs.ReplyText.{bytes_of};
+ghost use Rattle.nk_run.specs.Replies.{IsAnswered};
 
-use crate::lines::usage;
-use crate::opening_walk::map;
+use crate::command_line::Command;
+use crate::lines::usage_line;
+use crate::map::map;
 use crate::reply::{Line, Reply};
 use crate::scan::scan;
-use crate::words::Command;
-use nk_host::Shelf;
+use nk_host::{Shelf, Sink};
 use std::alloc::Global;
 
-/// The reply to the words.
-pub(crate) fn answer<S: Shelf>(alloc: Global, words: &[String], shelf: &mut S) -> Reply
-    ensures files_stay { S.files shelf.new ≡ S.files shelf.old }
-    ensures says { Says (map string_bytes words.now) (S.files shelf.old) (S.faults shelf.old) (S.faults shelf.new)
-        result.status (text_of result.line) }
+/// The reply to words without a form.
+fn usage() -> Reply
+    ensures status { result.status ≡ 2 }
+    ensures text { bytes_of result.line ≡ usage_line }
+{
+    Reply {
+        status: 2,
+        line: Line::Fixed(usage_line()),
+    }
+}
+
+/// Answers the words, and gives the status.
+pub(crate) fn answer<S: Shelf, O: Sink>(
+    alloc: Global,
+    words: &[String],
+    shelf: &mut S,
+    sink: &mut O,
+) -> u8
+    ensures { IsAnswered (record {
+      words = map string_bytes words.now;
+      shelf = shelf_change S.files S.faults shelf.old shelf.new;
+      sink = sink_change O.taken O.faults sink.old sink.new;
+    }) result }
 {
     match Command::read(words) {
-        None => Reply {
-            status: 2,
-            line: Line::Fixed(usage()),
-        },
-        Some(Command::Scan) => scan(alloc, words, shelf),
-        Some(Command::Map { frames, va }) => map(alloc, words, frames, va, shelf),
+        None => usage().write(sink),
+        Some(Command::Scan) => scan(alloc, words, shelf).write(sink),
+        Some(Command::Map { frames, va }) => map(alloc, words, frames, va, shelf).write(sink),
     }
 }

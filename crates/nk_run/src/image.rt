@@ -1,21 +1,26 @@
 //! The checks on the image, which every command makes first.
-ghost use Rattle.std.specs.Prelude.{◌≡◌, ◌<◌, ◌≤◌, length, map, MatchOption, MatchResult, Some};
+ghost use Rattle.std.specs.Prelude.{◌≡◌, ◌<◌, length, map, MatchOption, MatchResult};
 ghost use Rattle.std.specs.String.{string_bytes};
+ghost use Rattle.nk_host.specs.FaultCounts.{NeverFalls};
 ghost use Rattle.nk_host.specs.Told.{IfTold};
-ghost use Rattle.nk_run.specs.Words.{name_in, place_of};
-ghost use Rattle.nk_run.specs.Outcome.{fetched, formed, clean, first_verdict, image_checks, file_in, passes};
-ghost use Rattle.nk_run.specs.ReplyText.{text_of};
-ghost use Rattle.nk_run.specs.Replies.{Refuses, Stops};
 ghost use Rattle.elf_image.specs.Rows.{first_fault};
-ghost use Rattle.byte_scanner.specs.Found.{first_found};
+ghost use Rattle.byte_scanner.specs.FirstFound.{first_found};
+ghost use Rattle.nk_run.specs.CommandLine.{name_in, word_place};
+ghost use Rattle.nk_run.specs.Witness.{shelf_change};
+ghost use Rattle.nk_run.specs.Outcome.{fetched, formed, clean, first_verdict, image_checks, file_in, passes};
+ghost use Rattle.nk_run.specs.ReplyText.{bytes_of};
+ghost use Rattle.nk_run.specs.Replies.{RefusesBy, Stops};
 
-use crate::lines::{FILE_LIMIT, image_fault, longer, protected, unread};
+use crate::command_line::Role;
+use crate::lines::{image_line, longer_line, protected_line, unread_line};
 use crate::reply::{Line, Reply, made, want};
-use crate::words::Role;
 use byte_scanner::scan;
 use elf_image::Image;
 use nk_host::{FetchFault, Shelf};
 use std::alloc::Global;
+
+/// The most bytes of a file that is read: 64 MiB.
+pub const FILE_LIMIT: u64 = 67_108_864;
 
 /// The file of a role, or the reply to a failed fetch.
 fn fetch<S: Shelf>(
@@ -24,24 +29,26 @@ fn fetch<S: Shelf>(
     role: Role,
     shelf: &mut S,
 ) -> Result<Vec<u8>, Reply>
-    requires { place_of role < length words.now }
+    requires { word_place role < length words.now }
     ensures files_stay { S.files shelf.new ≡ S.files shelf.old }
+    ensures never_falls { NeverFalls (S.faults shelf.old) (S.faults shelf.new) }
     ensures fetched { let names = map string_bytes words.now in MatchResult result
-        (λ bytes. IfTold (S.files shelf.old) (λ files. (files (name_in names role) ≡ Some bytes.items)
+        (λ bytes. IfTold (S.files shelf.old) (λ files.
+        (files (name_in names role) ≡ Some bytes.items)
         × (fetched role (files (name_in names role)) ≡ passes)))
-        (λ reply. Stops names (S.files shelf.old) (S.faults shelf.old) (S.faults shelf.new) role
-        (λ files. fetched role (files (name_in names role))) reply.status (text_of reply.line)) }
+        (λ reply. Stops names (shelf_change S.files S.faults shelf.old shelf.new) role
+        (λ files. fetched role (files (name_in names role))) reply.status (bytes_of reply.line)) }
 {
-    match shelf.fetch(alloc, words[role.place()].as_str(), FILE_LIMIT) {
+    match shelf.fetch(alloc, words[role.word_place()].as_str(), FILE_LIMIT) {
         Ok(bytes) => Ok(bytes),
         Err(FetchFault::Memory) => Err(want()),
         Err(FetchFault::Failed) => Err(Reply {
             status: 3,
-            line: Line::Fixed(unread(role)),
+            line: Line::Fixed(unread_line(role)),
         }),
         Err(FetchFault::Longer) => Err(Reply {
             status: 7,
-            line: Line::Fixed(longer(role)),
+            line: Line::Fixed(longer_line(role)),
         }),
     }
 }
@@ -50,11 +57,12 @@ fn fetch<S: Shelf>(
 fn form(alloc: Global, bytes: Vec<u8>) -> Result<Image, Reply>
     ensures { MatchResult result
         (λ image. (image ≡ bytes.items) × (formed (first_fault bytes.items) ≡ passes))
-        (λ reply. Refuses (formed (first_fault bytes.items)) reply.status (text_of reply.line)) }
+        (λ reply. RefusesBy 1 (formed (first_fault bytes.items))
+        reply.status (bytes_of reply.line)) }
 {
     match Image::read(bytes) {
         Ok(image) => Ok(image),
-        Err(fault) => Err(made(1, image_fault(alloc, &fault))),
+        Err(fault) => Err(made(1, image_line(alloc, &fault))),
     }
 }
 
@@ -62,23 +70,24 @@ fn form(alloc: Global, bytes: Vec<u8>) -> Result<Image, Reply>
 fn admit(alloc: Global, image: &Image) -> Option<Reply>
     ensures { MatchOption result
         (clean (first_found image.now) ≡ passes)
-        (λ reply. Refuses (clean (first_found image.now)) reply.status (text_of reply.line)) }
+        (λ reply. RefusesBy 1 (clean (first_found image.now)) reply.status (bytes_of reply.line)) }
 {
     match scan(image) {
         None => None,
-        Some(found) => Some(made(1, protected(alloc, &found))),
+        Some(found) => Some(made(1, protected_line(alloc, &found))),
     }
 }
 
 /// The image, or the reply to the first check on it that doesn't pass.
 pub(crate) fn open<S: Shelf>(alloc: Global, words: &[String], shelf: &mut S) -> Result<Image, Reply>
-    requires { place_of Role.Image < length words.now }
+    requires { word_place Role.Image < length words.now }
     ensures files_stay { S.files shelf.new ≡ S.files shelf.old }
+    ensures never_falls { NeverFalls (S.faults shelf.old) (S.faults shelf.new) }
     ensures opened { let names = map string_bytes words.now in MatchResult result
         (λ image. IfTold (S.files shelf.old) (λ files. (image ≡ file_in files names Role.Image)
         × (first_verdict (image_checks files names) ≡ passes)))
-        (λ reply. Stops names (S.files shelf.old) (S.faults shelf.old) (S.faults shelf.new) Role.Image
-        (λ files. first_verdict (image_checks files names)) reply.status (text_of reply.line)) }
+        (λ reply. Stops names (shelf_change S.files S.faults shelf.old shelf.new) Role.Image
+        (λ files. first_verdict (image_checks files names)) reply.status (bytes_of reply.line)) }
 {
     let bytes = match fetch(alloc, words, Role::Image, shelf) {
         Ok(bytes) => bytes,

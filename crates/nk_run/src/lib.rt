@@ -1,19 +1,31 @@
-//! The top call: what the program does with its words, over a shelf of files and a sink.
+//! The top call: reads the words, fetches what they name from a shelf of files, judges the image and
+//! shows what was asked of it, and writes one text to a sink. Its promises are `specs/Clauses`, over
+//! the outcome of `specs/Outcome`. It touches the outside through the shelf and the sink alone; the
+//! machine's files and standard output it leaves to the program. Floor: program.
 #![tactic(auto)]
 
-mod answer;
-mod image;
-mod lines;
+// The words.
+mod command_line;
 mod numbers;
-mod opening_walk;
-mod reply;
-mod scan;
-mod top;
-mod words;
 
-pub use crate::lines::FILE_LIMIT;
+// What is said, and how it goes out.
+mod lines;
+mod reply;
+
+// The image, which every command opens first.
+mod image;
+
+// The commands.
+mod map;
+mod scan;
+
+// The whole.
+mod answer;
+mod top;
+
+pub use crate::command_line::{Command, Role};
+pub use crate::image::FILE_LIMIT;
 pub use crate::top::nk_main;
-pub use crate::words::{Command, Role};
 
 #[cfg(test)]
 mod tests;

@@ -1,7 +1,7 @@
 //! The lines that the program writes.
 ghost use Rattle.std.specs.Prelude.{◌≡◌, ◌≤◌, IfOk, length, take};
 ghost use Rattle.std.specs.String.{string_bytes};
-ghost use Rattle.elf_image.specs.Faults.{number_of, name_of};
+ghost use Rattle.elf_image.specs.ImageFaults.{number_of, name_of};
 ghost use Rattle.nk_run.specs.Lines.{
   usage_line,
   no_memory_line,
@@ -16,19 +16,16 @@ ghost use Rattle.nk_run.specs.Lines.{
   missing_line,
 };
 
-use crate::words::Role;
+use crate::command_line::Role;
 use boot_map::NoRoom;
 use byte_scanner::Found;
 use elf_image::ImageFault;
 use nk_bits::{Leaf, Rights};
 use std::alloc::{AllocError, Global};
 
-/// The longest file that is read, in bytes.
-pub const FILE_LIMIT: u64 = 67_108_864;
-
 /// The words have none of the forms.
 #[tactic(auto, unfolding(crate::specs::Lines::usage_line))]
-pub(crate) fn usage() -> &'static str
+pub(crate) fn usage_line() -> &'static str
     ensures { result.now ≡ usage_line }
 {
     "usage: nkrun scan IMAGE | map IMAGE FRAMES VA\n"
@@ -36,7 +33,7 @@ pub(crate) fn usage() -> &'static str
 
 /// There was no memory.
 #[tactic(auto, unfolding(crate::specs::Lines::no_memory_line))]
-pub(crate) fn no_memory() -> &'static str
+pub(crate) fn no_memory_line() -> &'static str
     ensures { result.now ≡ no_memory_line }
 {
     "no memory\n"
@@ -44,7 +41,7 @@ pub(crate) fn no_memory() -> &'static str
 
 /// A role's file couldn't be read.
 #[tactic(auto, unfolding(crate::specs::Lines::unread_line))]
-pub(crate) fn unread(role: Role) -> &'static str
+pub(crate) fn unread_line(role: Role) -> &'static str
     ensures { result.now ≡ unread_line role }
 {
     match role {
@@ -53,8 +50,8 @@ pub(crate) fn unread(role: Role) -> &'static str
 }
 
 /// A role's file has more bytes than the limit.
-pub(crate) fn longer(role: Role) -> &'static str
-    ensures { result.now ≡ longer_line role FILE_LIMIT }
+pub(crate) fn longer_line(role: Role) -> &'static str
+    ensures { result.now ≡ longer_line role }
 {
     match role {
         Role::Image => "longer image 67108864\n",
@@ -63,7 +60,7 @@ pub(crate) fn longer(role: Role) -> &'static str
 
 /// The image's first fault.
 #[tactic(auto, unfolding(crate::specs::Lines::image_line))]
-pub(crate) fn image_fault(alloc: Global, fault: &ImageFault) -> Result<String, AllocError>
+pub(crate) fn image_line(alloc: Global, fault: &ImageFault) -> Result<String, AllocError>
     ensures { IfOk result (λ line. string_bytes line
         ≡ image_line (number_of fault.now.kind) (name_of fault.now.kind) fault.now.value) }
 {
@@ -75,7 +72,7 @@ pub(crate) fn image_fault(alloc: Global, fault: &ImageFault) -> Result<String, A
 
 /// The first protected encoding in the image's code.
 #[tactic(auto, unfolding(crate::specs::Lines::protected_line, crate::specs::Lines::hex_16))]
-pub(crate) fn protected(alloc: Global, found: &Found) -> Result<String, AllocError>
+pub(crate) fn protected_line(alloc: Global, found: &Found) -> Result<String, AllocError>
     requires { found.now.count ≤ length found.now.bytes }
     ensures { IfOk result (λ line. string_bytes line
         ≡ protected_line found.now.at (take found.now.count found.now.bytes)) }
@@ -87,7 +84,7 @@ pub(crate) fn protected(alloc: Global, found: &Found) -> Result<String, AllocErr
 
 /// The image is admitted.
 #[tactic(auto, unfolding(crate::specs::Lines::admitted_line, crate::specs::Lines::hex_16))]
-pub(crate) fn admitted(alloc: Global, entry: u64, pages: u32) -> Result<String, AllocError>
+pub(crate) fn admitted_line(alloc: Global, entry: u64, pages: u32) -> Result<String, AllocError>
     ensures { IfOk result (λ line. string_bytes line ≡ admitted_line entry pages) }
 {
     format!(in alloc; "admitted entry {entry:016x} pages {pages}\n")
@@ -95,8 +92,9 @@ pub(crate) fn admitted(alloc: Global, entry: u64, pages: u32) -> Result<String, 
 
 /// The opening of the image needs more frames than there are.
 #[tactic(auto, unfolding(crate::specs::Lines::noroom_line))]
-pub(crate) fn noroom(alloc: Global, fault: &NoRoom) -> Result<String, AllocError>
-    ensures { IfOk result (λ line. string_bytes line ≡ noroom_line fault.now.need fault.now.have) }
+pub(crate) fn noroom_line(alloc: Global, fault: &NoRoom) -> Result<String, AllocError>
+    ensures { IfOk result
+        (λ line. string_bytes line ≡ noroom_line fault.now.need fault.now.have) }
 {
     let need = fault.need;
     let have = fault.have;
@@ -105,7 +103,7 @@ pub(crate) fn noroom(alloc: Global, fault: &NoRoom) -> Result<String, AllocError
 
 /// The four letters of rights.
 #[tactic(auto, unfolding(crate::specs::Lines::rights_text))]
-fn rights(rights: Rights) -> &'static str
+fn rights_text(rights: Rights) -> &'static str
     ensures { result.now ≡ rights_text rights }
 {
     match (rights.can_write, rights.exec, rights.user) {
@@ -122,17 +120,17 @@ fn rights(rights: Rights) -> &'static str
 
 /// The frame of a translation, and its rights.
 #[tactic(auto, unfolding(crate::specs::Lines::frame_line))]
-pub(crate) fn frame(alloc: Global, leaf: Leaf) -> Result<String, AllocError>
+pub(crate) fn frame_line(alloc: Global, leaf: Leaf) -> Result<String, AllocError>
     ensures { IfOk result (λ line. string_bytes line ≡ frame_line leaf.frame leaf.rights) }
 {
     let frame = leaf.frame;
-    let rights = rights(leaf.rights);
+    let rights = rights_text(leaf.rights);
     format!(in alloc; "frame {frame} {rights}\n")
 }
 
 /// The first level whose entry is missing.
 #[tactic(auto, unfolding(crate::specs::Lines::missing_line))]
-pub(crate) fn missing(alloc: Global, level: u8) -> Result<String, AllocError>
+pub(crate) fn missing_line(alloc: Global, level: u8) -> Result<String, AllocError>
     ensures { IfOk result (λ line. string_bytes line ≡ missing_line level) }
 {
     format!(in alloc; "missing {level}\n")

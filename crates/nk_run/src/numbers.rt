@@ -1,7 +1,7 @@
 //! Numbers as words of the command line.
 ghost use Rattle.std.specs.Prelude.{◌≡◌, ◌≤◌, ◌^◌, ◌-◌, true, IsTrue, IfSome};
 ghost use Rattle.nk_bits.specs.Paging.{is_canonical};
-ghost use Rattle.nk_run.specs.Numbers.{address_of, bounded, decimal_within, is_least_long, is_numeral};
+ghost use Rattle.nk_run.specs.NumberWords.{address_of, bounded, decimal_within, is_least_long, is_numeral};
 ghost use Rattle.std.specs.Str.Parse.{digits_value};
 ghost use Rattle.std.specs.Char.{is_digit};
 ghost use Rattle.std.specs.List.{list_all};
@@ -43,7 +43,7 @@ fn value(word: &str, radix: u32) -> Option<u64>
 }
 
 /// A decimal number without sign and without leading zeros, within bounds.
-pub(crate) fn decimal_within(word: &str, low: u32, high: u32) -> Option<u32>
+pub(crate) fn decimal_within(word: &str, low: u64, high: u64) -> Option<u64>
     ensures number { result ≡ decimal_within low high word.now }
     ensures bounds { IfSome result (λ n. (low ≤ n) × (n ≤ high)) }
 {
@@ -51,13 +51,13 @@ pub(crate) fn decimal_within(word: &str, low: u32, high: u32) -> Option<u32>
         return None;
     }
     match value(word, 10) {
-        Some(n) if low as u64 <= n && n <= high as u64 => Some(n as u32),
+        Some(n) if low <= n && n <= high => Some(n),
         _ => None,
     }
 }
 
 /// A canonical linear address of 1 to 16 hexadecimal digits of either case.
-pub(crate) fn address(word: &str) -> Option<u64>
+pub(crate) fn address_of(word: &str) -> Option<u64>
     ensures address { result ≡ address_of word.now }
     ensures canonical { IfSome result (λ va. IsTrue (is_canonical va)) }
 {

@@ -1,10 +1,11 @@
-//! What a call says in the end, and how it goes out.
+//! What the top call says in the end, and how it goes out.
 ghost use Rattle.std.specs.Prelude.{◌≡◌, ◌≤◌, MatchResult};
 ghost use Rattle.std.specs.String.{string_bytes};
 ghost use Rattle.nk_run.specs.Replies.{IsWant, IsWritten};
-ghost use Rattle.nk_run.specs.ReplyText.{text_of};
+ghost use Rattle.nk_run.specs.ReplyText.{bytes_of};
+ghost use Rattle.nk_run.specs.Witness.{sink_change};
 
-use crate::lines::no_memory;
+use crate::lines::no_memory_line;
 use nk_host::{Sink, put_all};
 use std::alloc::AllocError;
 
@@ -25,7 +26,7 @@ pub(crate) struct Reply {
 impl Line {
     /// The line's bytes.
     fn as_bytes(&self) -> &[u8]
-        ensures { result.now ≡ text_of self.now }
+        ensures { result.now ≡ bytes_of self.now }
     {
         match self {
             Line::Fixed(text) => text.as_bytes(),
@@ -36,18 +37,19 @@ impl Line {
 
 /// There was no memory.
 pub(crate) fn want() -> Reply
-    ensures { IsWant result.status (text_of result.line) }
+    ensures { IsWant result.status (bytes_of result.line) }
 {
     Reply {
         status: 5,
-        line: Line::Fixed(no_memory()),
+        line: Line::Fixed(no_memory_line()),
     }
 }
 
 /// A line made for the occasion, or that there was no memory for it.
 pub(crate) fn made(status: u8, line: Result<String, AllocError>) -> Reply
-    ensures { MatchResult line (λ line. (result.status ≡ status) × (text_of result.line ≡ string_bytes line))
-        (λ _. IsWant result.status (text_of result.line)) }
+    ensures { MatchResult line
+        (λ line. (result.status ≡ status) × (bytes_of result.line ≡ string_bytes line))
+        (λ _. IsWant result.status (bytes_of result.line)) }
 {
     match line {
         Ok(line) => Reply {
@@ -60,10 +62,10 @@ pub(crate) fn made(status: u8, line: Result<String, AllocError>) -> Reply
 
 impl Reply {
     /// Writes the line and gives the status, or that of a fault of the sink.
-    pub fn write<O: Sink>(&self, sink: &mut O) -> u8
+    pub(crate) fn write<O: Sink>(&self, sink: &mut O) -> u8
         ensures never_falls { O.faults sink.old ≤ O.faults sink.new }
-        ensures written { IsWritten (O.taken sink.old) (O.taken sink.new) (O.faults sink.old)
-            (O.faults sink.new) self.now.status (text_of self.now.line) result }
+        ensures written { IsWritten (sink_change O.taken O.faults sink.old sink.new)
+            self.now.status (bytes_of self.now.line) result }
     {
         match put_all(sink, self.line.as_bytes()) {
             Ok(()) => self.status,

@@ -1,8 +1,8 @@
 //! Worked cases of the command line, over a shelf and a sink in memory.
 mod compiled;
 
-use crate::nk_main;
-use nk_host::{MemShelf, MemSink};
+use crate::{Command, nk_main};
+use nk_host::{FetchFault, MemShelf, MemSink, Shelf};
 use std::alloc::{AllocError, Global};
 use std::test::Fail;
 
@@ -19,7 +19,7 @@ const READ_EXECUTE: u32 = 5;
 
 const READ_WRITE: u32 = 6;
 
-/// What a call gave and wrote.
+/// What the top call gave and wrote.
 #[derive(Drop)]
 struct Ran {
     status: u8,
@@ -36,7 +36,8 @@ struct Segment<'a> {
     bytes: &'a [u8],
 }
 
-/// An ELF file with these segments, in table order, whose bytes stand in the file in that order too. The entry is FFFFFFFF80000000.
+/// An ELF file with these segments, in table order, whose bytes stand in the file in that order too. The entry is
+/// FFFFFFFF80000000.
 fn image_of(alloc: Global, segments: &[Segment]) -> Result<Vec<u8>, AllocError> {
     let mut file = Vec::new(alloc);
     file.extend_from_slice(b"\x7fELF\x02\x01\x01\0\0\0\0\0\0\0\0\0")?;
@@ -68,7 +69,8 @@ fn image_of(alloc: Global, segments: &[Segment]) -> Result<Vec<u8>, AllocError> 
     Ok(file)
 }
 
-/// An ELF file with one program header, which loads the text from file offset 4,096 to FFFFFFFF80000000, the entry there.
+/// An ELF file with one program header, which loads the text from file offset 4,096 to FFFFFFFF80000000, the entry
+/// there.
 fn image_with_flags(alloc: Global, flags: u32, text: &[u8]) -> Result<Vec<u8>, AllocError> {
     let memory = text.len() as u64;
     let segment = Segment {
@@ -85,18 +87,10 @@ fn image(alloc: Global, text: &[u8]) -> Result<Vec<u8>, AllocError> {
     image_with_flags(alloc, READ_EXECUTE, text)
 }
 
-/// A text of so many NOPs, with some bytes put in place of those from an offset on.
-fn nops_with(
-    alloc: Global,
-    before: usize,
-    bytes: &[u8],
-    after: usize,
-) -> Result<Vec<u8>, AllocError> {
+/// A text of so many NOPs and then these bytes.
+fn nops_with(alloc: Global, before: usize, bytes: &[u8]) -> Result<Vec<u8>, AllocError> {
     let mut text = vec![in alloc; 0x90; before]?;
     text.extend_from_slice(bytes)?;
-    for _ in 0..after {
-        text.push(0x90)?;
-    }
     Ok(text)
 }
 
@@ -108,7 +102,8 @@ fn owned(alloc: Global, words: &[&str]) -> Result<Vec<String>, AllocError> {
     Ok(list)
 }
 
-/// Runs the words over one held file; `failing` are the numbers of failing fetches and puts, and a failing put takes `cut` bytes.
+/// Runs the words over one held file; `failing` are the numbers of failing fetches and puts, and a failing put takes
+/// `cut` bytes.
 fn run_with(
     alloc: Global,
     words: &[&str],
@@ -145,76 +140,54 @@ fn an_empty_file_is_short(rt: HostRuntime) -> Result<(), Fail> {
 }
 
 #[test]
-fn a_halting_kernel_is_admitted(rt: HostRuntime) -> Result<(), Fail> {
+fn code_is_searched_at_every_address(rt: HostRuntime) -> Result<(), Fail> {
     let alloc = rt.alloc();
-    let ran = scan(alloc, image(alloc, &[0xf4])?)?;
-    assert!(rt; gives(&ran, 0, "admitted entry ffffffff80000000 pages 1\n"));
-    Ok(())
-}
-
-#[test]
-fn an_encoding_inside_an_immediate_is_found(rt: HostRuntime) -> Result<(), Fail> {
-    let alloc = rt.alloc();
-    let ran = scan(
-        alloc,
-        image(alloc, &[0x48, 0xc7, 0xc0, 0x0f, 0x22, 0xc0, 0x00])?,
-    )?;
-    assert!(rt; gives(&ran, 1, "protected ffffffff80000003 0f22c0\n"));
-    Ok(())
-}
-
-#[test]
-fn an_encoding_across_a_page_border_is_found(rt: HostRuntime) -> Result<(), Fail> {
-    let alloc = rt.alloc();
-    let text = nops_with(alloc, 4095, &[0x0f, 0x22, 0xc0], 0)?;
-    assert!(rt;
-        gives(
-            &scan(alloc, image(alloc, &text)?)?,
-            1,
-            "protected ffffffff80000fff 0f22c0\n"
-        )
-    );
-    Ok(())
-}
-
-#[test]
-fn an_encoding_must_end_inside_the_run(rt: HostRuntime) -> Result<(), Fail> {
-    let alloc = rt.alloc();
-    let cut_off = nops_with(alloc, 4094, &[0x0f, 0x22], 0)?;
-    let ran = scan(alloc, image(alloc, &cut_off)?)?;
-    assert!(rt; gives(&ran, 0, "admitted entry ffffffff80000000 pages 1\n"));
-    let whole = nops_with(alloc, 4094, &[0x0f, 0x30], 0)?;
-    assert!(rt;
-        gives(
-            &scan(alloc, image(alloc, &whole)?)?,
-            1,
-            "protected ffffffff80000ffe 0f30\n"
-        )
-    );
-    Ok(())
-}
-
-#[test]
-fn padding_completes_an_encoding(rt: HostRuntime) -> Result<(), Fail> {
-    let alloc = rt.alloc();
-    let ran = scan(alloc, image(alloc, &[0x90, 0x0f, 0x23])?)?;
-    assert!(rt; gives(&ran, 1, "protected ffffffff80000001 0f2300\n"));
-    Ok(())
-}
-
-#[test]
-fn the_operand_byte_decides_after_0f_01(rt: HostRuntime) -> Result<(), Fail> {
-    let alloc = rt.alloc();
-    let from_memory = scan(alloc, image(alloc, &[0x0f, 0x01, 0x18])?)?;
-    assert!(rt; gives(&from_memory, 1, "protected ffffffff80000000 0f0118\n"));
-    let register_form = scan(alloc, image(alloc, &[0x0f, 0x01, 0xd8])?)?;
-    assert!(rt;
-        gives(
-            &register_form,
+    // The text is so many NOPs and then these bytes; a page that it doesn't fill is padded with zeros.
+    let texts: [(usize, &[u8], u8, &str); 8] = [
+        (0, &[0xf4], 0, "admitted entry ffffffff80000000 pages 1\n"),
+        // Inside an immediate.
+        (
             0,
-            "admitted entry ffffffff80000000 pages 1\n"
-        )
-    );
+            &[0x48, 0xc7, 0xc0, 0x0f, 0x22, 0xc0, 0x00],
+            1,
+            "protected ffffffff80000003 0f22c0\n",
+        ),
+        // Across a page border.
+        (
+            4095,
+            &[0x0f, 0x22, 0xc0],
+            1,
+            "protected ffffffff80000fff 0f22c0\n",
+        ),
+        // The run of pages ends before the encoding does.
+        (
+            4094,
+            &[0x0f, 0x22],
+            0,
+            "admitted entry ffffffff80000000 pages 1\n",
+        ),
+        (4094, &[0x0f, 0x30], 1, "protected ffffffff80000ffe 0f30\n"),
+        // Padding completes it.
+        (1, &[0x0f, 0x23], 1, "protected ffffffff80000001 0f2300\n"),
+        // The operand byte decides after 0F 01: LIDT from memory, and a register form.
+        (
+            0,
+            &[0x0f, 0x01, 0x18],
+            1,
+            "protected ffffffff80000000 0f0118\n",
+        ),
+        (
+            0,
+            &[0x0f, 0x01, 0xd8],
+            0,
+            "admitted entry ffffffff80000000 pages 1\n",
+        ),
+    ];
+    for (before, bytes, status, line) in texts {
+        let text = nops_with(alloc, before, bytes)?;
+        let ran = scan(alloc, image(alloc, &text)?)?;
+        assert!(rt; gives(&ran, status, line), "{line}");
+    }
     Ok(())
 }
 
@@ -231,6 +204,59 @@ fn a_file_past_the_limit_is_longer(rt: HostRuntime) -> Result<(), Fail> {
     let alloc = rt.alloc();
     let ran = scan(alloc, vec![in alloc; 0; 67_108_865]?)?;
     assert!(rt; gives(&ran, 7, "longer image 67108864\n"));
+    Ok(())
+}
+
+/// A shelf that gives nothing and notes the most bytes that were asked for.
+#[derive(Drop)]
+struct Limits {
+    most: u64,
+}
+
+impl Shelf for Limits {
+    ghost use Rattle.std.specs.Prelude.{None};
+
+    ghost files = { λ _. None };
+
+    ghost faults = { λ _ _. 0 };
+
+    fn fetch(&mut self, _alloc: Global, _name: &str, most: u64) -> Result<Vec<u8>, FetchFault> {
+        self.most = most;
+        Err(FetchFault::Memory)
+    }
+}
+
+#[test]
+fn a_file_of_64_mib_is_not_longer(rt: HostRuntime) -> Result<(), Fail> {
+    let alloc = rt.alloc();
+    let mut shelf = Limits { most: 0 };
+    let mut sink = MemSink::new(alloc, 100, Vec::new(alloc), 0)?;
+    let status = nk_main(
+        alloc,
+        &owned(alloc, &["scan", NAME])?,
+        &mut shelf,
+        &mut sink,
+    );
+    assert_eq!(rt; status, 5);
+    assert_eq!(rt; sink.taken(), b"no memory\n".as_slice());
+    assert_eq!(rt; shelf.most, 67_108_864);
+    Ok(())
+}
+
+#[test]
+fn a_memory_has_512_to_16_384_frames(rt: HostRuntime) -> Result<(), Fail> {
+    let alloc = rt.alloc();
+    let ends = [
+        ("511", None),
+        ("512", Some(512)),
+        ("16384", Some(16_384)),
+        ("16385", None),
+    ];
+    for (word, frames) in ends {
+        let words = owned(alloc, &["map", NAME, word, "0"])?;
+        let map = frames.map(|frames| Command::Map { frames, va: 0 });
+        assert_eq!(rt; Command::read(&words), map, "{word}");
+    }
     Ok(())
 }
 
@@ -488,7 +514,7 @@ fn segments_become_pages_by_address(rt: HostRuntime) -> Result<(), Fail> {
 #[test]
 fn adjacent_code_pages_of_two_segments_are_one_run(rt: HostRuntime) -> Result<(), Fail> {
     let alloc = rt.alloc();
-    let end = nops_with(alloc, 4095, &[0x0f], 0)?;
+    let end = nops_with(alloc, 4095, &[0x0f])?;
     let first = Segment {
         memory: 4096,
         bytes: &end,

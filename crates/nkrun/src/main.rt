@@ -1,4 +1,5 @@
 //! `nkrun`: passes its words to the top call, over the machine's files and standard output, and ends with its status.
+//! Floor: program.
 #![tactic(auto)]
 
 use nk_host::{FileShelf, StdSink};

@@ -1,7 +1,7 @@
 use Rattle.std.proofs.Common.{rules}
 use Rattle.std.specs.Fmt.{digits}
 use Rattle.nk_run.specs.Lines.{longer_line}
-use Rattle.nk_run.proofs.lines.longer.Goals as goal
+use Rattle.nk_run.proofs.lines.longer_line.Goals as goal
 
 pub returns : goal.returns
 unfolding longer_line digits

@@ -19,7 +19,8 @@ bounded low high n = if nat_le low n && nat_le n high then Some n else None
 
 -- a decimal number without sign and without leading zeros, within bounds
 abbrev pub decimal_within : ℕ → ℕ → List ℕ → Option ℕ
-decimal_within low high word = if is_numeral 10 word && is_least_long word then bounded low high (digits_value 10 word) else None
+decimal_within low high word =
+    if is_numeral 10 word && is_least_long word then bounded low high (digits_value 10 word) else None
 
 -- a canonical linear address
 abbrev pub canonical_only : ℕ → Option ℕ
@@ -27,4 +28,5 @@ canonical_only va = if is_canonical va then Some va else None
 
 -- a canonical linear address of 1 to 16 hexadecimal digits of either case
 abbrev pub address_of : List ℕ → Option ℕ
-address_of word = if is_numeral 16 word && nat_le (length word) 16 then canonical_only (digits_value 16 word) else None
+address_of word =
+    if is_numeral 16 word && nat_le (length word) 16 then canonical_only (digits_value 16 word) else None

@@ -1,51 +1,51 @@
 //! The command `map IMAGE FRAMES VA`.
 ghost use Rattle.std.specs.Prelude.{◌≡◌, ◌<◌, ◌*◌, ◌/◌, length, map, Some, IsTrue};
 ghost use Rattle.std.specs.String.{string_bytes};
-ghost use Rattle.nk_bits.specs.Memory.{entry_in};
-ghost use Rattle.nk_bits.specs.Paging.{is_canonical, page_of, walk as walk_of};
+ghost use Rattle.phys_mem.specs.Memory.{entry_in};
+ghost use Rattle.nk_bits.specs.Paging.{is_canonical, page_of, walk};
 ghost use Rattle.boot_map.specs.Division.{need};
-ghost use Rattle.nk_run.specs.Words.{command_of, IsBounded};
+ghost use Rattle.boot_map.specs.FixedFrames.{opening_root};
+ghost use Rattle.nk_run.specs.CommandLine.{command_of, word_count, IsBounded};
 ghost use Rattle.nk_run.specs.Lines.{walk_line};
+ghost use Rattle.nk_run.specs.Witness.{shelf_change};
 ghost use Rattle.nk_run.specs.Outcome.{roomy, translation_of};
-ghost use Rattle.nk_run.specs.ReplyText.{text_of};
-ghost use Rattle.nk_run.specs.Replies.{Concludes, Says, ShowsWalk};
+ghost use Rattle.nk_run.specs.ReplyText.{bytes_of};
+ghost use Rattle.nk_run.specs.Replies.{CommandSays, Concludes, ShowsWalk};
 
+use crate::command_line::Command;
 use crate::image::open;
-use crate::lines::{frame, missing, noroom};
+use crate::lines::{frame_line, missing_line, noroom_line};
 use crate::reply::{Reply, made, want};
-use crate::words::Command;
-use boot_map::{Layout, prepare, tables_law};
+use boot_map::{Layout, OPENING_ROOT, prepare, tables_law};
 use elf_image::Image;
 use nk_host::Shelf;
 use page_walk::walk;
 use phys_mem::PhysMem;
 use std::alloc::Global;
 
-/// The frame of the opening's table of level 4.
-pub(crate) const OPENING_ROOT: u32 = 5;
-
 /// The line for what the walk over a memory finds.
 fn walk_reply(alloc: Global, memory: &PhysMem, va: u64) -> Reply
-    requires root { 4096 * OPENING_ROOT < length memory.now }
+    requires root { 4096 * opening_root < length memory.now }
     requires canonical { IsTrue (is_canonical va) }
     ensures { let frames = length memory.now / 4096 in
-        ShowsWalk (walk_of (entry_in memory.now) frames OPENING_ROOT (page_of va)) result.status (text_of result.line) }
+        ShowsWalk (walk (entry_in memory.now) frames opening_root (page_of va))
+        result.status (bytes_of result.line) }
 {
     match walk(memory, OPENING_ROOT, va) {
-        Ok(leaf) => made(0, frame(alloc, leaf)),
-        Err(fault) => made(0, missing(alloc, fault.level)),
+        Ok(leaf) => made(0, frame_line(alloc, leaf)),
+        Err(fault) => made(0, missing_line(alloc, fault.level)),
     }
 }
 
 /// Opens the image in a memory of so many frames, and walks its tables for an address.
 fn translate(alloc: Global, image: &Image, frames: u32, va: u64) -> Reply
     requires { IsBounded (Command.Map frames va) }
-    ensures { Concludes (roomy (need image.now frames) frames) (walk_line (translation_of image.now frames va))
-        result.status (text_of result.line) }
+    ensures { Concludes (roomy (need image.now frames) frames)
+        (walk_line (translation_of image.now frames va)) result.status (bytes_of result.line) }
 {
     let layout = match Layout::of(image, frames) {
         Ok(layout) => layout,
-        Err(fault) => return made(1, noroom(alloc, &fault)),
+        Err(fault) => return made(1, noroom_line(alloc, &fault)),
     };
     tables_law();
     match prepare(alloc, image, &layout) {
@@ -54,7 +54,7 @@ fn translate(alloc: Global, image: &Image, frames: u32, va: u64) -> Reply
     }
 }
 
-/// Shows the translation of an address by the opening tables.
+/// Shows the translation of an address by the opening tables, in a memory of so many frames.
 pub(crate) fn map<S: Shelf>(
     alloc: Global,
     words: &[String],
@@ -63,10 +63,11 @@ pub(crate) fn map<S: Shelf>(
     shelf: &mut S,
 ) -> Reply
     requires asked { command_of (map string_bytes words.now) ≡ Some (Command.Map frames va) }
+    requires count { length words.now ≡ word_count (Command.Map frames va) }
     requires bounds { IsBounded (Command.Map frames va) }
     ensures files_stay { S.files shelf.new ≡ S.files shelf.old }
-    ensures says { Says (map string_bytes words.now) (S.files shelf.old) (S.faults shelf.old) (S.faults shelf.new)
-        result.status (text_of result.line) }
+    ensures says { CommandSays (map string_bytes words.now)
+        (shelf_change S.files S.faults shelf.old shelf.new) result.status (bytes_of result.line) }
 {
     match open(alloc, words, shelf) {
         Ok(image) => translate(alloc, &image, frames, va),

@@ -1,0 +1,60 @@
+-- The command line: the forms that the words may have, and the name that stands for each role's file.
+use Rattle.std.specs.Prelude.{ℕ, ◌≤◌, Bool, true, if◌then◌else◌, List, [], ◌∷◌, Contains, Option, None, Some, IsSomeAnd, codes, slice_index_or, IsTrue, ⊤}
+use Rattle.std.specs.Str.{bytes_eq}
+use Rattle.nk_bits.specs.Paging.{is_canonical}
+use Rattle.nk_run.specs.declared.command_line.Command.{Command}
+use Rattle.nk_run.specs.declared.command_line.Command.TheVariants.{Scan, Map}
+use Rattle.nk_run.specs.declared.command_line.Role.{Role}
+use Rattle.nk_run.specs.declared.command_line.Role.TheVariants.{Image}
+use Rattle.nk_run.specs.NumberWords.{decimal_within, address_of}
+
+-- `scan IMAGE`
+abbrev pub scan_of : List ℕ → Option Command
+scan_of name = if bytes_eq name (codes "scan") then Some Scan else None
+
+-- `map IMAGE FRAMES VA`: FRAMES from 512 to 16,384, which are 2 MiB to 64 MiB, and VA a canonical address
+abbrev pub map_with : Option ℕ → Option ℕ → Option Command
+map_with (Some frames) (Some va) = Some (Map frames va)
+map_with (Some frames) None = None
+map_with None va = None
+
+abbrev pub map_of : List ℕ → List ℕ → List ℕ → Option Command
+map_of name frames va =
+    if bytes_eq name (codes "map") then map_with (decimal_within 512 16384 frames) (address_of va) else None
+
+-- the command that the words spell, without the program's own name; other words have no form
+abbrev pub command_of : List (List ℕ) → Option Command
+command_of (name ∷ image ∷ []) = scan_of name
+command_of (name ∷ image ∷ frames ∷ va ∷ []) = map_of name frames va
+command_of _ = None
+
+-- how many words a command's form has
+abbrev pub word_count : Command → ℕ
+word_count Scan = 2
+word_count (Map frames va) = 4
+
+-- a command's numbers lie within their bounds
+abbrev pub IsBounded : Command → Type 0
+IsBounded Scan = ⊤
+IsBounded (Map frames va) = (512 ≤ frames) × (frames ≤ 16384) × IsTrue (is_canonical va)
+
+-- two roles are one
+abbrev pub is_same : Role → Role → Bool
+is_same Image Image = true
+
+-- the place among the words of the name of a role's file
+abbrev pub word_place : Role → ℕ
+word_place Image = 1
+
+-- the name of a role's file
+abbrev pub name_in : List (List ℕ) → Role → List ℕ
+name_in words role = slice_index_or words (word_place role) []
+
+-- the roles of a command's files, in the order in which they are fetched
+abbrev pub roles_of : Command → List Role
+roles_of Scan = Image ∷ []
+roles_of (Map frames va) = Image ∷ []
+
+-- the words have a form, and the role is one of its command's
+abbrev pub IsAsked : List (List ℕ) → Role → Type 0
+IsAsked words role = IsSomeAnd (command_of words) (λ command. Contains (roles_of command) role)

@@ -1,0 +1,83 @@
+//! The command line, read by hand: all words are positional.
+ghost use Rattle.std.specs.Prelude.{◌≡◌, length, map, IfSome};
+ghost use Rattle.std.specs.String.{string_bytes};
+ghost use Rattle.nk_run.specs.CommandLine.{command_of, map_of, scan_of, word_count, word_place, IsBounded};
+
+use crate::numbers::{address_of, decimal_within};
+
+/// The least number of frames that a memory may have: 2 MiB.
+const LEAST_FRAMES: u64 = 512;
+
+/// The greatest number of frames that a memory may have: 64 MiB.
+const MOST_FRAMES: u64 = 16_384;
+
+/// What a file is to a command.
+#[derive(Clone, Copy, Debug, PartialEq, Eq)]
+pub enum Role {
+    /// The outer kernel's ELF file.
+    Image,
+}
+
+impl Role {
+    /// The place among the words of the file's name.
+    pub(crate) fn word_place(self) -> usize
+        ensures { result ≡ word_place self }
+    {
+        match self {
+            Role::Image => 1,
+        }
+    }
+}
+
+/// What the words ask for. The names of the files stay in the words.
+#[derive(Clone, Copy, Debug, PartialEq, Eq)]
+pub enum Command {
+    /// Admit or refuse an image.
+    Scan,
+    /// Walk the opening tables for a linear address, in a memory of so many frames.
+    Map { frames: u32, va: u64 },
+}
+
+impl Command {
+    /// The command that the words spell, None where they have none of the forms.
+    pub(crate) fn read(words: &[String]) -> Option<Command>
+        ensures command { result ≡ command_of (map string_bytes words.now) }
+        ensures bounds { IfSome result IsBounded }
+        ensures count { IfSome result (λ command. length words.now ≡ word_count command) }
+    {
+        match words {
+            [name, _image] => read_scan(name.as_str()),
+            [name, _image, frames, va] => read_map(name.as_str(), frames.as_str(), va.as_str()),
+            _ => None,
+        }
+    }
+}
+
+/// `scan IMAGE`.
+fn read_scan(name: &str) -> Option<Command>
+    ensures command { result ≡ scan_of name.now }
+    ensures is_scan { IfSome result (λ command. command ≡ Command.Scan) }
+{
+    if name == "scan" {
+        Some(Command::Scan)
+    } else {
+        None
+    }
+}
+
+/// `map IMAGE FRAMES VA`.
+fn read_map(name: &str, frames: &str, va: &str) -> Option<Command>
+    ensures command { result ≡ map_of name.now frames.now va.now }
+    ensures bounds { IfSome result IsBounded }
+    ensures count { IfSome result (λ command. word_count command ≡ 4) }
+{
+    if name != "map" {
+        return None;
+    }
+    let frames = decimal_within(frames, LEAST_FRAMES, MOST_FRAMES)?;
+    let va = address_of(va)?;
+    Some(Command::Map {
+        frames: frames as u32,
+        va,
+    })
+}
