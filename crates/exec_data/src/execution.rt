@@ -1,26 +1,33 @@
-//! The effect of an instruction: its conditions, its accesses in order, its outcome, and the check of its write.
+//! The effect of an instruction: its conditions, its accesses in order, its outcome, and the check of its write. The
+//! common forms change the registers in place; the others plan their accesses and compute their change as a value.
 
-ghost use Rattle.std.specs.Prelude.{◌≡◌, ◌⊎◌, ◌*◌, ◌<◌, IfOk, IsTrue, length};
+ghost use Rattle.std.specs.Prelude.{◌≡◌, ◌⊎◌, ◌*◌, ◌<◌, IfOk, IsTrue, OnErr, length};
 ghost use Rattle.nk_bits.specs.Outcomes.{outcome_of};
 ghost use Rattle.nk_bits.specs.Translations.{NamesFramesIn};
 ghost use Rattle.page_walk.specs.MemoryAccess.{view_of};
 ghost use Rattle.page_walk.specs.AccessPlans.{IsChecked, IsSized};
 ghost use Rattle.x86_decode.specs.WellFormed.{IsWellFormed};
 ghost use Rattle.x86_regs.specs.OperandPlans.{instr_form};
-ghost use Rattle.x86_regs.specs.Effects.{FitsIn, HasAccessSize, concluded, effect_of, planned_effect};
+ghost use Rattle.x86_regs.specs.Effects.{FitsIn, HasAccessSize, concluded, effect_of, effect_with, planned_effect};
 ghost use Rattle.exec_data.specs.DataForms.{is_data_form};
+ghost use Rattle.exec_data.specs.ValueForms.{is_value_form};
 
+use crate::arithmetic::{combine, compare};
 use crate::outcomes::outcome_by;
 use crate::plans::plan_by;
+use crate::stack::{pop, push};
+use crate::transfers::{load_address, move_over};
 use mem_access::{check_span, gather};
 use nk_bits::Control;
 use page_walk::{Gathered, Plan};
 use phys_mem::PhysMem;
 use tlb_model::Tlb;
 use x86_decode::Instr;
-use x86_regs::{Change, Effect, Fault, Form, Regs, instr_form, next_of, raised, refusal, write_of};
+use x86_regs::{
+    Asked, Change, Effect, Fault, Form, Regs, instr_form, next_of, raised, refusal, write_of,
+};
 
-/// Whether `effect` takes the instructions of a form.
+/// Whether `execute` takes the instructions of a form.
 pub fn is_data_form(form: Form) -> bool
     ensures { result ≡ is_data_form form }
 {
@@ -36,12 +43,41 @@ pub fn is_data_form(form: Form) -> bool
     }
 }
 
-/// The effect of an instruction of `size` bytes that stands at RIP: the registers after it, and its write, which is
-/// judged and not made. Only the translations kept change.
+/// Executes an instruction of `size` bytes that stands at RIP: its registers are changed in place, and its write is
+/// judged and not made. Besides, only the translations kept change.
 ///
 /// Fails with the first fault of the instruction, in the order of its conditions, its accesses, its outcome and the
 /// check of its write.
 #[tactic(auto, using(crate::proofs::Forms::data_effect), unfolding(x86_regs::specs::Effects::effect_of))]
+pub fn execute(
+    instr: &Instr,
+    size: u8,
+    regs: &mut Regs,
+    control: &Control,
+    mem: &PhysMem,
+    tlb: &mut Tlb,
+) -> Result<Asked, Fault>
+    requires formed { IsWellFormed instr.now }
+    requires row { IsTrue (is_data_form (instr_form instr.now)) }
+    requires cpl { (regs.old.cpl ≡ 0) ⊎ (regs.old.cpl ≡ 3) }
+    requires root { 4096 * control.now.root < length mem.now }
+    requires frames { NamesFramesIn (length mem.now) tlb.old }
+    ensures outcome { outcome_of (effect_with result regs.new) tlb.new
+        ≡ effect_of instr.now size regs.old control.now mem.now tlb.old }
+    ensures kept { OnErr result (regs.new ≡ regs.old) }
+    ensures frames { NamesFramesIn (length mem.now) tlb.new }
+    ensures places { IfOk result (λ asked. FitsIn (length mem.now) asked.write) }
+    ensures sized { IfOk result (λ asked. HasAccessSize asked.write) }
+{
+    if let Some(fault) = refusal(instr, regs.cpl) {
+        return Err(fault);
+    }
+    execute_form(instr_form(instr), instr, size, regs, control, mem, tlb)
+}
+
+/// The effect of an instruction as a value: the registers after it, beside the write and the act that `execute` gives.
+///
+/// Fails as `execute` does.
 pub fn effect(
     instr: &Instr,
     size: u8,
@@ -61,13 +97,87 @@ pub fn effect(
     ensures places { IfOk result (λ effect. FitsIn (length mem.now) effect.write) }
     ensures sized { IfOk result (λ effect. HasAccessSize effect.write) }
 {
-    if let Some(fault) = refusal(instr, regs.cpl) {
-        return Err(fault);
+    let mut after = *regs;
+    match execute(instr, size, &mut after, control, mem, tlb) {
+        Ok(asked) => Ok(Effect {
+            regs: after,
+            write: asked.write,
+            act: asked.act,
+        }),
+        Err(fault) => Err(fault),
     }
-    planned_effect(instr_form(instr), instr, size, regs, control, mem, tlb)
 }
 
-/// The effect of an instruction that its conditions don't refuse.
+/// Executes an instruction that its conditions don't refuse: the common forms in place, the others by value.
+fn execute_form(
+    form: Form,
+    instr: &Instr,
+    size: u8,
+    regs: &mut Regs,
+    control: &Control,
+    mem: &PhysMem,
+    tlb: &mut Tlb,
+) -> Result<Asked, Fault>
+    requires formed { IsWellFormed instr.now }
+    requires row { IsTrue (is_data_form form) }
+    requires cpl { (regs.old.cpl ≡ 0) ⊎ (regs.old.cpl ≡ 3) }
+    requires root { 4096 * control.now.root < length mem.now }
+    requires frames { NamesFramesIn (length mem.now) tlb.old }
+    ensures outcome { outcome_of (effect_with result regs.new) tlb.new
+        ≡ planned_effect form instr.now size regs.old control.now mem.now
+        (view_of mem.now control.now regs.old.cpl) tlb.old }
+    ensures kept { OnErr result (regs.new ≡ regs.old) }
+    ensures frames { NamesFramesIn (length mem.now) tlb.new }
+    ensures places { IfOk result (λ asked. FitsIn (length mem.now) asked.write) }
+    ensures sized { IfOk result (λ asked. HasAccessSize asked.write) }
+{
+    match form {
+        Form::Combine => combine(instr, size, regs, control, mem, tlb),
+        Form::Compare => compare(instr, size, regs, control, mem, tlb),
+        Form::Move => move_over(instr, size, regs, control, mem, tlb),
+        Form::Address => load_address(instr, size, regs, control, mem, tlb),
+        Form::Push => push(instr, size, regs, control, mem, tlb),
+        Form::Pop => pop(instr, size, regs, control, mem, tlb),
+        _ => execute_by_value(form, instr, size, regs, control, mem, tlb),
+    }
+}
+
+/// Executes an instruction by its effect as a value.
+fn execute_by_value(
+    form: Form,
+    instr: &Instr,
+    size: u8,
+    regs: &mut Regs,
+    control: &Control,
+    mem: &PhysMem,
+    tlb: &mut Tlb,
+) -> Result<Asked, Fault>
+    requires formed { IsWellFormed instr.now }
+    requires row { IsTrue (is_value_form form) }
+    requires cpl { (regs.old.cpl ≡ 0) ⊎ (regs.old.cpl ≡ 3) }
+    requires root { 4096 * control.now.root < length mem.now }
+    requires frames { NamesFramesIn (length mem.now) tlb.old }
+    ensures outcome { outcome_of (effect_with result regs.new) tlb.new
+        ≡ planned_effect form instr.now size regs.old control.now mem.now
+        (view_of mem.now control.now regs.old.cpl) tlb.old }
+    ensures kept { OnErr result (regs.new ≡ regs.old) }
+    ensures frames { NamesFramesIn (length mem.now) tlb.new }
+    ensures places { IfOk result (λ asked. FitsIn (length mem.now) asked.write) }
+    ensures sized { IfOk result (λ asked. HasAccessSize asked.write) }
+{
+    match planned_effect(form, instr, size, regs, control, mem, tlb) {
+        Ok(effect) => {
+            *regs = effect.regs;
+            Ok(Asked {
+                write: effect.write,
+                act: effect.act,
+            })
+        }
+        Err(fault) => Err(fault),
+    }
+}
+
+/// The effect of an instruction of one of the forms that are made by value.
 fn planned_effect(
     form: Form,
     instr: &Instr,
@@ -78,7 +188,7 @@ fn planned_effect(
     tlb: &mut Tlb,
 ) -> Result<Effect, Fault>
     requires formed { IsWellFormed instr.now }
-    requires row { IsTrue (is_data_form form) }
+    requires row { IsTrue (is_value_form form) }
     requires cpl { (regs.now.cpl ≡ 0) ⊎ (regs.now.cpl ≡ 3) }
     requires root { 4096 * control.now.root < length mem.now }
     requires frames { NamesFramesIn (length mem.now) tlb.old }

@@ -1,15 +1,17 @@
 //! The effect of an instruction: its conditions, its accesses in order, its outcome, and the check of its write.
 
-ghost use Rattle.std.specs.Prelude.{◌≡◌, ◌⊎◌, ◌*◌, ◌<◌, IsTrue, IfOk, length};
+ghost use Rattle.std.specs.Prelude.{◌≡◌, ◌⊎◌, ◌*◌, ◌<◌, IsTrue, IfOk, OnErr, length};
 ghost use Rattle.nk_bits.specs.Translations.{NamesFramesIn};
 ghost use Rattle.nk_bits.specs.Outcomes.{outcome_of};
 ghost use Rattle.page_walk.specs.AccessPlans.{IsChecked, IsPlan};
 ghost use Rattle.page_walk.specs.MemoryAccess.{view_of};
 ghost use Rattle.x86_decode.specs.WellFormed.{IsWellFormed};
 ghost use Rattle.x86_regs.specs.OperandPlans.{instr_form};
-ghost use Rattle.x86_regs.specs.Effects.{FitsIn, HasAccessSize, concluded, effect_by, effect_of, planned_effect};
+ghost use Rattle.x86_regs.specs.Effects.{FitsIn, HasAccessSize, concluded, effect_by, effect_of, effect_with, planned_effect};
 ghost use Rattle.exec_flow.specs.FlowForms.{is_flow_form};
+ghost use Rattle.exec_flow.specs.FormsByValue.{has_effect_by_value};
 
+use crate::branches::{branch, call, count_down, ret};
 use crate::outcomes::outcome_by;
 use crate::plans::plan_by;
 use crate::traps::return_effect;
@@ -19,7 +21,9 @@ use page_walk::{Gathered, Plan};
 use phys_mem::PhysMem;
 use tlb_model::Tlb;
 use x86_decode::Instr;
-use x86_regs::{Change, Effect, Fault, Form, Regs, instr_form, next_of, raised, refusal, write_of};
+use x86_regs::{
+    Asked, Change, Effect, Fault, Form, Regs, instr_form, next_of, raised, refusal, write_of,
+};
 
 /// Whether `effect` takes the instructions of a form.
 pub fn is_flow_form(form: Form) -> bool
@@ -42,7 +46,6 @@ pub fn is_flow_form(form: Form) -> bool
 /// Fails with the first fault of the instruction: #UD and #GP by its conditions, a fault of a read, #GP by a branch's
 /// target or a value for a control register, a fault of its write. Registers and memory stay as they were; translations
 /// may have changed.
-#[tactic(auto, unfolding(x86_regs::specs::Effects::effect_of))]
 pub fn effect(
     instr: &Instr,
     size: u8,
@@ -62,9 +65,111 @@ pub fn effect(
     ensures places { IfOk result (λ effect. FitsIn (length mem.now) effect.write) }
     ensures sized { IfOk result (λ effect. HasAccessSize effect.write) }
 {
+    let mut after = *regs;
+    match execute(instr, size, &mut after, control, mem, tlb) {
+        Ok(asked) => Ok(Effect {
+            regs: after,
+            write: asked.write,
+            act: asked.act,
+        }),
+        Err(fault) => Err(fault),
+    }
+}
+
+/// As `effect`, but the registers are changed in place: the answer is the write and what the processor is asked for.
+///
+/// Fails as `effect` does; then the registers stay as they were.
+#[tactic(auto, unfolding(x86_regs::specs::Effects::effect_of))]
+pub fn execute(
+    instr: &Instr,
+    size: u8,
+    regs: &mut Regs,
+    control: &Control,
+    mem: &PhysMem,
+    tlb: &mut Tlb,
+) -> Result<Asked, Fault>
+    requires formed { IsWellFormed instr.now }
+    requires row { IsTrue (is_flow_form (instr_form instr.now)) }
+    requires cpl { (regs.old.cpl ≡ 0) ⊎ (regs.old.cpl ≡ 3) }
+    requires root { 4096 * control.now.root < length mem.now }
+    requires frames { NamesFramesIn (length mem.now) tlb.old }
+    ensures outcome { outcome_of (effect_with result regs.new) tlb.new
+        ≡ effect_of instr.now size regs.old control.now mem.now tlb.old }
+    ensures kept { OnErr result (regs.new ≡ regs.old) }
+    ensures frames { NamesFramesIn (length mem.now) tlb.new }
+    ensures places { IfOk result (λ asked. FitsIn (length mem.now) asked.write) }
+    ensures sized { IfOk result (λ asked. HasAccessSize asked.write) }
+{
     match refusal(instr, regs.cpl) {
         Some(fault) => Err(fault),
-        None => effect_by(instr_form(instr), instr, size, regs, control, mem, tlb),
+        None => execute_by(instr_form(instr), instr, size, regs, control, mem, tlb),
+    }
+}
+
+/// The instruction by its form: in place where the form has a function of its own, and else by value.
+fn execute_by(
+    form: Form,
+    instr: &Instr,
+    size: u8,
+    regs: &mut Regs,
+    control: &Control,
+    mem: &PhysMem,
+    tlb: &mut Tlb,
+) -> Result<Asked, Fault>
+    requires formed { IsWellFormed instr.now }
+    requires row { IsTrue (is_flow_form form) }
+    requires cpl { (regs.old.cpl ≡ 0) ⊎ (regs.old.cpl ≡ 3) }
+    requires root { 4096 * control.now.root < length mem.now }
+    requires frames { NamesFramesIn (length mem.now) tlb.old }
+    ensures outcome { outcome_of (effect_with result regs.new) tlb.new
+        ≡ effect_by form instr.now size regs.old control.now mem.now
+        (view_of mem.now control.now regs.old.cpl) tlb.old }
+    ensures kept { OnErr result (regs.new ≡ regs.old) }
+    ensures frames { NamesFramesIn (length mem.now) tlb.new }
+    ensures places { IfOk result (λ asked. FitsIn (length mem.now) asked.write) }
+    ensures sized { IfOk result (λ asked. HasAccessSize asked.write) }
+{
+    match form {
+        Form::Branch => branch(instr, size, regs, control, mem, tlb),
+        Form::Call => call(instr, size, regs, control, mem, tlb),
+        Form::Return => ret(instr, size, regs, control, mem, tlb),
+        Form::CountDown => count_down(instr, size, regs, control, mem, tlb),
+        _ => execute_by_value(form, instr, size, regs, control, mem, tlb),
+    }
+}
+
+/// The instruction of a form whose effect is a value.
+fn execute_by_value(
+    form: Form,
+    instr: &Instr,
+    size: u8,
+    regs: &mut Regs,
+    control: &Control,
+    mem: &PhysMem,
+    tlb: &mut Tlb,
+) -> Result<Asked, Fault>
+    requires formed { IsWellFormed instr.now }
+    requires row { IsTrue (has_effect_by_value form) }
+    requires cpl { (regs.old.cpl ≡ 0) ⊎ (regs.old.cpl ≡ 3) }
+    requires root { 4096 * control.now.root < length mem.now }
+    requires frames { NamesFramesIn (length mem.now) tlb.old }
+    ensures outcome { outcome_of (effect_with result regs.new) tlb.new
+        ≡ effect_by form instr.now size regs.old control.now mem.now
+        (view_of mem.now control.now regs.old.cpl) tlb.old }
+    ensures kept { OnErr result (regs.new ≡ regs.old) }
+    ensures frames { NamesFramesIn (length mem.now) tlb.new }
+    ensures places { IfOk result (λ asked. FitsIn (length mem.now) asked.write) }
+    ensures sized { IfOk result (λ asked. HasAccessSize asked.write) }
+{
+    match effect_by(form, instr, size, regs, control, mem, tlb) {
+        Ok(effect) => {
+            *regs = effect.regs;
+            Ok(Asked {
+                write: effect.write,
+                act: effect.act,
+            })
+        }
+        Err(fault) => Err(fault),
     }
 }
 
@@ -78,7 +183,7 @@ fn effect_by(
     tlb: &mut Tlb,
 ) -> Result<Effect, Fault>
     requires formed { IsWellFormed instr.now }
-    requires row { IsTrue (is_flow_form form) }
+    requires row { IsTrue (has_effect_by_value form) }
     requires cpl { (regs.now.cpl ≡ 0) ⊎ (regs.now.cpl ≡ 3) }
     requires root { 4096 * control.now.root < length mem.now }
     requires frames { NamesFramesIn (length mem.now) tlb.old }
@@ -105,7 +210,7 @@ fn planned_effect(
     tlb: &mut Tlb,
 ) -> Result<Effect, Fault>
     requires formed { IsWellFormed instr.now }
-    requires row { IsTrue (is_flow_form form) }
+    requires row { IsTrue (has_effect_by_value form) }
     requires cpl { (regs.now.cpl ≡ 0) ⊎ (regs.now.cpl ≡ 3) }
     requires root { 4096 * control.now.root < length mem.now }
     requires frames { NamesFramesIn (length mem.now) tlb.old }

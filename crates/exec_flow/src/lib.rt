@@ -10,13 +10,15 @@ mod execution;
 mod outcomes;
 mod plans;
 
-// What each form makes of the values that it reads.
+// The forms that make their accesses themselves and change the registers in place.
 mod branches;
+
+// What each other form makes of the values that it reads.
 mod flags;
 mod system;
 mod traps;
 
-pub use execution::{effect, is_flow_form};
+pub use execution::{effect, execute, is_flow_form};
 
 #[cfg(test)]
 mod tests;

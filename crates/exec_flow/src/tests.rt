@@ -13,7 +13,7 @@ use crate::{effect, is_flow_form};
 use nk_bits::{Control, Target};
 use phys_mem::{NoMemory, PhysMem};
 use std::alloc::Global;
-use std::test::Fail;
+use std::process::Abort;
 use tlb_model::Tlb;
 use x86_decode::{Decoded, decode};
 use x86_regs::{Act, Effect, Fault, Regs, Write, instr_form, with_register};
@@ -65,11 +65,26 @@ fn memory(alloc: Global) -> Result<PhysMem, NoMemory>
     Ok(mem)
 }
 
-/// What the instruction does that these bytes spell. No instruction of flow raises #DE, which stands for all else.
-fn run(alloc: Global, bytes: &[u8], regs: &Regs) -> Result<Result<Effect, Fault>, Fail> {
-    let mem = memory(alloc)?;
-    let mut tlb = Tlb::new(alloc)?;
-    Ok(run_over(&mem, &mut tlb, bytes, regs))
+/// From these registers, the instruction that these bytes spell has this effect.
+fn compare(
+    rt: &impl Abort,
+    alloc: Global,
+    bytes: &[u8],
+    before: &Regs,
+    after: Result<Effect, Fault>,
+) {
+    assert_eq!(rt; run(alloc, bytes, before), Some(after), "{bytes:?}");
+}
+
+/// Want of memory is None. No instruction of flow raises #DE, which stands for bytes that the call doesn't take.
+fn run(alloc: Global, bytes: &[u8], regs: &Regs) -> Option<Result<Effect, Fault>> {
+    let Ok(mem) = memory(alloc) else {
+        return None;
+    };
+    let Ok(mut tlb) = Tlb::new(alloc) else {
+        return None;
+    };
+    Some(run_over(&mem, &mut tlb, bytes, regs))
 }
 
 fn run_over(mem: &PhysMem, tlb: &mut Tlb, bytes: &[u8], regs: &Regs) -> Result<Effect, Fault>

@@ -1,3 +1,4 @@
+mod EffectLaws
 mod WorkedEffectsAccesses
 mod WorkedEffectsArithmetic
 mod WorkedEffectsFlow

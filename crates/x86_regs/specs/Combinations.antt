@@ -7,7 +7,7 @@ use Rattle.x86_alu.specs.declared.choices.Logic.{Logic}
 use Rattle.x86_alu.specs.declared.choices.Logic.TheVariants as logic
 use Rattle.x86_alu.specs.declared.choices.Shift.{Shift}
 use Rattle.x86_alu.specs.declared.choices.Shift.TheVariants as shift
-use Rattle.x86_alu.specs.SignedNumbers.{bit, cut, differ, negated, one_if, sign}
+use Rattle.x86_alu.specs.SignedNumbers.{bit, cut, differ, one_if, sign}
 use Rattle.x86_alu.specs.Flags.{carry_flag, overflow_flag, parity_flag, sign_flag, with_flag, zero_flag}
 use Rattle.x86_alu.specs.Sums.{difference_flags, difference_of, sum_flags, sum_of}
 use Rattle.x86_alu.specs.Bitwise.{combined, logic_flags}

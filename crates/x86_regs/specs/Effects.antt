@@ -1,6 +1,6 @@
 -- The effect of an instruction: its conditions, then its accesses in order, then its outcome, then the check of its
 -- write.
-use Rattle.std.specs.Prelude.{ℕ, ◌+◌, ◌*◌, ◌==◌, Bool, true, false, not, ◌&&◌, ◌||◌, if◌then◌else◌, slice_index, List, Option, None, Some, IfSome, Result, Ok, Err}
+use Rattle.std.specs.Prelude.{ℕ, ◌≡◌, ◌+◌, ◌*◌, ◌/◌, ◌<◌, ◌==◌, ⊤, Bool, true, false, not, ◌&&◌, ◌||◌, if◌then◌else◌, slice_index, List, Option, None, Some, IfSome, Result, Ok, Err}
 use Rattle.decode_fields.specs.declared.place.Place.{Place}
 use Rattle.decode_fields.specs.declared.place.Place.TheVariants as place
 use Rattle.x86_decode.specs.declared.instruction.Instr.{Instr}
@@ -26,8 +26,10 @@ use Rattle.page_walk.specs.MemoryAccess.{view_of}
 use Rattle.page_walk.specs.AccessPlans.{checked, gathered, taken}
 use Rattle.x86_regs.specs.declared.registers.Regs.{Regs}
 use Rattle.x86_regs.specs.declared.delivery.Frame.{Frame}
+use Rattle.x86_regs.specs.declared.effects.Asked.{Asked}
 use Rattle.x86_regs.specs.declared.effects.Effect.{Effect}
 use Rattle.x86_regs.specs.declared.effects.Write.{Write}
+use Rattle.x86_regs.specs.declared.effects.Act.{Act}
 use Rattle.x86_regs.specs.declared.effects.Act.TheVariants as act
 use Rattle.x86_regs.specs.declared.faults.Fault.{Fault}
 use Rattle.x86_regs.specs.declared.faults.Fault.TheVariants as fault
@@ -112,6 +114,21 @@ FitsIn size write = IfSome write (λ write. IsTarget size write.va write.width w
 abbrev pub HasAccessSize : Option Write → Type 0
 HasAccessSize write = IfSome write (λ write. IsAccessSize write.width)
 
+-- what is loaded into CR3 names a frame of a memory of so many bytes
+abbrev pub LoadsFrameIn : ℕ → Act → Type 0
+LoadsFrameIn size (act.Cr3 value) = 4096 * (value / 4096) < size
+LoadsFrameIn size _ = ⊤
+
+-- said of an act only where it is an interrupt or a return, which are delivered
+abbrev pub IfDelivered : Act → Type 0 → Type 0
+IfDelivered (act.Interrupt vector) P = P
+IfDelivered (act.Return frame) P = P
+IfDelivered _ P = ⊤
+
+-- an interrupt or a return changes RIP alone before it is delivered, and writes nothing
+abbrev pub LeavesToDelivery : Regs → Effect → Type 0
+LeavesToDelivery regs effect = IfDelivered effect.act ((effect.regs ≡ record regs { rip = effect.regs.rip }) × (effect.write ≡ None))
+
 abbrev pub write_of : Plan → Gathered → Option Target → ℕ → Option Write
 write_of plan found last value = write_at plan.last last value (write_at plan.both found.both value None)
 
@@ -163,3 +180,8 @@ unless_refused None tlb effect = effect
 unfoldable pub effect_of : Instr → ℕ → Regs → Control → List ℕ → Translations → Outcome Fault Effect
 effect_of i size regs control m tlb =
     unless_refused (refusal i regs.cpl) tlb (effect_by (instr_form i) i size regs control m (view_of m control regs.cpl) tlb)
+
+-- the effect of an instruction whose registers were changed in place: these are the registers after it
+abbrev pub effect_with : Result Asked Fault → Regs → Result Effect Fault
+effect_with (Ok asked) regs = Ok (record { regs = regs; write = asked.write; act = asked.act })
+effect_with (Err fault) regs = Err fault

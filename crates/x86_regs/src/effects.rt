@@ -58,6 +58,14 @@ pub enum Act {
     DropPage(u64),
 }
 
+/// What an instruction that didn't fault leaves to the processor, once its registers are changed in place.
+#[derive(Clone, Copy, Debug, PartialEq, Eq)]
+pub struct Asked {
+    /// Its one write to memory, if it has one.
+    pub write: Option<Write>,
+    pub act: Act,
+}
+
 /// What an instruction does with the values that it read, before its write is checked.
 #[derive(Clone, Copy, Debug, PartialEq, Eq)]
 pub struct Change {

@@ -20,18 +20,22 @@ mod flag_changes;
 mod refusals;
 mod writes;
 
+// What follows from the definition of an effect.
+mod laws;
+
 pub use conditions::{bit, condition_stands};
 pub use delivery::{Frame, Tables};
-pub use effects::{Act, Change, Effect, Write};
+pub use effects::{Act, Asked, Change, Effect, Write};
 pub use faults::Fault;
 pub use flag_changes::{DF, IF, change_flag};
 pub use form::{Form, instr_form};
+pub use laws::effect_law;
 pub use operands::{
     RAX, RBP, RCX, RDI, RDX, RSI, RSP, fallen, from_address, from_source, going_on, lowered,
     next_of, place_span, pop_source, push_span, risen, stack_span, string_span, to_source,
 };
 pub use refusals::{raised, refusal};
-pub use registers::{Regs, held, low, with_register, written};
+pub use registers::{Regs, held, low, set_place, set_register, with_register, written};
 pub use writes::write_of;
 
 #[cfg(test)]

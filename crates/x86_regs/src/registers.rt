@@ -37,11 +37,12 @@ impl Regs {
         requires { IsRegister place.now width }
         ensures { self.new ≡ record self.old { general = written self.old.general place.now width value } }
     {
-        self.general = written(&self.general, place, width, value);
+        set_place(&mut self.general, place, width, value);
     }
 }
 
 /// What a register or a part of it holds, and 0 for a place of another kind.
+#[inline]
 pub fn held(general: &[u64; 16], place: &Place, width: u8) -> u64
     requires width { IsWidth width }
     requires place { IsPlace place.now }
@@ -61,18 +62,28 @@ pub fn written(general: &[u64; 16], place: &Place, width: u8, value: u64) -> [u6
     ensures { result ≡ written general.now place.now width value }
 {
     let mut after = *general;
+    set_place(&mut after, place, width, value);
+    after
+}
+
+/// Writes one of the registers or a part of it in place.
+#[inline]
+pub fn set_place(general: &mut [u64; 16], place: &Place, width: u8, value: u64)
+    requires width { IsWidth width }
+    requires place { IsPlace place.now }
+    ensures { general.new ≡ written general.old place.now width value }
+{
     match *place {
         Place::Reg(number) => {
             let old = general[number as usize];
-            after[number as usize] = low_written(width, old, value);
+            general[number as usize] = low_written(width, old, value);
         }
         Place::High(number) => {
             let old = general[number as usize];
-            after[number as usize] = high_written(old, value);
+            general[number as usize] = high_written(old, value);
         }
         Place::Nothing | Place::Mem(_) | Place::Value => {}
     }
-    after
 }
 
 /// The registers with this one whole.
@@ -81,11 +92,21 @@ pub fn with_register(general: &[u64; 16], number: u8, value: u64) -> [u64; 16]
     ensures { result ≡ with_register general.now number value }
 {
     let mut after = *general;
-    after[number as usize] = value;
+    set_register(&mut after, number, value);
     after
 }
 
+/// Writes one of the registers whole, in place.
+#[inline]
+pub fn set_register(general: &mut [u64; 16], number: u8, value: u64)
+    requires { number < 16 }
+    ensures { general.new ≡ with_register general.old number value }
+{
+    general[number as usize] = value;
+}
+
 /// The low bits of a number, as many as the width.
+#[inline]
 pub fn low(width: u8, value: u64) -> u64
     requires { IsWidth width }
     ensures { result ≡ value % 2 ^ width }
@@ -93,6 +114,7 @@ pub fn low(width: u8, value: u64) -> u64
     value & (u64::MAX >> (64 - width))
 }
 
+#[inline]
 fn low_written(width: u8, old: u64, value: u64) -> u64
     requires { IsWidth width }
     ensures { result ≡ low_written width old value }
@@ -104,6 +126,7 @@ fn low_written(width: u8, old: u64, value: u64) -> u64
     }
 }
 
+#[inline]
 fn high_written(old: u64, value: u64) -> u64
     ensures { result ≡ high_written old value }
 {
@@ -111,6 +134,7 @@ fn high_written(old: u64, value: u64) -> u64
 }
 
 /// The bits of `above` from `width` on, over `below`.
+#[inline]
 fn joined(width: u8, above: u64, below: u64) -> u64
     requires width { width < 64 }
     requires fits { below < 2 ^ width }
