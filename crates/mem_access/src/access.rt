@@ -2,9 +2,9 @@
 
 ghost use Rattle.std.specs.Prelude.{◌≡◌, ◌+◌, ◌-◌, ◌*◌, ◌%◌, ◌^◌, ◌<◌, ◌≤◌, ◌⊎◌, IsTrue, IfOk, OnErr, length};
 ghost use Rattle.phys_mem.specs.Memory.{stored};
-ghost use Rattle.nk_bits.specs.declared.access.Access.TheVariants.{Write};
+ghost use Rattle.nk_bits.specs.declared.access.Access.TheVariants.{Write, Fetch};
 ghost use Rattle.nk_bits.specs.Translations.{NamesFramesIn};
-ghost use Rattle.nk_bits.specs.Outcomes.{outcome_of};
+ghost use Rattle.nk_bits.specs.Outcomes.{answered, and_then, outcome_of};
 ghost use Rattle.nk_bits.specs.Accesses.{IsAccessSize, IsTarget, accessed, completed, has_canonical_bytes};
 ghost use Rattle.page_walk.specs.MemoryAccess.{fetched, loaded, saved, stores_at, view_of, written};
 
@@ -100,6 +100,36 @@ pub fn store(
         Ok(target) => {
             commit(mem, &target, va, width, value);
             Ok(())
+        }
+        Err(fault) => Err(fault),
+    }
+}
+
+/// The place in memory of the byte at `va`, judged for execution, like those behind it on its page.
+///
+/// Fails where the address isn't canonical, or where its page has no translation that serves the fetch.
+pub fn fetch_place(
+    mem: &PhysMem,
+    tlb: &mut Tlb,
+    control: &Control,
+    cpl: u8,
+    va: u64,
+) -> Result<u64, AccessFault>
+    requires cpl { (cpl ≡ 0) ⊎ (cpl ≡ 3) }
+    requires root { 4096 * control.now.root < length mem.now }
+    requires frames { NamesFramesIn (length mem.now) tlb.old }
+    ensures outcome { outcome_of result tlb.new
+        ≡ and_then (accessed (view_of mem.now control.now cpl) Fetch tlb.old va 1)
+        (λ target after. answered target.first after) }
+    ensures frames { NamesFramesIn (length mem.now) tlb.new }
+    ensures agrees { IfOk result (λ place. place % 4096 ≡ va % 4096) }
+    ensures page { IfOk result (λ place. place + (4096 - va % 4096) ≤ length mem.now) }
+{
+    match access(mem, tlb, Access::Fetch, control, cpl, va, 1) {
+        Ok(target) => {
+            // memory has whole frames
+            prove!(target.first < 4096 * u64::from(mem.frames()));
+            Ok(target.first)
         }
         Err(fault) => Err(fault),
     }

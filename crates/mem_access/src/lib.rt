@@ -21,7 +21,7 @@ mod rights;
 #[cfg(test)]
 mod tests;
 
-pub use access::{check_store, commit, fetch_byte, load, store};
+pub use access::{check_store, commit, fetch_byte, fetch_place, load, store};
 pub use nk_bits::{AccessFault, Control, Target};
 pub use page_walk::{Gathered, Plan, Source, Span, SpanFault};
 pub use plan::{check_span, gather};
