@@ -1,0 +1,5 @@
+pub mod Fetches
+pub mod LongerCode
+pub mod PageFetches
+pub mod TurnLemmas
+pub mod WordBytes

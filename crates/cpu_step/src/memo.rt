@@ -1,0 +1,106 @@
+//! A memo of decodings: code that was decoded before isn't decoded again while its bytes are the same.
+
+ghost use Rattle.std.specs.Prelude.{◌≡◌, ◌<◌, true, All, length, slice_index_or};
+ghost use Rattle.cpu_step.specs.declared.memo.MemoEntry.{MemoEntry};
+ghost use Rattle.cpu_step.specs.DecodingMemo.{IsAnswerOf, IsRight, bytes_of_words};
+
+use crate::processor::NoMemory;
+use std::alloc::Global;
+use std::marker::Model;
+use x86_decode::{Decoded, decode};
+
+/// The entries of the memo, by the low bits of an address.
+const ENTRIES: usize = 1024;
+
+/// Two words of code, and what their first fifteen bytes decode to.
+#[derive(Clone, Copy)]
+pub(crate) struct MemoEntry {
+    low: u64,
+    high: u64,
+    answer: Decoded,
+}
+
+impl MemoEntry {
+    /// Whether it has the answer of these words.
+    fn is_of(&self, low: u64, high: u64) -> bool
+        ensures low { result ≡ true → self.now.low ≡ low }
+        ensures high { result ≡ true → self.now.high ≡ high }
+    {
+        self.low == low && self.high == high
+    }
+}
+
+/// Decodings of code that was fetched before, each under the low bits of its address. Its room is taken when it is made.
+#[derive(Drop)]
+pub(crate) struct Memo {
+    entries: Vec<MemoEntry>,
+}
+
+impl Model for Memo {
+    ghost use Rattle.std.specs.Prelude.{◌≡◌, All, length};
+    ghost use Rattle.cpu_step.specs.DecodingMemo.{IsRight};
+
+    ghost Value = { Unit };
+
+    ghost view = { λ memo. tt };
+
+    ghost invariant = { λ memo. (length memo.entries.items ≡ 1024) × All IsRight memo.entries.items };
+}
+
+impl Memo {
+    /// A memo that holds the decoding of zeros at each entry.
+    pub(crate) fn new(alloc: Global) -> Result<Memo, NoMemory> {
+        let entry = MemoEntry {
+            low: 0,
+            high: 0,
+            answer: decode_words(0, 0),
+        };
+        match vec![in alloc; entry; ENTRIES] {
+            Ok(entries) => Ok(Memo { entries }),
+            Err(_) => Err(NoMemory),
+        }
+    }
+
+    /// What the first fifteen bytes of two words decode to. Their address tells where the answer is kept, and changes
+    /// nothing of it.
+    pub(crate) fn answer(&mut self, rip: u64, low: u64, high: u64) -> &Decoded
+        ensures right { IsAnswerOf low high result.now }
+    {
+        let slot = (rip % 1024) as usize;
+        renew(&mut self.entries, slot, low, high);
+        &self.entries[slot].answer
+    }
+}
+
+/// Makes an entry that of two words, if it isn't theirs already.
+fn renew(entries: &mut Vec<MemoEntry>, slot: usize, low: u64, high: u64)
+    requires slot { slot < length entries.old.items }
+    requires right { All IsRight entries.old.items }
+    ensures length { length entries.new.items ≡ length entries.old.items }
+    ensures right { All IsRight entries.new.items }
+    ensures answer { (d : MemoEntry) → IsAnswerOf low high (slice_index_or entries.new.items slot d).answer }
+{
+    if entries[slot].is_of(low, high) {
+        return;
+    }
+    let answer = decode_words(low, high);
+    entries[slot] = MemoEntry { low, high, answer };
+}
+
+/// What the first fifteen bytes of two words decode to.
+fn decode_words(low: u64, high: u64) -> Decoded
+    ensures right { IsAnswerOf low high result }
+{
+    decode(&first_bytes(low, high))
+}
+
+/// The first fifteen bytes of two words.
+fn first_bytes(low: u64, high: u64) -> [u8; 15]
+    ensures bytes { result ≡ bytes_of_words low high }
+{
+    let a = low.to_le_bytes();
+    let b = high.to_le_bytes();
+    [
+        a[0], a[1], a[2], a[3], a[4], a[5], a[6], a[7], b[0], b[1], b[2], b[3], b[4], b[5], b[6],
+    ]
+}

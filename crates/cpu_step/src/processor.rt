@@ -1,0 +1,132 @@
+//! The processor between two turns.
+
+ghost use Rattle.std.specs.Prelude.{◌≡◌, IfOk};
+ghost use Rattle.cpu_step.specs.Processor.{deliverable, highest_pending, started};
+
+use crate::memo::Memo;
+use nk_bits::Control;
+use port_bus::Ports;
+use std::alloc::Global;
+use std::marker::Model;
+use tlb_model::Tlb;
+use x86_alu::scan_bit;
+use x86_regs::{IF, Regs, Tables, bit};
+
+/// There is no room for the translations and decodings that a processor keeps.
+#[derive(Clone, Copy, Debug, PartialEq, Eq)]
+pub struct NoMemory;
+
+/// The processor's state, its ports with the input included.
+#[derive(Drop)]
+pub struct Cpu {
+    pub(crate) regs: Regs,
+    pub(crate) control: Control,
+    pub(crate) tables: Tables,
+    pub(crate) tlb: Tlb,
+    pub(crate) ports: Ports,
+    /// Bit v - 32 is set where the maskable vector v is pending.
+    pub(crate) pending: u16,
+    /// The next instruction is shielded from interrupts.
+    pub(crate) shielded: bool,
+    pub(crate) halted: bool,
+    /// What code decoded to before: it changes no answer.
+    pub(crate) memo: Memo,
+}
+
+impl Model for Cpu {
+    ghost use Rattle.cpu_step.specs.Processor.{Processor};
+
+    ghost Value = { Processor };
+
+    ghost view = { λ cpu. record {
+      regs = cpu.regs;
+      control = cpu.control;
+      tables = cpu.tables;
+      tlb = cpu.tlb;
+      input = cpu.ports;
+      pending = cpu.pending;
+      shielded = cpu.shielded;
+      halted = cpu.halted;
+    } };
+}
+
+impl Cpu {
+    /// A processor that keeps no translation yet, with this input behind its ports.
+    pub fn new(
+        alloc: Global,
+        regs: Regs,
+        control: Control,
+        tables: Tables,
+        input: Vec<u8>,
+    ) -> Result<Cpu, NoMemory>
+        ensures { IfOk result (λ cpu. cpu ≡ started regs control tables input.items) }
+    {
+        let Ok(tlb) = Tlb::new(alloc) else {
+            return Err(NoMemory);
+        };
+        let Ok(memo) = Memo::new(alloc) else {
+            return Err(NoMemory);
+        };
+        Ok(Cpu {
+            regs,
+            control,
+            tables,
+            tlb,
+            ports: Ports::new(input),
+            pending: 0,
+            shielded: false,
+            halted: false,
+            memo,
+        })
+    }
+
+    /// The vector that is to be delivered before the next instruction.
+    pub fn deliverable(&self) -> Option<u8>
+        ensures { result ≡ deliverable self.now }
+    {
+        if bit(self.regs.flags, IF) && !self.shielded {
+            highest_pending(self.pending)
+        } else {
+            None
+        }
+    }
+
+    /// The registers that instructions name.
+    pub fn regs(&self) -> &Regs
+        ensures { result.now ≡ self.now.regs }
+    {
+        &self.regs
+    }
+
+    /// The control registers.
+    pub fn control(&self) -> &Control
+        ensures { result.now ≡ self.now.control }
+    {
+        &self.control
+    }
+
+    /// Whether HLT stopped the processor.
+    pub fn halted(&self) -> bool
+        ensures { result ≡ self.now.halted }
+    {
+        self.halted
+    }
+
+    /// The translations kept.
+    pub fn tlb(&self) -> &Tlb
+        ensures { result.now ≡ self.now.tlb }
+    {
+        &self.tlb
+    }
+}
+
+/// The highest pending vector, 32 to 47.
+fn highest_pending(pending: u16) -> Option<u8>
+    ensures { result ≡ highest_pending pending }
+{
+    if pending == 0 {
+        None
+    } else {
+        Some(32 + scan_bit(false, 64, u64::from(pending), 0).value as u8)
+    }
+}

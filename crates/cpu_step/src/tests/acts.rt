@@ -1,0 +1,187 @@
+//! What instructions ask of the processor (SDM volume 2, each instruction's page; volume 3, 2.5 and 6.8.3).
+
+use super::{After, CONTROL, REGS, TABLES, compare, ran, stopped, with};
+use crate::Stepped;
+use nk_bits::Control;
+use x86_regs::{RAX, Regs, Tables};
+
+/// The instruction ran, and left these control registers.
+fn loaded(regs: &Regs, rip: u64, control: Control) -> After {
+    After {
+        control,
+        ..ran(regs, rip)
+    }
+}
+
+#[test]
+fn ports(rt: HostRuntime) {
+    let alloc = rt.alloc();
+    let console = After {
+        stepped: Stepped::Console(0x41),
+        ..ran(&REGS, 2)
+    };
+    compare(&rt, alloc, b"\xE6\xE9", &REGS, console);
+    compare(&rt, alloc, b"\xE6\xE8", &REGS, ran(&REGS, 2));
+    // out dx, al, where DX is 10
+    compare(&rt, alloc, b"\xEE", &REGS, ran(&REGS, 1));
+    compare(
+        &rt,
+        alloc,
+        b"\xE4\xEA",
+        &with(&REGS, RAX, 0x1234),
+        ran(&with(&REGS, RAX, 0x1231), 2),
+    );
+    compare(&rt, alloc, b"\xE4\xEB", &REGS, ran(&with(&REGS, RAX, 1), 2));
+    compare(
+        &rt,
+        alloc,
+        b"\xE4\xE9",
+        &REGS,
+        ran(&with(&REGS, RAX, 0xFF), 2),
+    );
+}
+
+#[test]
+fn halt_and_shield(rt: HostRuntime) {
+    let alloc = rt.alloc();
+    let halted = After {
+        halted: true,
+        ..ran(&REGS, 1)
+    };
+    compare(&rt, alloc, b"\xF4", &REGS, halted);
+    let enabled = Regs {
+        flags: 0x202,
+        ..REGS
+    };
+    let shielded = After {
+        shielded: true,
+        ..ran(&enabled, 1)
+    };
+    compare(&rt, alloc, b"\xFB", &REGS, shielded);
+    compare(&rt, alloc, b"\xFB", &enabled, ran(&enabled, 1));
+    compare(&rt, alloc, b"\xFA", &enabled, ran(&REGS, 1));
+}
+
+/// MOV to CR0, CR2, CR3 and CR4 from RAX; CR0 keeps PE, WP, NW, CD and PG.
+#[test]
+fn control_registers(rt: HostRuntime) {
+    let alloc = rt.alloc();
+    let wide = with(&REGS, RAX, 0xFFFF_FFFF);
+    let kept = Control {
+        cr0: 0xE001_0001,
+        ..CONTROL
+    };
+    compare(&rt, alloc, b"\x0F\x22\xC0", &wide, loaded(&wide, 3, kept));
+    let open = with(&REGS, RAX, 0x8000_0011);
+    let without_wp = Control {
+        cr0: 0x8000_0001,
+        ..CONTROL
+    };
+    compare(
+        &rt,
+        alloc,
+        b"\x0F\x22\xC0",
+        &open,
+        loaded(&open, 3, without_wp),
+    );
+    let unpaged = with(&REGS, RAX, 0x1_0001);
+    compare(&rt, alloc, b"\x0F\x22\xC0", &unpaged, stopped(&unpaged, 0));
+    let address = with(&REGS, RAX, 0x8877_6655_4433_2211);
+    let faulted = Control {
+        cr2: 0x8877_6655_4433_2211,
+        ..CONTROL
+    };
+    compare(
+        &rt,
+        alloc,
+        b"\x0F\x22\xD0",
+        &address,
+        loaded(&address, 3, faulted),
+    );
+    let third = with(&REGS, RAX, 0x9FFF);
+    compare(
+        &rt,
+        alloc,
+        b"\x0F\x22\xD8",
+        &third,
+        loaded(&third, 3, Control { root: 9, ..CONTROL }),
+    );
+    let tenth = with(&REGS, RAX, 0xA000);
+    compare(&rt, alloc, b"\x0F\x22\xD8", &tenth, stopped(&tenth, 0));
+    let plain = with(&REGS, RAX, 0x20);
+    compare(
+        &rt,
+        alloc,
+        b"\x0F\x22\xE0",
+        &plain,
+        loaded(
+            &plain,
+            3,
+            Control {
+                cr4: 0x20,
+                ..CONTROL
+            },
+        ),
+    );
+    compare(
+        &rt,
+        alloc,
+        b"\x0F\x20\xD8",
+        &REGS,
+        ran(&with(&REGS, RAX, 0x1000), 3),
+    );
+}
+
+/// LIDT from RBX reads two bytes of limit and eight of base.
+#[test]
+fn descriptor_table(rt: HostRuntime) {
+    let tables = Tables {
+        idt: 0x11_2233_4455,
+        limit: 0x6677,
+        ..TABLES
+    };
+    let loaded = After {
+        tables,
+        ..ran(&REGS, 3)
+    };
+    compare(&rt, rt.alloc(), b"\x0F\x01\x1B", &REGS, loaded);
+}
+
+/// Traps, returns, faults and the body's place: the processor stays as it was, but for CR2.
+#[test]
+fn stops(rt: HostRuntime) {
+    let alloc = rt.alloc();
+    for code in [
+        &b"\x0F\x0B"[..],
+        b"\xCC",
+        b"\xCD\x20",
+        b"\x48\xCF",
+        b"\xF0\x90",
+    ] {
+        compare(&rt, alloc, code, &REGS, stopped(&REGS, 0));
+    }
+    // div by zero; a load of page 2, and a push there
+    let zero = with(&REGS, 1, 0);
+    compare(&rt, alloc, b"\xF7\xF1", &zero, stopped(&zero, 0));
+    let lost = with(&REGS, 3, 0x2345);
+    compare(&rt, alloc, b"\x8B\x03", &lost, stopped(&lost, 0x2345));
+    let low = with(&REGS, 4, 0x2004);
+    compare(&rt, alloc, b"\x50", &low, stopped(&low, 0x2000));
+    let far = with(&REGS, 3, 0x8000_0000_0000);
+    compare(&rt, alloc, b"\x8B\x03", &far, stopped(&far, 0));
+    // the body's place: with WP set its first push is a page fault
+    let body = Regs {
+        rip: 0xFFFF_FF80_0000_101B,
+        ..REGS
+    };
+    compare(
+        &rt,
+        alloc,
+        b"\x90",
+        &body,
+        stopped(&body, 0xFFFF_FF80_0000_4FF8),
+    );
+    // the user may not execute these pages
+    let user = Regs { cpl: 3, ..REGS };
+    compare(&rt, alloc, b"\x90", &user, stopped(&user, 0));
+}
