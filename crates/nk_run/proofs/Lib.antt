@@ -1,3 +1,13 @@
 pub mod Checks
+pub mod Told
+pub mod Forms
+pub mod Handler
+pub mod Hexadecimal
+pub mod LineRoom
 pub mod Numerals
+pub mod OpeningList
+pub mod Rows
 pub mod Promises
+pub mod Runs
+pub mod Stops
+pub mod Texts

@@ -1,29 +1,20 @@
 -- From what the top call says in the end, and how that is written, to its promises.
-use Rattle.std.proofs.Common.{◌≡◌, ℕ, ◌≤◌, ◌⊎◌, inl, inr, List, length, Option, Some, None, MatchOption, IsSome, IsSomeAnd, arith, refl, sym, ◌∙◌, ap, subst}
+use Rattle.std.proofs.Common.{◌≡◌, ℕ, ◌≤◌, ◌⊎◌, inl, inr, List, [], length, Option, Some, None, MatchOption, IsSome, IsSomeAnd, arith, refl, sym, ◌∙◌, ap, subst}
 use Rattle.std.proofs.lemmas.Bool.{le-ltb, le-leb}
 use Rattle.std.specs.Prelude.{⊤}
-use Rattle.nk_host.specs.Told.{IfTold}
 use Rattle.elf_image.specs.Rows.{first_fault}
 use Rattle.byte_scanner.specs.FirstFound.{first_found}
 use Rattle.boot_map.specs.Division.{need}
 use Rattle.nk_run.specs.declared.command_line.Command.{Command}
-use Rattle.nk_run.specs.declared.command_line.Command.TheVariants.{Scan, Map}
-use Rattle.nk_run.specs.declared.command_line.Role.TheVariants.{Image}
+use Rattle.nk_run.specs.declared.command_line.Command.TheVariants.{Scan, Map, Run}
+use Rattle.nk_run.specs.declared.command_line.Role.TheVariants.{Image, Input, Plan}
 use Rattle.nk_run.specs.CommandLine.{command_of, name_in}
 use Rattle.nk_run.specs.Lines.{longest_file}
 use Rattle.nk_run.specs.Witness.{Change, Files, ShelfState, Witness}
-use Rattle.nk_run.specs.Outcome.{Answer, Verdict, passes, decided, first_verdict, checks_of, text_of, outcome, outcome_of, fetched, formed, clean, roomy, file_in}
-use Rattle.nk_run.specs.Clauses.{HasRoom, IsComplete, IsCutByCount, IsCutWritten, IsDoable, IsDone, IsFaultless, IsGoodImage, IsOutside, IsStatus, IsText, IsUnreadByCount, IsUnreadWritten, IsUsage, IsUsageAlone, IsWantWritten, MaySay, Promises, TookAll, TookPrefix}
+use Rattle.nk_run.specs.Outcome.{Answer, Verdict, passes, decided, first_verdict, checks_of, text_of, outcome, outcome_of, fetched, formed, clean, planned, roomy, file_in}
+use Rattle.nk_run.specs.Clauses.{HasInput, HasRoom, IsComplete, IsCutByCount, IsCutWritten, IsDoable, IsDone, IsFaultless, IsGoodImage, IsOutside, IsStatus, IsText, IsUnreadByCount, IsUnreadWritten, IsUsage, IsUsageAlone, IsWantWritten, MaySay, Promises, TookAll, TookPrefix}
+use Rattle.nk_run.proofs.Told.{if_told, told_at}
 use Rattle.nk_run.specs.Replies.{CommandSays, IsAnswered, IsWritten, Says, SaysUsage}
-
--- what holds of files that may be told, where it holds of those that are
-if_told : (told : Option Files) (P : Files → Type 0) → ((files : Files) → told ≡ Some files → P files) → IfTold told P
-if_told None P h = tt
-if_told (Some files) P h = h files refl
-
--- and what holds of those that are
-told_at : (told : Option Files) (P : Files → Type 0) (files : Files) → told ≡ Some files → IfTold told P → P files
-told_at told P files e h = let Q : Option Files → Type 0 = λ t. IfTold t P in subst Q e h
 
 some_and : {A : Type 0} (o : Option A) (P : A → Type 0) → IsSomeAnd o P → (x : A) × (o ≡ Some x) × P x
 some_and None P h = absurd h
@@ -55,15 +46,30 @@ module _ (words : List (List ℕ)) (files : Files) (image : List ℕ) (held : fi
   room_passes frames fits =
       ap (λ (b : List ℕ). roomy (need b frames) frames) file_is ∙ rw (le-leb (need image frames) frames fits) refl
 
-  checks_pass : (command : Command) → HasRoom command image → first_verdict (checks_of command files words) ≡ passes
-  checks_pass Scan room = rw (fetch_passes, form_passes, code_passes) refl
-  checks_pass (Map frames va) room = rw (fetch_passes, form_passes, code_passes, room_passes frames room) refl
+  input_passes : IsSomeAnd (files (name_in words Input)) (λ input. length input ≤ longest_file)
+      → fetched Input (files (name_in words Input)) ≡ passes
+  input_passes wanted =
+      let (input, given, within) = some_and (files (name_in words Input)) _ wanted in
+      rw given (rw (le-ltb longest_file (length input) within) refl)
 
-  outcome_good : (command : Command) → command_of words ≡ Some command → HasRoom command image
+  plan_passes : files (name_in words Plan) ≡ Some [] → fetched Plan (files (name_in words Plan)) ≡ passes
+  plan_passes given = rw given refl
+
+  plan_read : files (name_in words Plan) ≡ Some [] → planned (file_in files words Plan) ≡ passes
+  plan_read given = rw given refl
+
+  checks_pass : (command : Command) → HasRoom command image → HasInput command words files
+      → first_verdict (checks_of command files words) ≡ passes
+  checks_pass Scan room given = rw (fetch_passes, form_passes, code_passes) refl
+  checks_pass (Map frames va) room given = rw (fetch_passes, form_passes, code_passes, room_passes frames room) refl
+  checks_pass (Run steps frames) room given =
+      rw (fetch_passes, form_passes, code_passes, input_passes given.0, plan_passes given.1, plan_read given.1, room_passes frames room) refl
+
+  outcome_good : (command : Command) → command_of words ≡ Some command → HasRoom command image → HasInput command words files
       → outcome words files ≡ Some (record { status = 0; text = text_of command files words })
-  outcome_good command asked room =
+  outcome_good command asked room given =
       ap (λ (c : Option Command). outcome_of c words files) asked
-      ∙ ap (λ (v : Verdict). decided v (record { status = 0; text = text_of command files words })) (checks_pass command room)
+      ∙ ap (λ (v : Verdict). decided v (record { status = 0; text = text_of command files words })) (checks_pass command room given)
 
 -- words without a form have the usage line for their outcome
 formless_outcome : (words : List (List ℕ)) (files : Files) (status : ℕ) (text : List ℕ) → SaysUsage words status text
@@ -232,8 +238,9 @@ module _ (seen : Witness) (status : ℕ) (text : List ℕ) (result : ℕ) where
   done_with files wanted (inl want) = inr want
   done_with files wanted (inr o) =
       let (command, asked, doable) = some_and (command_of seen.words) _ wanted in
-      let (image, held, fits) = some_and (files (name_in seen.words Image)) _ doable in
-      inl (o.status_is ∙ status_of _ _ (sym o.is ∙ outcome_good seen.words files image held fits.0 command asked fits.1))
+      let (image, held, fits) = some_and (files (name_in seen.words Image)) _ doable.0 in
+      let good = outcome_good seen.words files image held fits.0 command asked fits.1 doable.1 in
+      inl (o.status_is ∙ status_of _ _ (sym o.is ∙ good))
 
   done : Says seen.words seen.shelf status text → IsWritten seen.sink status text result → IsDone seen result
   done says written =

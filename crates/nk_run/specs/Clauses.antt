@@ -1,6 +1,6 @@
 -- What the top call promises, in the order of the record `Promises` at the end: each promise is over what the call saw
 -- and its status.
-use Rattle.std.specs.Prelude.{◌≡◌, ℕ, ◌≤◌, ◌⊎◌, List, length, None, MatchOption, IsSomeAnd, ⊤}
+use Rattle.std.specs.Prelude.{◌≡◌, ℕ, ◌≤◌, ◌⊎◌, List, [], length, Some, None, MatchOption, IsSomeAnd, ⊤}
 use Rattle.std.specs.Io.KnownBytes.{Appends}
 use Rattle.nk_host.specs.FaultCounts.{Rose, RoseTo}
 use Rattle.nk_host.specs.Taken.{AppendsPrefix}
@@ -9,9 +9,9 @@ use Rattle.elf_image.specs.Rows.{first_fault}
 use Rattle.byte_scanner.specs.FirstFound.{first_found}
 use Rattle.boot_map.specs.Division.{need}
 use Rattle.nk_run.specs.declared.command_line.Command.{Command}
-use Rattle.nk_run.specs.declared.command_line.Command.TheVariants.{Scan, Map}
+use Rattle.nk_run.specs.declared.command_line.Command.TheVariants.{Scan, Map, Run}
 use Rattle.nk_run.specs.declared.command_line.Role.{Role}
-use Rattle.nk_run.specs.declared.command_line.Role.TheVariants.{Image}
+use Rattle.nk_run.specs.declared.command_line.Role.TheVariants.{Image, Input, Plan}
 use Rattle.nk_run.specs.CommandLine.{command_of, name_in, IsAsked}
 use Rattle.nk_run.specs.Lines.{longest_file, no_memory_line, unread_line, usage_line}
 use Rattle.nk_run.specs.Witness.{Change, Files, ShelfState, SinkState, Witness}
@@ -120,11 +120,21 @@ pub record IsGoodImage (b : List ℕ) : Type 0 where
 abbrev pub HasRoom : Command → List ℕ → Type 0
 HasRoom Scan b = ⊤
 HasRoom (Map frames va) b = need b frames ≤ frames
+HasRoom (Run steps frames) b = need b frames ≤ frames
+
+-- the command's other files are held: an input within the limit, and an empty plan
+abbrev pub HasInput : Command → List (List ℕ) → Files → Type 0
+HasInput Scan words files = ⊤
+HasInput (Map frames va) words files = ⊤
+HasInput (Run steps frames) words files =
+    IsSomeAnd (files (name_in words Input)) (λ input. length input ≤ longest_file)
+    × (files (name_in words Plan) ≡ Some [])
 
 -- what the words ask for can be done with the files
 abbrev pub IsDoable : Command → List (List ℕ) → Files → Type 0
 IsDoable command words files =
     IsSomeAnd (files (name_in words Image)) (λ image. IsGoodImage image × HasRoom command image)
+    × HasInput command words files
 
 -- what can be done is done: without a fault the status is 0, or that of want of memory
 abbrev pub IsDone : Witness → ℕ → Type 0

@@ -1,11 +1,11 @@
 -- The command line: the forms that the words may have, and the name that stands for each role's file.
-use Rattle.std.specs.Prelude.{ℕ, ◌≤◌, Bool, true, if◌then◌else◌, List, [], ◌∷◌, Contains, Option, None, Some, IsSomeAnd, codes, slice_index_or, IsTrue, ⊤}
+use Rattle.std.specs.Prelude.{ℕ, ◌≤◌, Bool, true, false, if◌then◌else◌, List, [], ◌∷◌, Contains, Option, None, Some, IsSomeAnd, codes, slice_index_or, IsTrue, ⊤}
 use Rattle.std.specs.Str.{bytes_eq}
 use Rattle.nk_bits.specs.Paging.{is_canonical}
 use Rattle.nk_run.specs.declared.command_line.Command.{Command}
-use Rattle.nk_run.specs.declared.command_line.Command.TheVariants.{Scan, Map}
+use Rattle.nk_run.specs.declared.command_line.Command.TheVariants.{Scan, Map, Run}
 use Rattle.nk_run.specs.declared.command_line.Role.{Role}
-use Rattle.nk_run.specs.declared.command_line.Role.TheVariants.{Image}
+use Rattle.nk_run.specs.declared.command_line.Role.TheVariants.{Image, Input, Plan}
 use Rattle.nk_run.specs.NumberWords.{decimal_within, address_of}
 
 -- `scan IMAGE`
@@ -22,29 +22,49 @@ abbrev pub map_of : List ℕ → List ℕ → List ℕ → Option Command
 map_of name frames va =
     if bytes_eq name (codes "map") then map_with (decimal_within 512 16384 frames) (address_of va) else None
 
+-- `run IMAGE INPUT PLAN STEPS FRAMES`: STEPS at most 2^32, the most turns that the run may take, and FRAMES as above
+abbrev pub run_with : Option ℕ → Option ℕ → Option Command
+run_with (Some steps) (Some frames) = Some (Run steps frames)
+run_with (Some steps) None = None
+run_with None frames = None
+
+abbrev pub run_of : List ℕ → List ℕ → List ℕ → Option Command
+run_of name steps frames =
+    if bytes_eq name (codes "run")
+    then run_with (decimal_within 0 4294967296 steps) (decimal_within 512 16384 frames)
+    else None
+
 -- the command that the words spell, without the program's own name; other words have no form
 abbrev pub command_of : List (List ℕ) → Option Command
 command_of (name ∷ image ∷ []) = scan_of name
 command_of (name ∷ image ∷ frames ∷ va ∷ []) = map_of name frames va
+command_of (name ∷ image ∷ input ∷ plan ∷ steps ∷ frames ∷ []) = run_of name steps frames
 command_of _ = None
 
 -- how many words a command's form has
 abbrev pub word_count : Command → ℕ
 word_count Scan = 2
 word_count (Map frames va) = 4
+word_count (Run steps frames) = 6
 
 -- a command's numbers lie within their bounds
 abbrev pub IsBounded : Command → Type 0
 IsBounded Scan = ⊤
 IsBounded (Map frames va) = (512 ≤ frames) × (frames ≤ 16384) × IsTrue (is_canonical va)
+IsBounded (Run steps frames) = (steps ≤ 4294967296) × (512 ≤ frames) × (frames ≤ 16384)
 
 -- two roles are one
 abbrev pub is_same : Role → Role → Bool
 is_same Image Image = true
+is_same Input Input = true
+is_same Plan Plan = true
+is_same _ _ = false
 
 -- the place among the words of the name of a role's file
 abbrev pub word_place : Role → ℕ
 word_place Image = 1
+word_place Input = 2
+word_place Plan = 3
 
 -- the name of a role's file
 abbrev pub name_in : List (List ℕ) → Role → List ℕ
@@ -54,6 +74,7 @@ name_in words role = slice_index_or words (word_place role) []
 abbrev pub roles_of : Command → List Role
 roles_of Scan = Image ∷ []
 roles_of (Map frames va) = Image ∷ []
+roles_of (Run steps frames) = Image ∷ Input ∷ Plan ∷ []
 
 -- the words have a form, and the role is one of its command's
 abbrev pub IsAsked : List (List ℕ) → Role → Type 0

@@ -3,6 +3,8 @@ pub mod NumberWords
 pub mod CommandLine
 pub mod Lines
 pub mod Witness
+pub mod RunStates
+pub mod RunOpening
 pub mod Outcome
 pub mod Clauses
 -- Words of private clauses and proofs.

@@ -1,11 +1,13 @@
 -- The lines that the program writes, byte for byte. Lists of bytes nest to the right, as a format writes them.
-use Rattle.std.specs.Prelude.{ℕ, ◌++◌, ◌-◌, ◌^◌, if◌then◌else◌, List, [], false, codes, Result, Ok, Err}
+use Rattle.std.specs.Prelude.{ℕ, ◌++◌, ◌-◌, ◌^◌, if◌then◌else◌, List, [], ◌∷◌, false, codes, Result, Ok, Err}
 use Rattle.std.specs.Fmt.{decimal, digits, padded_integral, format_spec}
 use Rattle.hex.specs.Hex.{encode_lower}
 use Rattle.nk_bits.specs.declared.leaf.Leaf.{Leaf}
 use Rattle.nk_bits.specs.declared.leaf.Rights.{Rights}
+use Rattle.nk_run.specs.declared.ending.Ending.{Ending}
+use Rattle.nk_run.specs.declared.ending.Ending.TheVariants as ending
 use Rattle.nk_run.specs.declared.command_line.Role.{Role}
-use Rattle.nk_run.specs.declared.command_line.Role.TheVariants.{Image}
+use Rattle.nk_run.specs.declared.command_line.Role.TheVariants.{Image, Input, Plan}
 
 -- a number of at most 64 bits as 16 hexadecimal digits
 unfoldable pub hex_16 : ℕ → List ℕ
@@ -18,10 +20,12 @@ longest_file = 67108864
 -- a role's word
 abbrev pub role_text : Role → List ℕ
 role_text Image = codes "image"
+role_text Input = codes "input"
+role_text Plan = codes "plan"
 
 -- the words have none of the forms
 unfoldable pub usage_line : List ℕ
-usage_line = codes "usage: nkrun scan IMAGE | map IMAGE FRAMES VA\n"
+usage_line = codes "usage: nkrun scan IMAGE | map IMAGE FRAMES VA | run IMAGE INPUT PLAN STEPS FRAMES\n"
 
 -- there was no memory
 unfoldable pub no_memory_line : List ℕ
@@ -54,6 +58,10 @@ admitted_line entry pages =
 unfoldable pub noroom_line : ℕ → ℕ → List ℕ
 noroom_line need have = codes "noroom " ++ (decimal need ++ (codes " " ++ (decimal have ++ codes "\n")))
 
+-- the first line of a plan that isn't well formed
+unfoldable pub plan_line : ℕ → List ℕ
+plan_line number = codes "plan line " ++ (decimal number ++ codes "\n")
+
 -- rights, a letter each: read; write; execute; user or supervisor
 unfoldable pub rights_text : Rights → List ℕ
 rights_text rights =
@@ -71,3 +79,22 @@ missing_line level = codes "missing " ++ (decimal level ++ codes "\n")
 abbrev pub walk_line : Result Leaf ℕ → List ℕ
 walk_line (Ok leaf) = frame_line leaf.frame leaf.rights
 walk_line (Err level) = missing_line level
+
+-- the lines of a run: a byte of the console, why it ended, how many turns it took, the root's frame, and the address of
+-- the trap handler
+unfoldable pub console_line : ℕ → List ℕ
+console_line byte = codes "c " ++ (encode_lower (byte ∷ []) ++ codes "\n")
+
+unfoldable pub ending_line : Ending → List ℕ
+ending_line ending.Steps = codes "end steps\n"
+ending_line ending.Halted = codes "end halted\n"
+ending_line ending.Stopped = codes "end stopped\n"
+
+unfoldable pub turns_line : ℕ → List ℕ
+turns_line turns = codes "turns " ++ (decimal turns ++ codes "\n")
+
+unfoldable pub root_line : ℕ → List ℕ
+root_line frame = codes "root " ++ (decimal frame ++ codes "\n")
+
+unfoldable pub trap_line : ℕ → List ℕ
+trap_line address = codes "trap " ++ (hex_16 address ++ codes "\n")

@@ -13,12 +13,14 @@ use Rattle.boot_map.specs.Division.{need}
 use Rattle.boot_map.specs.FixedFrames.{opening_root}
 use Rattle.boot_map.specs.OpeningEntries.{opening_entry}
 use Rattle.nk_run.specs.declared.command_line.Command.{Command}
-use Rattle.nk_run.specs.declared.command_line.Command.TheVariants.{Scan, Map}
+use Rattle.nk_run.specs.declared.command_line.Command.TheVariants.{Scan, Map, Run}
 use Rattle.nk_run.specs.declared.command_line.Role.{Role}
-use Rattle.nk_run.specs.declared.command_line.Role.TheVariants.{Image}
+use Rattle.nk_run.specs.declared.command_line.Role.TheVariants.{Image, Input, Plan}
 use Rattle.nk_run.specs.CommandLine.{command_of, is_same, name_in}
 use Rattle.nk_run.specs.Witness.{Files}
-use Rattle.nk_run.specs.Lines.{longest_file, usage_line, longer_line, image_line, protected_line, admitted_line, noroom_line, walk_line}
+use Rattle.nk_run.specs.Lines.{longest_file, usage_line, longer_line, image_line, protected_line, admitted_line, noroom_line, plan_line, walk_line}
+use Rattle.nk_run.specs.RunStates.{run_text}
+use Rattle.nk_run.specs.RunOpening.{opening_state}
 
 -- a status and the text that goes with it
 pub record Answer : Type 0 where
@@ -90,6 +92,22 @@ image_checks files words =
     ∷ test (clean (first_found (file_in files words Image)))
     ∷ []
 
+-- the plan has no line, since no event of the outside can be planned yet: any other plan is refused at its first line
+abbrev pub planned : List ℕ → Verdict
+planned [] = passes
+planned (byte ∷ bytes) = ends (record { status = 6; text = plan_line 1 })
+
+-- the checks on the plan, and those on the input and then the plan
+abbrev pub plan_checks : Files → List (List ℕ) → List Check
+plan_checks files words = fetch files words Plan ∷ test (planned (file_in files words Plan)) ∷ []
+
+abbrev pub input_checks : Files → List (List ℕ) → List Check
+input_checks files words = fetch files words Input ∷ plan_checks files words
+
+-- the checks on all files of a run
+abbrev pub run_checks : Files → List (List ℕ) → List Check
+run_checks files words = image_checks files words ++ input_checks files words
+
 -- the opening of the image has room in a memory of so many frames
 abbrev pub roomy : ℕ → ℕ → Verdict
 roomy need frames =
@@ -104,11 +122,15 @@ abbrev pub checks_of : Command → Files → List (List ℕ) → List Check
 checks_of Scan files words = image_checks files words
 checks_of (Map frames va) files words =
     image_checks files words ++ test (roomy (need (file_in files words Image) frames) frames) ∷ []
+checks_of (Run steps frames) files words =
+    run_checks files words ++ test (roomy (need (file_in files words Image) frames) frames) ∷ []
 
 abbrev pub text_of : Command → Files → List (List ℕ) → List ℕ
 text_of Scan files words =
     let image = file_in files words Image in admitted_line (entry_of image) (executable_page_count image)
 text_of (Map frames va) files words = walk_line (translation_of (file_in files words Image) frames va)
+text_of (Run steps frames) files words =
+    run_text steps (opening_state (file_in files words Image) (file_in files words Input) frames)
 
 -- the outcome of the words, of which the command is what they spell
 abbrev pub outcome_of : Option Command → List (List ℕ) → Files → Option Answer

@@ -1,12 +1,15 @@
--- What the top call says in the end, before any of it is written, and how it is written.
-use Rattle.std.specs.Prelude.{◌≡◌, ◌≢◌, ℕ, ◌≤◌, ◌⊎◌, List, None, Some, Result, IsSome}
+-- What the top call says, and how it is written.
+use Rattle.std.specs.Prelude.{◌≡◌, ◌≢◌, ℕ, ◌≤◌, ◌⊎◌, List, Option, None, Some, Result, IsSome, length}
 use Rattle.nk_bits.specs.declared.leaf.Leaf.{Leaf}
 use Rattle.nk_host.specs.Told.{IfTold}
+use Rattle.cpu_step.specs.Processor.{IsSound, Processor}
 use Rattle.nk_run.specs.declared.command_line.Role.{Role}
 use Rattle.nk_run.specs.CommandLine.{command_of}
 use Rattle.nk_run.specs.Lines.{no_memory_line, unread_line, usage_line, walk_line}
 use Rattle.nk_run.specs.Witness.{Change, Files, ShelfState, SinkState, Witness}
-use Rattle.nk_run.specs.Outcome.{Verdict, ends, decided, outcome}
+use Rattle.nk_run.specs.Outcome.{Check, Verdict, ends, decided, first_verdict, outcome, IsReached}
+use Rattle.nk_run.specs.RunStates.{run_text}
+use Rattle.nk_run.specs.RunOpening.{opening_state}
 use Rattle.nk_run.specs.Clauses.{AreKept, IsUnread, NameRose, SinkRose, TookAll, TookPrefix}
 
 -- a status that a command's own answer may have: neither that of the usage line nor one of the outside
@@ -92,6 +95,19 @@ abbrev pub Stops : List (List ℕ) → Change ShelfState → Role → (Files →
 Stops words shelf role verdict status text =
     StopsUnread words shelf role status text ⊎ (IsWant status text ⊎ StopsEnded shelf verdict status text)
 
+-- the fetch of a role's file in a row of checks failed, and where files are told the checks before that fetch pass
+pub record StopsUnreadIn (words : List (List ℕ)) (shelf : Change ShelfState) (checks : Files → List Check)
+    (status : ℕ) (text : List ℕ) : Type 0 where
+  pub role : Role
+  pub unread : StopsUnread words shelf role status text
+  pub reached : IfTold shelf.before.files (λ files. IsReached role (checks files))
+
+-- the reply is one of these, for a row of checks with several fetches
+abbrev pub StopsIn : List (List ℕ) → Change ShelfState → (Files → List Check) → ℕ → List ℕ → Type 0
+StopsIn words shelf checks status text =
+    StopsUnreadIn words shelf checks status text
+    ⊎ (IsWant status text ⊎ StopsEnded shelf (λ files. first_verdict (checks files)) status text)
+
 -- a check on what was fetched ended the command with its number as the status, or there was no memory to say so
 abbrev pub RefusesBy : ℕ → Verdict → ℕ → List ℕ → Type 0
 RefusesBy number verdict status text =
@@ -107,3 +123,17 @@ Concludes verdict answer status text =
 -- the line for what a walk found, or there was no memory
 abbrev pub ShowsWalk : Result Leaf ℕ → ℕ → List ℕ → Type 0
 ShowsWalk found status text = IsWant status text ⊎ ((status ≡ 0) × (text ≡ walk_line found))
+
+-- the machine is that of the opening of the image, with the input behind its ports
+pub record IsBegun (image input : List ℕ) (frames : ℕ) (processor : Processor) (memory : List ℕ) : Type 0 where
+  pub opening : record { processor = processor; memory = memory; turns = 0 } ≡ opening_state image input frames
+  pub sound : IsSound (length memory) processor
+
+-- the machine may take its turns, and where files are told the text of these turns is the outcome's
+pub record IsPrepared (words : List (List ℕ)) (told : Option Files) (steps : ℕ) (processor : Processor) (memory : List ℕ)
+    : Type 0 where
+  pub outcome_is : IfTold told (λ files. outcome words files ≡ Some (record {
+    status = 0;
+    text = run_text steps (record { processor = processor; memory = memory; turns = 0 });
+  }))
+  pub sound : IsSound (length memory) processor

@@ -10,6 +10,7 @@ use crate::command_line::Command;
 use crate::lines::usage_line;
 use crate::map::map;
 use crate::reply::{Line, Reply};
+use crate::run::run;
 use crate::scan::scan;
 use nk_host::{Shelf, Sink};
 use std::alloc::Global;
@@ -42,5 +43,6 @@ pub(crate) fn answer<S: Shelf, O: Sink>(
         None => usage().write(sink),
         Some(Command::Scan) => scan(alloc, words, shelf).write(sink),
         Some(Command::Map { frames, va }) => map(alloc, words, frames, va, shelf).write(sink),
+        Some(Command::Run { steps, frames }) => run(alloc, words, steps, frames, shelf, sink),
     }
 }

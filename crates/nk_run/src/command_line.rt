@@ -1,7 +1,7 @@
 //! The command line, read by hand: all words are positional.
 ghost use Rattle.std.specs.Prelude.{◌≡◌, length, map, IfSome};
 ghost use Rattle.std.specs.String.{string_bytes};
-ghost use Rattle.nk_run.specs.CommandLine.{command_of, map_of, scan_of, word_count, word_place, IsBounded};
+ghost use Rattle.nk_run.specs.CommandLine.{command_of, map_of, run_of, scan_of, word_count, word_place, IsBounded};
 
 use crate::numbers::{address_of, decimal_within};
 
@@ -11,11 +11,18 @@ const LEAST_FRAMES: u64 = 512;
 /// The greatest number of frames that a memory may have: 64 MiB.
 const MOST_FRAMES: u64 = 16_384;
 
+/// The greatest number of turns that a run may take.
+const MOST_STEPS: u64 = 4_294_967_296;
+
 /// What a file is to a command.
 #[derive(Clone, Copy, Debug, PartialEq, Eq)]
 pub enum Role {
     /// The outer kernel's ELF file.
     Image,
+    /// The bytes that the machine's input port gives.
+    Input,
+    /// The events of the outside.
+    Plan,
 }
 
 impl Role {
@@ -25,6 +32,8 @@ impl Role {
     {
         match self {
             Role::Image => 1,
+            Role::Input => 2,
+            Role::Plan => 3,
         }
     }
 }
@@ -36,6 +45,8 @@ pub enum Command {
     Scan,
     /// Walk the opening tables for a linear address, in a memory of so many frames.
     Map { frames: u32, va: u64 },
+    /// Run an image for at most so many turns, in a memory of so many frames.
+    Run { steps: u64, frames: u32 },
 }
 
 impl Command {
@@ -48,6 +59,9 @@ impl Command {
         match words {
             [name, _image] => read_scan(name.as_str()),
             [name, _image, frames, va] => read_map(name.as_str(), frames.as_str(), va.as_str()),
+            [name, _image, _input, _plan, steps, frames] => {
+                read_run(name.as_str(), steps.as_str(), frames.as_str())
+            }
             _ => None,
         }
     }
@@ -79,5 +93,22 @@ fn read_map(name: &str, frames: &str, va: &str) -> Option<Command>
     Some(Command::Map {
         frames: frames as u32,
         va,
+    })
+}
+
+/// `run IMAGE INPUT PLAN STEPS FRAMES`.
+fn read_run(name: &str, steps: &str, frames: &str) -> Option<Command>
+    ensures command { result ≡ run_of name.now steps.now frames.now }
+    ensures bounds { IfSome result IsBounded }
+    ensures count { IfSome result (λ command. word_count command ≡ 6) }
+{
+    if name != "run" {
+        return None;
+    }
+    let steps = decimal_within(steps, 0, MOST_STEPS)?;
+    let frames = decimal_within(frames, LEAST_FRAMES, MOST_FRAMES)?;
+    Some(Command::Run {
+        steps,
+        frames: frames as u32,
     })
 }

@@ -23,7 +23,7 @@ use std::alloc::Global;
 pub const FILE_LIMIT: u64 = 67_108_864;
 
 /// The file of a role, or the reply to a failed fetch.
-fn fetch<S: Shelf>(
+pub(crate) fn fetch<S: Shelf>(
     alloc: Global,
     words: &[String],
     role: Role,

@@ -1,5 +1,5 @@
-//! The top call: reads the words, fetches what they name from a shelf of files, judges the image and
-//! shows what was asked of it, and writes one text to a sink. Its promises are `specs/Clauses`, over
+//! The top call: reads the words, fetches what they name from a shelf of files, judges the image, shows
+//! what was asked of it or runs it, and writes one text to a sink. Its promises are `specs/Clauses`, over
 //! the outcome of `specs/Outcome`. It touches the outside through the shelf and the sink alone; the
 //! machine's files and standard output it leaves to the program. Floor: program.
 #![tactic(auto)]
@@ -18,6 +18,15 @@ mod image;
 // The commands.
 mod map;
 mod scan;
+
+// The command `run`: the files beside the image, the opening.
+mod inputs;
+mod run;
+
+// A run: why it ends, its lines, its turns.
+mod drive;
+mod ending;
+mod run_lines;
 
 // The whole.
 mod answer;

@@ -11,6 +11,7 @@ ghost use Rattle.nk_run.specs.Lines.{
   protected_line,
   admitted_line,
   noroom_line,
+  plan_line,
   rights_text,
   frame_line,
   missing_line,
@@ -28,7 +29,7 @@ use std::alloc::{AllocError, Global};
 pub(crate) fn usage_line() -> &'static str
     ensures { result.now ≡ usage_line }
 {
-    "usage: nkrun scan IMAGE | map IMAGE FRAMES VA\n"
+    "usage: nkrun scan IMAGE | map IMAGE FRAMES VA | run IMAGE INPUT PLAN STEPS FRAMES\n"
 }
 
 /// There was no memory.
@@ -46,6 +47,8 @@ pub(crate) fn unread_line(role: Role) -> &'static str
 {
     match role {
         Role::Image => "unread image\n",
+        Role::Input => "unread input\n",
+        Role::Plan => "unread plan\n",
     }
 }
 
@@ -55,6 +58,8 @@ pub(crate) fn longer_line(role: Role) -> &'static str
 {
     match role {
         Role::Image => "longer image 67108864\n",
+        Role::Input => "longer input 67108864\n",
+        Role::Plan => "longer plan 67108864\n",
     }
 }
 
@@ -99,6 +104,13 @@ pub(crate) fn noroom_line(alloc: Global, fault: &NoRoom) -> Result<String, Alloc
     let need = fault.need;
     let have = fault.have;
     format!(in alloc; "noroom {need} {have}\n")
+}
+
+/// The plan has a byte.
+pub(crate) fn plan_line() -> &'static str
+    ensures { result.now ≡ plan_line 1 }
+{
+    "plan line 1\n"
 }
 
 /// The four letters of rights.

@@ -1,5 +1,7 @@
 //! Worked cases of the command line, over a shelf and a sink in memory.
 mod compiled;
+mod drive;
+mod run;
 
 use crate::{Command, nk_main};
 use nk_host::{FetchFault, MemShelf, MemSink, Shelf};
@@ -18,6 +20,9 @@ const READ: u32 = 4;
 const READ_EXECUTE: u32 = 5;
 
 const READ_WRITE: u32 = 6;
+
+const USAGE: &str =
+    "usage: nkrun scan IMAGE | map IMAGE FRAMES VA | run IMAGE INPUT PLAN STEPS FRAMES\n";
 
 /// What the top call gave and wrote.
 #[derive(Drop)]
@@ -112,8 +117,20 @@ fn run_with(
     failing_puts: &[u64],
     cut: usize,
 ) -> Result<Ran, Fail> {
-    let words = owned(alloc, words)?;
     let files = vec![in alloc; (String::from_str(alloc, NAME)?, file)]?;
+    run_over(alloc, words, files, failing_fetches, failing_puts, cut)
+}
+
+/// As above, over any files.
+fn run_over(
+    alloc: Global,
+    words: &[&str],
+    files: Vec<(String, Vec<u8>)>,
+    failing_fetches: &[u64],
+    failing_puts: &[u64],
+    cut: usize,
+) -> Result<Ran, Fail> {
+    let words = owned(alloc, words)?;
     let mut shelf = MemShelf::new(alloc, files, failing_fetches.to_vec(alloc)?)?;
     let mut sink = MemSink::new(alloc, 65_536, failing_puts.to_vec(alloc)?, cut)?;
     let status = nk_main(alloc, &words, &mut shelf, &mut sink);
@@ -283,7 +300,7 @@ fn other_words_have_no_form(rt: HostRuntime) -> Result<(), Fail> {
     ];
     for words in forms {
         let ran = run_with(alloc, words, Vec::new(alloc), &[1], &[], 0)?;
-        assert!(rt; gives(&ran, 2, "usage: nkrun scan IMAGE | map IMAGE FRAMES VA\n"));
+        assert!(rt; gives(&ran, 2, USAGE));
     }
     Ok(())
 }

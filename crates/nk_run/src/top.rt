@@ -8,10 +8,12 @@ use crate::answer::answer;
 use nk_host::{Shelf, Sink};
 use std::alloc::Global;
 
-/// Does what the words ask for, over the shelf's files, writes the text to the sink, and gives the exit status.
+/// Does what the words ask for, over the shelf's files, writes the text to the sink, and gives the exit status. The
+/// text of a run is written while its turns are taken.
 ///
 /// The statuses: 0 done; 1 the image is refused; 2 the words have none of the forms; 3 a file couldn't be read; 4 the
-/// text couldn't be written whole; 5 there was no memory; 7 a file is longer than the limit.
+/// text couldn't be written whole; 5 there was no memory; 6 the plan isn't well formed; 7 a file is longer than the
+/// limit.
 ///
 /// The promises are the fields of `Promises`, each over what was seen of words, shelf and sink before and after. That
 /// is named here once, so that no promise can take one thing for another.

@@ -3,6 +3,14 @@ use Rattle.std.specs.Fmt.{digits}
 use Rattle.nk_run.specs.Lines.{longer_line}
 use Rattle.nk_run.proofs.lines.longer_line.Goals as goal
 
-pub returns : goal.returns
+pub returns-in-Image : goal.returns-in-Image
 unfolding longer_line digits
-returns c = search rules
+returns-in-Image c = search rules
+
+pub returns-in-Input : goal.returns-in-Input
+unfolding longer_line digits
+returns-in-Input c = search rules
+
+pub returns-in-Plan : goal.returns-in-Plan
+unfolding longer_line digits
+returns-in-Plan c = search rules

@@ -1,0 +1,168 @@
+//! Worked cases of `run`, with texts written by hand: a run ends with why it ended, its turns, the root's frame and
+//! the trap handler, which is the halt loop of the gates' text until the outer kernel names one.
+use super::{NAME, Ran, USAGE, gives, image, owned, run_over};
+use crate::Command;
+use std::alloc::{AllocError, Global};
+use std::test::Fail;
+
+/// The names of the files that hold the input and the plan.
+const INPUT: &str = "input";
+
+const PLAN: &str = "plan";
+
+/// The halting kernel's words.
+const WORDS: [&str; 6] = ["run", NAME, INPUT, PLAN, "10", "512"];
+
+/// The shelf's files: an image of this text, the input and the plan.
+fn files_of(
+    alloc: Global,
+    text: &[u8],
+    input: Vec<u8>,
+    plan: Vec<u8>,
+) -> Result<Vec<(String, Vec<u8>)>, AllocError> {
+    let mut files = Vec::new(alloc);
+    files.push((String::from_str(alloc, NAME)?, image(alloc, text)?))?;
+    files.push((String::from_str(alloc, INPUT)?, input))?;
+    files.push((String::from_str(alloc, PLAN)?, plan))?;
+    Ok(files)
+}
+
+/// A run of this text, without input, at most so many turns long.
+fn run_text(alloc: Global, text: &[u8], steps: &str) -> Result<Ran, Fail> {
+    let files = files_of(alloc, text, Vec::new(alloc), Vec::new(alloc))?;
+    run_over(
+        alloc,
+        &["run", NAME, INPUT, PLAN, steps, "512"],
+        files,
+        &[],
+        &[],
+        0,
+    )
+}
+
+/// The halting kernel with this input and this plan; `failing` are the numbers of failing fetches.
+fn halt_with(alloc: Global, input: Vec<u8>, plan: Vec<u8>, failing: &[u64]) -> Result<Ran, Fail> {
+    let files = files_of(alloc, &[0xf4], input, plan)?;
+    run_over(alloc, &WORDS, files, failing, &[], 0)
+}
+
+#[test]
+fn a_run_is_told_line_by_line(rt: HostRuntime) -> Result<(), Fail> {
+    let alloc = rt.alloc();
+    let halted = "end halted\nturns 1\nroot 5\ntrap ffffff80000011da\n";
+    assert!(rt; gives(&run_text(alloc, &[0xf4], "10")?, 0, halted));
+    let at_once = "end steps\nturns 0\nroot 5\ntrap ffffff80000011da\n";
+    assert!(rt; gives(&run_text(alloc, &[0xf4], "0")?, 0, at_once));
+    // A byte goes to the console.
+    let shown = "c 41\nend halted\nturns 3\nroot 5\ntrap ffffff80000011da\n";
+    assert!(rt;
+        gives(
+            &run_text(alloc, &[0xb0, 0x41, 0xe6, 0xe9, 0xf4], "10")?,
+            0,
+            shown
+        )
+    );
+    // UD2.
+    let stopped = "end stopped\nturns 0\nroot 5\ntrap ffffff80000011da\n";
+    assert!(rt; gives(&run_text(alloc, &[0x0f, 0x0b], "10")?, 0, stopped));
+    Ok(())
+}
+
+#[test]
+fn a_run_needs_room_for_its_opening(rt: HostRuntime) -> Result<(), Fail> {
+    let alloc = rt.alloc();
+    let large = vec![in alloc; 0x90; 2_000_000]?;
+    let ran = run_text(alloc, &large, "10")?;
+    assert!(rt; gives(&ran, 1, "noroom 559 512\n"));
+    // The files come first.
+    let files = files_of(alloc, &large, Vec::new(alloc), vec![in alloc; 10; 1]?)?;
+    let ran = run_over(alloc, &WORDS, files, &[], &[], 0)?;
+    assert!(rt; gives(&ran, 6, "plan line 1\n"));
+    Ok(())
+}
+
+#[test]
+fn a_plan_has_no_line_yet(rt: HostRuntime) -> Result<(), Fail> {
+    let alloc = rt.alloc();
+    let ran = halt_with(alloc, Vec::new(alloc), vec![in alloc; 10; 1]?, &[])?;
+    assert!(rt; gives(&ran, 6, "plan line 1\n"));
+    Ok(())
+}
+
+#[test]
+fn input_and_plan_are_fetched_after_the_image(rt: HostRuntime) -> Result<(), Fail> {
+    let alloc = rt.alloc();
+    let lines = ["unread image\n", "unread input\n", "unread plan\n"];
+    for (number, line) in [1, 2, 3].into_iter().zip(lines) {
+        let ran = halt_with(alloc, Vec::new(alloc), Vec::new(alloc), &[number])?;
+        assert!(rt; gives(&ran, 3, line), "{line}");
+    }
+    Ok(())
+}
+
+#[test]
+fn input_and_plan_have_to_be_held(rt: HostRuntime) -> Result<(), Fail> {
+    let alloc = rt.alloc();
+    let cases = [
+        (["run", NAME, "none", "none", "10", "512"], "unread input\n"),
+        (["run", NAME, INPUT, "none", "10", "512"], "unread plan\n"),
+    ];
+    for (words, line) in cases {
+        let files = files_of(alloc, &[0xf4], Vec::new(alloc), Vec::new(alloc))?;
+        let ran = run_over(alloc, &words, files, &[], &[], 0)?;
+        assert!(rt; gives(&ran, 3, line), "{line}");
+    }
+    Ok(())
+}
+
+#[test]
+fn an_input_past_the_limit_is_longer(rt: HostRuntime) -> Result<(), Fail> {
+    let alloc = rt.alloc();
+    let input = vec![in alloc; 0; 67_108_865]?;
+    let ran = halt_with(alloc, input, Vec::new(alloc), &[])?;
+    assert!(rt; gives(&ran, 7, "longer input 67108864\n"));
+    Ok(())
+}
+
+#[test]
+fn a_plan_past_the_limit_is_longer(rt: HostRuntime) -> Result<(), Fail> {
+    let alloc = rt.alloc();
+    let plan = vec![in alloc; 0; 67_108_865]?;
+    let ran = halt_with(alloc, Vec::new(alloc), plan, &[])?;
+    assert!(rt; gives(&ran, 7, "longer plan 67108864\n"));
+    Ok(())
+}
+
+#[test]
+fn a_failing_put_ends_a_run_in_its_line(rt: HostRuntime) -> Result<(), Fail> {
+    let alloc = rt.alloc();
+    let files = files_of(alloc, &[0xf4], Vec::new(alloc), Vec::new(alloc))?;
+    let ran = run_over(alloc, &WORDS, files, &[], &[2], 3)?;
+    assert!(rt; gives(&ran, 4, "end halted\ntur"));
+    Ok(())
+}
+
+#[test]
+fn steps_and_frames_have_bounds(rt: HostRuntime) -> Result<(), Fail> {
+    let alloc = rt.alloc();
+    let words = owned(alloc, &["run", NAME, INPUT, PLAN, "4294967296", "16384"])?;
+    let most = Command::Run {
+        steps: 4_294_967_296,
+        frames: 16_384,
+    };
+    assert_eq!(rt; Command::read(&words), Some(most));
+    let others = [
+        ("4294967297", "512"),
+        ("01", "512"),
+        ("+1", "512"),
+        ("-1", "512"),
+        ("10", "511"),
+        ("10", "16385"),
+    ];
+    for (steps, frames) in others {
+        let words = ["run", NAME, INPUT, PLAN, steps, frames];
+        let ran = run_over(alloc, &words, Vec::new(alloc), &[1], &[], 0)?;
+        assert!(rt; gives(&ran, 2, USAGE), "{steps} {frames}");
+    }
+    Ok(())
+}
