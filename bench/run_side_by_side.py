@@ -1,0 +1,133 @@
+"""Runs two loops on nkrun and its peers in turn, checks what each computed, and prints rates by processor time."""
+import os
+import pathlib
+import re
+import shutil
+import statistics
+import struct
+import subprocess
+import sys
+
+ROUNDS, SECONDS, NKRUN, WORK = int(sys.argv[1]), float(sys.argv[2]), sys.argv[3], pathlib.Path(sys.argv[4])
+LOOPS = {"registers": 5, "mix": 20}     # instructions an iteration
+TINY = 1000                             # iterations of the run that measures the start
+MOST_TURNS = 4294967296
+BOCHSRC = """display_library: term
+romimage: file=rom
+log: bochs.log
+cpu: model=corei7_haswell_4770, ips=100000000
+clock: sync=none
+port_e9_hack: enabled=1
+panic: action=fatal
+"""
+
+
+def number(pattern, text):
+    found = re.search(pattern, text, re.M)
+    return int(found[1]) if found else 0
+
+
+def letters(text):
+    """RAX as a loop tells it."""
+    return "".join(re.findall("[a-p]{16}", text))
+
+
+def native_told(text):
+    rax = struct.unpack("<Q", text.encode("latin-1"))[0]
+    return "".join(chr(ord("a") + int(digit, 16)) for digit in f"{rax:016x}"), None
+
+
+def nkrun_told(text):
+    console = "".join(chr(int(byte, 16)) for byte in re.findall(r"^c (..)$", text, re.M))
+    return letters(console), number(r"^end halted\nturns (\d+)$", text)
+
+
+def bochs_told(text):
+    """Its clock ticks once an instruction."""
+    return letters(text), number(r"^(\d+)p.*Shutdown port", (WORK / "bochs.log").read_text("latin-1"))
+
+
+def one_instruction_a_block():
+    """A property of the accelerator since QEMU 8.1, an option before."""
+    options = subprocess.run(["qemu-system-x86_64", "-help"], capture_output=True, text=True).stdout
+    return ["-accel", "tcg,one-insn-per-tb=on"] if "one-insn-per-tb" in options else ["-accel", "tcg", "-singlestep"]
+
+
+def programs():
+    """The programs that are there: the form of a loop that each takes, its words, and what its text tells: RAX, and the
+    number of instructions where it counts them."""
+    found = {}
+    if NKRUN != "-":
+        words = [os.path.abspath(NKRUN), "run", "image", "empty", "empty", str(MOST_TURNS), "512"]
+        found["nkrun"] = "image", words, nkrun_told
+    if shutil.which("qemu-system-x86_64"):
+        words = ["qemu-system-x86_64", *one_instruction_a_block(), "-bios", "rom", "-nodefaults", "-display", "none",
+                 "-debugcon", "stdio", "-device", "isa-debug-exit,iobase=0xf4,iosize=1"]
+        found["QEMU"] = "rom", words, lambda text: (letters(text), None)
+    if (WORK / "hooked_unicorn").exists():
+        found["Unicorn"] = "flat", ["./hooked_unicorn"], lambda text: (letters(text), number(r"^(\d+)$", text))
+    if shutil.which("bochs"):
+        found["Bochs"] = "rom", ["bochs", "-q", "-f", "bochsrc"], bochs_told
+    return found
+
+
+def run(loop, iterations, form, words, told):
+    """Processor seconds, and what was told."""
+    code = (WORK / loop / form).read_bytes().replace(b"ITERATED", struct.pack("<Q", iterations))
+    (WORK / form).write_bytes(code)
+    (WORK / form).chmod(0o755)
+    with open(WORK / "go") as go, open(WORK / "text", "w") as text:
+        process = subprocess.Popen(["timeout", "600", *words], cwd=WORK, env={**os.environ, "TERM": "xterm"},
+                                   stdin=go, stdout=text, stderr=subprocess.DEVNULL)
+        usage = os.wait4(process.pid, 0)[2]
+    return usage.ru_utime + usage.ru_stime, *told((WORK / "text").read_bytes().decode("latin-1"))
+
+
+def checked(loop, iterations, program):
+    """Processor seconds and instructions of a run that ends with the RAX of this machine's own processor."""
+    right = run(loop, iterations, "native", ["./native"], native_told)[1]
+    seconds, rax, instructions = run(loop, iterations, *program)
+    if rax != right:
+        sys.exit(f"{program[1][0]}, {loop}, {iterations} iterations: RAX is {rax or 'untold'}, and not {right}\n"
+                 + (WORK / "text").read_text("latin-1")[-500:])
+    return seconds, instructions
+
+
+def measured(loop, iterations, program):
+    """Processor seconds of the start, and of the iterations beyond it, which have the loop's number of instructions."""
+    start, few = checked(loop, TINY, program)
+    whole, many = checked(loop, iterations, program)
+    if many is not None and many - few != LOOPS[loop] * (iterations - TINY):
+        sys.exit(f"{program[1][0]}, {loop}: {many} instructions with {iterations} iterations, {few} with {TINY}")
+    return start, whole - start
+
+
+def iterations_for(loop, program):
+    """As many as take about SECONDS."""
+    iterations, seconds = TINY, 0
+    while seconds < SECONDS / 8:
+        iterations *= 4
+        seconds = measured(loop, iterations, program)[1]
+    return min(int(iterations * SECONDS / seconds), MOST_TURNS // LOOPS[loop] - TINY)
+
+
+def main():
+    (WORK / "empty").touch()
+    (WORK / "go").write_text("c\n")     # starts a Bochs that was built with its debugger
+    (WORK / "bochsrc").write_text(BOCHSRC)
+    pairs = [(loop, name, program) for loop in LOOPS for name, program in programs().items()]
+    iterations = [iterations_for(loop, program) for loop, _, program in pairs]
+    rounds = [[measured(loop, most, program) for (loop, _, program), most in zip(pairs, iterations)]
+              for _ in range(ROUNDS)]
+    print(f"medians of {ROUNDS} rounds, in turn; million instructions a second of processor time, the start taken off")
+    print(f"{'loop':9} {'program':7} {'iterations':>13} {'start, s':>9} {'rate':>8} {'nkrun, of it':>13}")
+    own = {}
+    for (loop, name, _), most, times in zip(pairs, iterations, zip(*rounds)):
+        start, seconds = map(statistics.median, zip(*times))
+        rate = LOOPS[loop] * (most - TINY) / seconds / 1e6
+        own.setdefault(loop, rate if name == "nkrun" else None)
+        ratio = f"{own[loop] / rate:.3f}" if own[loop] else "-"
+        print(f"{loop:9} {name:7} {most:13,} {start:9.3f} {rate:8.2f} {ratio:>13}")
+
+
+main()
