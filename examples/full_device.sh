@@ -3,8 +3,16 @@
 # same of the sink, but can't put a whole program's output there.
 set -u
 top=$(cd "$(dirname "$0")/.." && pwd) || exit 70
-"$top/nkrun" scan "$top/examples/images/outer.elf" >/dev/full
-status=$?
-[ "$status" -eq 4 ] && { echo "status 4, as it must be"; exit 0; }
-echo "status $status, and not 4" >&2
-exit 1
+image=$top/examples/images/outer.elf
+
+must_be_cut() {
+        "$top/nkrun" "$@" >/dev/full
+        status=$?
+        [ "$status" -eq 4 ] && return
+        echo "$1: status $status, and not 4" >&2
+        exit 1
+}
+
+must_be_cut scan "$image"
+must_be_cut run "$image" /dev/null /dev/null 1000000 512
+echo "status 4 twice, as it must be"
