@@ -1,3 +1,4 @@
+mod Canonical
 mod Judgements
 mod Numbers
 mod Spans

@@ -1,6 +1,7 @@
 -- Numbers by their bytes: one byte more, two parts, and stores one by one.
-use Rattle.std.proofs.Common.{◌≡◌, ℕ, zero, suc, ◌+◌, ◌-◌, ◌*◌, ◌/◌, ◌%◌, ◌^◌, ◌<◌, ◌≤◌, List, ◌++◌, set, arith, refl, sym, ap, ◌∙◌}
-use Rattle.std.proofs.Math.Nat.{pow-suc, pow-le-pow_right, mul-le-mul_left}
+use Rattle.std.proofs.Common.{◌≡◌, ℕ, zero, suc, ◌+◌, ◌-◌, ◌*◌, ◌/◌, ◌%◌, ◌^◌, ◌<◌, ◌≤◌, List, ◌∷◌, ◌++◌, set, arith, refl, sym, ap, ◌∙◌}
+use Rattle.std.proofs.Math.Nat.{pow-suc, one-le-pow, pow-le-pow_right, mul-le-mul_left}
+use Rattle.std.proofs.Math.Arith.{mod-mul}
 use Rattle.std.proofs.lemmas.Nat.{pow-add}
 use Rattle.nk_bits.specs.declared.leaf.Target.{Target}
 use Rattle.phys_mem.specs.Memory.{byte_at, number_at, stores, stored}
@@ -15,6 +16,10 @@ number_first m n k p q e f = ap (λ x. number_at m x p) e ∙ ap (λ x. byte_at 
 pub number_none : (m : List ℕ) (n p : ℕ) → n ≡ 0 → number_at m n p ≡ 0
 unfolding number_at
 number_none m n p e = ap (λ x. number_at m x p) e
+
+pub number_of_one : (m : List ℕ) (n p : ℕ) → n ≡ 1 → number_at m n p ≡ byte_at m p
+number_of_one m n p e =
+    let none : number_at m 0 (p + 1) ≡ 0 = number_none m 0 (p + 1) refl in omega (arith, number_first m n 0 p (p + 1) e refl, none)
 
 -- a byte below a number of k bytes, in a number of n
 pub digits_bound : (n k b v : ℕ) → n ≡ suc k → b < 256 → v < 256 ^ k → b + 256 * v < 256 ^ n
@@ -68,6 +73,19 @@ store_none m n p v e = ap (λ x. stored m (stores x p v)) e
 
 pub store_start : (m : List ℕ) (n k p q v : ℕ) → n ≡ k → p ≡ q → stored m (stores n p v) ≡ stored m (stores k q v)
 store_start m n k p q v e f = ap (λ (x : ℕ × ℕ). stored m (stores x.0 x.1 v)) (λ j. (e j, f j))
+
+-- the stores of a number are those of its low bytes
+stores_low : (n p v : ℕ) → stores n p (v % 256 ^ n) ≡ stores n p v
+unfolding stores
+stores_low zero p v = refl
+stores_low (suc n) p v =
+    let split : v % 256 ^ suc n ≡ (v / 256 % 256 ^ n) * 256 + v % 256 = ap (λ x. v % x) (pow-suc 256 n) ∙ mod-mul v (one-le-pow n 256 (omega arith)) (omega arith) in
+    let byte : v % 256 ^ suc n % 256 ≡ v % 256 = omega (arith, split) in
+    let rest : v % 256 ^ suc n / 256 ≡ v / 256 % 256 ^ n = omega (arith, split) in
+    ap (λ (x : ℕ × ℕ). (p, x.0) ∷ stores n (p + 1) x.1) (λ j. (byte j, rest j)) ∙ ap (λ ws. (p, v % 256) ∷ ws) (stores_low n (p + 1) (v / 256))
+
+pub low_stored : (m l : List ℕ) (n k p v : ℕ) → n ≡ k → l ≡ stored m (stores k p (v % 256 ^ k)) → l ≡ stored m (stores n p v)
+low_stored m l n k p v is same = same ∙ ap (stored m) (stores_low k p v ∙ ap (λ x. stores x p v) (sym is))
 
 -- a byte more below a number, in a count from the top down
 pub next_bound : (count offset b v : ℕ) → 0 < offset → offset ≤ count → b < 256 → v < 256 ^ (count - offset) → 256 * v + b < 256 ^ (count - (offset - 1))

@@ -1,7 +1,8 @@
 -- How the bytes of an access lie on its pages, and that the places found are those of a target.
-use Rattle.std.proofs.Common.{◌≡◌, ℕ, ◌+◌, ◌-◌, ◌%◌, ◌≤◌, false, arith, refl}
+use Rattle.std.proofs.Common.{◌≡◌, ℕ, ◌+◌, ◌-◌, ◌%◌, ◌<◌, ◌≤◌, true, false, arith, refl}
 use Rattle.std.proofs.Math.Nat.{min-le_right, min-eq_left}
-use borrow.Author.Tests.{ltb-false}
+use borrow.Author.Tests.{ltb-true, ltb-false}
+use Rattle.std.proofs.lemmas.Bool.Decides.{nat_tests}
 use Rattle.nk_bits.specs.Accesses.{IsTarget, first_part, crosses}
 
 -- the first page has room for its part
@@ -34,7 +35,16 @@ target_of_two size va width first second next agrees inside start second_agrees 
   second_fits = λ less. omega (arith, start, second_inside, few);
 }
 
+pub part_less : (va width : ℕ) → crosses va width ≡ true → first_part va width < width
+unfolding first_part crosses
+part_less va width two =
+    let over : 4096 < va % 4096 + width = ltb-true 4096 (va % 4096 + width) two in omega (arith, over, min-le_right width (4096 - va % 4096))
+
 -- one byte lies on the first page
+pub one_byte : (va : ℕ) → crosses va 1 ≡ false
+unfolding crosses
+one_byte va = grind (arith, nat_tests)
+
 pub part_of_one : (va : ℕ) → first_part va 1 ≡ 1
 unfolding first_part
 part_of_one va = min-eq_left (omega arith)

@@ -1,17 +1,19 @@
 //! Loads, stores and fetches. A width is in bytes: 1, 2, 4 or 8.
 
-ghost use Rattle.std.specs.Prelude.{◌≡◌, ◌+◌, ◌-◌, ◌*◌, ◌%◌, ◌^◌, ◌<◌, ◌≤◌, ◌⊎◌, IsTrue, IfOk, OnErr, length};
+ghost use Rattle.std.specs.Prelude.{◌≡◌, ◌+◌, ◌-◌, ◌*◌, ◌%◌, ◌^◌, ◌<◌, ◌≤◌, ◌⊎◌, if◌then◌else◌, IsTrue, IfOk, OnErr, length};
 ghost use Rattle.phys_mem.specs.Memory.{stored};
 ghost use Rattle.nk_bits.specs.declared.access.Access.TheVariants.{Write, Fetch};
+ghost use Rattle.nk_bits.specs.declared.fault.AccessFault.TheVariants.{NonCanonical};
+ghost use Rattle.nk_bits.specs.Paging.{is_canonical};
 ghost use Rattle.nk_bits.specs.Translations.{NamesFramesIn};
-ghost use Rattle.nk_bits.specs.Outcomes.{answered, and_then, outcome_of};
-ghost use Rattle.nk_bits.specs.Accesses.{IsAccessSize, IsTarget, accessed, completed, has_canonical_bytes};
+ghost use Rattle.nk_bits.specs.Outcomes.{answered, refused, and_then, outcome_of};
+ghost use Rattle.nk_bits.specs.Accesses.{IsAccessSize, IsTarget, accessed, completed, crosses, has_canonical_bytes, reached};
 ghost use Rattle.page_walk.specs.MemoryAccess.{fetched, loaded, saved, stores_at, view_of, written};
 
 use crate::bytes::{read, write};
 use crate::pages::reach;
 use crate::span::{crosses, has_canonical_bytes, next_page};
-use nk_bits::{Access, AccessFault, Control, Target, span_law};
+use nk_bits::{Access, AccessFault, Control, Target, canonical, span_law};
 use phys_mem::PhysMem;
 use tlb_model::Tlb;
 
@@ -125,14 +127,7 @@ pub fn fetch_place(
     ensures agrees { IfOk result (λ place. place % 4096 ≡ va % 4096) }
     ensures page { IfOk result (λ place. place + (4096 - va % 4096) ≤ length mem.now) }
 {
-    match access(mem, tlb, Access::Fetch, control, cpl, va, 1) {
-        Ok(target) => {
-            // memory has whole frames
-            prove!(target.first < 4096 * u64::from(mem.frames()));
-            Ok(target.first)
-        }
-        Err(fault) => Err(fault),
-    }
+    place(mem, tlb, Access::Fetch, control, cpl, va)
 }
 
 /// Fetches the byte at `va` for execution.
@@ -157,7 +152,9 @@ pub fn fetch_byte(
     }
 }
 
-/// The places of an access, once each of its pages is found and judged.
+/// The places of an access, once each of its pages is found and judged. Each caller has a copy of its own, in which the
+/// kind of access is known.
+#[inline(always)]
 fn access(
     mem: &PhysMem,
     tlb: &mut Tlb,
@@ -174,6 +171,58 @@ fn access(
     ensures frames { NamesFramesIn (length mem.now) tlb.new }
     ensures places { IfOk result (λ target. IsTarget (length mem.now) va width target) }
 {
+    if crosses(va, width) {
+        return access_across(mem, tlb, access, control, cpl, va, width);
+    }
+    match place(mem, tlb, access, control, cpl, va) {
+        Ok(first) => Ok(Target { first, second: 0 }),
+        Err(fault) => Err(fault),
+    }
+}
+
+/// The place of the byte at `va`, once its page is found and judged.
+#[inline(always)]
+fn place(
+    mem: &PhysMem,
+    tlb: &mut Tlb,
+    access: Access,
+    control: &Control,
+    cpl: u8,
+    va: u64,
+) -> Result<u64, AccessFault>
+    requires root { 4096 * control.now.root < length mem.now }
+    requires frames { NamesFramesIn (length mem.now) tlb.old }
+    ensures outcome { outcome_of result tlb.new ≡ (if is_canonical va
+        then reached (view_of mem.now control.now cpl) access tlb.old va else refused NonCanonical tlb.old) }
+    ensures frames { NamesFramesIn (length mem.now) tlb.new }
+    ensures agrees { IfOk result (λ place. place % 4096 ≡ va % 4096) }
+    ensures inside { IfOk result (λ place. place + (4096 - va % 4096) ≤ length mem.now) }
+{
+    if !canonical(va) {
+        return Err(AccessFault::NonCanonical);
+    }
+    reach(mem, tlb, access, control, cpl, va)
+}
+
+/// The places of an access with two pages.
+#[inline(never)]
+fn access_across(
+    mem: &PhysMem,
+    tlb: &mut Tlb,
+    access: Access,
+    control: &Control,
+    cpl: u8,
+    va: u64,
+    width: u8,
+) -> Result<Target, AccessFault>
+    requires width { (1 ≤ width) × (width ≤ 8) }
+    requires two { IsTrue (crosses va width) }
+    requires root { 4096 * control.now.root < length mem.now }
+    requires frames { NamesFramesIn (length mem.now) tlb.old }
+    ensures outcome { outcome_of result tlb.new ≡ accessed (view_of mem.now control.now cpl) access tlb.old va width }
+    ensures frames { NamesFramesIn (length mem.now) tlb.new }
+    ensures places { IfOk result (λ target. IsTarget (length mem.now) va width target) }
+{
     span_law();
     if !has_canonical_bytes(va, width) {
         return Err(AccessFault::NonCanonical);
@@ -184,7 +233,7 @@ fn access(
     }
 }
 
-/// The rest of an access whose first byte has this place: its second page, if it has one.
+/// The second page of an access whose first byte has this place.
 fn complete(
     mem: &PhysMem,
     tlb: &mut Tlb,
@@ -196,6 +245,7 @@ fn complete(
     first: u64,
 ) -> Result<Target, AccessFault>
     requires width { (1 ≤ width) × (width ≤ 8) }
+    requires two { IsTrue (crosses va width) }
     requires root { 4096 * control.now.root < length mem.now }
     requires frames { NamesFramesIn (length mem.now) tlb.old }
     requires canonical { IsTrue (has_canonical_bytes va width) }
@@ -207,9 +257,6 @@ fn complete(
     ensures places { IfOk result (λ target. IsTarget (length mem.now) va width target) }
 {
     span_law();
-    if !crosses(va, width) {
-        return Ok(Target { first, second: 0 });
-    }
     match reach(mem, tlb, access, control, cpl, next_page(va)) {
         Ok(second) => Ok(Target { first, second }),
         Err(fault) => Err(fault),

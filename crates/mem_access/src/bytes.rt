@@ -5,7 +5,7 @@ ghost use Rattle.phys_mem.specs.Memory.{number_at, stores, stored};
 ghost use Rattle.nk_bits.specs.Accesses.{IsTarget};
 ghost use Rattle.page_walk.specs.MemoryAccess.{value_at, stores_at};
 
-use crate::span::first_part;
+use crate::span::{crosses, first_part};
 use nk_bits::Target;
 use phys_mem::{PhysMem, memory_law};
 
@@ -16,11 +16,11 @@ pub fn read(mem: &PhysMem, target: &Target, va: u64, width: u8) -> u64
     ensures value { result ≡ value_at mem.now va width target.now }
     ensures bound { result < 256 ^ width }
 {
+    if !crosses(va, width) {
+        return number(mem, target.first, width);
+    }
     let part = first_part(va, width);
     let low = number(mem, target.first, part);
-    if part == width {
-        return low;
-    }
     let high = number(mem, target.second, width - part);
     joined(low, part, high, width - part)
 }
@@ -33,14 +33,17 @@ pub fn write(mem: &mut PhysMem, target: &Target, va: u64, width: u8, value: u64)
     ensures length { length mem.new ≡ length mem.old }
 {
     memory_law();
+    if !crosses(va, width) {
+        put(mem, target.first, width, value);
+        return;
+    }
     let part = first_part(va, width);
     put(mem, target.first, part, value);
-    if part < width {
-        put(mem, target.second, width - part, rest(value, part));
-    }
+    put(mem, target.second, width - part, rest(value, part));
 }
 
 /// The number whose `count` bytes stand from `at` on.
+#[inline]
 fn number(mem: &PhysMem, at: u64, count: u8) -> u64
     requires count { count ≤ 8 }
     requires inside { at + count ≤ length mem.now }
@@ -50,6 +53,32 @@ fn number(mem: &PhysMem, at: u64, count: u8) -> u64
     if count == 8 {
         return mem.load64(at);
     }
+    short_number(mem, at, count)
+}
+
+/// The same, where it mostly has fewer than eight bytes.
+#[inline(never)]
+fn short_number(mem: &PhysMem, at: u64, count: u8) -> u64
+    requires count { count ≤ 8 }
+    requires inside { at + count ≤ length mem.now }
+    ensures value { result ≡ number_at mem.now count at }
+    ensures bound { result < 256 ^ count }
+{
+    match count {
+        1 => u64::from(mem.load8(at)),
+        2 => u64::from(mem.load16(at)),
+        4 => u64::from(mem.load32(at)),
+        _ => number_by_bytes(mem, at, count),
+    }
+}
+
+/// The same, byte by byte.
+fn number_by_bytes(mem: &PhysMem, at: u64, count: u8) -> u64
+    requires count { count ≤ 8 }
+    requires inside { at + count ≤ length mem.now }
+    ensures value { result ≡ number_at mem.now count at }
+    ensures bound { result < 256 ^ count }
+{
     prove!(at <= 4096 * u64::from(mem.frames()));
     let mut value = 0;
     for offset in (0..count).rev() {
@@ -59,6 +88,7 @@ fn number(mem: &PhysMem, at: u64, count: u8) -> u64
 }
 
 /// Puts the `count` low bytes of `value` at the places from `at` on.
+#[inline]
 fn put(mem: &mut PhysMem, at: u64, count: u8, value: u64)
     requires { at + count ≤ length mem.old }
     ensures stored { mem.new ≡ stored mem.old (stores count at value) }
@@ -68,6 +98,30 @@ fn put(mem: &mut PhysMem, at: u64, count: u8, value: u64)
         mem.store64(at, value);
         return;
     }
+    put_short(mem, at, count, value);
+}
+
+/// The same, where there are mostly fewer than eight bytes.
+#[inline(never)]
+fn put_short(mem: &mut PhysMem, at: u64, count: u8, value: u64)
+    requires { at + count ≤ length mem.old }
+    ensures stored { mem.new ≡ stored mem.old (stores count at value) }
+    ensures length { length mem.new ≡ length mem.old }
+{
+    match count {
+        1 => mem.store8(at, (value % 0x100) as u8),
+        2 => mem.store16(at, (value % 0x1_0000) as u16),
+        4 => mem.store32(at, (value % 0x1_0000_0000) as u32),
+        _ => put_by_bytes(mem, at, count, value),
+    }
+}
+
+/// The same, byte by byte.
+fn put_by_bytes(mem: &mut PhysMem, at: u64, count: u8, value: u64)
+    requires { at + count ≤ length mem.old }
+    ensures stored { mem.new ≡ stored mem.old (stores count at value) }
+    ensures length { length mem.new ≡ length mem.old }
+{
     prove!(at <= 4096 * u64::from(mem.frames()));
     let mut rest = value;
     for offset in 0..count {

@@ -15,8 +15,35 @@ use phys_mem::PhysMem;
 use tlb_model::Tlb;
 
 /// The place in memory of the byte at `va`, once its page is found and judged. A page that faults loses its
-/// translation.
+/// translation. Mostly a translation is kept that serves the access, and nothing changes.
+#[inline(always)]
 pub fn reach(
+    mem: &PhysMem,
+    tlb: &mut Tlb,
+    access: Access,
+    control: &Control,
+    cpl: u8,
+    va: u64,
+) -> Result<u64, AccessFault>
+    requires root { 4096 * control.now.root < length mem.now }
+    requires frames { NamesFramesIn (length mem.now) tlb.old }
+    requires canonical { IsTrue (is_canonical va) }
+    ensures outcome { outcome_of result tlb.new ≡ reached (view_of mem.now control.now cpl) access tlb.old va }
+    ensures frames { NamesFramesIn (length mem.now) tlb.new }
+    ensures agrees { IfOk result (λ place. place % 4096 ≡ va % 4096) }
+    ensures inside { IfOk result (λ place. place + (4096 - va % 4096) ≤ length mem.now) }
+{
+    access_law();
+    translation_law();
+    match tlb.look(page(va)) {
+        Some(kept) if may(access, kept.rights, control, cpl) => Ok(place_of(mem, kept, va)),
+        _ => resolve(mem, tlb, access, control, cpl, va),
+    }
+}
+
+/// The same, step by step: the translation is kept or walked for, and then it is judged.
+#[inline(never)]
+fn resolve(
     mem: &PhysMem,
     tlb: &mut Tlb,
     access: Access,
@@ -87,16 +114,19 @@ fn judge(
 }
 
 /// The place in memory of the byte at `va`, whose page has this translation.
+#[inline]
 fn place_of(mem: &PhysMem, leaf: Leaf, va: u64) -> u64
     requires frame { 4096 * leaf.frame < length mem.now }
     ensures place { result ≡ place_in leaf va }
     ensures agrees { result % 4096 ≡ va % 4096 }
     ensures inside { result + (4096 - va % 4096) ≤ length mem.now }
 {
-    prove!(leaf.frame < mem.frames());
+    // memory has whole frames
+    let _frames = mem.frames();
     4096 * u64::from(leaf.frame) + va % 4096
 }
 
+#[inline]
 fn page(va: u64) -> u64
     ensures { result ≡ page_of va }
 {

@@ -7,12 +7,12 @@ use nk_bits::canonical;
 
 const PAGE_BYTES: u64 = 4096;
 
-/// Whether each byte's address is canonical; addresses wrap at 2^64.
-#[tactic(auto, unfolding(nk_bits::specs::Accesses::has_canonical_bytes))]
+/// Whether each byte's address is canonical; addresses wrap at 2^64. The first byte and the last tell: the addresses
+/// that aren't canonical are one run, far longer than any access.
 pub fn has_canonical_bytes(va: u64, width: u8) -> bool
     ensures { result ≡ has_canonical_bytes va width }
 {
-    (0..width).all(|k| canonical(va.wrapping_add(u64::from(k))))
+    width == 0 || canonical(va) && canonical(va.wrapping_add(u64::from(width) - 1))
 }
 
 /// Whether the access has a second page.

@@ -137,6 +137,21 @@ fn write_goes_to_the_places_of_its_check(rt: HostRuntime) -> Result<(), Fail> {
     Ok(())
 }
 
+#[test]
+fn store_changes_its_own_bytes_alone(rt: HostRuntime) -> Result<(), Fail> {
+    let mut mem = memory(rt.alloc(), ALL, ALL)?;
+    let mut tlb = Tlb::new(rt.alloc())?;
+    mem.store64(0x8010, u64::MAX);
+    store(&mut mem, &mut tlb, &CONTROL, 3, 0x12, 4, 0x99_1234_5678)?;
+    store(&mut mem, &mut tlb, &CONTROL, 3, 0x10, 2, 0x7_ABCD)?;
+    store(&mut mem, &mut tlb, &CONTROL, 3, 0x17, 1, 0x100)?;
+    assert_eq!(rt; mem.load64(0x8010), 0xFF_1234_5678_ABCD);
+    assert_eq!(rt; load(&mem, &mut tlb, &CONTROL, 3, 0x11, 4), Ok(0x3456_78AB));
+    assert_eq!(rt; load(&mem, &mut tlb, &CONTROL, 3, 0x13, 2), Ok(0x3456));
+    assert_eq!(rt; load(&mem, &mut tlb, &CONTROL, 3, 0x16, 1), Ok(0xFF));
+    Ok(())
+}
+
 /// How many stores of `width` bytes over the end of page 0 are refused with this code at page 1, and write nothing.
 fn refusals(
     mem: &mut PhysMem,

@@ -69,6 +69,24 @@ impl PhysMem {
         self.block.read(at as usize)
     }
 
+    /// The number of the two bytes from `at` on, least significant first, at any alignment.
+    pub fn load16(&self, at: u64) -> u16
+        requires { at + 2 ≤ length self.now }
+        ensures { result ≡ number_at self.now 2 at }
+    {
+        let bytes = self.block.run(at as usize, 2).first_chunk().unwrap();
+        u16::from_le_bytes(*bytes)
+    }
+
+    /// The number of the four bytes from `at` on, least significant first, at any alignment.
+    pub fn load32(&self, at: u64) -> u32
+        requires { at + 4 ≤ length self.now }
+        ensures { result ≡ number_at self.now 4 at }
+    {
+        let bytes = self.block.run(at as usize, 4).first_chunk().unwrap();
+        u32::from_le_bytes(*bytes)
+    }
+
     /// The eight bytes from `at` on, least significant first, at any alignment.
     pub fn load64(&self, at: u64) -> u64
         requires { at + 8 ≤ length self.now }
@@ -85,6 +103,26 @@ impl PhysMem {
         ensures length { length self.new ≡ length self.old }
     {
         self.block.write(at as usize, value);
+    }
+
+    /// Stores `value` in the two bytes from `at` on, least significant first, at any alignment.
+    pub fn store16(&mut self, at: u64, value: u16)
+        requires { at + 2 ≤ length self.old }
+        ensures stored { self.new ≡ stored self.old (stores 2 at value) }
+        ensures length { length self.new ≡ length self.old }
+    {
+        let bytes = value.to_le_bytes();
+        self.block.run_mut(at as usize, 2).copy_from_slice(&bytes);
+    }
+
+    /// Stores `value` in the four bytes from `at` on, least significant first, at any alignment.
+    pub fn store32(&mut self, at: u64, value: u32)
+        requires { at + 4 ≤ length self.old }
+        ensures stored { self.new ≡ stored self.old (stores 4 at value) }
+        ensures length { length self.new ≡ length self.old }
+    {
+        let bytes = value.to_le_bytes();
+        self.block.run_mut(at as usize, 4).copy_from_slice(&bytes);
     }
 
     /// Stores `value` in the eight bytes from `at` on, least significant first, at any alignment.

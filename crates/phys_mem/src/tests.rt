@@ -36,6 +36,22 @@ fn word_across_frames_is_least_significant_first(rt: HostRuntime) -> Result<(), 
 }
 
 #[test]
+fn parts_of_a_word_are_least_significant_first(rt: HostRuntime) -> Result<(), Fail> {
+    let mut memory = PhysMem::new(rt.alloc(), 2)?;
+    memory.store64(4092, 0x8877_6655_4433_2211);
+    assert_eq!(rt; memory.load16(4095), 0x5544);
+    assert_eq!(rt; memory.load32(4094), 0x6655_4433);
+    memory.store16(4095, 0xABCD);
+    assert_eq!(rt; memory.load64(4092), 0x8877_66AB_CD33_2211);
+    memory.store32(4094, 0x0102_0304);
+    assert_eq!(rt; memory.load64(4092), 0x8877_0102_0304_2211);
+    memory.store32(8188, u32::MAX);
+    assert_eq!(rt; memory.load16(8190), 0xFFFF);
+    assert_eq!(rt; memory.load32(8188), 0xFFFF_FFFF);
+    Ok(())
+}
+
+#[test]
 fn lent_frame_is_read_by_words(rt: HostRuntime) -> Result<(), Fail> {
     let mut memory = PhysMem::new(rt.alloc(), 2)?;
     let frame = memory.frame_mut(1);

@@ -20,11 +20,11 @@ length-filled tlb page leaf = fits capacity (dropped tlb page ++ (page, leaf) �
 pub distinct_dropped : (tlb : List (ℕ × Leaf)) (page : ℕ) → HasDistinctPages tlb → HasDistinctPages (dropped tlb page)
 distinct_dropped tlb page distinct = AllPairs-filter (λ one other. one.0 ≢ other.0) (λ pair. not (pair.0 == page)) tlb distinct
 
-pub distinct_filled : (tlb : List (ℕ × Leaf)) (page : ℕ) (leaf : Leaf) → HasDistinctPages tlb → HasDistinctPages (filled tlb page leaf)
+pub distinct_filled : (tlb : List (ℕ × Leaf)) (page : ℕ) (leaf : Leaf) → HasDistinctPages (dropped tlb page) → HasDistinctPages (filled tlb page leaf)
 unfolding filled
 distinct_filled tlb page leaf distinct =
     distinct_youngest _ (dropped tlb page ++ (page, leaf) ∷ [])
-    (all_pairs_push (λ one other. one.0 ≢ other.0) (dropped tlb page) (page, leaf) (distinct_dropped tlb page distinct)
+    (all_pairs_push (λ one other. one.0 ≢ other.0) (dropped tlb page) (page, leaf) distinct
     (All-weaker (λ pair. not (pair.0 == page) ≡ true) (λ pair. pair.0 ≢ page) (λ pair passes e. absurd (false≢true (sym (ap not (eq-eqb pair.0 page e)) ∙ passes))) (dropped tlb page) (filter_passes (λ pair. not (pair.0 == page)) tlb)))
   where
     distinct_youngest : (n : ℕ) (pairs : List (ℕ × Leaf)) → HasDistinctPages pairs → HasDistinctPages (drop n pairs)

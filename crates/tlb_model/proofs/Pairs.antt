@@ -1,5 +1,5 @@
 -- Lists of pairs: what a look-up finds, and what is left of a list that gained a youngest pair.
-use Rattle.std.proofs.Common.{◌≡◌, ℕ, ◌-◌, ◌<◌, Bool, true, false, ◌==◌, List, [], ◌∷◌, ◌++◌, length, drop, arith, refl, ap, ◌∙◌}
+use Rattle.std.proofs.Common.{◌≡◌, ℕ, ◌+◌, ◌-◌, ◌<◌, ◌≤◌, Bool, true, false, ◌==◌, List, [], ◌∷◌, ◌++◌, length, drop, arith, refl, sym, ap, ◌∙◌}
 use Rattle.std.specs.Prelude.{Some, cond, if◌then◌else◌}
 use Rattle.std.specs.List.{find}
 use Rattle.std.specs.Option.{option_map}
@@ -17,16 +17,9 @@ look-find (pair ∷ tlb) page = go (pair.0 == page) (look-find tlb page)
     go true later = refl
     go false later = later
 
--- of a full list the oldest goes
-pub youngest_full : (most : ℕ) (tlb : List (ℕ × Leaf)) (pair : ℕ × Leaf) → length tlb ≡ most → 0 < most →
-    youngest most (tlb ++ pair ∷ []) ≡ drop 1 tlb ++ pair ∷ []
-youngest_full most tlb pair full some =
-    let over : length (tlb ++ pair ∷ []) - most ≡ 1 = omega (arith, length-append tlb (pair ∷ [])) in
-    ap (λ n. drop n (tlb ++ pair ∷ [])) over ∙ drop-append-le 1 tlb (pair ∷ []) (omega arith)
-
--- of a list with room none goes
-pub youngest_room : (most : ℕ) (tlb : List (ℕ × Leaf)) (pair : ℕ × Leaf) → length tlb < most →
-    youngest most (tlb ++ pair ∷ []) ≡ tlb ++ pair ∷ []
-youngest_room most tlb pair room =
-    let over : length (tlb ++ pair ∷ []) - most ≡ 0 = omega (arith, length-append tlb (pair ∷ [])) in
-    ap (λ n. drop n (tlb ++ pair ∷ [])) over
+-- a list that was cut to leave room for a pair, and then the pair, is the youngest of both
+pub youngest_made : (most : ℕ) (tlb : List (ℕ × Leaf)) (pair : ℕ × Leaf) → length tlb ≤ most → 0 < most →
+    drop (length tlb + 1 - most) tlb ++ pair ∷ [] ≡ youngest most (tlb ++ pair ∷ [])
+youngest_made most tlb pair fits some =
+    let over : length tlb + 1 - most ≡ length (tlb ++ pair ∷ []) - most = omega (arith, length-append tlb (pair ∷ [])) in
+    sym (drop-append-le (length tlb + 1 - most) tlb (pair ∷ []) (omega arith)) ∙ ap (λ n. drop n (tlb ++ pair ∷ [])) over

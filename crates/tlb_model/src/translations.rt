@@ -1,10 +1,12 @@
-//! The list of translations.
+//! The list of translations, and its index.
 
-ghost use Rattle.std.specs.Prelude.{◌≡◌, ℕ, ◌≤◌, IfOk, List, [], ◌∷◌, ◌++◌, ◌==◌, length, vec_capacity};
+ghost use Rattle.std.specs.Prelude.{◌≡◌, ℕ, ◌+◌, ◌-◌, ◌<◌, ◌≤◌, IfOk, List, [], ◌∷◌, ◌++◌, ◌==◌, None, drop, length, vec_capacity};
 ghost use Rattle.std.specs.List.{find};
 ghost use Rattle.nk_bits.specs.Translations.{capacity, look, dropped, youngest, filled, flushed, HasDistinctPages};
+ghost use Rattle.tlb_model.specs.PageSlots.{HoldsKept};
 
-use nk_bits::Leaf;
+use crate::index::Index;
+use nk_bits::{Leaf, translation_law};
 use std::alloc::Global;
 use std::marker::Model;
 
@@ -19,18 +21,20 @@ pub struct NoMemory;
 #[derive(Drop)]
 pub struct Tlb {
     pairs: Vec<(u64, Leaf)>,
+    index: Index,
 }
 
 impl Model for Tlb {
     ghost use Rattle.std.specs.Prelude.{ℕ, ◌≤◌, List, length, vec_capacity};
     ghost use Rattle.nk_bits.specs.declared.leaf.Leaf.{Leaf};
     ghost use Rattle.nk_bits.specs.Translations.{capacity, HasDistinctPages};
+    ghost use Rattle.tlb_model.specs.PageSlots.{HoldsKept};
 
     ghost Value = { List (ℕ × Leaf) };
 
     ghost view = { λ t. t.pairs.items };
 
-    ghost invariant = { λ t. (length t.pairs.items ≤ capacity) × (capacity ≤ vec_capacity t.pairs) × HasDistinctPages t.pairs.items };
+    ghost invariant = { λ t. (length t.pairs.items ≤ capacity) × (capacity ≤ vec_capacity t.pairs) × HasDistinctPages t.pairs.items × HoldsKept t.index.slots t.pairs.items };
 }
 
 impl Tlb {
@@ -41,18 +45,25 @@ impl Tlb {
         ensures distinct { IfOk result (λ tlb. HasDistinctPages tlb) }
     {
         match Vec::with_capacity(alloc, CAPACITY) {
-            Ok(pairs) => Ok(Tlb { pairs }),
+            Ok(pairs) => Ok(Tlb {
+                pairs,
+                index: Index::new(),
+            }),
             Err(_) => Err(NoMemory),
         }
     }
 
-    /// The leaf that is kept for a page. It looks at each pair in turn.
+    /// The leaf that is kept for a page. The index mostly has it; else each pair is looked at in turn.
+    #[inline]
     pub fn look(&self, page: u64) -> Option<Leaf>
         ensures found { result ≡ look self.now page }
         ensures bound { length self.now ≤ capacity }
         ensures distinct { HasDistinctPages self.now }
     {
-        find_pair(&self.pairs, page).map(|pair| pair.1)
+        match self.index.held(page) {
+            Some(leaf) => Some(leaf),
+            None => find_leaf(&self.pairs, page),
+        }
     }
 
     /// Keeps a page's leaf as the youngest, in place of an older one of the page, or else of the oldest of all where
@@ -62,8 +73,11 @@ impl Tlb {
         ensures bound { length self.new ≤ capacity }
         ensures distinct { HasDistinctPages self.new }
     {
-        remove_page(&mut self.pairs, page);
-        push_youngest(&mut self.pairs, (page, leaf));
+        translation_law();
+        self.drop_page(page);
+        make_room(&mut self.pairs, &mut self.index);
+        self.pairs.push((page, leaf)).unwrap();
+        self.index.hold(page, leaf);
     }
 
     /// Forgets a page's leaf, if one is kept.
@@ -72,6 +86,8 @@ impl Tlb {
         ensures bound { length self.new ≤ capacity }
         ensures distinct { HasDistinctPages self.new }
     {
+        translation_law();
+        self.index.forget(page);
         remove_page(&mut self.pairs, page);
     }
 
@@ -81,8 +97,17 @@ impl Tlb {
         ensures bound { length self.new ≤ capacity }
         ensures distinct { HasDistinctPages self.new }
     {
+        self.index.clear();
         self.pairs.clear();
     }
+}
+
+/// The leaf of the first pair of a page.
+#[inline(never)]
+fn find_leaf(pairs: &[(u64, Leaf)], page: u64) -> Option<Leaf>
+    ensures { result ≡ look pairs.now page }
+{
+    find_pair(pairs, page).map(|pair| pair.1)
 }
 
 fn find_pair(pairs: &[(u64, Leaf)], page: u64) -> Option<(u64, Leaf)>
@@ -100,15 +125,18 @@ fn remove_page(pairs: &mut Vec<(u64, Leaf)>, page: u64)
     pairs.retain(|pair| pair.0 != page);
 }
 
-/// Appends a pair, in place of the oldest where there is no room for one more.
-fn push_youngest(pairs: &mut Vec<(u64, Leaf)>, pair: (u64, Leaf))
+/// Removes the oldest pair, and empties its slot, where there is no room for one more.
+#[tactic(auto, unfolding(nk_bits::specs::Translations::capacity))]
+fn make_room(pairs: &mut Vec<(u64, Leaf)>, index: &mut Index)
     requires fits { length pairs.old.items ≤ capacity }
-    requires room { capacity ≤ vec_capacity pairs.old }
-    ensures pushed { pairs.new.items ≡ youngest capacity (pairs.old.items ++ pair ∷ []) }
-    ensures room { capacity ≤ vec_capacity pairs.new }
+    requires kept { HoldsKept index.old.slots pairs.old.items }
+    ensures youngest { pairs.new.items ≡ drop (length pairs.old.items + 1 - capacity) pairs.old.items }
+    ensures fits { length pairs.new.items < capacity }
+    ensures kept { HoldsKept index.new.slots pairs.new.items }
+    ensures room { vec_capacity pairs.new ≡ vec_capacity pairs.old }
 {
     if pairs.len() == CAPACITY {
-        pairs.remove(0);
+        let oldest = pairs.remove(0);
+        index.forget(oldest.0);
     }
-    pairs.push(pair).unwrap();
 }

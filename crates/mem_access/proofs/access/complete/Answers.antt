@@ -1,27 +1,19 @@
-use Rattle.std.proofs.Common.{◌≡◌, length, sym, subst, true, ◌∙◌}
+use Rattle.std.proofs.Common.{◌≡◌, length, sym, subst, true}
 use Rattle.nk_bits.specs.Paging.{is_canonical}
 use Rattle.page_walk.specs.MemoryAccess.{view_of}
-use Rattle.mem_access.proofs.Spans.{target_of_one, target_of_two}
-use Rattle.mem_access.proofs.Steps.{one_page, second_found, second_faults}
+use Rattle.mem_access.proofs.Spans.{target_of_two}
+use Rattle.mem_access.proofs.Steps.{second_found, second_faults}
 use Rattle.mem_access.proofs.access.complete.Goals as goal
-
-pub returns-then-not-crosses-clause-outcome : goal.returns-then-not-crosses-clause-outcome
-returns-then-not-crosses-clause-outcome c =
-    one_page (view_of c.args.mem.now c.args.control.now c.args.cpl) c.args.access c.args.tlb.now c.args.va c.args.width c.args.first (sym c.crosses.ensures ∙ c.if-not-crosses.true)
-
-pub returns-then-not-crosses-clause-places : goal.returns-then-not-crosses-clause-places
-returns-then-not-crosses-clause-places c =
-    target_of_one (length c.args.mem.now) c.args.va c.args.width c.args.first c.requires.agrees c.requires.inside (sym c.crosses.ensures ∙ c.if-not-crosses.true)
 
 pub reach-requires-clause-canonical : goal.reach-requires-clause-canonical
 reach-requires-clause-canonical c =
     subst (λ at. is_canonical at ≡ true) (sym c.next_page.ensures.page)
-    (c.span_law.ensures.next c.args.va c.args.width c.requires.canonical (sym c.crosses.ensures ∙ c.if-not-crosses.false))
+    (c.span_law.ensures.next c.args.va c.args.width c.requires.canonical c.requires.two)
 
 pub returns-in-Ok-clause-outcome : goal.returns-in-Ok-clause-outcome
 returns-in-Ok-clause-outcome c =
     second_found (view_of c.args.mem.now c.args.control.now c.args.cpl) c.args.access c.args.tlb.now c.args.va c.args.width c.args.first c.next_page.result c.reach.result c.reach.new.tlb
-    (sym c.crosses.ensures ∙ c.if-not-crosses.false) c.next_page.ensures.page c.reach.ensures.outcome c.in-Ok.second c.in-Ok.is
+    c.requires.two c.next_page.ensures.page c.reach.ensures.outcome c.in-Ok.second c.in-Ok.is
 
 pub returns-in-Ok-clause-places : goal.returns-in-Ok-clause-places
 returns-in-Ok-clause-places c =
@@ -31,4 +23,4 @@ returns-in-Ok-clause-places c =
 pub returns-in-Err-clause-outcome : goal.returns-in-Err-clause-outcome
 returns-in-Err-clause-outcome c =
     second_faults (view_of c.args.mem.now c.args.control.now c.args.cpl) c.args.access c.args.tlb.now c.args.va c.args.width c.args.first c.next_page.result c.reach.result c.reach.new.tlb
-    (sym c.crosses.ensures ∙ c.if-not-crosses.false) c.next_page.ensures.page c.reach.ensures.outcome c.in-Err.fault c.in-Err.is
+    c.requires.two c.next_page.ensures.page c.reach.ensures.outcome c.in-Err.fault c.in-Err.is

@@ -1,26 +1,20 @@
-use Rattle.std.proofs.Common.{length, subst, sym, ap, refl, ◌∙◌}
-use Rattle.nk_bits.specs.Translations.{NamesFramesIn}
+use Rattle.std.proofs.Common.{◌≡◌, ◌*◌, ◌<◌, IfSome, length, subst, sym, ap, ◌∙◌}
+use Rattle.std.specs.Prelude.{Some}
+use Rattle.nk_bits.specs.Paging.{page_of}
+use Rattle.nk_bits.specs.Translations.{look}
+use Rattle.nk_bits.specs.Outcomes.{answered}
 use Rattle.page_walk.specs.MemoryAccess.{view_of}
-use Rattle.mem_access.proofs.Judgements.{page_dropped, page_kept}
 use Rattle.mem_access.proofs.pages.reach.Goals as goal
 
-pub returns-then-is_err-clause-outcome : goal.returns-then-is_err-clause-outcome
-returns-then-is_err-clause-outcome c =
-    page_dropped (view_of c.args.mem.now c.args.control.now c.args.cpl) c.args.access c.args.tlb.now c.translate-leaf.new.tlb c.args.va c.translate-leaf.result c.judge-answer.result
-    c.translate-leaf.ensures.found c.translate-leaf.ensures.tlb c.judge-answer.ensures.result c.page.result c.drop_page.new.self
-    (sym c.is_err.ensures.value ∙ c.if-is_err.true) c.page.ensures c.drop_page.ensures.dropped
+pub place_of-requires : goal.place_of-requires
+place_of-requires c = record {
+  frame =
+      subst (λ found. IfSome found (λ leaf. 4096 * leaf.frame < length c.args.mem.now)) (sym c.look.ensures.found ∙ c.in-Some.is)
+      (c.translation_law.ensures.look_within c.args.tlb.now c.page.result (length c.args.mem.now) c.requires.frames);
+}
 
-pub returns-else-is_err-clause-outcome : goal.returns-else-is_err-clause-outcome
-returns-else-is_err-clause-outcome c =
-    page_kept (view_of c.args.mem.now c.args.control.now c.args.cpl) c.args.access c.args.tlb.now c.translate-leaf.new.tlb c.args.va c.translate-leaf.result c.judge-answer.result
-    c.translate-leaf.ensures.found c.translate-leaf.ensures.tlb c.judge-answer.ensures.result (sym c.is_err.ensures.value ∙ c.if-is_err.false)
-
-pub returns-then-is_err-clause-frames : goal.returns-then-is_err-clause-frames
-returns-then-is_err-clause-frames c =
-    subst (λ tlb. NamesFramesIn (length c.args.mem.now) tlb) (sym (ap (λ o. o.tlb) (returns-then-is_err-clause-outcome c)))
-    (c.access_law.ensures.within (view_of c.args.mem.now c.args.control.now c.args.cpl) c.args.access (length c.args.mem.now) c.args.tlb.now c.args.va refl c.requires.canonical c.requires.frames)
-
-pub returns-else-is_err-clause-frames : goal.returns-else-is_err-clause-frames
-returns-else-is_err-clause-frames c =
-    subst (λ tlb. NamesFramesIn (length c.args.mem.now) tlb) (sym (ap (λ o. o.tlb) (returns-else-is_err-clause-outcome c)))
-    (c.access_law.ensures.within (view_of c.args.mem.now c.args.control.now c.args.cpl) c.args.access (length c.args.mem.now) c.args.tlb.now c.args.va refl c.requires.canonical c.requires.frames)
+pub returns-in-Some-clause-outcome : goal.returns-in-Some-clause-outcome
+returns-in-Some-clause-outcome c =
+    let kept : look c.args.tlb.now (page_of c.args.va) ≡ Some c.in-Some.kept = ap (look c.args.tlb.now) (sym c.page.ensures) ∙ sym c.look.ensures.found ∙ c.in-Some.is in
+    ap (λ place. answered place c.args.tlb.now) c.place_of.ensures.place
+    ∙ sym (c.access_law.ensures.held (view_of c.args.mem.now c.args.control.now c.args.cpl) c.args.access c.args.tlb.now c.args.va c.in-Some.kept kept (sym c.may.ensures ∙ c.if-may.true))

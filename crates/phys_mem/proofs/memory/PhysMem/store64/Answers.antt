@@ -8,4 +8,4 @@ pub returns-clause-stored : goal.returns-clause-stored
 returns-clause-stored c =
     let m = c.args.self.now in let at = c.args.at in
     let same : c.copy_from_slice.new.self ≡ to_le_bytes w64 c.args.value = c.copy_from_slice.ensures.after ∙ c.to_le_bytes-bytes.ensures in
-    with_run-patched _ m at at _ (to_le_bytes w64 c.args.value) c.self.view_is refl same c.requires ∙ sym (stored-patched m at c.args.value c.requires)
+    with_run-patched _ m at at _ (to_le_bytes w64 c.args.value) c.self.view_is refl same c.requires ∙ sym (stored-patched m 8 at c.args.value c.requires)

@@ -1,7 +1,9 @@
-use Rattle.std.proofs.Common.{ap, ◌∙◌, sym, subst, arith}
+use Rattle.std.proofs.Common.{sym, subst, arith}
 use Rattle.std.proofs.lemmas.Grind.{common_steps}
-use Rattle.nk_bits.specs.Translations.{dropped, HasDistinctPages}
+use Rattle.nk_bits.specs.Translations.{HasDistinctPages}
+use Rattle.tlb_model.specs.PageSlots.{HoldsKept}
 use Rattle.tlb_model.proofs.PairLaws.{distinct_dropped}
+use Rattle.tlb_model.proofs.KeptSlots.{kept_dropped}
 use Rattle.tlb_model.proofs.translations.Tlb.drop_page.Goals as goal
 
 distinct : (c : goal.After-remove_page) → HasDistinctPages c.remove_page.new.pairs.items
@@ -9,11 +11,14 @@ distinct c =
     subst HasDistinctPages (sym c.remove_page.ensures.dropped)
     (distinct_dropped c.self.inside.pairs.items c.args.page c.self.invariant.2)
 
-pub invariant_of-self : goal.invariant_of-self
-invariant_of-self c = (grind (arith, common_steps), grind (arith, common_steps), distinct c)
+kept : (c : goal.After-remove_page) → HoldsKept c.forget.new.self.slots c.remove_page.new.pairs.items
+kept c =
+    subst (HoldsKept c.forget.new.self.slots) (sym c.remove_page.ensures.dropped)
+    (kept_dropped c.forget.new.self.slots c.self.inside.index.slots c.self.inside.pairs.items c.args.page c.self.invariant.3 c.forget.ensures.others
+    c.forget.ensures.page (c.translation_law.ensures.dropped_other c.self.inside.pairs.items c.args.page))
 
-pub returns-clause-dropped : goal.returns-clause-dropped
-returns-clause-dropped c = c.remove_page.ensures.dropped ∙ ap (λ tlb. dropped tlb c.args.page) c.self.view_is
+pub invariant_of-self : goal.invariant_of-self
+invariant_of-self c = (grind (arith, common_steps), grind (arith, common_steps), distinct c, kept c)
 
 pub returns-clause-distinct : goal.returns-clause-distinct
 returns-clause-distinct c = distinct c

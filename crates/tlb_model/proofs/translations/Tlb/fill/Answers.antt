@@ -1,28 +1,48 @@
-use Rattle.std.proofs.Common.{◌≡◌, ◌≤◌, ◌∷◌, ◌++◌, [], ap, ◌∙◌, sym, subst, length}
-use Rattle.nk_bits.specs.Translations.{capacity, filled, youngest, HasDistinctPages}
+use Rattle.std.proofs.Common.{◌≡◌, ◌≤◌, ◌+◌, ◌-◌, ◌∷◌, ◌++◌, [], ap, ◌∙◌, sym, subst, length, drop, arith}
+use Rattle.std.specs.Prelude.{Some}
+use Rattle.std.proofs.lemmas.Grind.{common_steps}
+use Rattle.nk_bits.specs.Translations.{capacity, look, dropped, filled, HasDistinctPages}
+use Rattle.tlb_model.specs.PageSlots.{HoldsKept}
+use Rattle.tlb_model.proofs.Pairs.{youngest_made}
 use Rattle.tlb_model.proofs.PairLaws.{distinct_filled, length-filled}
+use Rattle.tlb_model.proofs.KeptSlots.{kept_filled}
 use Rattle.tlb_model.proofs.translations.Tlb.fill.Goals as goal
 
-pairs_after : (c : goal.After-push_youngest) →
-    c.push_youngest.new.pairs.items ≡ filled c.self.inside.pairs.items c.args.page c.args.leaf
-unfolding filled
+pub unwrap-requires : goal.unwrap-requires
+unwrap-requires c = c.push.ensures.succeeds (grind (arith, common_steps))
+
+pushed : (c : goal.After-hold) → c.push.new.self.items ≡ c.make_room.new.pairs.items ++ (c.args.page, c.args.leaf) ∷ []
+pushed c = rw c.unwrap.ensures at c.push.ensures.items
+
+pairs_after : (c : goal.After-hold) → c.push.new.self.items ≡ filled c.args.self.now c.args.page c.args.leaf
+unfolding filled capacity
 pairs_after c =
-    c.push_youngest.ensures.pushed
-    ∙ ap (λ tlb. youngest capacity (tlb ++ (c.args.page, c.args.leaf) ∷ [])) c.remove_page.ensures.dropped
+    let left : c.self.inside.pairs.items ≡ dropped c.args.self.now c.args.page = c.self.view_is ∙ c.drop_page.ensures.dropped in
+    pushed c
+    ∙ ap (λ tlb. tlb ++ (c.args.page, c.args.leaf) ∷ []) (c.make_room.ensures.youngest ∙ ap (λ tlb. drop (length tlb + 1 - capacity) tlb) left)
+    ∙ youngest_made capacity (dropped c.args.self.now c.args.page) (c.args.page, c.args.leaf) (omega (arith, ap length left, c.self.invariant.0)) (omega arith)
 
-bound : (c : goal.After-push_youngest) → length c.push_youngest.new.pairs.items ≤ capacity
-bound c = rw (pairs_after c) (length-filled c.self.inside.pairs.items c.args.page c.args.leaf)
+kept : (c : goal.After-hold) → HoldsKept c.hold.new.self.slots c.push.new.self.items
+kept c =
+    let found : look (c.make_room.new.pairs.items ++ (c.args.page, c.args.leaf) ∷ []) c.args.page ≡ Some c.args.leaf =
+    ap (λ tlb. look tlb c.args.page) (sym (pushed c) ∙ pairs_after c) ∙ c.translation_law.ensures.filled c.args.self.now c.args.page c.args.leaf in
+    subst (HoldsKept c.hold.new.self.slots) (sym (pushed c))
+    (kept_filled c.hold.new.self.slots c.make_room.new.index.slots c.make_room.new.pairs.items c.args.page c.make_room.ensures.kept c.hold.ensures.others
+    c.args.leaf c.hold.ensures.page found)
 
-distinct : (c : goal.After-push_youngest) → HasDistinctPages c.push_youngest.new.pairs.items
+bound : (c : goal.After-hold) → length c.push.new.self.items ≤ capacity
+bound c = rw (pairs_after c) (length-filled c.args.self.now c.args.page c.args.leaf)
+
+distinct : (c : goal.After-hold) → HasDistinctPages c.push.new.self.items
 distinct c =
     subst HasDistinctPages (sym (pairs_after c))
-    (distinct_filled c.self.inside.pairs.items c.args.page c.args.leaf c.self.invariant.2)
+    (distinct_filled c.args.self.now c.args.page c.args.leaf (subst HasDistinctPages c.drop_page.ensures.dropped c.drop_page.ensures.distinct))
 
 pub invariant_of-self : goal.invariant_of-self
-invariant_of-self c = (bound c, c.push_youngest.ensures.room, distinct c)
+invariant_of-self c = (bound c, grind (arith, common_steps), distinct c, kept c)
 
 pub returns-clause-filled : goal.returns-clause-filled
-returns-clause-filled c = pairs_after c ∙ ap (λ tlb. filled tlb c.args.page c.args.leaf) c.self.view_is
+returns-clause-filled c = pairs_after c
 
 pub returns-clause-bound : goal.returns-clause-bound
 returns-clause-bound c = bound c

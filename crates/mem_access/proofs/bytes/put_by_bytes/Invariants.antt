@@ -1,6 +1,6 @@
 use Rattle.std.proofs.Common.{◌≡◌, ◌+◌, ◌-◌, length}
 use Rattle.phys_mem.specs.Memory.{stores, stored}
-use Rattle.mem_access.proofs.bytes.put.Given as goal
+use Rattle.mem_access.proofs.bytes.put_by_bytes.Given as goal
 
 abbrev pub invariant-loop-offset : goal.invariant-loop-offset
 invariant-loop-offset l = record {

@@ -2,7 +2,7 @@ use Rattle.std.proofs.Common.{◌≡◌, ◌+◌, ◌-◌, ◌*◌, ◌^◌, ◌
 use Rattle.std.proofs.Math.Nat.{one-le-pow}
 use Rattle.phys_mem.specs.Memory.{byte_at}
 use Rattle.mem_access.proofs.Numbers.{number_none, next_bound, next_value, eight_bytes}
-use Rattle.mem_access.proofs.bytes.number.Goals as goal
+use Rattle.mem_access.proofs.bytes.number_by_bytes.Goals as goal
 
 pub loop-offset-init : goal.loop-offset-init
 loop-offset-init c = record {

@@ -1,7 +1,7 @@
 use Rattle.std.proofs.Common.{◌≡◌, ◌+◌, ◌-◌, ◌/◌, ◌%◌, arith, refl, ap, sym, ◌∙◌}
 use Rattle.phys_mem.specs.Memory.{stores, stored}
 use Rattle.mem_access.proofs.Numbers.{store_first, store_none}
-use Rattle.mem_access.proofs.bytes.put.Goals as goal
+use Rattle.mem_access.proofs.bytes.put_by_bytes.Goals as goal
 
 pub loop-offset-preserved : goal.loop-offset-preserved
 loop-offset-preserved c =

@@ -1,6 +1,6 @@
 use Rattle.std.proofs.Common.{◌≡◌, ◌+◌, ◌-◌, ◌^◌, ◌<◌}
 use Rattle.phys_mem.specs.Memory.{number_at}
-use Rattle.mem_access.proofs.bytes.number.Given as goal
+use Rattle.mem_access.proofs.bytes.number_by_bytes.Given as goal
 
 abbrev pub invariant-loop-offset : goal.invariant-loop-offset
 invariant-loop-offset l = record {

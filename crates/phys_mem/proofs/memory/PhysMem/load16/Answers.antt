@@ -1,0 +1,13 @@
+use Rattle.std.proofs.Common.{◌≡◌, sym, ap, ◌∙◌, take, drop, w16, lit≤}
+use Rattle.std.proofs.lemmas.List.{take-take}
+use Rattle.std.specs.Int.{from_le_bytes}
+use Rattle.phys_mem.specs.Runs.{run_at}
+use Rattle.phys_mem.proofs.Words.{number_at-le16}
+use Rattle.phys_mem.proofs.memory.PhysMem.load16.Goals as goal
+
+pub returns : goal.returns
+returns c =
+    let first = rw c.unwrap-bytes.ensures at c.first_chunk.ensures.cases in
+    let all : c.run.result.now ≡ take 2 (drop c.args.at c.args.self.now) = c.run.ensures.bytes ∙ ap (λ m. run_at m c.args.at 2) c.self.view_is in
+    let same : c.unwrap-bytes.result.now ≡ take 2 (drop c.args.at c.args.self.now) = first.same ∙ (ap (take 2) all ∙ take-take 2 2 (drop c.args.at c.args.self.now) (lit≤ tt)) in
+    c.from_le_bytes.ensures ∙ (ap (from_le_bytes w16) same ∙ sym (number_at-le16 c.args.self.now c.args.at))
