@@ -7,7 +7,7 @@ use page_walk::Span;
 use x86_regs::{Act, Asked, Write};
 
 /// A write of a number to these places.
-#[inline]
+#[inline(always)]
 pub(crate) fn writing(span: &Span, target: Target, value: u64) -> Asked
     ensures write { result.write ≡ Some (record {
       va = span.now.va;

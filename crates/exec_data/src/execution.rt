@@ -1,14 +1,14 @@
 //! The effect of an instruction: its conditions, its accesses in order, its outcome, and the check of its write. The
 //! common forms change the registers in place; the others plan their accesses and compute their change as a value.
 
-ghost use Rattle.std.specs.Prelude.{◌≡◌, ◌⊎◌, ◌*◌, ◌<◌, IfOk, IsTrue, OnErr, length};
+ghost use Rattle.std.specs.Prelude.{◌≡◌, ◌⊎◌, ◌*◌, ◌<◌, IfOk, IsTrue, OnErr, length, Ok};
 ghost use Rattle.nk_bits.specs.Outcomes.{outcome_of};
 ghost use Rattle.nk_bits.specs.Translations.{NamesFramesIn};
 ghost use Rattle.page_walk.specs.MemoryAccess.{view_of};
 ghost use Rattle.page_walk.specs.AccessPlans.{IsChecked, IsSized};
 ghost use Rattle.x86_decode.specs.WellFormed.{IsWellFormed};
 ghost use Rattle.x86_regs.specs.OperandPlans.{instr_form};
-ghost use Rattle.x86_regs.specs.Effects.{FitsIn, HasAccessSize, concluded, effect_of, effect_with, planned_effect};
+ghost use Rattle.x86_regs.specs.Effects.{FitsIn, HasAccessSize, asked_nothing, concluded, effect_of, effect_with, planned_effect};
 ghost use Rattle.exec_data.specs.DataForms.{is_data_form};
 ghost use Rattle.exec_data.specs.ValueForms.{is_value_form};
 
@@ -24,7 +24,8 @@ use phys_mem::PhysMem;
 use tlb_model::Tlb;
 use x86_decode::Instr;
 use x86_regs::{
-    Asked, Change, Effect, Fault, Form, Regs, instr_form, next_of, raised, refusal, write_of,
+    ASKED_NOTHING, Asked, Change, Effect, Fault, Form, Regs, instr_form, next_of, raised, refusal,
+    write_of,
 };
 
 /// Whether `execute` takes the instructions of a form.
@@ -50,29 +51,33 @@ pub fn is_data_form(form: Form) -> bool
 /// check of its write.
 #[tactic(auto, using(crate::proofs::Forms::data_effect), unfolding(x86_regs::specs::Effects::effect_of))]
 pub fn execute(
+    form: Form,
     instr: &Instr,
     size: u8,
     regs: &mut Regs,
     control: &Control,
     mem: &PhysMem,
     tlb: &mut Tlb,
-) -> Result<Asked, Fault>
+    made: &mut Result<Asked, Fault>,
+)
+    requires fresh { made.old ≡ Ok asked_nothing }
+    requires form { form ≡ instr_form instr.now }
     requires formed { IsWellFormed instr.now }
-    requires row { IsTrue (is_data_form (instr_form instr.now)) }
+    requires row { IsTrue (is_data_form form) }
     requires cpl { (regs.old.cpl ≡ 0) ⊎ (regs.old.cpl ≡ 3) }
     requires root { 4096 * control.now.root < length mem.now }
     requires frames { NamesFramesIn (length mem.now) tlb.old }
-    ensures outcome { outcome_of (effect_with result regs.new) tlb.new
+    ensures outcome { outcome_of (effect_with made.new regs.new) tlb.new
         ≡ effect_of instr.now size regs.old control.now mem.now tlb.old }
-    ensures kept { OnErr result (regs.new ≡ regs.old) }
+    ensures kept { OnErr made.new (regs.new ≡ regs.old) }
     ensures frames { NamesFramesIn (length mem.now) tlb.new }
-    ensures places { IfOk result (λ asked. FitsIn (length mem.now) asked.write) }
-    ensures sized { IfOk result (λ asked. HasAccessSize asked.write) }
+    ensures places { IfOk made.new (λ asked. FitsIn (length mem.now) asked.write) }
+    ensures sized { IfOk made.new (λ asked. HasAccessSize asked.write) }
 {
-    if let Some(fault) = refusal(instr, regs.cpl) {
-        return Err(fault);
+    match refusal(instr, regs.cpl) {
+        Some(fault) => *made = Err(fault),
+        None => execute_form(form, instr, size, regs, control, mem, tlb, made),
     }
-    execute_form(instr_form(instr), instr, size, regs, control, mem, tlb)
 }
 
 /// The effect of an instruction as a value: the registers after it, beside the write and the act that `execute` gives.
@@ -98,7 +103,18 @@ pub fn effect(
     ensures sized { IfOk result (λ effect. HasAccessSize effect.write) }
 {
     let mut after = *regs;
-    match execute(instr, size, &mut after, control, mem, tlb) {
+    let mut made = Ok(ASKED_NOTHING);
+    execute(
+        instr_form(instr),
+        instr,
+        size,
+        &mut after,
+        control,
+        mem,
+        tlb,
+        &mut made,
+    );
+    match made {
         Ok(asked) => Ok(Effect {
             regs: after,
             write: asked.write,
@@ -109,6 +125,7 @@ pub fn effect(
 }
 
 /// Executes an instruction that its conditions don't refuse: the common forms in place, the others by value.
+#[inline]
 fn execute_form(
     form: Form,
     instr: &Instr,
@@ -117,32 +134,35 @@ fn execute_form(
     control: &Control,
     mem: &PhysMem,
     tlb: &mut Tlb,
-) -> Result<Asked, Fault>
+    made: &mut Result<Asked, Fault>,
+)
+    requires fresh { made.old ≡ Ok asked_nothing }
     requires formed { IsWellFormed instr.now }
     requires row { IsTrue (is_data_form form) }
     requires cpl { (regs.old.cpl ≡ 0) ⊎ (regs.old.cpl ≡ 3) }
     requires root { 4096 * control.now.root < length mem.now }
     requires frames { NamesFramesIn (length mem.now) tlb.old }
-    ensures outcome { outcome_of (effect_with result regs.new) tlb.new
+    ensures outcome { outcome_of (effect_with made.new regs.new) tlb.new
         ≡ planned_effect form instr.now size regs.old control.now mem.now
         (view_of mem.now control.now regs.old.cpl) tlb.old }
-    ensures kept { OnErr result (regs.new ≡ regs.old) }
+    ensures kept { OnErr made.new (regs.new ≡ regs.old) }
     ensures frames { NamesFramesIn (length mem.now) tlb.new }
-    ensures places { IfOk result (λ asked. FitsIn (length mem.now) asked.write) }
-    ensures sized { IfOk result (λ asked. HasAccessSize asked.write) }
+    ensures places { IfOk made.new (λ asked. FitsIn (length mem.now) asked.write) }
+    ensures sized { IfOk made.new (λ asked. HasAccessSize asked.write) }
 {
     match form {
-        Form::Combine => combine(instr, size, regs, control, mem, tlb),
-        Form::Compare => compare(instr, size, regs, control, mem, tlb),
-        Form::Move => move_over(instr, size, regs, control, mem, tlb),
-        Form::Address => load_address(instr, size, regs, control, mem, tlb),
-        Form::Push => push(instr, size, regs, control, mem, tlb),
-        Form::Pop => pop(instr, size, regs, control, mem, tlb),
-        _ => execute_by_value(form, instr, size, regs, control, mem, tlb),
+        Form::Combine => combine(instr, size, regs, control, mem, tlb, made),
+        Form::Compare => compare(instr, size, regs, control, mem, tlb, made),
+        Form::Move => move_over(instr, size, regs, control, mem, tlb, made),
+        Form::Address => load_address(instr, size, regs, control, mem, tlb, made),
+        Form::Push => push(instr, size, regs, control, mem, tlb, made),
+        Form::Pop => pop(instr, size, regs, control, mem, tlb, made),
+        _ => execute_by_value(form, instr, size, regs, control, mem, tlb, made),
     }
 }
 
 /// Executes an instruction by its effect as a value.
+#[inline(never)]
 fn execute_by_value(
     form: Form,
     instr: &Instr,
@@ -151,29 +171,31 @@ fn execute_by_value(
     control: &Control,
     mem: &PhysMem,
     tlb: &mut Tlb,
-) -> Result<Asked, Fault>
+    made: &mut Result<Asked, Fault>,
+)
+    requires fresh { made.old ≡ Ok asked_nothing }
     requires formed { IsWellFormed instr.now }
     requires row { IsTrue (is_value_form form) }
     requires cpl { (regs.old.cpl ≡ 0) ⊎ (regs.old.cpl ≡ 3) }
     requires root { 4096 * control.now.root < length mem.now }
     requires frames { NamesFramesIn (length mem.now) tlb.old }
-    ensures outcome { outcome_of (effect_with result regs.new) tlb.new
+    ensures outcome { outcome_of (effect_with made.new regs.new) tlb.new
         ≡ planned_effect form instr.now size regs.old control.now mem.now
         (view_of mem.now control.now regs.old.cpl) tlb.old }
-    ensures kept { OnErr result (regs.new ≡ regs.old) }
+    ensures kept { OnErr made.new (regs.new ≡ regs.old) }
     ensures frames { NamesFramesIn (length mem.now) tlb.new }
-    ensures places { IfOk result (λ asked. FitsIn (length mem.now) asked.write) }
-    ensures sized { IfOk result (λ asked. HasAccessSize asked.write) }
+    ensures places { IfOk made.new (λ asked. FitsIn (length mem.now) asked.write) }
+    ensures sized { IfOk made.new (λ asked. HasAccessSize asked.write) }
 {
     match planned_effect(form, instr, size, regs, control, mem, tlb) {
         Ok(effect) => {
             *regs = effect.regs;
-            Ok(Asked {
+            *made = Ok(Asked {
                 write: effect.write,
                 act: effect.act,
-            })
+            });
         }
-        Err(fault) => Err(fault),
+        Err(fault) => *made = Err(fault),
     }
 }
 

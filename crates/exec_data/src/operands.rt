@@ -24,7 +24,7 @@ use x86_decode::Instr;
 use x86_regs::{Regs, held, place_span};
 
 /// The bytes of an operand that stands in memory.
-#[inline]
+#[inline(always)]
 pub(crate) fn memory_span(general: &[u64; 16], next: u64, width: u8, place: &Place) -> Span
     requires width { IsWidth width }
     requires place { IsPlace place.now }
@@ -39,7 +39,7 @@ pub(crate) fn memory_span(general: &[u64; 16], next: u64, width: u8, place: &Pla
 }
 
 /// The value of the first operand at a width, where the next instruction stands at `next`.
-#[inline]
+#[inline(always)]
 pub(crate) fn read_to(
     instr: &Instr,
     width: u8,
@@ -62,7 +62,7 @@ pub(crate) fn read_to(
 }
 
 /// The value of the second operand.
-#[inline]
+#[inline(always)]
 pub(crate) fn read_from(
     instr: &Instr,
     width: u8,
@@ -96,7 +96,7 @@ pub(crate) fn read_from(
 /// The value of an operand; `value` is the instruction's number, and `next` the next instruction's address.
 ///
 /// Fails where the operand stands in memory and its load fails.
-#[inline]
+#[inline(always)]
 fn read(
     place: &Place,
     value: u64,
@@ -151,7 +151,7 @@ pub(crate) fn load_span(
 }
 
 /// Judges a write of these bytes, and finds their places.
-#[inline]
+#[inline(always)]
 pub(crate) fn judge_write(
     span: &Span,
     cpl: u8,
@@ -175,6 +175,7 @@ pub(crate) fn judge_write(
 }
 
 /// The fault of an access, with whether the stack was addressed.
+#[inline(always)]
 fn marked(span: &Span, fault: AccessFault) -> SpanFault
     ensures fault { result.fault ≡ fault }
     ensures stack { result.stack ≡ span.now.stack }

@@ -8,7 +8,7 @@ ghost use Rattle.nk_bits.specs.Translations.{NamesFramesIn};
 ghost use Rattle.page_walk.specs.MemoryAccess.{view_of};
 ghost use Rattle.x86_decode.specs.WellFormed.{IsWellFormed};
 ghost use Rattle.x86_alu.specs.SignedNumbers.{cut};
-ghost use Rattle.x86_regs.specs.Effects.{FitsIn, HasAccessSize, effect_with, planned_effect};
+ghost use Rattle.x86_regs.specs.Effects.{FitsIn, HasAccessSize, asked_nothing, effect_with, planned_effect};
 ghost use Rattle.x86_regs.specs.Operands.{next_of, place_span, wrapped, with_register};
 ghost use Rattle.x86_regs.specs.OperandPlans.{risen};
 ghost use Rattle.x86_regs.specs.OperandOutcomes.{going_on, quietly};
@@ -36,32 +36,40 @@ pub(crate) fn push(
     control: &Control,
     mem: &PhysMem,
     tlb: &mut Tlb,
-) -> Result<Asked, Fault>
+    made: &mut Result<Asked, Fault>,
+)
+    requires fresh { made.old ≡ Ok asked_nothing }
     requires formed { IsWellFormed instr.now }
     requires cpl { (regs.old.cpl ≡ 0) ⊎ (regs.old.cpl ≡ 3) }
     requires root { 4096 * control.now.root < length mem.now }
     requires frames { NamesFramesIn (length mem.now) tlb.old }
-    ensures outcome { outcome_of (effect_with result regs.new) tlb.new
+    ensures outcome { outcome_of (effect_with made.new regs.new) tlb.new
         ≡ planned_effect Form.Push instr.now size regs.old control.now mem.now
         (view_of mem.now control.now regs.old.cpl) tlb.old }
-    ensures kept { OnErr result (regs.new ≡ regs.old) }
+    ensures kept { OnErr made.new (regs.new ≡ regs.old) }
     ensures frames { NamesFramesIn (length mem.now) tlb.new }
-    ensures places { IfOk result (λ asked. FitsIn (length mem.now) asked.write) }
-    ensures sized { IfOk result (λ asked. HasAccessSize asked.write) }
+    ensures places { IfOk made.new (λ asked. FitsIn (length mem.now) asked.write) }
+    ensures sized { IfOk made.new (λ asked. HasAccessSize asked.write) }
 {
     let next = next_of(regs, size);
     let from = match read_from(instr, instr.width, next, regs, control, mem, tlb) {
         Ok(from) => from,
-        Err(it) => return Err(raised(it)),
+        Err(it) => {
+            *made = Err(raised(it));
+            return;
+        }
     };
     let span = push_span(regs, instr.width);
     let target = match judge_write(&span, regs.cpl, control, mem, tlb) {
         Ok(target) => target,
-        Err(it) => return Err(raised(it)),
+        Err(it) => {
+            *made = Err(raised(it));
+            return;
+        }
     };
     set_register(&mut regs.general, RSP, span.va);
     regs.rip = next;
-    Ok(writing(&span, target, low(instr.width, from)))
+    *made = Ok(writing(&span, target, low(instr.width, from)));
 }
 
 /// POP, by where its destination stands.
@@ -73,23 +81,29 @@ pub(crate) fn pop(
     control: &Control,
     mem: &PhysMem,
     tlb: &mut Tlb,
-) -> Result<Asked, Fault>
+    made: &mut Result<Asked, Fault>,
+)
+    requires fresh { made.old ≡ Ok asked_nothing }
     requires formed { IsWellFormed instr.now }
     requires cpl { (regs.old.cpl ≡ 0) ⊎ (regs.old.cpl ≡ 3) }
     requires root { 4096 * control.now.root < length mem.now }
     requires frames { NamesFramesIn (length mem.now) tlb.old }
-    ensures outcome { outcome_of (effect_with result regs.new) tlb.new
+    ensures outcome { outcome_of (effect_with made.new regs.new) tlb.new
         ≡ planned_effect Form.Pop instr.now size regs.old control.now mem.now
         (view_of mem.now control.now regs.old.cpl) tlb.old }
-    ensures kept { OnErr result (regs.new ≡ regs.old) }
+    ensures kept { OnErr made.new (regs.new ≡ regs.old) }
     ensures frames { NamesFramesIn (length mem.now) tlb.new }
-    ensures places { IfOk result (λ asked. FitsIn (length mem.now) asked.write) }
-    ensures sized { IfOk result (λ asked. HasAccessSize asked.write) }
+    ensures places { IfOk made.new (λ asked. FitsIn (length mem.now) asked.write) }
+    ensures sized { IfOk made.new (λ asked. HasAccessSize asked.write) }
 {
     match &instr.to {
-        Place::Mem(address) => pop_to_memory(address, instr, size, regs, control, mem, tlb),
-        Place::Reg(_) | Place::High(_) => pop_to_register(instr, size, regs, control, mem, tlb),
-        Place::Nothing | Place::Value => pop_to_register(instr, size, regs, control, mem, tlb),
+        Place::Mem(address) => pop_to_memory(address, instr, size, regs, control, mem, tlb, made),
+        Place::Reg(_) | Place::High(_) => pop_to_register(
+            instr, size, regs, control, mem, tlb, made,
+        ),
+        Place::Nothing | Place::Value => pop_to_register(
+            instr, size, regs, control, mem, tlb, made,
+        ),
     }
 }
 
@@ -102,20 +116,22 @@ fn pop_to_register(
     control: &Control,
     mem: &PhysMem,
     tlb: &mut Tlb,
-) -> Result<Asked, Fault>
+    made: &mut Result<Asked, Fault>,
+)
+    requires fresh { made.old ≡ Ok asked_nothing }
     requires formed { IsWellFormed instr.now }
     requires to { place_span (risen regs.old instr.now.width) (next_of regs.old size) instr.now.width instr.now.to
         ≡ None }
     requires cpl { (regs.old.cpl ≡ 0) ⊎ (regs.old.cpl ≡ 3) }
     requires root { 4096 * control.now.root < length mem.now }
     requires frames { NamesFramesIn (length mem.now) tlb.old }
-    ensures outcome { outcome_of (effect_with result regs.new) tlb.new
+    ensures outcome { outcome_of (effect_with made.new regs.new) tlb.new
         ≡ planned_effect Form.Pop instr.now size regs.old control.now mem.now
         (view_of mem.now control.now regs.old.cpl) tlb.old }
-    ensures kept { OnErr result (regs.new ≡ regs.old) }
+    ensures kept { OnErr made.new (regs.new ≡ regs.old) }
     ensures frames { NamesFramesIn (length mem.now) tlb.new }
-    ensures places { IfOk result (λ asked. FitsIn (length mem.now) asked.write) }
-    ensures sized { IfOk result (λ asked. HasAccessSize asked.write) }
+    ensures places { IfOk made.new (λ asked. FitsIn (length mem.now) asked.write) }
+    ensures sized { IfOk made.new (λ asked. HasAccessSize asked.write) }
 {
     let next = next_of(regs, size);
     let span = stack_span(regs.general[RSP as usize], instr.width);
@@ -129,9 +145,8 @@ fn pop_to_register(
                 low(instr.width, to),
             );
             regs.rip = next;
-            Ok(writing_nothing())
         }
-        Err(it) => Err(raised(it)),
+        Err(it) => *made = Err(raised(it)),
     }
 }
 
@@ -146,36 +161,44 @@ fn pop_to_memory(
     control: &Control,
     mem: &PhysMem,
     tlb: &mut Tlb,
-) -> Result<Asked, Fault>
+    made: &mut Result<Asked, Fault>,
+)
+    requires fresh { made.old ≡ Ok asked_nothing }
     requires formed { IsWellFormed instr.now }
     requires to { instr.now.to ≡ Mem address.now }
     requires cpl { (regs.old.cpl ≡ 0) ⊎ (regs.old.cpl ≡ 3) }
     requires root { 4096 * control.now.root < length mem.now }
     requires frames { NamesFramesIn (length mem.now) tlb.old }
-    ensures outcome { outcome_of (effect_with result regs.new) tlb.new
+    ensures outcome { outcome_of (effect_with made.new regs.new) tlb.new
         ≡ planned_effect Form.Pop instr.now size regs.old control.now mem.now
         (view_of mem.now control.now regs.old.cpl) tlb.old }
-    ensures kept { OnErr result (regs.new ≡ regs.old) }
+    ensures kept { OnErr made.new (regs.new ≡ regs.old) }
     ensures frames { NamesFramesIn (length mem.now) tlb.new }
-    ensures places { IfOk result (λ asked. FitsIn (length mem.now) asked.write) }
-    ensures sized { IfOk result (λ asked. HasAccessSize asked.write) }
+    ensures places { IfOk made.new (λ asked. FitsIn (length mem.now) asked.write) }
+    ensures sized { IfOk made.new (λ asked. HasAccessSize asked.write) }
 {
     let next = next_of(regs, size);
     let from = stack_span(regs.general[RSP as usize], instr.width);
     let to = match load_span(&from, regs.cpl, control, mem, tlb) {
         Ok(to) => to,
-        Err(it) => return Err(raised(it)),
+        Err(it) => {
+            *made = Err(raised(it));
+            return;
+        }
     };
     let mut general = regs.general;
     rise(&mut general, instr.width);
     let span = memory_span(&general, next, instr.width, &instr.to);
     let target = match judge_write(&span, regs.cpl, control, mem, tlb) {
         Ok(target) => target,
-        Err(it) => return Err(raised(it)),
+        Err(it) => {
+            *made = Err(raised(it));
+            return;
+        }
     };
     regs.general = general;
     regs.rip = next;
-    Ok(writing(&span, target, low(instr.width, to)))
+    *made = Ok(writing(&span, target, low(instr.width, to)));
 }
 
 /// RSP rises by an operand.

@@ -1,6 +1,6 @@
 //! Branches, calls and returns, which change the registers in place (SDM volume 1, 6.4 and 7.3.8).
 
-ghost use Rattle.std.specs.Prelude.{◌≡◌, ◌⊎◌, ◌*◌, ◌<◌, true, IsTrue, None, IfOk, OnErr, length, slice_index};
+ghost use Rattle.std.specs.Prelude.{◌≡◌, ◌⊎◌, ◌*◌, ◌<◌, true, IsTrue, None, IfOk, OnErr, length, slice_index, Ok};
 ghost use Rattle.nk_bits.specs.Translations.{NamesFramesIn};
 ghost use Rattle.nk_bits.specs.Outcomes.{outcome_of};
 ghost use Rattle.page_walk.specs.MemoryAccess.{view_of};
@@ -10,7 +10,7 @@ ghost use Rattle.x86_regs.specs.declared.form.Form.TheVariants.{Branch, Call, Co
 ghost use Rattle.x86_regs.specs.Operands.{next_of, rcx};
 ghost use Rattle.x86_regs.specs.OperandPlans.{from_source, plan_by};
 ghost use Rattle.x86_regs.specs.OperandOutcomes.{branched, count_after, count_taken, counts_down, fallen, is_taken, target_by};
-ghost use Rattle.x86_regs.specs.Effects.{FitsIn, HasAccessSize, concluded, effect_with, is_memory, planned_effect};
+ghost use Rattle.x86_regs.specs.Effects.{FitsIn, HasAccessSize, asked_nothing, concluded, effect_with, is_memory, planned_effect};
 ghost use Rattle.exec_flow.specs.Landings.{landing};
 
 use decode_fields::Place;
@@ -26,15 +26,10 @@ use x86_regs::{
     place_span, raised,
 };
 
-/// Nothing is written, and nothing asked for.
-const QUIET: Asked = Asked {
-    write: None,
-    act: Act::Quiet,
-};
-
 /// Jcc and JMP, which change RIP alone.
 ///
 /// Fails with the fault of the operand's read, and with #GP where the target of a branch that is taken isn't canonical.
+#[inline(always)]
 #[tactic(auto, unfolding(page_walk::specs::AccessPlans::gathered))]
 pub(crate) fn branch(
     instr: &Instr,
@@ -43,35 +38,43 @@ pub(crate) fn branch(
     control: &Control,
     mem: &PhysMem,
     tlb: &mut Tlb,
-) -> Result<Asked, Fault>
+    made: &mut Result<Asked, Fault>,
+)
+    requires fresh { made.old ≡ Ok asked_nothing }
     requires formed { IsWellFormed instr.now }
     requires cpl { (regs.old.cpl ≡ 0) ⊎ (regs.old.cpl ≡ 3) }
     requires root { 4096 * control.now.root < length mem.now }
     requires frames { NamesFramesIn (length mem.now) tlb.old }
-    ensures outcome { outcome_of (effect_with result regs.new) tlb.new
+    ensures outcome { outcome_of (effect_with made.new regs.new) tlb.new
         ≡ planned_effect Branch instr.now size regs.old control.now mem.now
         (view_of mem.now control.now regs.old.cpl) tlb.old }
-    ensures kept { OnErr result (regs.new ≡ regs.old) }
+    ensures kept { OnErr made.new (regs.new ≡ regs.old) }
     ensures frames { NamesFramesIn (length mem.now) tlb.new }
-    ensures no_write { IfOk result (λ asked. asked.write ≡ None) }
+    ensures no_write { IfOk made.new (λ asked. asked.write ≡ None) }
 {
     let from = match operand(instr, size, regs, control, mem, tlb) {
         Ok(from) => from,
-        Err(fault) => return Err(raised(fault)),
+        Err(fault) => {
+            *made = Err(raised(fault));
+            return;
+        }
     };
     let next = next_of(regs, size);
     let taken = is_taken(instr.op, regs.flags);
     let rip = match landing(taken, target_by(&instr.from, next, from), next) {
         Ok(rip) => rip,
-        Err(fault) => return Err(fault),
+        Err(fault) => {
+            *made = Err(fault);
+            return;
+        }
     };
     regs.rip = rip;
-    Ok(QUIET)
 }
 
 /// The value of a branch's operand, which is loaded where it stands in memory.
 ///
 /// Fails as `load` does, and tells whether the stack was addressed.
+#[inline(always)]
 fn operand(
     instr: &Instr,
     size: u8,
@@ -129,6 +132,7 @@ fn operand_in_memory(
 /// Where a branch goes on: at its target where it is taken, and else at the next instruction.
 ///
 /// Fails with #GP where the target of a branch that is taken isn't canonical.
+#[inline(always)]
 fn landing(taken: bool, target: u64, next: u64) -> Result<u64, Fault>
     ensures { result ≡ landing taken target next }
 {
@@ -149,24 +153,29 @@ pub(crate) fn call(
     control: &Control,
     mem: &PhysMem,
     tlb: &mut Tlb,
-) -> Result<Asked, Fault>
+    made: &mut Result<Asked, Fault>,
+)
+    requires fresh { made.old ≡ Ok asked_nothing }
     requires formed { IsWellFormed instr.now }
     requires cpl { (regs.old.cpl ≡ 0) ⊎ (regs.old.cpl ≡ 3) }
     requires root { 4096 * control.now.root < length mem.now }
     requires frames { NamesFramesIn (length mem.now) tlb.old }
-    ensures outcome { outcome_of (effect_with result regs.new) tlb.new
+    ensures outcome { outcome_of (effect_with made.new regs.new) tlb.new
         ≡ planned_effect Call instr.now size regs.old control.now mem.now
         (view_of mem.now control.now regs.old.cpl) tlb.old }
-    ensures kept { OnErr result (regs.new ≡ regs.old) }
+    ensures kept { OnErr made.new (regs.new ≡ regs.old) }
     ensures frames { NamesFramesIn (length mem.now) tlb.new }
-    ensures places { IfOk result (λ asked. FitsIn (length mem.now) asked.write) }
-    ensures sized { IfOk result (λ asked. HasAccessSize asked.write) }
+    ensures places { IfOk made.new (λ asked. FitsIn (length mem.now) asked.write) }
+    ensures sized { IfOk made.new (λ asked. HasAccessSize asked.write) }
 {
     let from = match operand(instr, size, regs, control, mem, tlb) {
         Ok(from) => from,
-        Err(fault) => return Err(raised(fault)),
+        Err(fault) => {
+            *made = Err(raised(fault));
+            return;
+        }
     };
-    call_to(instr, size, from, regs, control, mem, tlb)
+    call_to(instr, size, from, regs, control, mem, tlb, made)
 }
 
 /// CALL whose operand holds `from`.
@@ -178,33 +187,39 @@ fn call_to(
     control: &Control,
     mem: &PhysMem,
     tlb: &mut Tlb,
-) -> Result<Asked, Fault>
+    made: &mut Result<Asked, Fault>,
+)
+    requires fresh { made.old ≡ Ok asked_nothing }
     requires cpl { (regs.old.cpl ≡ 0) ⊎ (regs.old.cpl ≡ 3) }
     requires root { 4096 * control.now.root < length mem.now }
     requires frames { NamesFramesIn (length mem.now) tlb.old }
-    ensures outcome { outcome_of (effect_with result regs.new) tlb.new
+    ensures outcome { outcome_of (effect_with made.new regs.new) tlb.new
         ≡ concluded (view_of mem.now control.now regs.old.cpl) (plan_by Call instr.now size regs.old)
         (record { both = None; to = 0; from = from })
         (branched regs.old (next_of regs.old size) (fallen regs.old 64) true
         (target_by instr.now.from (next_of regs.old size) from) (next_of regs.old size)) tlb.old }
-    ensures kept { OnErr result (regs.new ≡ regs.old) }
+    ensures kept { OnErr made.new (regs.new ≡ regs.old) }
     ensures frames { NamesFramesIn (length mem.now) tlb.new }
-    ensures places { IfOk result (λ asked. FitsIn (length mem.now) asked.write) }
-    ensures sized { IfOk result (λ asked. HasAccessSize asked.write) }
+    ensures places { IfOk made.new (λ asked. FitsIn (length mem.now) asked.write) }
+    ensures sized { IfOk made.new (λ asked. HasAccessSize asked.write) }
 {
     let next = next_of(regs, size);
     let target = target_by(&instr.from, next, from);
     if !canonical(target) {
-        return Err(Fault::General(0));
+        *made = Err(Fault::General(0));
+        return;
     }
     let top = lowered(regs.general[RSP as usize], 8);
     let place = match check_store(mem, tlb, control, regs.cpl, top, 8) {
         Ok(place) => place,
-        Err(fault) => return Err(raised(SpanFault { fault, stack: true })),
+        Err(fault) => {
+            *made = Err(raised(SpanFault { fault, stack: true }));
+            return;
+        }
     };
     regs.general[RSP as usize] = top;
     regs.rip = target;
-    Ok(Asked {
+    *made = Ok(Asked {
         write: Some(Write {
             va: top,
             width: 8,
@@ -212,7 +227,7 @@ fn call_to(
             target: place,
         }),
         act: Act::Quiet,
-    })
+    });
 }
 
 /// RET, which lets as many bytes of the stack go as the instruction's number says beyond the address that it pops.
@@ -226,28 +241,33 @@ pub(crate) fn ret(
     control: &Control,
     mem: &PhysMem,
     tlb: &mut Tlb,
-) -> Result<Asked, Fault>
+    made: &mut Result<Asked, Fault>,
+)
+    requires fresh { made.old ≡ Ok asked_nothing }
     requires cpl { (regs.old.cpl ≡ 0) ⊎ (regs.old.cpl ≡ 3) }
     requires root { 4096 * control.now.root < length mem.now }
     requires frames { NamesFramesIn (length mem.now) tlb.old }
-    ensures outcome { outcome_of (effect_with result regs.new) tlb.new
+    ensures outcome { outcome_of (effect_with made.new regs.new) tlb.new
         ≡ planned_effect Return instr.now size regs.old control.now mem.now
         (view_of mem.now control.now regs.old.cpl) tlb.old }
-    ensures kept { OnErr result (regs.new ≡ regs.old) }
+    ensures kept { OnErr made.new (regs.new ≡ regs.old) }
     ensures frames { NamesFramesIn (length mem.now) tlb.new }
-    ensures no_write { IfOk result (λ asked. asked.write ≡ None) }
+    ensures no_write { IfOk made.new (λ asked. asked.write ≡ None) }
 {
     let top = regs.general[RSP as usize];
     let popped = match load(mem, tlb, control, regs.cpl, top, 8) {
         Ok(popped) => popped,
-        Err(fault) => return Err(raised(SpanFault { fault, stack: true })),
+        Err(fault) => {
+            *made = Err(raised(SpanFault { fault, stack: true }));
+            return;
+        }
     };
     if !canonical(popped) {
-        return Err(Fault::General(0));
+        *made = Err(Fault::General(0));
+        return;
     }
     regs.general[RSP as usize] = top.wrapping_add(8).wrapping_add(instr.value);
     regs.rip = popped;
-    Ok(QUIET)
 }
 
 /// LOOP, LOOPE, LOOPNE and JRCXZ, which count RCX down but for JRCXZ.
@@ -261,27 +281,31 @@ pub(crate) fn count_down(
     control: &Control,
     mem: &PhysMem,
     tlb: &mut Tlb,
-) -> Result<Asked, Fault>
+    made: &mut Result<Asked, Fault>,
+)
+    requires fresh { made.old ≡ Ok asked_nothing }
     requires cpl { (regs.old.cpl ≡ 0) ⊎ (regs.old.cpl ≡ 3) }
     requires root { 4096 * control.now.root < length mem.now }
     requires frames { NamesFramesIn (length mem.now) tlb.old }
-    ensures outcome { outcome_of (effect_with result regs.new) tlb.new
+    ensures outcome { outcome_of (effect_with made.new regs.new) tlb.new
         ≡ planned_effect CountDown instr.now size regs.old control.now mem.now
         (view_of mem.now control.now regs.old.cpl) tlb.old }
-    ensures kept { OnErr result (regs.new ≡ regs.old) }
+    ensures kept { OnErr made.new (regs.new ≡ regs.old) }
     ensures frames { NamesFramesIn (length mem.now) tlb.new }
-    ensures no_write { IfOk result (λ asked. asked.write ≡ None) }
+    ensures no_write { IfOk made.new (λ asked. asked.write ≡ None) }
 {
     let next = next_of(regs, size);
     let count = count_by(instr.op, &regs.general);
     let taken = count_taken(instr.op, count, bit(regs.flags, ZF));
     let rip = match landing(taken, next.wrapping_add(instr.value), next) {
         Ok(rip) => rip,
-        Err(fault) => return Err(fault),
+        Err(fault) => {
+            *made = Err(fault);
+            return;
+        }
     };
     set_count(instr.op, count, regs);
     regs.rip = rip;
-    Ok(QUIET)
 }
 
 /// The number in RCX once it is counted down, where it is.
@@ -306,6 +330,7 @@ fn set_count(op: Op, count: u64, regs: &mut Regs)
 }
 
 /// The target of a branch whose operand holds `from`: a displacement, or the address itself.
+#[inline(always)]
 fn target_by(place: &Place, next: u64, from: u64) -> u64
     ensures { result ≡ target_by place.now next from }
 {
@@ -315,6 +340,7 @@ fn target_by(place: &Place, next: u64, from: u64) -> u64
     }
 }
 
+#[inline(always)]
 pub(crate) fn is_taken(op: Op, flags: u64) -> bool
     ensures { result ≡ is_taken op flags }
 {

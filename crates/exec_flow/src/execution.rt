@@ -1,13 +1,13 @@
 //! The effect of an instruction: its conditions, its accesses in order, its outcome, and the check of its write.
 
-ghost use Rattle.std.specs.Prelude.{◌≡◌, ◌⊎◌, ◌*◌, ◌<◌, IsTrue, IfOk, OnErr, length};
+ghost use Rattle.std.specs.Prelude.{◌≡◌, ◌⊎◌, ◌*◌, ◌<◌, IsTrue, IfOk, OnErr, length, Ok};
 ghost use Rattle.nk_bits.specs.Translations.{NamesFramesIn};
 ghost use Rattle.nk_bits.specs.Outcomes.{outcome_of};
 ghost use Rattle.page_walk.specs.AccessPlans.{IsChecked, IsPlan};
 ghost use Rattle.page_walk.specs.MemoryAccess.{view_of};
 ghost use Rattle.x86_decode.specs.WellFormed.{IsWellFormed};
 ghost use Rattle.x86_regs.specs.OperandPlans.{instr_form};
-ghost use Rattle.x86_regs.specs.Effects.{FitsIn, HasAccessSize, concluded, effect_by, effect_of, effect_with, planned_effect};
+ghost use Rattle.x86_regs.specs.Effects.{FitsIn, HasAccessSize, asked_nothing, concluded, effect_by, effect_of, effect_with, planned_effect};
 ghost use Rattle.exec_flow.specs.FlowForms.{is_flow_form};
 ghost use Rattle.exec_flow.specs.FormsByValue.{has_effect_by_value};
 
@@ -22,7 +22,8 @@ use phys_mem::PhysMem;
 use tlb_model::Tlb;
 use x86_decode::Instr;
 use x86_regs::{
-    Asked, Change, Effect, Fault, Form, Regs, instr_form, next_of, raised, refusal, write_of,
+    ASKED_NOTHING, Asked, Change, Effect, Fault, Form, Regs, instr_form, next_of, raised, refusal,
+    write_of,
 };
 
 /// Whether `effect` takes the instructions of a form.
@@ -66,7 +67,18 @@ pub fn effect(
     ensures sized { IfOk result (λ effect. HasAccessSize effect.write) }
 {
     let mut after = *regs;
-    match execute(instr, size, &mut after, control, mem, tlb) {
+    let mut made = Ok(ASKED_NOTHING);
+    execute(
+        instr_form(instr),
+        instr,
+        size,
+        &mut after,
+        control,
+        mem,
+        tlb,
+        &mut made,
+    );
+    match made {
         Ok(asked) => Ok(Effect {
             regs: after,
             write: asked.write,
@@ -81,32 +93,37 @@ pub fn effect(
 /// Fails as `effect` does; then the registers stay as they were.
 #[tactic(auto, unfolding(x86_regs::specs::Effects::effect_of))]
 pub fn execute(
+    form: Form,
     instr: &Instr,
     size: u8,
     regs: &mut Regs,
     control: &Control,
     mem: &PhysMem,
     tlb: &mut Tlb,
-) -> Result<Asked, Fault>
+    made: &mut Result<Asked, Fault>,
+)
+    requires fresh { made.old ≡ Ok asked_nothing }
+    requires form { form ≡ instr_form instr.now }
     requires formed { IsWellFormed instr.now }
-    requires row { IsTrue (is_flow_form (instr_form instr.now)) }
+    requires row { IsTrue (is_flow_form form) }
     requires cpl { (regs.old.cpl ≡ 0) ⊎ (regs.old.cpl ≡ 3) }
     requires root { 4096 * control.now.root < length mem.now }
     requires frames { NamesFramesIn (length mem.now) tlb.old }
-    ensures outcome { outcome_of (effect_with result regs.new) tlb.new
+    ensures outcome { outcome_of (effect_with made.new regs.new) tlb.new
         ≡ effect_of instr.now size regs.old control.now mem.now tlb.old }
-    ensures kept { OnErr result (regs.new ≡ regs.old) }
+    ensures kept { OnErr made.new (regs.new ≡ regs.old) }
     ensures frames { NamesFramesIn (length mem.now) tlb.new }
-    ensures places { IfOk result (λ asked. FitsIn (length mem.now) asked.write) }
-    ensures sized { IfOk result (λ asked. HasAccessSize asked.write) }
+    ensures places { IfOk made.new (λ asked. FitsIn (length mem.now) asked.write) }
+    ensures sized { IfOk made.new (λ asked. HasAccessSize asked.write) }
 {
     match refusal(instr, regs.cpl) {
-        Some(fault) => Err(fault),
-        None => execute_by(instr_form(instr), instr, size, regs, control, mem, tlb),
+        Some(fault) => *made = Err(fault),
+        None => execute_by(form, instr, size, regs, control, mem, tlb, made),
     }
 }
 
 /// The instruction by its form: in place where the form has a function of its own, and else by value.
+#[inline]
 fn execute_by(
     form: Form,
     instr: &Instr,
@@ -115,30 +132,33 @@ fn execute_by(
     control: &Control,
     mem: &PhysMem,
     tlb: &mut Tlb,
-) -> Result<Asked, Fault>
+    made: &mut Result<Asked, Fault>,
+)
+    requires fresh { made.old ≡ Ok asked_nothing }
     requires formed { IsWellFormed instr.now }
     requires row { IsTrue (is_flow_form form) }
     requires cpl { (regs.old.cpl ≡ 0) ⊎ (regs.old.cpl ≡ 3) }
     requires root { 4096 * control.now.root < length mem.now }
     requires frames { NamesFramesIn (length mem.now) tlb.old }
-    ensures outcome { outcome_of (effect_with result regs.new) tlb.new
+    ensures outcome { outcome_of (effect_with made.new regs.new) tlb.new
         ≡ effect_by form instr.now size regs.old control.now mem.now
         (view_of mem.now control.now regs.old.cpl) tlb.old }
-    ensures kept { OnErr result (regs.new ≡ regs.old) }
+    ensures kept { OnErr made.new (regs.new ≡ regs.old) }
     ensures frames { NamesFramesIn (length mem.now) tlb.new }
-    ensures places { IfOk result (λ asked. FitsIn (length mem.now) asked.write) }
-    ensures sized { IfOk result (λ asked. HasAccessSize asked.write) }
+    ensures places { IfOk made.new (λ asked. FitsIn (length mem.now) asked.write) }
+    ensures sized { IfOk made.new (λ asked. HasAccessSize asked.write) }
 {
     match form {
-        Form::Branch => branch(instr, size, regs, control, mem, tlb),
-        Form::Call => call(instr, size, regs, control, mem, tlb),
-        Form::Return => ret(instr, size, regs, control, mem, tlb),
-        Form::CountDown => count_down(instr, size, regs, control, mem, tlb),
-        _ => execute_by_value(form, instr, size, regs, control, mem, tlb),
+        Form::Branch => branch(instr, size, regs, control, mem, tlb, made),
+        Form::Call => call(instr, size, regs, control, mem, tlb, made),
+        Form::Return => ret(instr, size, regs, control, mem, tlb, made),
+        Form::CountDown => count_down(instr, size, regs, control, mem, tlb, made),
+        _ => execute_by_value(form, instr, size, regs, control, mem, tlb, made),
     }
 }
 
 /// The instruction of a form whose effect is a value.
+#[inline(never)]
 fn execute_by_value(
     form: Form,
     instr: &Instr,
@@ -147,29 +167,31 @@ fn execute_by_value(
     control: &Control,
     mem: &PhysMem,
     tlb: &mut Tlb,
-) -> Result<Asked, Fault>
+    made: &mut Result<Asked, Fault>,
+)
+    requires fresh { made.old ≡ Ok asked_nothing }
     requires formed { IsWellFormed instr.now }
     requires row { IsTrue (has_effect_by_value form) }
     requires cpl { (regs.old.cpl ≡ 0) ⊎ (regs.old.cpl ≡ 3) }
     requires root { 4096 * control.now.root < length mem.now }
     requires frames { NamesFramesIn (length mem.now) tlb.old }
-    ensures outcome { outcome_of (effect_with result regs.new) tlb.new
+    ensures outcome { outcome_of (effect_with made.new regs.new) tlb.new
         ≡ effect_by form instr.now size regs.old control.now mem.now
         (view_of mem.now control.now regs.old.cpl) tlb.old }
-    ensures kept { OnErr result (regs.new ≡ regs.old) }
+    ensures kept { OnErr made.new (regs.new ≡ regs.old) }
     ensures frames { NamesFramesIn (length mem.now) tlb.new }
-    ensures places { IfOk result (λ asked. FitsIn (length mem.now) asked.write) }
-    ensures sized { IfOk result (λ asked. HasAccessSize asked.write) }
+    ensures places { IfOk made.new (λ asked. FitsIn (length mem.now) asked.write) }
+    ensures sized { IfOk made.new (λ asked. HasAccessSize asked.write) }
 {
     match effect_by(form, instr, size, regs, control, mem, tlb) {
         Ok(effect) => {
             *regs = effect.regs;
-            Ok(Asked {
+            *made = Ok(Asked {
                 write: effect.write,
                 act: effect.act,
-            })
+            });
         }
-        Err(fault) => Err(fault),
+        Err(fault) => *made = Err(fault),
     }
 }
 

@@ -1,14 +1,13 @@
 //! The flags as a whole, which PUSHFQ and POPFQ move (SDM volume 1, 3.4.3).
 
-ghost use Rattle.std.specs.Prelude.{◌≡◌, ◌<◌, Ok};
+ghost use Rattle.std.specs.Prelude.{◌≡◌, Ok};
 ghost use Rattle.decode_fields.specs.Widths.{IsWidth};
-ghost use Rattle.x86_alu.specs.SignedNumbers.{bit, cut};
-ghost use Rattle.x86_regs.specs.Combinations.{flags_loaded, flags_popped, interrupt_flag};
+ghost use Rattle.x86_alu.specs.SignedNumbers.{cut};
+ghost use Rattle.x86_regs.specs.Combinations.{flags_popped};
 ghost use Rattle.x86_regs.specs.OperandPlans.{risen};
 ghost use Rattle.x86_regs.specs.OperandOutcomes.{change, fallen, going_on, quietly};
 
-use x86_alu::with_flag;
-use x86_regs::{Act, Change, IF, Regs, bit, fallen, going_on, low, risen};
+use x86_regs::{Act, Change, Regs, fallen, flags_popped, going_on, low, risen};
 
 /// PUSHFQ, of `width` in bits.
 pub(crate) fn push_flags(width: u8, next: u64, regs: &Regs) -> Change
@@ -34,23 +33,5 @@ pub(crate) fn pop_flags(width: u8, next: u64, regs: &Regs, popped: u64) -> Chang
         regs: going_on(regs, risen(regs, width), flags, next),
         value: 0,
         act: Act::Quiet,
-    }
-}
-
-/// The flags that a program may load of a number: the others read as 0, and bit 1 as 1.
-fn flags_loaded(value: u64) -> u64
-    ensures { result ≡ flags_loaded value }
-{
-    (value & 0xED5) + 2
-}
-
-/// The flags once a number is popped; IF stays above CPL 0.
-fn flags_popped(cpl: u8, before: u64, value: u64) -> u64
-    ensures { result ≡ flags_popped cpl before value }
-{
-    if cpl == 0 {
-        flags_loaded(value)
-    } else {
-        with_flag(flags_loaded(value), IF, bit(before, IF))
     }
 }

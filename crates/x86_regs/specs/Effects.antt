@@ -185,3 +185,7 @@ effect_of i size regs control m tlb =
 abbrev pub effect_with : Result Asked Fault → Regs → Result Effect Fault
 effect_with (Ok asked) regs = Ok (record { regs = regs; write = asked.write; act = asked.act })
 effect_with (Err fault) regs = Err fault
+
+-- what an instruction asks that only changes registers
+abbrev pub asked_nothing : Asked
+asked_nothing = record { write = None; act = act.Quiet }

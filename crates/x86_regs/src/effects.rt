@@ -66,6 +66,12 @@ pub struct Asked {
     pub act: Act,
 }
 
+/// What an instruction asks that only changes registers: nothing, and it writes nothing.
+pub const ASKED_NOTHING: Asked = Asked {
+    write: None,
+    act: Act::Quiet,
+};
+
 /// What an instruction does with the values that it read, before its write is checked.
 #[derive(Clone, Copy, Debug, PartialEq, Eq)]
 pub struct Change {

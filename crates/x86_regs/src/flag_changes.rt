@@ -1,6 +1,7 @@
-//! The instructions that change one flag: CMC, CLC, STC, CLI, STI, CLD and STD.
+//! Changes of the flags by themselves: of one by CMC, CLC, STC, CLI, STI, CLD and STD, of all by POPFQ and IRETQ.
 
 ghost use Rattle.std.specs.Prelude.{◌≡◌, Ok};
+ghost use Rattle.x86_regs.specs.Combinations.{flags_loaded, flags_popped};
 ghost use Rattle.x86_regs.specs.OperandOutcomes.{change, flag_act, flags_changed, going_on};
 
 use crate::conditions::bit;
@@ -50,5 +51,23 @@ fn flag_act(op: Op, flags: u64) -> Act
     match op {
         Op::Sti if !bit(flags, IF) => Act::Enable,
         _ => Act::Quiet,
+    }
+}
+
+/// The flags that a program may load of a number: the others read as 0, and bit 1 as 1.
+fn flags_loaded(value: u64) -> u64
+    ensures { result ≡ flags_loaded value }
+{
+    (value & 0xED5) + 2
+}
+
+/// The flags once a number is popped: those that a program may load, but that IF stays above CPL 0 (SDM volume 2, POPF).
+pub fn flags_popped(cpl: u8, before: u64, value: u64) -> u64
+    ensures { result ≡ flags_popped cpl before value }
+{
+    if cpl == 0 {
+        flags_loaded(value)
+    } else {
+        with_flag(flags_loaded(value), IF, bit(before, IF))
     }
 }

@@ -72,6 +72,7 @@ pub enum Form {
 }
 
 /// The form of an instruction: that of its operation, and of MUL for IMUL of one operand.
+#[inline(always)]
 pub fn instr_form(instr: &Instr) -> Form
     ensures { result ≡ instr_form instr.now }
 {
@@ -82,18 +83,21 @@ pub fn instr_form(instr: &Instr) -> Form
     }
 }
 
+#[inline(always)]
 fn is_imul(op: Op) -> bool
     ensures { result ≡ is_imul op }
 {
     matches!(op, Op::Imul)
 }
 
+#[inline(always)]
 fn is_nothing(place: &Place) -> bool
     ensures { result ≡ is_nothing place.now }
 {
     matches!(place, Place::Nothing)
 }
 
+#[inline(always)]
 fn form_of(op: Op) -> Form
     ensures { result ≡ form_of op }
 {

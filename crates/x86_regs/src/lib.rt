@@ -25,9 +25,9 @@ mod laws;
 
 pub use conditions::{bit, condition_stands};
 pub use delivery::{Frame, Tables};
-pub use effects::{Act, Asked, Change, Effect, Write};
+pub use effects::{ASKED_NOTHING, Act, Asked, Change, Effect, Write};
 pub use faults::Fault;
-pub use flag_changes::{DF, IF, change_flag};
+pub use flag_changes::{DF, IF, change_flag, flags_popped};
 pub use form::{Form, instr_form};
 pub use laws::effect_law;
 pub use operands::{

@@ -32,6 +32,7 @@ pub const RSI: u8 = 6;
 pub const RDI: u8 = 7;
 
 /// The address of the next instruction, behind one of so many bytes.
+#[inline(always)]
 pub fn next_of(regs: &Regs, size: u8) -> u64
     ensures { result ≡ next_of regs.now size }
 {
@@ -39,6 +40,7 @@ pub fn next_of(regs: &Regs, size: u8) -> u64
 }
 
 /// A number that is lower by another, wrapped at 2^64.
+#[inline(always)]
 pub fn lowered(a: u64, n: u64) -> u64
     ensures { result ≡ lowered a n }
 {
@@ -58,6 +60,7 @@ pub fn going_on(regs: &Regs, general: [u64; 16], flags: u64, rip: u64) -> Regs
     }
 }
 
+#[inline(always)]
 fn added(general: &[u64; 16], number: Option<u8>) -> u64
     requires { IfSome number (λ number. number < 16) }
     ensures { result ≡ added general.now number }
@@ -76,6 +79,7 @@ fn scaled(index: u64, scale: u8) -> u128
 }
 
 /// The linear address that an operand in memory names.
+#[inline(always)]
 fn address_by(general: &[u64; 16], next: u64, address: &Address) -> u64
     requires { IsAddress address.now }
     ensures { result ≡ address_by general.now next address.now }
@@ -87,6 +91,7 @@ fn address_by(general: &[u64; 16], next: u64, address: &Address) -> u64
     (sum & u64::MAX as u128) as u64
 }
 
+#[inline(always)]
 fn is_stack_base(base: Option<u8>) -> bool
     ensures { result ≡ is_stack_base base }
 {
@@ -96,6 +101,7 @@ fn is_stack_base(base: Option<u8>) -> bool
     }
 }
 
+#[inline(always)]
 fn bytes(width: u8) -> u8
     requires { IsWidth width }
     ensures bytes { result ≡ width / 8 }
@@ -104,6 +110,7 @@ fn bytes(width: u8) -> u8
     width / 8
 }
 
+#[inline(always)]
 fn span_by(general: &[u64; 16], next: u64, width: u8, address: &Address) -> Span
     requires width { IsWidth width }
     requires address { IsAddress address.now }
@@ -118,6 +125,7 @@ fn span_by(general: &[u64; 16], next: u64, width: u8, address: &Address) -> Span
 }
 
 /// The bytes of a push or a pop, from this address on.
+#[inline(always)]
 pub fn stack_span(va: u64, width: u8) -> Span
     requires { IsWidth width }
     ensures span { result ≡ stack_span va width }
@@ -160,6 +168,7 @@ fn source_by(general: &[u64; 16], next: u64, width: u8, value: u64, place: &Plac
 }
 
 /// The bytes of an operand, where it stands in memory.
+#[inline(always)]
 pub fn place_span(general: &[u64; 16], next: u64, width: u8, place: &Place) -> Option<Span>
     requires width { IsWidth width }
     requires place { IsPlace place.now }
@@ -184,6 +193,7 @@ fn place_address(general: &[u64; 16], next: u64, place: &Place) -> u64
 }
 
 /// The bytes that a push of this width writes.
+#[inline(always)]
 pub fn push_span(regs: &Regs, width: u8) -> Span
     requires { IsWidth width }
     ensures span { result ≡ push_span regs.now width }

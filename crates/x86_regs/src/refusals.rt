@@ -1,6 +1,8 @@
 //! The faults that an instruction raises whatever its operands hold, and those of its accesses.
 
-ghost use Rattle.std.specs.Prelude.{◌≡◌};
+ghost use Rattle.std.specs.Prelude.{◌≡◌, ℕ, None, false, true};
+ghost use Rattle.x86_decode.specs.declared.conditions.UndefinedWhere.TheVariants.{Nowhere};
+ghost use Rattle.x86_decode.specs.Conditions.{conditions_of};
 ghost use Rattle.x86_regs.specs.Effects.{is_control_register, is_locked_wrongly, is_memory, is_undefined, is_undefined_at_cpl_0, names_no_register, raised, refusal, refusal_by_cpl};
 
 use crate::faults::Fault;
@@ -11,7 +13,19 @@ use x86_decode::{Conditions, Instr, Op, UndefinedWhere, conditions_of};
 
 /// The fault that the conditions of an instruction raise at this CPL: #UD by LOCK, by its operand size or by a control
 /// register that isn't there, then #GP(0) by the CPL, then #UD at CPL 0.
+#[inline(always)]
 pub fn refusal(instr: &Instr, cpl: u8) -> Option<Fault>
+    ensures { result ≡ refusal instr.now cpl }
+{
+    if is_unconditional(instr) {
+        None
+    } else {
+        refusal_by_conditions(instr, cpl)
+    }
+}
+
+#[inline(never)]
+fn refusal_by_conditions(instr: &Instr, cpl: u8) -> Option<Fault>
     ensures { result ≡ refusal instr.now cpl }
 {
     let conditions = conditions_of(instr.op);
@@ -23,6 +37,31 @@ pub fn refusal(instr: &Instr, cpl: u8) -> Option<Fault>
         Some(Fault::Opcode)
     } else {
         refusal_by_cpl(conditions, cpl)
+    }
+}
+
+/// Whether an instruction is of those that no condition refuses, at whatever CPL: the common ones without LOCK.
+#[inline(always)]
+fn is_unconditional(instr: &Instr) -> bool
+    ensures { result ≡ true → (cpl : ℕ) → refusal instr.now cpl ≡ None }
+{
+    !instr.lock && has_no_condition(instr.op)
+}
+
+#[inline(always)]
+fn has_no_condition(op: Op) -> bool
+    ensures undefined { result ≡ true → (conditions_of op).undefined ≡ Nowhere }
+    ensures cpl { result ≡ true → (conditions_of op).needs_cpl_0 ≡ false }
+    ensures register { result ≡ true → (n : ℕ) → names_no_register op n ≡ false }
+{
+    match op {
+        Op::Add | Op::Or | Op::Adc | Op::Sbb | Op::And | Op::Sub | Op::Xor => true,
+        Op::Not | Op::Neg | Op::Inc | Op::Dec | Op::Cmp | Op::Test => true,
+        Op::Rol | Op::Ror | Op::Shl | Op::Shr | Op::Sar | Op::Imul | Op::Cmov(_) => true,
+        Op::Mov | Op::Movsxd | Op::Movzx8 | Op::Movzx16 | Op::Movsx8 | Op::Movsx16 => true,
+        Op::Set(_) | Op::Lea | Op::Push | Op::Pop => true,
+        Op::J(_) | Op::Jmp | Op::Call | Op::Ret => true,
+        _ => false,
     }
 }
 

@@ -42,7 +42,7 @@ impl Regs {
 }
 
 /// What a register or a part of it holds, and 0 for a place of another kind.
-#[inline]
+#[inline(always)]
 pub fn held(general: &[u64; 16], place: &Place, width: u8) -> u64
     requires width { IsWidth width }
     requires place { IsPlace place.now }
@@ -67,7 +67,7 @@ pub fn written(general: &[u64; 16], place: &Place, width: u8, value: u64) -> [u6
 }
 
 /// Writes one of the registers or a part of it in place.
-#[inline]
+#[inline(always)]
 pub fn set_place(general: &mut [u64; 16], place: &Place, width: u8, value: u64)
     requires width { IsWidth width }
     requires place { IsPlace place.now }
@@ -97,7 +97,7 @@ pub fn with_register(general: &[u64; 16], number: u8, value: u64) -> [u64; 16]
 }
 
 /// Writes one of the registers whole, in place.
-#[inline]
+#[inline(always)]
 pub fn set_register(general: &mut [u64; 16], number: u8, value: u64)
     requires { number < 16 }
     ensures { general.new ≡ with_register general.old number value }
@@ -106,7 +106,7 @@ pub fn set_register(general: &mut [u64; 16], number: u8, value: u64)
 }
 
 /// The low bits of a number, as many as the width.
-#[inline]
+#[inline(always)]
 pub fn low(width: u8, value: u64) -> u64
     requires { IsWidth width }
     ensures { result ≡ value % 2 ^ width }
@@ -114,7 +114,7 @@ pub fn low(width: u8, value: u64) -> u64
     value & (u64::MAX >> (64 - width))
 }
 
-#[inline]
+#[inline(always)]
 fn low_written(width: u8, old: u64, value: u64) -> u64
     requires { IsWidth width }
     ensures { result ≡ low_written width old value }
@@ -126,7 +126,7 @@ fn low_written(width: u8, old: u64, value: u64) -> u64
     }
 }
 
-#[inline]
+#[inline(always)]
 fn high_written(old: u64, value: u64) -> u64
     ensures { result ≡ high_written old value }
 {
@@ -134,7 +134,7 @@ fn high_written(old: u64, value: u64) -> u64
 }
 
 /// The bits of `above` from `width` on, over `below`.
-#[inline]
+#[inline(always)]
 fn joined(width: u8, above: u64, below: u64) -> u64
     requires width { width < 64 }
     requires fits { below < 2 ^ width }
