@@ -1,0 +1,4 @@
+pub mod LineForms
+pub mod PlanForms
+pub mod Reading
+mod WorkedPlans

@@ -1,0 +1,95 @@
+//! One line of a plan file.
+
+ghost use Rattle.std.specs.Prelude.{◌≡◌};
+ghost use Rattle.std.specs.Str.{bytes_eq};
+ghost use Rattle.irq_plan.specs.PlanFile.{due_of, event_of, event_with, page_address_of, vector_of, what_of};
+ghost use Rattle.text_lines.specs.TextLines.{words};
+
+use crate::event::{Event, What};
+use nk_bits::canonical;
+use text_lines::{decimal, hexadecimal, split_words};
+
+/// The most turns after which an event may be due.
+const MOST_DUE: u64 = 4_294_967_296;
+
+const FIRST_VECTOR: u64 = 32;
+
+const LAST_VECTOR: u64 = 47;
+
+const PAGE_SIZE: u64 = 4096;
+
+fn is_text(word: &[u8], text: &[u8]) -> bool
+    ensures { result ≡ bytes_eq word.now text.now }
+{
+    word == text
+}
+
+/// The number of turns after which the event is due, at least so many.
+fn due(word: &[u8], least: u64) -> Option<u64>
+    ensures { result ≡ due_of least word.now }
+{
+    match decimal(word, 10) {
+        Some(due) if least <= due && due <= MOST_DUE => Some(due),
+        _ => None,
+    }
+}
+
+/// The vector of an interrupt.
+fn vector(word: &[u8]) -> Option<u8>
+    ensures { result ≡ vector_of word.now }
+{
+    match decimal(word, 2) {
+        Some(vector) if FIRST_VECTOR <= vector && vector <= LAST_VECTOR => Some(vector as u8),
+        _ => None,
+    }
+}
+
+/// The linear address of a page.
+fn page(word: &[u8]) -> Option<u64>
+    ensures { result ≡ page_address_of word.now }
+{
+    match hexadecimal(word, 16) {
+        Some(page) if canonical(page) && page % PAGE_SIZE == 0 => Some(page),
+        _ => None,
+    }
+}
+
+fn what(verb: &[u8], number: &[u8]) -> Option<What>
+    ensures { result ≡ what_of verb.now number.now }
+{
+    if is_text(verb, b"irq") {
+        vector(number).map(What::Irq)
+    } else if is_text(verb, b"drop") {
+        page(number).map(What::Drop)
+    } else if is_text(verb, b"fill") {
+        page(number).map(What::Fill)
+    } else {
+        None
+    }
+}
+
+/// The event of a line of three words.
+fn event(word: &[u8], verb: &[u8], number: &[u8], least: u64) -> Option<Event>
+    ensures { result ≡ event_with (due_of least word.now) (what_of verb.now number.now) }
+{
+    let Some(due) = due(word, least) else {
+        return None;
+    };
+    match what(verb, number) {
+        Some(what) => Some(Event { due, what }),
+        None => None,
+    }
+}
+
+/// The event of a line, due after `least` turns or later; None where the line is out of form.
+pub(crate) fn read_line(line: &[u8], least: u64) -> Option<Event>
+    ensures { result ≡ event_of least (words line.now) }
+{
+    let Some(words) = split_words(line) else {
+        return None;
+    };
+    match words.as_slice() {
+        [due, verb, number] => event(due, verb, number, least),
+        _ => None,
+    }
+}

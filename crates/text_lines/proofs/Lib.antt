@@ -1,0 +1,5 @@
+pub mod CutLemmas
+pub mod LineLemmas
+pub mod NumberLemmas
+pub mod WordLemmas
+mod WorkedLines
