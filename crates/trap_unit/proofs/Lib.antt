@@ -1,0 +1,4 @@
+mod DeliveryLaws
+mod WorkedDeliveries
+mod WorkedGates
+mod WorkedReturns

@@ -1,0 +1,32 @@
+//! What follows from the definitions, for those who say what a turn of the processor keeps.
+
+ghost use Rattle.std.specs.Prelude.{◌≡◌, ◌⊎◌, ℕ, List, Option, IfOk, OnErr, OnOk, length};
+ghost use Rattle.nk_bits.specs.declared.control.Control.{Control};
+ghost use Rattle.nk_bits.specs.Translations.{Translations};
+ghost use Rattle.x86_regs.specs.declared.delivery.Frame.{Frame};
+ghost use Rattle.x86_regs.specs.declared.delivery.Tables.{Tables};
+ghost use Rattle.x86_regs.specs.declared.registers.Regs.{Regs};
+ghost use Rattle.trap_unit.specs.TrapDelivery.{delivered};
+ghost use Rattle.trap_unit.specs.TrapReturn.{returned};
+
+use phys_mem::memory_law;
+
+/// A delivery ends at CPL 0, or shuts the machine down and leaves the registers; memory keeps its size.
+pub fn delivery_law()
+    ensures supervisor { (regs : Regs) (control : Control) (tables : Tables) (vector : ℕ) (code : Option ℕ) (m : List ℕ)
+        (tlb : Translations) → let it = delivered regs control tables vector code m tlb in
+        OnOk it.answer (it.regs.cpl ≡ 0) }
+    ensures shut { (regs : Regs) (control : Control) (tables : Tables) (vector : ℕ) (code : Option ℕ) (m : List ℕ)
+        (tlb : Translations) → let it = delivered regs control tables vector code m tlb in
+        OnErr it.answer (it.regs ≡ regs) }
+    ensures length { (regs : Regs) (control : Control) (tables : Tables) (vector : ℕ) (code : Option ℕ) (m : List ℕ)
+        (tlb : Translations) → length (delivered regs control tables vector code m tlb).memory ≡ length m }
+{
+    memory_law();
+}
+
+/// A return goes to CPL 3, or from CPL 0 to CPL 0: none gains privilege.
+pub fn return_law()
+    ensures { (regs : Regs) (frame : Frame) → IfOk (returned regs frame)
+        (λ after. (after.cpl ≡ 3) ⊎ ((regs.cpl ≡ 0) × (after.cpl ≡ 0))) }
+{}
