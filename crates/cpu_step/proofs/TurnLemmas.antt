@@ -1,86 +1,103 @@
--- A turn by its cases: at the body's place, by a fault, and by what an instruction asks.
-use Rattle.std.proofs.Common.{◌≡◌, ℕ, ◌*◌, ◌<◌, ◌==◌, Bool, true, false, not, if◌then◌else◌, List, None, Ok, Err, refl, sym, ap, subst, ◌∙◌}
-use Rattle.std.proofs.lemmas.List.Elements.{All-filter}
+-- A turn by its cases: at the body's place, by a fault, and by what an instruction asks; and what stays sound.
+use Rattle.std.proofs.Common.{◌≡◌, ℕ, ◌*◌, ◌<◌, ◌-◌, ◌==◌, Bool, true, false, not, if◌then◌else◌, List, [], ◌∷◌, ◌++◌, length, Option, None, Ok, Err, refl, sym, ap, subst, ◌∙◌}
+use Rattle.std.proofs.lemmas.List.Elements.{All-drop, All-filter, All-push}
 use Rattle.nk_bits.specs.declared.leaf.Leaf.{Leaf}
-use Rattle.nk_bits.specs.Translations.{Translations, dropped}
-use Rattle.nk_bits.specs.Accesses.{wp_of}
+use Rattle.nk_bits.specs.Translations.{NamesFramesIn, Translations, capacity, dropped, filled}
 use Rattle.nk_bits.specs.Outcomes.{Outcome, outcome_of}
 use Rattle.x86_regs.specs.declared.effects.Act.{Act}
 use Rattle.x86_regs.specs.declared.effects.Act.TheVariants as act
 use Rattle.x86_regs.specs.declared.effects.Asked.{Asked}
 use Rattle.x86_regs.specs.declared.effects.Effect.{Effect}
 use Rattle.x86_regs.specs.declared.faults.Fault.{Fault}
-use Rattle.x86_regs.specs.declared.faults.Fault.TheVariants as fault
 use Rattle.x86_regs.specs.declared.registers.Regs.{Regs}
 use Rattle.x86_regs.specs.Effects.{IfDelivered, LeavesToDelivery, effect_with}
-use Rattle.cpu_step.specs.Processor.{IsSound, Processor}
-use Rattle.cpu_step.specs.Turns.{acted, instruction_made, is_at_body, memory_after, stopped, stopped_at_body, stopped_by, turned, turned_by}
+use Rattle.cpu_step.specs.declared.stepped.Stepped.TheVariants as stepped
+use Rattle.cpu_step.specs.Processor.{IsSound, Processor, deliverable}
+use Rattle.cpu_step.specs.Turns.{acted, enters_body, instructed, instruction_made, is_at_body, memory_after, raised, refused_body, turned, turned_by, turned_to, turned_unless}
 
--- a processor that loses a translation stays sound
-pub sound_dropped : (size : ℕ) (p q : Processor) (page : ℕ) → q ≡ record p { tlb = dropped p.tlb page } → IsSound size p → IsSound size q
-sound_dropped size p q page is s =
-    subst (IsSound size) (sym is) (record {
-      cpl = s.cpl;
-      root = s.root;
-      frames = All-filter (λ pair. not (pair.0 == page)) (λ (pair : ℕ × Leaf). 4096 * pair.1.frame < size) p.tlb s.frames;
-    })
+-- the frames that translations name lie in memory still when one goes, and when one comes whose frame does
+pub within_dropped : (size : ℕ) (tlb : Translations) (page : ℕ) → NamesFramesIn size tlb → NamesFramesIn size (dropped tlb page)
+within_dropped size tlb page within =
+    All-filter (λ pair. not (pair.0 == page)) (λ (pair : ℕ × Leaf). 4096 * pair.1.frame < size) tlb within
 
--- with WP set the body's first push is a page fault
-pub stopped_by_push : (p : Processor) (m : List ℕ) → wp_of p.control.cr0 ≡ true
-    → stopped_at_body p m ≡ stopped_by (fault.Page 3 0xFFFFFF8000004FF8) p m (dropped p.tlb 0xFFFFFF8000004)
-stopped_by_push p m wp =
-    ap (λ (b : Bool). if b then stopped_by (fault.Page 3 0xFFFFFF8000004FF8) p m (dropped p.tlb 0xFFFFFF8000004) else stopped p m p.tlb) wp
+pub within_filled : (size : ℕ) (tlb : Translations) (page : ℕ) (leaf : Leaf) → NamesFramesIn size tlb
+    → 4096 * leaf.frame < size → NamesFramesIn size (filled tlb page leaf)
+unfolding filled
+within_filled size tlb page leaf within frame =
+    let Is : ℕ × Leaf → Type 0 = λ pair. 4096 * pair.1.frame < size in
+    let all : Translations = dropped tlb page ++ (page, leaf) ∷ [] in
+    All-drop Is (length all - capacity) all
+    (All-push Is (dropped tlb page) (page, leaf) (within_dropped size tlb page within) frame)
 
-pub turned_at_body : (p : Processor) (m : List ℕ) → is_at_body p.regs ≡ true → turned p m ≡ stopped_at_body p m
-unfolding turned
-turned_at_body p m at =
+-- a processor with other translations, whose frames lie in memory too
+pub sound_with : (size : ℕ) (p q : Processor) (tlb : Translations) → p ≡ q → IsSound size q → NamesFramesIn size tlb
+    → IsSound size (record p { tlb = tlb })
+sound_with size p q tlb is sound within =
+    subst (λ (p : Processor). IsSound size (record p { tlb = tlb })) (sym is)
+    (record { cpl = sound.cpl; root = sound.root; frames = within })
+
+-- an instruction's turn, away from the body's place
+pub instructed_at_body : (p : Processor) (m : List ℕ) → is_at_body p.regs ≡ true → instructed p m ≡ refused_body p m
+unfolding instructed
+instructed_at_body p m at =
     let made = instruction_made p m in
-    ap (λ (b : Bool). if b then stopped_at_body p m else turned_by made.answer p m made.tlb) at
+    ap (λ (b : Bool). if b then refused_body p m else turned_by made.answer p m made.tlb) at
 
-turned_elsewhere : (p : Processor) (m : List ℕ) → is_at_body p.regs ≡ false
-    → turned p m ≡ turned_by (instruction_made p m).answer p m (instruction_made p m).tlb
-unfolding turned
-turned_elsewhere p m at =
+instructed_elsewhere : (p : Processor) (m : List ℕ) → is_at_body p.regs ≡ false
+    → instructed p m ≡ turned_by (instruction_made p m).answer p m (instruction_made p m).tlb
+unfolding instructed
+instructed_elsewhere p m at =
     let made = instruction_made p m in
-    ap (λ (b : Bool). if b then stopped_at_body p m else turned_by made.answer p m made.tlb) at
+    ap (λ (b : Bool). if b then refused_body p m else turned_by made.answer p m made.tlb) at
 
 -- the registers are those from before
 pub turned_by_fault : (p : Processor) (m : List ℕ) (it : Fault) (regs : Regs) (tlb : Translations)
     → is_at_body p.regs ≡ false → outcome_of (Err it) tlb ≡ instruction_made p m → regs ≡ p.regs
-    → turned p m ≡ stopped_by it (record p { regs = regs; tlb = tlb }) m tlb
+    → instructed p m ≡ raised it (record p { regs = regs; tlb = tlb }) m
 turned_by_fault p m it regs tlb at made same =
-    turned_elsewhere p m at
+    instructed_elsewhere p m at
     ∙ ap (λ (o : Outcome Fault Effect). turned_by o.answer p m o.tlb) (sym made)
-    ∙ ap (λ (r : Regs). stopped_by it (record p { regs = r; tlb = tlb }) m tlb) (sym same)
+    ∙ ap (λ (r : Regs). raised it (record p { regs = r; tlb = tlb }) m) (sym same)
 
 -- an interrupt or a return has changed RIP alone, which is set back
-set_back : (a : Act) (p q : Processor) (m : List ℕ) (regs : Regs) (tlb : Translations) (W : Type 0)
-    → IfDelivered a ((regs ≡ record p.regs { rip = regs.rip }) × W)
-    → acted a (record p { regs = record regs { rip = p.regs.rip }; tlb = tlb }) q m ≡ acted a p q m
-set_back act.Quiet p q m regs tlb W left = refl
-set_back (act.Out byte port) p q m regs tlb W left = refl
-set_back (act.In port) p q m regs tlb W left = refl
-set_back act.Halt p q m regs tlb W left = refl
-set_back act.Enable p q m regs tlb W left = refl
-set_back (act.Interrupt vector) p q m regs tlb W left =
-    ap (λ (r : Regs). stopped (record p { regs = record r { rip = p.regs.rip } }) m q.tlb) left.0
-set_back (act.Return frame) p q m regs tlb W left =
-    ap (λ (r : Regs). stopped (record p { regs = record r { rip = p.regs.rip } }) m q.tlb) left.0
-set_back (act.Cr0 value) p q m regs tlb W left = refl
-set_back (act.Cr2 value) p q m regs tlb W left = refl
-set_back (act.Cr3 value) p q m regs tlb W left = refl
-set_back (act.Cr4 value) p q m regs tlb W left = refl
-set_back (act.Idt base limit) p q m regs tlb W left = refl
-set_back (act.DropPage page) p q m regs tlb W left = refl
+set_back : (a : Act) (before regs : Regs) (W : Type 0) (q : Processor) (m : List ℕ)
+    → IfDelivered a ((regs ≡ record before { rip = regs.rip }) × W)
+    → acted a (record regs { rip = before.rip }) q m ≡ acted a before q m
+set_back act.Quiet before regs W q m left = refl
+set_back (act.Out byte port) before regs W q m left = refl
+set_back (act.In port) before regs W q m left = refl
+set_back act.Halt before regs W q m left = refl
+set_back act.Enable before regs W q m left = refl
+set_back (act.Interrupt vector) before regs W q m left =
+    ap (λ (r : Regs). acted (act.Interrupt vector) (record r { rip = before.rip }) q m) left.0
+set_back (act.Return frame) before regs W q m left =
+    ap (λ (r : Regs). acted (act.Return frame) (record r { rip = before.rip }) q m) left.0
+set_back (act.Cr0 value) before regs W q m left = refl
+set_back (act.Cr2 value) before regs W q m left = refl
+set_back (act.Cr3 value) before regs W q m left = refl
+set_back (act.Cr4 value) before regs W q m left = refl
+set_back (act.Idt base limit) before regs W q m left = refl
+set_back (act.DropPage page) before regs W q m left = refl
 
 pub turned_by_act : (p : Processor) (m : List ℕ) (asked : Asked) (regs : Regs) (tlb : Translations)
     → is_at_body p.regs ≡ false
     → outcome_of (effect_with (Ok asked) regs) tlb ≡ instruction_made p m
     → LeavesToDelivery p.regs (record { regs = regs; write = asked.write; act = asked.act })
-    → turned p m
-    ≡ acted asked.act (record p { regs = record regs { rip = p.regs.rip }; tlb = tlb })
-    (record p { regs = regs; tlb = tlb; shielded = false }) (memory_after asked.write m)
+    → instructed p m
+    ≡ acted asked.act (record regs { rip = p.regs.rip }) (record p { regs = regs; tlb = tlb }) (memory_after asked.write m)
 turned_by_act p m asked regs tlb at made left =
-    turned_elsewhere p m at
+    instructed_elsewhere p m at
     ∙ ap (λ (o : Outcome Fault Effect). turned_by o.answer p m o.tlb) (sym made)
-    ∙ sym (set_back asked.act p (record p { regs = regs; tlb = tlb; shielded = false }) (memory_after asked.write m) regs tlb (asked.write ≡ None) left)
+    ∙ sym (set_back asked.act p.regs regs (asked.write ≡ None) (record p { regs = regs; tlb = tlb }) (memory_after asked.write m) left)
+
+-- a turn where the body is to run, and elsewhere by the vector that is deliverable
+pub turned_before_body : (p : Processor) (m : List ℕ) → enters_body p ≡ true → turned p m ≡ turned_to p m stepped.Stopped
+unfolding turned
+turned_before_body p m enters = ap (λ (b : Bool). if b then turned_to p m stepped.Stopped else turned_unless (deliverable p) p m) enters
+
+pub turned_else : (p : Processor) (m : List ℕ) (vector : Option ℕ) → enters_body p ≡ false → deliverable p ≡ vector
+    → turned p m ≡ turned_unless vector p m
+unfolding turned
+turned_else p m vector enters is =
+    ap (λ (b : Bool). if b then turned_to p m stepped.Stopped else turned_unless (deliverable p) p m) enters
+    ∙ ap (λ (v : Option ℕ). turned_unless v p m) is

@@ -2,5 +2,7 @@
 pub mod Processor
 pub mod InstructionFetch
 pub mod Turns
+pub mod EventsTaken
+pub mod TranslationsLent
 -- Words of private clauses and proofs.
 pub mod DecodingMemo

@@ -4,40 +4,30 @@ ghost use Rattle.std.specs.Prelude.{◌≡◌, List, ℕ, ◌*◌, ◌/◌, ◌<
 ghost use Rattle.nk_bits.specs.Translations.{dropped, flushed};
 ghost use Rattle.x86_regs.specs.Effects.{LoadsFrameIn};
 ghost use Rattle.cpu_step.specs.Processor.{IsSound};
-ghost use Rattle.cpu_step.specs.Turns.{acted, control_after, kept_in_cr0, stopped_by, with_al};
+ghost use Rattle.cpu_step.specs.Turns.{acted, interrupted, kept_in_cr0, returned_by, with_al};
+ghost use Rattle.trap_unit.specs.TrapReturn.{returned};
 
 use crate::processor::Cpu;
 use crate::stepped::Stepped;
 use decode_fields::Place;
 use phys_mem::PhysMem;
-use x86_regs::{Act, Fault};
+use trap_unit::{interrupt_allowed, iretq};
+use x86_regs::{Act, Fault, Frame};
 
 /// The bits that CR0 keeps: PG, CD, NW, WP and PE (SDM volume 3, 2.5).
 const KEPT_IN_CR0: u64 = 0xE001_0001;
 
 impl Cpu {
-    /// Stops before a fault, whose address CR2 gets where it is a page fault.
-    pub(crate) fn stop(&mut self, fault: Fault) -> Stepped
-        ensures stopped { (m : List ℕ) → record { processor = self.new; memory = m; stepped = result }
-            ≡ stopped_by fault self.old m self.old.tlb }
-        ensures sound { (size : ℕ) → IsSound size self.old → IsSound size self.new }
+    /// Does what an instruction asks, which stood at `rip` and has written its registers.
+    pub(crate) fn act(&mut self, act: &Act, rip: u64, mem: &mut PhysMem) -> Stepped
+        requires loads { LoadsFrameIn (length mem.old) act.now }
+        requires sound { IsSound (length mem.old) self.old }
+        ensures acted { record { processor = self.new; memory = mem.new; stepped = result }
+            ≡ acted act.now (record self.old.regs { rip = rip }) self.old mem.old }
+        ensures sound { IsSound (length mem.new) self.new }
+        ensures length { length mem.new ≡ length mem.old }
     {
-        if let Fault::Page { address, .. } = fault {
-            self.control.cr2 = address;
-        }
-        Stepped::Stopped
-    }
-
-    /// Does what an instruction asks, which has written its registers; it stood at `rip`, and `shielded` tells whether
-    /// it was shielded.
-    pub(crate) fn act(&mut self, act: Act, rip: u64, shielded: bool, mem: &PhysMem) -> Stepped
-        requires loads { LoadsFrameIn (length mem.now) act }
-        requires sound { IsSound (length mem.now) self.old }
-        ensures sound { IsSound (length mem.now) self.new }
-        ensures acted { record { processor = self.new; memory = mem.now; stepped = result } ≡ acted act
-            (record self.old { regs = record self.old.regs { rip = rip }; shielded = shielded }) self.old mem.now }
-    {
-        match act {
+        match *act {
             Act::Quiet => Stepped::Ran,
             Act::Out(byte, port) => self.output(byte, port),
             Act::In(port) => self.input(port),
@@ -49,11 +39,8 @@ impl Cpu {
                 self.shielded = true;
                 Stepped::Ran
             }
-            Act::Interrupt(_) | Act::Return(_) => {
-                self.regs.rip = rip;
-                self.shielded = shielded;
-                Stepped::Stopped
-            }
+            Act::Interrupt(vector) => self.interrupt(vector, rip, mem),
+            Act::Return(frame) => self.return_by(&frame, rip, mem),
             Act::Cr0(value) => {
                 self.control.cr0 = value & KEPT_IN_CR0;
                 Stepped::Ran
@@ -82,6 +69,53 @@ impl Cpu {
         }
     }
 
+    /// INT n or INT3, which stood at `rip`: it is delivered where its gate allows it, and else raises #GP.
+    #[inline(never)]
+    fn interrupt(&mut self, vector: u8, rip: u64, mem: &mut PhysMem) -> Stepped
+        requires sound { IsSound (length mem.old) self.old }
+        ensures interrupted { record { processor = self.new; memory = mem.new; stepped = result }
+            ≡ interrupted vector (record self.old.regs { rip = rip }) self.old mem.old }
+        ensures sound { IsSound (length mem.new) self.new }
+        ensures length { length mem.new ≡ length mem.old }
+    {
+        match interrupt_allowed(
+            mem,
+            &mut self.tlb,
+            &self.control,
+            &self.tables,
+            self.regs.cpl,
+            vector,
+        ) {
+            Ok(true) => self.deliver(vector, None, mem),
+            Ok(false) => {
+                self.regs.rip = rip;
+                self.raise(Fault::General(8 * u64::from(vector) + 2), mem)
+            }
+            Err(_) => {
+                self.regs.rip = rip;
+                Stepped::Shutdown
+            }
+        }
+    }
+
+    /// IRETQ, which stood at `rip` and popped this frame.
+    #[inline(never)]
+    fn return_by(&mut self, frame: &Frame, rip: u64, mem: &mut PhysMem) -> Stepped
+        requires sound { IsSound (length mem.old) self.old }
+        ensures returned { record { processor = self.new; memory = mem.new; stepped = result }
+            ≡ returned_by (returned self.old.regs frame.now) (record self.old.regs { rip = rip }) self.old mem.old }
+        ensures sound { IsSound (length mem.new) self.new }
+        ensures length { length mem.new ≡ length mem.old }
+    {
+        match iretq(&mut self.regs, frame) {
+            Ok(()) => Stepped::Ran,
+            Err(fault) => {
+                self.regs.rip = rip;
+                self.raise(fault, mem)
+            }
+        }
+    }
+
     /// MOV to CR3: the root is the frame of bits 63 to 12, and no translation is kept.
     fn load_root(&mut self, value: u64, mem: &PhysMem)
         requires { 4096 * (value / 4096) < length mem.now }
@@ -96,9 +130,10 @@ impl Cpu {
         self.tlb.flush();
     }
 
-    /// Forgets the translation of a page.
+    /// Forgets the translation of the page with this number.
     pub(crate) fn drop_page(&mut self, page: u64)
-        ensures { self.new ≡ record self.old { tlb = dropped self.old.tlb page } }
+        ensures dropped { self.new ≡ record self.old { tlb = dropped self.old.tlb page } }
+        ensures sound { (size : ℕ) → IsSound size self.old → IsSound size self.new }
     {
         self.tlb.drop_page(page);
     }
@@ -106,7 +141,7 @@ impl Cpu {
     fn output(&mut self, byte: u8, port: u16) -> Stepped
         ensures sound { (size : ℕ) → IsSound size self.old → IsSound size self.new }
         ensures acted { (m : List ℕ) → record { processor = self.new; memory = m; stepped = result }
-            ≡ acted (Act.Out byte port) self.old self.old m }
+            ≡ acted (Act.Out byte port) self.old.regs self.old m }
     {
         match self.ports.give(port, byte) {
             Some(byte) => Stepped::Console(byte),
@@ -117,7 +152,7 @@ impl Cpu {
     fn input(&mut self, port: u16) -> Stepped
         ensures sound { (size : ℕ) → IsSound size self.old → IsSound size self.new }
         ensures acted { (m : List ℕ) → record { processor = self.new; memory = m; stepped = result }
-            ≡ acted (Act.In port) self.old self.old m }
+            ≡ acted (Act.In port) self.old.regs self.old m }
     {
         let byte = self.ports.take(port);
         self.regs.set(&Place::Reg(0), 8, u64::from(byte));

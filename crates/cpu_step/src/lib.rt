@@ -1,8 +1,8 @@
-//! One turn of the processor: the instruction at RIP is fetched, its effect made, and what it asks of the processor
-//! done. It meets `turned` of `specs/Turns.antt`: registers, control registers, translations, ports and memory after
-//! the turn, and what the turn shows. It owns the processor's state and changes memory by an instruction's one write.
-//! Interrupts aren't delivered here, and the nested kernel's body isn't run: the processor stops before both. No turn
-//! takes memory. Floor: processor.
+//! One turn of the processor: an interrupt is delivered, or the instruction at RIP is fetched, its effect made, and what
+//! it asks of the processor done; a fault is delivered. It meets `turned` of `specs/Turns.antt`: registers, control
+//! registers, translations, ports and memory after the turn, and what the turn shows; and `event_taken` for the events
+//! of a plan. It owns the processor's state, and changes memory by an instruction's one write and the pushes of a
+//! delivery. The nested kernel's body isn't run: the processor stops before it. No turn takes memory. Floor: processor.
 #![tactic(auto)]
 
 // What a turn shows, and the fetch that begins it.
@@ -10,9 +10,13 @@ mod fetch;
 mod memo;
 mod stepped;
 
-// What an instruction does, and what it asks.
+// What an instruction does, and what it asks; deliveries.
 mod acts;
 mod execution;
+mod traps;
+
+// The events of a plan.
+mod events;
 
 // The whole.
 mod processor;

@@ -80,9 +80,20 @@ fn renew(entries: &mut Vec<MemoEntry>, slot: usize, low: u64, high: u64)
     ensures right { All IsRight entries.new.items }
     ensures answer { (d : MemoEntry) → IsAnswerOf low high (slice_index_or entries.new.items slot d).answer }
 {
-    if entries[slot].is_of(low, high) {
-        return;
+    if !entries[slot].is_of(low, high) {
+        replace(entries, slot, low, high);
     }
+}
+
+/// Makes an entry that of two words.
+#[inline(never)]
+fn replace(entries: &mut Vec<MemoEntry>, slot: usize, low: u64, high: u64)
+    requires slot { slot < length entries.old.items }
+    requires right { All IsRight entries.old.items }
+    ensures length { length entries.new.items ≡ length entries.old.items }
+    ensures right { All IsRight entries.new.items }
+    ensures answer { (d : MemoEntry) → IsAnswerOf low high (slice_index_or entries.new.items slot d).answer }
+{
     let answer = decode_words(low, high);
     entries[slot] = MemoEntry { low, high, answer };
 }

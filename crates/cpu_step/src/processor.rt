@@ -1,7 +1,10 @@
 //! The processor between two turns.
 
-ghost use Rattle.std.specs.Prelude.{◌≡◌, IfOk};
+ghost use Rattle.std.specs.Prelude.{◌≡◌, ◌≤◌, ◌<◌, IfOk, IfSome};
+ghost use Rattle.std.specs.Borrow.{sem};
+ghost use Rattle.x86_regs.specs.Operands.{with_register};
 ghost use Rattle.cpu_step.specs.Processor.{deliverable, highest_pending, started};
+ghost use Rattle.cpu_step.specs.Turns.{woken};
 
 use crate::memo::Memo;
 use nk_bits::Control;
@@ -9,8 +12,8 @@ use port_bus::Ports;
 use std::alloc::Global;
 use std::marker::Model;
 use tlb_model::Tlb;
-use x86_alu::scan_bit;
-use x86_regs::{IF, Regs, Tables, bit};
+use x86_alu::{scan_bit, with_flag};
+use x86_regs::{IF, Regs, Tables, bit, set_register};
 
 /// There is no room for the translations and decodings that a processor keeps.
 #[derive(Clone, Copy, Debug, PartialEq, Eq)]
@@ -24,8 +27,8 @@ pub struct Cpu {
     pub(crate) tables: Tables,
     pub(crate) tlb: Tlb,
     pub(crate) ports: Ports,
-    /// Bit v - 32 is set where the maskable vector v is pending.
-    pub(crate) pending: u16,
+    /// Bit v - 32 is set where the maskable vector v, 32 to 47, is pending.
+    pub(crate) pending: u64,
     /// The next instruction is shielded from interrupts.
     pub(crate) shielded: bool,
     pub(crate) halted: bool,
@@ -51,6 +54,8 @@ impl Model for Cpu {
 }
 
 impl Cpu {
+    ghost use Rattle.cpu_step.specs.TranslationsLent.{LendsTranslations};
+
     /// A processor that keeps no translation yet, with this input behind its ports.
     pub fn new(
         alloc: Global,
@@ -82,13 +87,23 @@ impl Cpu {
 
     /// The vector that is to be delivered before the next instruction.
     pub fn deliverable(&self) -> Option<u8>
-        ensures { result ≡ deliverable self.now }
+        ensures vector { result ≡ deliverable self.now }
+        ensures bounds { IfSome result (λ vector. (32 ≤ vector) × (vector < 96)) }
     {
         if bit(self.regs.flags, IF) && !self.shielded {
             highest_pending(self.pending)
         } else {
             None
         }
+    }
+
+    /// The vector that is delivered waits no longer, and the processor is awake.
+    pub(crate) fn wake(&mut self, vector: u8)
+        requires { (32 ≤ vector) × (vector < 96) }
+        ensures { self.new ≡ woken vector self.old }
+    {
+        self.pending = with_flag(self.pending, vector - 32, false);
+        self.halted = false;
     }
 
     /// The registers that instructions name.
@@ -118,15 +133,48 @@ impl Cpu {
     {
         &self.tlb
     }
+
+    /// The translations kept, to be changed; all else stays.
+    pub fn tlb_mut(&mut self) -> &mut Tlb
+        ensures* writes_back { sem 𝓛 (LendsTranslations self.entry result) }
+        ensures tlb { result.now ≡ self.old.tlb }
+    {
+        &mut self.tlb
+    }
+
+    /// Writes a general register whole; its number is that of its encoding.
+    pub fn set_reg(&mut self, number: u8, value: u64)
+        requires { number < 16 }
+        ensures { self.new ≡ record self.old {
+          regs = record self.old.regs { general = with_register self.old.regs.general number value };
+        } }
+    {
+        set_register(&mut self.regs.general, number, value);
+    }
+
+    /// Goes on at another address.
+    pub fn set_rip(&mut self, rip: u64)
+        ensures { self.new ≡ record self.old { regs = record self.old.regs { rip = rip } } }
+    {
+        self.regs.rip = rip;
+    }
+
+    /// Names another root of the page tables; the translations stay.
+    pub fn set_root(&mut self, root: u32)
+        ensures { self.new ≡ record self.old { control = record self.old.control { root = root } } }
+    {
+        self.control.root = root;
+    }
 }
 
 /// The highest pending vector, 32 to 47.
-fn highest_pending(pending: u16) -> Option<u8>
-    ensures { result ≡ highest_pending pending }
+fn highest_pending(pending: u64) -> Option<u8>
+    ensures vector { result ≡ highest_pending pending }
+    ensures bounds { IfSome result (λ vector. (32 ≤ vector) × (vector < 96)) }
 {
     if pending == 0 {
         None
     } else {
-        Some(32 + scan_bit(false, 64, u64::from(pending), 0).value as u8)
+        Some(32 + scan_bit(false, 64, pending, 0).value as u8)
     }
 }

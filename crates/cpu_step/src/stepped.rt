@@ -1,5 +1,7 @@
 //! What a turn shows.
 
+use nk_bits::Delivery;
+
 /// What a turn shows to the outside.
 #[derive(Clone, Copy, Debug, PartialEq, Eq)]
 pub enum Stepped {
@@ -7,7 +9,10 @@ pub enum Stepped {
     Ran,
     /// The instruction ran and wrote a byte to the console.
     Console(u8),
-    /// No turn was made: the nested kernel's body was to run, or an interrupt, a trap or a fault was to be delivered, or
-    /// an IRETQ to return. All stays as it was, but for CR2 and the translations kept.
+    /// An interrupt, a trap or a fault was delivered.
+    Delivered(Delivery),
+    /// A delivery shut the machine down.
+    Shutdown,
+    /// No turn was made, and all stays as it was: the nested kernel's body is to run.
     Stopped,
 }

@@ -1,11 +1,11 @@
 //! A turn.
 
-ghost use Rattle.std.specs.Prelude.{◌≡◌, ℕ, ◌%◌, ◌≤◌, List, false, IfOk, OnErr, length};
+ghost use Rattle.std.specs.Prelude.{◌≡◌, ◌⊎◌, ◌%◌, ◌≤◌, false, IsSome, IfOk, Ok, OnErr, length};
 ghost use Rattle.nk_bits.specs.Accesses.{wp_of};
 ghost use Rattle.nk_bits.specs.Outcomes.{outcome_of};
-ghost use Rattle.x86_regs.specs.Effects.{FitsIn, HasAccessSize, LeavesToDelivery, LoadsFrameIn, effect_with};
-ghost use Rattle.cpu_step.specs.Processor.{IsSound};
-ghost use Rattle.cpu_step.specs.Turns.{acted, instruction_made, is_at_body, memory_after, stopped_at_body, turned};
+ghost use Rattle.x86_regs.specs.Effects.{FitsIn, HasAccessSize, LeavesToDelivery, LoadsFrameIn, asked_nothing, effect_with};
+ghost use Rattle.cpu_step.specs.Processor.{IsSound, deliverable};
+ghost use Rattle.cpu_step.specs.Turns.{acted, enters_body, instructed, instruction_made, is_at_body, memory_after, refused_body, turned};
 
 use crate::execution::execute;
 use crate::fetch::{code_on_page, fetch_by_bytes, is_on_page};
@@ -14,7 +14,7 @@ use crate::stepped::Stepped;
 use mem_access::commit;
 use phys_mem::PhysMem;
 use x86_decode::Decoded;
-use x86_regs::{Asked, Fault, Regs, Write, bit};
+use x86_regs::{ASKED_NOTHING, Asked, Fault, Regs, Write, bit};
 
 /// Offset 27 of the gates' text, where the nested kernel's body stands.
 const BODY: u64 = 0xFFFF_FF80_0000_101B;
@@ -26,92 +26,131 @@ const BODY_STACK: u64 = 0xFFFF_FF80_0000_4FF8;
 const WP: u8 = 16;
 
 impl Cpu {
-    /// One turn: an instruction, or `Stopped` where none is made.
+    /// One turn: an interrupt that is delivered, or an instruction; or `Stopped` where the nested kernel's body is to
+    /// run, and none is made. A fault is delivered, and an interrupt and a return by an instruction are made.
     pub fn step(&mut self, mem: &mut PhysMem) -> Stepped
-        requires running { self.old.halted ≡ false }
+        requires running { (self.old.halted ≡ false) ⊎ IsSome (deliverable self.old) }
         requires sound { IsSound (length mem.old) self.old }
         ensures turned { record { processor = self.new; memory = mem.new; stepped = result }
             ≡ turned self.old mem.old }
         ensures sound { IsSound (length mem.new) self.new }
         ensures length { length mem.new ≡ length mem.old }
     {
-        if is_at_body(&self.regs) {
-            return self.stop_at_body();
+        if self.enters_body() {
+            return Stepped::Stopped;
         }
-        let (rip, shielded) = (self.regs.rip, self.shielded);
-        match self.make(mem) {
-            Ok(asked) => self.finish(&asked, rip, shielded, mem),
-            Err(fault) => self.stop(fault),
+        match self.deliverable() {
+            Some(vector) => {
+                self.wake(vector);
+                self.deliver(vector, None, mem)
+            }
+            None => {
+                self.shielded = false;
+                self.instruct(mem)
+            }
+        }
+    }
+
+    /// Whether the nested kernel's body is to run: the supervisor stands at its place, with WP clear.
+    #[inline]
+    pub fn enters_body(&self) -> bool
+        ensures { result ≡ enters_body self.now }
+    {
+        is_at_body(&self.regs) && !keeps_supervisor(self.control.cr0)
+    }
+
+    /// Makes an instruction, unless RIP is at the body's place.
+    #[inline]
+    fn instruct(&mut self, mem: &mut PhysMem) -> Stepped
+        requires sound { IsSound (length mem.old) self.old }
+        ensures instructed { record { processor = self.new; memory = mem.new; stepped = result }
+            ≡ instructed self.old mem.old }
+        ensures sound { IsSound (length mem.new) self.new }
+        ensures length { length mem.new ≡ length mem.old }
+    {
+        if is_at_body(&self.regs) {
+            return self.refuse_body(mem);
+        }
+        let rip = self.regs.rip;
+        let mut made = Ok(ASKED_NOTHING);
+        self.make(mem, &mut made);
+        match &made {
+            Ok(asked) => self.finish(asked, rip, mem),
+            Err(fault) => self.raise(*fault, mem),
         }
     }
 
     /// Makes the write of an instruction, which stood at `rip`, and does what it asks.
-    fn finish(&mut self, asked: &Asked, rip: u64, shielded: bool, mem: &mut PhysMem) -> Stepped
+    #[inline]
+    fn finish(&mut self, asked: &Asked, rip: u64, mem: &mut PhysMem) -> Stepped
         requires places { FitsIn (length mem.old) asked.now.write }
         requires sized { HasAccessSize asked.now.write }
         requires loads { LoadsFrameIn (length mem.old) asked.now.act }
         requires sound { IsSound (length mem.old) self.old }
-        ensures sound { IsSound (length mem.new) self.new }
         ensures acted { record { processor = self.new; memory = mem.new; stepped = result } ≡ acted asked.now.act
-            (record self.old { regs = record self.old.regs { rip = rip }; shielded = shielded })
-            (record self.old { shielded = false }) (memory_after asked.now.write mem.old) }
+            (record self.old.regs { rip = rip }) self.old (memory_after asked.now.write mem.old) }
+        ensures sound { IsSound (length mem.new) self.new }
         ensures length { length mem.new ≡ length mem.old }
     {
-        put(mem, asked.write);
-        self.shielded = false;
-        self.act(asked.act, rip, shielded, mem)
+        put(mem, &asked.write);
+        self.act(&asked.act, rip, mem)
     }
 
-    /// Stops before the nested kernel's body, or before the page fault of its first push.
-    fn stop_at_body(&mut self) -> Stepped
-        ensures stopped { (m : List ℕ) → record { processor = self.new; memory = m; stepped = result }
-            ≡ stopped_at_body self.old m }
-        ensures sound { (size : ℕ) → IsSound size self.old → IsSound size self.new }
+    /// With WP set the first push of the body is a page fault.
+    #[inline(never)]
+    fn refuse_body(&mut self, mem: &mut PhysMem) -> Stepped
+        requires sound { IsSound (length mem.old) self.old }
+        ensures refused { record { processor = self.new; memory = mem.new; stepped = result }
+            ≡ refused_body self.old mem.old }
+        ensures sound { IsSound (length mem.new) self.new }
+        ensures length { length mem.new ≡ length mem.old }
     {
-        if !keeps_supervisor(self.control.cr0) {
-            return Stepped::Stopped;
-        }
         self.drop_page(BODY_STACK / 4096);
-        self.stop(Fault::Page {
-            code: 3,
-            address: BODY_STACK,
-        })
+        self.raise(
+            Fault::Page {
+                code: 3,
+                address: BODY_STACK,
+            },
+            mem,
+        )
     }
 
     /// Fetches the instruction at RIP and makes its effect on the registers.
-    fn make(&mut self, mem: &PhysMem) -> Result<Asked, Fault>
+    fn make(&mut self, mem: &PhysMem, made: &mut Result<Asked, Fault>)
+        requires fresh { made.old ≡ Ok asked_nothing }
         requires sound { IsSound (length mem.now) self.old }
-        ensures outcome { outcome_of (effect_with result self.new.regs) self.new.tlb
+        ensures outcome { outcome_of (effect_with made.new self.new.regs) self.new.tlb
             ≡ instruction_made self.old mem.now }
         ensures rest { self.new ≡ record self.old { regs = self.new.regs; tlb = self.new.tlb } }
-        ensures kept { OnErr result (self.new.regs ≡ self.old.regs) }
+        ensures kept { OnErr made.new (self.new.regs ≡ self.old.regs) }
         ensures sound { IsSound (length mem.now) self.new }
-        ensures places { IfOk result (λ asked. FitsIn (length mem.now) asked.write) }
-        ensures sized { IfOk result (λ asked. HasAccessSize asked.write) }
-        ensures loads { IfOk result (λ asked. LoadsFrameIn (length mem.now) asked.act) }
-        ensures delivered { IfOk result (λ asked. LeavesToDelivery self.old.regs
+        ensures places { IfOk made.new (λ asked. FitsIn (length mem.now) asked.write) }
+        ensures sized { IfOk made.new (λ asked. HasAccessSize asked.write) }
+        ensures loads { IfOk made.new (λ asked. LoadsFrameIn (length mem.now) asked.act) }
+        ensures delivered { IfOk made.new (λ asked. LeavesToDelivery self.old.regs
             (record { regs = self.new.regs; write = asked.write; act = asked.act })) }
     {
         if is_on_page(self.regs.rip) {
-            self.make_on_page(mem)
+            self.make_on_page(mem, made)
         } else {
-            self.make_by_bytes(mem)
+            self.make_by_bytes(mem, made)
         }
     }
 
     /// Where the fifteen bytes from RIP on lie on one page: the instruction stays where the memo keeps it.
-    fn make_on_page(&mut self, mem: &PhysMem) -> Result<Asked, Fault>
+    fn make_on_page(&mut self, mem: &PhysMem, made: &mut Result<Asked, Fault>)
+        requires fresh { made.old ≡ Ok asked_nothing }
         requires sound { IsSound (length mem.now) self.old }
         requires page { self.old.regs.rip % 4096 ≤ 4080 }
-        ensures outcome { outcome_of (effect_with result self.new.regs) self.new.tlb
+        ensures outcome { outcome_of (effect_with made.new self.new.regs) self.new.tlb
             ≡ instruction_made self.old mem.now }
         ensures rest { self.new ≡ record self.old { regs = self.new.regs; tlb = self.new.tlb } }
-        ensures kept { OnErr result (self.new.regs ≡ self.old.regs) }
+        ensures kept { OnErr made.new (self.new.regs ≡ self.old.regs) }
         ensures sound { IsSound (length mem.now) self.new }
-        ensures places { IfOk result (λ asked. FitsIn (length mem.now) asked.write) }
-        ensures sized { IfOk result (λ asked. HasAccessSize asked.write) }
-        ensures loads { IfOk result (λ asked. LoadsFrameIn (length mem.now) asked.act) }
-        ensures delivered { IfOk result (λ asked. LeavesToDelivery self.old.regs
+        ensures places { IfOk made.new (λ asked. FitsIn (length mem.now) asked.write) }
+        ensures sized { IfOk made.new (λ asked. HasAccessSize asked.write) }
+        ensures loads { IfOk made.new (λ asked. LoadsFrameIn (length mem.now) asked.act) }
+        ensures delivered { IfOk made.new (λ asked. LeavesToDelivery self.old.regs
             (record { regs = self.new.regs; write = asked.write; act = asked.act })) }
     {
         match code_on_page(
@@ -129,26 +168,28 @@ impl Cpu {
                     &self.control,
                     mem,
                     &mut self.tlb,
+                    made,
                 )
             }
-            Ok(Decoded::Short | Decoded::TooLong) => Err(Fault::General(0)),
-            Ok(Decoded::Unknown) => Err(Fault::Opcode),
-            Err(fault) => Err(fault),
+            Ok(Decoded::Short | Decoded::TooLong) => *made = Err(Fault::General(0)),
+            Ok(Decoded::Unknown) => *made = Err(Fault::Opcode),
+            Err(fault) => *made = Err(fault),
         }
     }
 
     /// At the end of a page.
-    fn make_by_bytes(&mut self, mem: &PhysMem) -> Result<Asked, Fault>
+    fn make_by_bytes(&mut self, mem: &PhysMem, made: &mut Result<Asked, Fault>)
+        requires fresh { made.old ≡ Ok asked_nothing }
         requires sound { IsSound (length mem.now) self.old }
-        ensures outcome { outcome_of (effect_with result self.new.regs) self.new.tlb
+        ensures outcome { outcome_of (effect_with made.new self.new.regs) self.new.tlb
             ≡ instruction_made self.old mem.now }
         ensures rest { self.new ≡ record self.old { regs = self.new.regs; tlb = self.new.tlb } }
-        ensures kept { OnErr result (self.new.regs ≡ self.old.regs) }
+        ensures kept { OnErr made.new (self.new.regs ≡ self.old.regs) }
         ensures sound { IsSound (length mem.now) self.new }
-        ensures places { IfOk result (λ asked. FitsIn (length mem.now) asked.write) }
-        ensures sized { IfOk result (λ asked. HasAccessSize asked.write) }
-        ensures loads { IfOk result (λ asked. LoadsFrameIn (length mem.now) asked.act) }
-        ensures delivered { IfOk result (λ asked. LeavesToDelivery self.old.regs
+        ensures places { IfOk made.new (λ asked. FitsIn (length mem.now) asked.write) }
+        ensures sized { IfOk made.new (λ asked. HasAccessSize asked.write) }
+        ensures loads { IfOk made.new (λ asked. LoadsFrameIn (length mem.now) asked.act) }
+        ensures delivered { IfOk made.new (λ asked. LeavesToDelivery self.old.regs
             (record { regs = self.new.regs; write = asked.write; act = asked.act })) }
     {
         match fetch_by_bytes(mem, &mut self.tlb, &self.control, &self.regs) {
@@ -159,8 +200,9 @@ impl Cpu {
                 &self.control,
                 mem,
                 &mut self.tlb,
+                made,
             ),
-            Err(fault) => Err(fault),
+            Err(fault) => *made = Err(fault),
         }
     }
 }
@@ -181,10 +223,10 @@ fn keeps_supervisor(cr0: u64) -> bool
 }
 
 /// Makes the one write of an instruction.
-fn put(mem: &mut PhysMem, write: Option<Write>)
-    requires places { FitsIn (length mem.old) write }
-    requires sized { HasAccessSize write }
-    ensures memory { mem.new ≡ memory_after write mem.old }
+fn put(mem: &mut PhysMem, write: &Option<Write>)
+    requires places { FitsIn (length mem.old) write.now }
+    requires sized { HasAccessSize write.now }
+    ensures memory { mem.new ≡ memory_after write.now mem.old }
     ensures length { length mem.new ≡ length mem.old }
 {
     if let Some(write) = write {

@@ -1,6 +1,6 @@
 //! What instructions ask of the processor (SDM volume 2, each instruction's page; volume 3, 2.5 and 6.8.3).
 
-use super::{After, CONTROL, REGS, TABLES, compare, ran, stopped, with};
+use super::{After, CONTROL, REGS, TABLES, compare, delivered, ran, with};
 use crate::Stepped;
 use nk_bits::Control;
 use x86_regs::{RAX, Regs, Tables};
@@ -85,7 +85,13 @@ fn control_registers(rt: HostRuntime) {
         loaded(&open, 3, without_wp),
     );
     let unpaged = with(&REGS, RAX, 0x1_0001);
-    compare(&rt, alloc, b"\x0F\x22\xC0", &unpaged, stopped(&unpaged, 0));
+    compare(
+        &rt,
+        alloc,
+        b"\x0F\x22\xC0",
+        &unpaged,
+        delivered(&unpaged, 13, Some(0)),
+    );
     let address = with(&REGS, RAX, 0x8877_6655_4433_2211);
     let faulted = Control {
         cr2: 0x8877_6655_4433_2211,
@@ -107,7 +113,13 @@ fn control_registers(rt: HostRuntime) {
         loaded(&third, 3, Control { root: 9, ..CONTROL }),
     );
     let tenth = with(&REGS, RAX, 0xA000);
-    compare(&rt, alloc, b"\x0F\x22\xD8", &tenth, stopped(&tenth, 0));
+    compare(
+        &rt,
+        alloc,
+        b"\x0F\x22\xD8",
+        &tenth,
+        delivered(&tenth, 13, Some(0)),
+    );
     let plain = with(&REGS, RAX, 0x20);
     compare(
         &rt,
@@ -145,43 +157,4 @@ fn descriptor_table(rt: HostRuntime) {
         ..ran(&REGS, 3)
     };
     compare(&rt, rt.alloc(), b"\x0F\x01\x1B", &REGS, loaded);
-}
-
-/// Traps, returns, faults and the body's place: the processor stays as it was, but for CR2.
-#[test]
-fn stops(rt: HostRuntime) {
-    let alloc = rt.alloc();
-    for code in [
-        &b"\x0F\x0B"[..],
-        b"\xCC",
-        b"\xCD\x20",
-        b"\x48\xCF",
-        b"\xF0\x90",
-    ] {
-        compare(&rt, alloc, code, &REGS, stopped(&REGS, 0));
-    }
-    // div by zero; a load of page 2, and a push there
-    let zero = with(&REGS, 1, 0);
-    compare(&rt, alloc, b"\xF7\xF1", &zero, stopped(&zero, 0));
-    let lost = with(&REGS, 3, 0x2345);
-    compare(&rt, alloc, b"\x8B\x03", &lost, stopped(&lost, 0x2345));
-    let low = with(&REGS, 4, 0x2004);
-    compare(&rt, alloc, b"\x50", &low, stopped(&low, 0x2000));
-    let far = with(&REGS, 3, 0x8000_0000_0000);
-    compare(&rt, alloc, b"\x8B\x03", &far, stopped(&far, 0));
-    // the body's place: with WP set its first push is a page fault
-    let body = Regs {
-        rip: 0xFFFF_FF80_0000_101B,
-        ..REGS
-    };
-    compare(
-        &rt,
-        alloc,
-        b"\x90",
-        &body,
-        stopped(&body, 0xFFFF_FF80_0000_4FF8),
-    );
-    // the user may not execute these pages
-    let user = Regs { cpl: 3, ..REGS };
-    compare(&rt, alloc, b"\x90", &user, stopped(&user, 0));
 }

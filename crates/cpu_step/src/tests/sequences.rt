@@ -1,27 +1,11 @@
 //! Turns one after another.
 
-ghost use Rattle.std.specs.Prelude.{◌≡◌, length};
-ghost use Rattle.cpu_step.specs.Processor.{IsSound};
-
-use super::{REGS, cpu, memory, put};
-use crate::{Cpu, Stepped};
-use phys_mem::PhysMem;
+use super::{REGS, cpu, memory, next, put};
+use crate::Stepped;
+use nk_bits::Delivery;
 use std::alloc::Global;
 use std::test::Fail;
 use x86_regs::{RAX, RCX, RDI, Regs};
-
-/// One more turn, or None where the processor is halted.
-fn next(cpu: &mut Cpu, mem: &mut PhysMem) -> Option<Stepped>
-    requires { IsSound (length mem.old) cpu.old }
-    ensures sound { IsSound (length mem.new) cpu.new }
-    ensures length { length mem.new ≡ length mem.old }
-{
-    if cpu.halted() {
-        None
-    } else {
-        Some(cpu.step(mem))
-    }
-}
 
 /// mov al, 41; out E9, al; hlt
 #[test]
@@ -37,6 +21,16 @@ fn console_and_halt(rt: HostRuntime) -> Result<(), Fail> {
     Ok(())
 }
 
+/// A page fault at an address, of the instruction at RIP.
+fn page_fault(code: u64, address: u64, rip: u64) -> Option<Stepped> {
+    Some(Stepped::Delivered(Delivery {
+        vector: 14,
+        code: Some(code),
+        rip,
+        cr2: Some(address),
+    }))
+}
+
 /// mov [rsi], eax, and then to page 2; a refused write changes nothing.
 #[test]
 fn writes_are_made(rt: HostRuntime) -> Result<(), Fail> {
@@ -45,9 +39,8 @@ fn writes_are_made(rt: HostRuntime) -> Result<(), Fail> {
     let mut cpu = cpu(rt.alloc(), &REGS)?;
     assert_eq!(rt; next(&mut cpu, &mut mem), Some(Stepped::Ran));
     assert_eq!(rt; mem.load64(0x9100), 0x41);
-    assert_eq!(rt; next(&mut cpu, &mut mem), Some(Stepped::Stopped));
-    assert_eq!(rt; cpu.control().cr2, 0x2100);
-    assert_eq!(rt; cpu.regs().rip, 2);
+    assert_eq!(rt; next(&mut cpu, &mut mem), page_fault(2, 0x2100, 2));
+    assert_eq!(rt; mem.load64(0x9100), 0x41);
     Ok(())
 }
 
@@ -89,24 +82,6 @@ fn translations_are_kept(rt: HostRuntime) -> Result<(), Fail> {
     assert_eq!(rt; cpu.regs().general[RAX as usize], 0x5A);
     assert_eq!(rt; next(&mut cpu, &mut mem), Some(Stepped::Ran));
     assert!(rt; cpu.tlb().look(0).is_none());
-    assert_eq!(rt; next(&mut cpu, &mut mem), Some(Stepped::Stopped));
-    assert_eq!(rt; cpu.control().cr2, 0x1100);
-    Ok(())
-}
-
-/// A vector is delivered where IF is set and no shield stands, the highest first.
-#[test]
-fn highest_vector_first(rt: HostRuntime) -> Result<(), Fail> {
-    let mut cpu = cpu(rt.alloc(), &REGS)?;
-    cpu.pending = 0x8101;
-    assert_eq!(rt; cpu.deliverable(), None);
-    cpu.regs.flags = 0x202;
-    assert_eq!(rt; cpu.deliverable(), Some(47));
-    cpu.pending = 0x101;
-    assert_eq!(rt; cpu.deliverable(), Some(40));
-    cpu.pending = 1;
-    assert_eq!(rt; cpu.deliverable(), Some(32));
-    cpu.shielded = true;
-    assert_eq!(rt; cpu.deliverable(), None);
+    assert_eq!(rt; next(&mut cpu, &mut mem), page_fault(0, 0x1100, 7));
     Ok(())
 }

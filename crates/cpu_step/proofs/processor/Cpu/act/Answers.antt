@@ -1,5 +1,4 @@
 use Rattle.std.proofs.Common.{length}
-use Rattle.cpu_step.proofs.TurnLemmas.{sound_dropped}
 use Rattle.cpu_step.proofs.processor.Cpu.act.Goals as goal
 
 pub returns-in-In-clause-acted : goal.returns-in-In-clause-acted
@@ -12,5 +11,4 @@ pub returns-in-Out-clause-sound : goal.returns-in-Out-clause-sound
 returns-in-Out-clause-sound c = c.output.ensures.sound (length c.args.mem.now) c.requires.sound
 
 pub returns-in-DropPage-clause-sound : goal.returns-in-DropPage-clause-sound
-returns-in-DropPage-clause-sound c =
-    sound_dropped (length c.args.mem.now) c.args.self.now c.drop_page.new.self c.in-DropPage.page c.drop_page.ensures c.requires.sound
+returns-in-DropPage-clause-sound c = c.drop_page.ensures.sound (length c.args.mem.now) c.requires.sound

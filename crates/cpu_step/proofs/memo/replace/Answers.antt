@@ -1,7 +1,7 @@
 use Rattle.std.proofs.lemmas.List.Elements.{All-set}
 use Rattle.cpu_step.specs.declared.memo.MemoEntry.{MemoEntry}
 use Rattle.cpu_step.specs.DecodingMemo.{IsRight}
-use Rattle.cpu_step.proofs.memo.renew.Goals as goal
+use Rattle.cpu_step.proofs.memo.replace.Goals as goal
 
 pub returns-clause-right : goal.returns-clause-right
 returns-clause-right c =

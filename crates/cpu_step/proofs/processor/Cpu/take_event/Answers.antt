@@ -1,0 +1,5 @@
+use Rattle.std.proofs.Common.{length}
+use Rattle.cpu_step.proofs.processor.Cpu.take_event.Goals as goal
+
+pub returns-in-Drop-clause-sound : goal.returns-in-Drop-clause-sound
+returns-in-Drop-clause-sound c = c.drop_page.ensures.sound (length c.args.mem.now) c.requires.sound

@@ -1,0 +1,112 @@
+//! Deliveries to the processor: of interrupts, traps and faults.
+
+ghost use Rattle.std.specs.Prelude.{◌≡◌, length};
+ghost use Rattle.cpu_step.specs.Processor.{IsSound};
+ghost use Rattle.cpu_step.specs.Turns.{code_of, control_after, delivery_of, raised, shown_by, trapped, vector_of};
+
+use crate::processor::Cpu;
+use crate::stepped::Stepped;
+use nk_bits::Delivery;
+use phys_mem::PhysMem;
+use trap_unit::{Shut, deliver};
+use x86_regs::Fault;
+
+/// The vector of a page fault.
+const PAGE_FAULT: u8 = 14;
+
+impl Cpu {
+    /// Delivers a vector, with an error code or without.
+    #[inline(never)]
+    #[tactic(auto, unfolding(crate::specs::Turns::trapped))]
+    pub(crate) fn deliver(&mut self, vector: u8, code: Option<u64>, mem: &mut PhysMem) -> Stepped
+        requires sound { IsSound (length mem.old) self.old }
+        ensures trapped { record { processor = self.new; memory = mem.new; stepped = result }
+            ≡ trapped vector code self.old mem.old }
+        ensures sound { IsSound (length mem.new) self.new }
+        ensures length { length mem.new ≡ length mem.old }
+    {
+        let shown = self.shown(vector, code);
+        let answer = deliver(
+            mem,
+            &mut self.tlb,
+            &mut self.regs,
+            &self.control,
+            &self.tables,
+            vector,
+            code,
+        );
+        shown_by(&answer, shown)
+    }
+
+    /// What the delivery of a vector shows.
+    fn shown(&self, vector: u8, code: Option<u64>) -> Delivery
+        ensures { result ≡ delivery_of vector code self.now }
+    {
+        Delivery {
+            vector,
+            code,
+            rip: self.regs.rip,
+            cr2: if vector == PAGE_FAULT {
+                Some(self.control.cr2)
+            } else {
+                None
+            },
+        }
+    }
+
+    /// Delivers a fault, whose linear address CR2 gets where it is a page fault.
+    #[inline(never)]
+    pub(crate) fn raise(&mut self, fault: Fault, mem: &mut PhysMem) -> Stepped
+        requires sound { IsSound (length mem.old) self.old }
+        ensures raised { record { processor = self.new; memory = mem.new; stepped = result }
+            ≡ raised fault self.old mem.old }
+        ensures sound { IsSound (length mem.new) self.new }
+        ensures length { length mem.new ≡ length mem.old }
+    {
+        self.note(fault);
+        self.deliver(vector_of(fault), code_of(fault), mem)
+    }
+
+    /// CR2 gets the linear address of a page fault.
+    fn note(&mut self, fault: Fault)
+        ensures { self.new ≡ record self.old { control = control_after fault self.old.control } }
+    {
+        if let Fault::Page { address, .. } = fault {
+            self.control.cr2 = address;
+        }
+    }
+}
+
+/// What a turn shows whose delivery was made or shut the machine down.
+fn shown_by(answer: &Result<(), Shut>, shown: Delivery) -> Stepped
+    ensures { result ≡ shown_by answer.now shown }
+{
+    match answer {
+        Ok(()) => Stepped::Delivered(shown),
+        Err(_) => Stepped::Shutdown,
+    }
+}
+
+/// The vector of a fault (SDM volume 3, table 6-1).
+fn vector_of(fault: Fault) -> u8
+    ensures { result ≡ vector_of fault }
+{
+    match fault {
+        Fault::Divide => 0,
+        Fault::Opcode => 6,
+        Fault::Stack => 12,
+        Fault::General(_) => 13,
+        Fault::Page { .. } => PAGE_FAULT,
+    }
+}
+
+/// The error code that a fault pushes, if it pushes one.
+fn code_of(fault: Fault) -> Option<u64>
+    ensures { result ≡ code_of fault }
+{
+    match fault {
+        Fault::Divide | Fault::Opcode => None,
+        Fault::Stack => Some(0),
+        Fault::General(code) | Fault::Page { code, .. } => Some(code),
+    }
+}
