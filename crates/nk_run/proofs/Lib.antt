@@ -1,5 +1,6 @@
 pub mod Checks
 pub mod Told
+pub mod Digits
 pub mod Forms
 pub mod Handler
 pub mod Hexadecimal
@@ -8,6 +9,6 @@ pub mod Numerals
 pub mod OpeningList
 pub mod Rows
 pub mod Promises
+pub mod MoveLemmas
 pub mod Runs
-pub mod Stops
 pub mod Texts

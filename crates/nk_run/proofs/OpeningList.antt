@@ -1,5 +1,5 @@
 -- The opening's memory, known by each of its bytes, is the list of them; and the processor of the opening is sound.
-use Rattle.std.proofs.Common.{◌≡◌, ℕ, ◌*◌, ◌<◌, ◌≤◌, inl, List, length, arith, refl, sym, ap, subst, ◌∙◌}
+use Rattle.std.proofs.Common.{◌≡◌, ℕ, ◌*◌, ◌<◌, ◌≤◌, false, inl, List, length, arith, refl, sym, ap, subst, ◌∙◌}
 use Rattle.std.proofs.lemmas.List.{ext_get_or}
 use Rattle.std.proofs.lemmas.List.FromFn.{get_or-map-range_with_len, length-map-range_with_len}
 use Rattle.nk_bits.specs.declared.control.Control.{Control}
@@ -32,11 +32,13 @@ begun image input frames processor m regs control tables least opening made regs
     made ∙ ap (λ (r : Regs). started r control tables input) regs_are
     ∙ ap (λ (c : Control). started (opening_regs image frames) c tables input) control_is
     ∙ ap (λ (t : Tables). started (opening_regs image frames) opening_control t input) tables_are in
-    let with_processor : Processor → RunState = λ p. record { processor = p; memory = m; turns = 0 } in
+    let with_processor : Processor → RunState = λ p. record { processor = p; memory = m; turns = 0; taken = 0; is_shut = false } in
     let with_memory : List ℕ → RunState = λ x. record {
       processor = started (opening_regs image frames) opening_control opening_tables input;
       memory = x;
       turns = 0;
+      taken = 0;
+      is_shut = false;
     } in
     record {
       opening = ap with_processor is ∙ ap with_memory (opening_list image frames m opening);

@@ -4,6 +4,7 @@ use Rattle.std.proofs.lemmas.Bool.{le-ltb, le-leb}
 use Rattle.std.specs.Prelude.{⊤}
 use Rattle.elf_image.specs.Rows.{first_fault}
 use Rattle.byte_scanner.specs.FirstFound.{first_found}
+use Rattle.irq_plan.specs.PlanFile.{plan_of, read_from}
 use Rattle.boot_map.specs.Division.{need}
 use Rattle.nk_run.specs.declared.command_line.Command.{Command}
 use Rattle.nk_run.specs.declared.command_line.Command.TheVariants.{Scan, Map, Run}
@@ -55,7 +56,8 @@ module _ (words : List (List ℕ)) (files : Files) (image : List ℕ) (held : fi
   plan_passes : files (name_in words Plan) ≡ Some [] → fetched Plan (files (name_in words Plan)) ≡ passes
   plan_passes given = rw given refl
 
-  plan_read : files (name_in words Plan) ≡ Some [] → planned (file_in files words Plan) ≡ passes
+  plan_read : files (name_in words Plan) ≡ Some [] → planned (plan_of (file_in files words Plan)) ≡ passes
+  unfolding plan_of read_from
   plan_read given = rw given refl
 
   checks_pass : (command : Command) → HasRoom command image → HasInput command words files

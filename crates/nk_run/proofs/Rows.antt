@@ -1,9 +1,11 @@
 -- What the row of a run's checks says of the outcome.
-use Rattle.std.proofs.Common.{◌≡◌, ℕ, ◌≤◌, inl, inr, Bool, true, false, List, [], ◌∷◌, ◌++◌, Option, Some, None, IsSome, IsSomeAnd, Contains, arith, refl, sym, ap, subst, ◌∙◌}
+use Rattle.std.proofs.Common.{◌≡◌, ℕ, ◌≤◌, inl, inr, Bool, true, false, List, [], ◌∷◌, ◌++◌, Option, Some, None, IsSome, IsSomeAnd, Ok, Contains, arith, refl, sym, ap, subst, ◌∙◌}
 use Rattle.std.proofs.lemmas.Grind.{common_steps}
 use Rattle.std.specs.Prelude.{MatchBool, ⊤}
 use Rattle.nk_host.specs.FaultCounts.{NeverFalls, RoseTo}
 use Rattle.nk_host.specs.Told.{IfTold}
+use Rattle.irq_plan.specs.declared.event.Event.{Event}
+use Rattle.irq_plan.specs.PlanFile.{plan_of}
 use Rattle.boot_map.specs.Division.{need}
 use Rattle.nk_run.specs.declared.command_line.Command.{Command}
 use Rattle.nk_run.specs.declared.command_line.Command.TheVariants.{Run}
@@ -157,7 +159,7 @@ module _ (words : List (List ℕ)) (steps frames : ℕ) (asked : command_of word
   }))
 
   -- the files are those that are told, where they are told, and the row passed on them
-  module _ (told : Option Files) (image input : List ℕ) (held : IfTold told (λ files. (image ≡ file_in files words Image) × (input ≡ file_in files words Input) × (first_verdict (run_checks files words) ≡ passes))) where
+  module _ (told : Option Files) (image input : List ℕ) (plan : List Event) (held : IfTold told (λ files. (image ≡ file_in files words Image) × (input ≡ file_in files words Input) × (plan_of (file_in files words Plan) ≡ Ok plan) × (first_verdict (run_checks files words) ≡ passes))) where
     room_is : (files : Files) (v : Verdict) → told ≡ Some files → roomy (need image frames) frames ≡ v → room files ≡ v
     unfolding room
     room_is files v e is =
@@ -171,7 +173,7 @@ module _ (words : List (List ℕ)) (steps frames : ℕ) (asked : command_of word
       outcome_is = if_told shelf.before.files _ (λ files e.
           let told_is : told ≡ Some files = sym same ∙ e in
           let answer : Answer = record { status = status; text = text } in
-          row_passed files (told_at told _ files told_is held).2
+          row_passed files (told_at told _ files told_is held).3
           ∙ ap (λ (v : Verdict). decided v (run_answer files)) (last_ends (room files) answer (room_is files _ told_is ended)));
       own = own_one status one;
     }))

@@ -10,3 +10,4 @@ pub mod Clauses
 -- Words of private clauses and proofs.
 pub mod ReplyText
 pub mod Replies
+pub mod EventMoves

@@ -1,7 +1,8 @@
 -- The lines that the program writes, byte for byte. Lists of bytes nest to the right, as a format writes them.
-use Rattle.std.specs.Prelude.{ℕ, ◌++◌, ◌-◌, ◌^◌, if◌then◌else◌, List, [], ◌∷◌, false, codes, Result, Ok, Err}
+use Rattle.std.specs.Prelude.{ℕ, ◌++◌, ◌-◌, ◌^◌, if◌then◌else◌, List, [], ◌∷◌, false, codes, Option, None, Some, Result, Ok, Err}
 use Rattle.std.specs.Fmt.{decimal, digits, padded_integral, format_spec}
 use Rattle.hex.specs.Hex.{encode_lower}
+use Rattle.nk_bits.specs.declared.call.Delivery.{Delivery}
 use Rattle.nk_bits.specs.declared.leaf.Leaf.{Leaf}
 use Rattle.nk_bits.specs.declared.leaf.Rights.{Rights}
 use Rattle.nk_run.specs.declared.ending.Ending.{Ending}
@@ -80,10 +81,25 @@ abbrev pub walk_line : Result Leaf ℕ → List ℕ
 walk_line (Ok leaf) = frame_line leaf.frame leaf.rights
 walk_line (Err level) = missing_line level
 
--- the lines of a run: a byte of the console, why it ended, how many turns it took, the root's frame, and the address of
+-- the lines of a run: a byte of the console, a delivery, why it ended, how many turns it took, the root's frame, and the address of
 -- the trap handler
 unfoldable pub console_line : ℕ → List ℕ
 console_line byte = codes "c " ++ (encode_lower (byte ∷ []) ++ codes "\n")
+
+-- hexadecimal digits, as few as there are, or `-` where there is no number; and so with 16 digits
+abbrev pub hex_word : Option ℕ → List ℕ
+hex_word None = codes "-"
+hex_word (Some n) = digits 16 false n
+
+abbrev pub hex_16_word : Option ℕ → List ℕ
+hex_16_word None = codes "-"
+hex_16_word (Some n) = hex_16 n
+
+-- a delivery: the vector, the error code, the RIP that was pushed, and CR2
+unfoldable pub delivery_line : Delivery → List ℕ
+delivery_line it =
+    codes "i " ++ (decimal it.vector ++ (codes " " ++ (hex_word it.code ++ (codes " " ++ (hex_16 it.rip ++ (codes " "
+    ++ (hex_16_word it.cr2 ++ codes "\n")))))))
 
 unfoldable pub ending_line : Ending → List ℕ
 ending_line ending.Steps = codes "end steps\n"

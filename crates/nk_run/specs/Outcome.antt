@@ -1,6 +1,6 @@
 -- The outcome of words and files: status and text without a fault of the outside and without want of memory. It is a
 -- list of checks in order; the first that doesn't pass decides, and where all pass the command's text is written.
-use Rattle.std.specs.Prelude.{ℕ, List, [], ◌∷◌, ◌++◌, length, take, Option, None, Some, Result, if◌then◌else◌, nat_lt, nat_le, unwrap_or, MatchBool, ⊤}
+use Rattle.std.specs.Prelude.{ℕ, List, [], ◌∷◌, ◌++◌, length, take, Option, None, Some, Result, Ok, Err, if◌then◌else◌, nat_lt, nat_le, unwrap_or, MatchBool, ⊤}
 use Rattle.elf_image.specs.declared.fault.ImageFault.{ImageFault}
 use Rattle.elf_image.specs.ImageFaults.{number_of, name_of}
 use Rattle.elf_image.specs.Rows.{first_fault}
@@ -9,6 +9,8 @@ use Rattle.byte_scanner.specs.declared.encoding.Found.{Found}
 use Rattle.byte_scanner.specs.FirstFound.{first_found}
 use Rattle.nk_bits.specs.declared.leaf.Leaf.{Leaf}
 use Rattle.nk_bits.specs.Paging.{page_of, walk}
+use Rattle.irq_plan.specs.declared.event.Event.{Event}
+use Rattle.irq_plan.specs.PlanFile.{plan_of}
 use Rattle.boot_map.specs.Division.{need}
 use Rattle.boot_map.specs.FixedFrames.{opening_root}
 use Rattle.boot_map.specs.OpeningEntries.{opening_entry}
@@ -92,14 +94,19 @@ image_checks files words =
     ∷ test (clean (first_found (file_in files words Image)))
     ∷ []
 
--- the plan has no line, since no event of the outside can be planned yet: any other plan is refused at its first line
-abbrev pub planned : List ℕ → Verdict
-planned [] = passes
-planned (byte ∷ bytes) = ends (record { status = 6; text = plan_line 1 })
+-- the plan has a line that is out of form: the first is named
+abbrev pub planned : Result (List Event) ℕ → Verdict
+planned (Ok events) = passes
+planned (Err number) = ends (record { status = 6; text = plan_line number })
+
+-- the events of a plan that is in form
+abbrev pub events_in : Result (List Event) ℕ → List Event
+events_in (Ok events) = events
+events_in (Err number) = []
 
 -- the checks on the plan, and those on the input and then the plan
 abbrev pub plan_checks : Files → List (List ℕ) → List Check
-plan_checks files words = fetch files words Plan ∷ test (planned (file_in files words Plan)) ∷ []
+plan_checks files words = fetch files words Plan ∷ test (planned (plan_of (file_in files words Plan))) ∷ []
 
 abbrev pub input_checks : Files → List (List ℕ) → List Check
 input_checks files words = fetch files words Input ∷ plan_checks files words
@@ -130,7 +137,8 @@ text_of Scan files words =
     let image = file_in files words Image in admitted_line (entry_of image) (executable_page_count image)
 text_of (Map frames va) files words = walk_line (translation_of (file_in files words Image) frames va)
 text_of (Run steps frames) files words =
-    run_text steps (opening_state (file_in files words Image) (file_in files words Input) frames)
+    run_text steps (events_in (plan_of (file_in files words Plan)))
+    (opening_state (file_in files words Image) (file_in files words Input) frames)
 
 -- the outcome of the words, of which the command is what they spell
 abbrev pub outcome_of : Option Command → List (List ℕ) → Files → Option Answer

@@ -1,6 +1,7 @@
 -- What the top call says, and how it is written.
 use Rattle.std.specs.Prelude.{◌≡◌, ◌≢◌, ℕ, ◌≤◌, ◌⊎◌, List, Option, None, Some, Result, IsSome, length}
 use Rattle.nk_bits.specs.declared.leaf.Leaf.{Leaf}
+use Rattle.irq_plan.specs.declared.event.Event.{Event}
 use Rattle.nk_host.specs.Told.{IfTold}
 use Rattle.cpu_step.specs.Processor.{IsSound, Processor}
 use Rattle.nk_run.specs.declared.command_line.Role.{Role}
@@ -8,7 +9,7 @@ use Rattle.nk_run.specs.CommandLine.{command_of}
 use Rattle.nk_run.specs.Lines.{no_memory_line, unread_line, usage_line, walk_line}
 use Rattle.nk_run.specs.Witness.{Change, Files, ShelfState, SinkState, Witness}
 use Rattle.nk_run.specs.Outcome.{Check, Verdict, ends, decided, first_verdict, outcome, IsReached}
-use Rattle.nk_run.specs.RunStates.{run_text}
+use Rattle.nk_run.specs.RunStates.{begun, run_text}
 use Rattle.nk_run.specs.RunOpening.{opening_state}
 use Rattle.nk_run.specs.Clauses.{AreKept, IsUnread, NameRose, SinkRose, TookAll, TookPrefix}
 
@@ -126,14 +127,14 @@ ShowsWalk found status text = IsWant status text ⊎ ((status ≡ 0) × (text �
 
 -- the machine is that of the opening of the image, with the input behind its ports
 pub record IsBegun (image input : List ℕ) (frames : ℕ) (processor : Processor) (memory : List ℕ) : Type 0 where
-  pub opening : record { processor = processor; memory = memory; turns = 0 } ≡ opening_state image input frames
+  pub opening : begun processor memory ≡ opening_state image input frames
   pub sound : IsSound (length memory) processor
 
 -- the machine may take its turns, and where files are told the text of these turns is the outcome's
-pub record IsPrepared (words : List (List ℕ)) (told : Option Files) (steps : ℕ) (processor : Processor) (memory : List ℕ)
-    : Type 0 where
+pub record IsPrepared (words : List (List ℕ)) (told : Option Files) (steps : ℕ) (plan : List Event) (processor : Processor)
+    (memory : List ℕ) : Type 0 where
   pub outcome_is : IfTold told (λ files. outcome words files ≡ Some (record {
     status = 0;
-    text = run_text steps (record { processor = processor; memory = memory; turns = 0 });
+    text = run_text steps plan (begun processor memory);
   }))
   pub sound : IsSound (length memory) processor

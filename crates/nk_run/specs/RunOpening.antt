@@ -8,7 +8,7 @@ use Rattle.elf_image.specs.Pages.{entry_of}
 use Rattle.boot_map.specs.Division.{need}
 use Rattle.boot_map.specs.Opening.{byte_in}
 use Rattle.cpu_step.specs.Processor.{started}
-use Rattle.nk_run.specs.RunStates.{RunState}
+use Rattle.nk_run.specs.RunStates.{RunState, begun}
 
 -- the opening's memory as a list
 unfoldable pub opening_memory : List ℕ → ℕ → List ℕ
@@ -33,8 +33,5 @@ abbrev pub opening_tables : Tables
 opening_tables = record { idt = 0xFFFFFF8000000000; limit = 767; tss = 0xFFFFFF8000000400 }
 
 abbrev pub opening_state : List ℕ → List ℕ → ℕ → RunState
-opening_state image input frames = record {
-  processor = started (opening_regs image frames) opening_control opening_tables input;
-  memory = opening_memory image frames;
-  turns = 0;
-}
+opening_state image input frames =
+    begun (started (opening_regs image frames) opening_control opening_tables input) (opening_memory image frames)

@@ -7,6 +7,6 @@ pub(crate) enum Ending {
     Steps,
     /// The processor is halted, and nothing is left that could wake it.
     Halted,
-    /// What is due isn't an instruction that the machine makes: a delivery, a return or the nested kernel's body.
+    /// The nested kernel's body is to run, or a delivery shut the machine down.
     Stopped,
 }

@@ -1,6 +1,7 @@
 //! The files that a run takes beside the image: its input, and the plan of the events of the outside.
-ghost use Rattle.std.specs.Prelude.{◌≡◌, ◌<◌, length, map, MatchOption, MatchResult};
+ghost use Rattle.std.specs.Prelude.{◌≡◌, ◌<◌, Ok, length, map, MatchResult};
 ghost use Rattle.std.specs.String.{string_bytes};
+ghost use Rattle.irq_plan.specs.PlanFile.{plan_of};
 ghost use Rattle.nk_host.specs.FaultCounts.{NeverFalls};
 ghost use Rattle.nk_host.specs.Told.{IfTold};
 ghost use Rattle.nk_run.specs.CommandLine.{word_place};
@@ -12,54 +13,61 @@ ghost use Rattle.nk_run.specs.Replies.{RefusesBy, Stops, StopsIn};
 use crate::command_line::Role;
 use crate::image::fetch;
 use crate::lines::plan_line;
-use crate::reply::{Line, Reply};
+use crate::reply::{Reply, made, want};
+use irq_plan::{Plan, PlanFault};
 use nk_host::Shelf;
 use std::alloc::Global;
 
-/// Nothing where the plan has no byte, else the reply to it: no event of the outside can be planned yet, so that the
-/// first line of any other plan isn't well formed.
-fn read_plan(bytes: &[u8]) -> Option<Reply>
-    ensures { MatchOption result
-        (planned bytes.now ≡ passes)
-        (λ reply. RefusesBy 6 (planned bytes.now) reply.status (bytes_of reply.line)) }
+/// What comes to the machine from outside.
+#[derive(Drop)]
+pub(crate) struct Outside {
+    pub input: Vec<u8>,
+    pub plan: Plan,
+}
+
+/// The plan of a file, or the reply to its first line that is out of form.
+fn read_plan(alloc: Global, bytes: &[u8]) -> Result<Plan, Reply>
+    ensures { MatchResult result
+        (λ plan. plan_of bytes.now ≡ Ok plan)
+        (λ reply. RefusesBy 6 (planned (plan_of bytes.now)) reply.status (bytes_of reply.line)) }
 {
-    match bytes {
-        [] => None,
-        _ => Some(Reply {
-            status: 6,
-            line: Line::Fixed(plan_line()),
-        }),
+    match Plan::read(alloc, bytes) {
+        Ok(plan) => Ok(plan),
+        Err(PlanFault::Line(number)) => Err(made(6, plan_line(alloc, number))),
+        Err(PlanFault::Memory) => Err(want()),
     }
 }
 
-/// Nothing where the plan is fetched and read, or the reply to the first check on it that doesn't pass.
-fn open_plan<S: Shelf>(alloc: Global, words: &[String], shelf: &mut S) -> Option<Reply>
+/// The plan, or the reply to the first check on it that doesn't pass.
+fn open_plan<S: Shelf>(alloc: Global, words: &[String], shelf: &mut S) -> Result<Plan, Reply>
     requires { word_place Role.Plan < length words.now }
     ensures files_stay { S.files shelf.new ≡ S.files shelf.old }
     ensures never_falls { NeverFalls (S.faults shelf.old) (S.faults shelf.new) }
-    ensures opened { let names = map string_bytes words.now in MatchOption result
-        (IfTold (S.files shelf.old) (λ files. first_verdict (plan_checks files names) ≡ passes))
+    ensures opened { let names = map string_bytes words.now in MatchResult result
+        (λ plan. IfTold (S.files shelf.old) (λ files. (plan_of (file_in files names Role.Plan) ≡ Ok plan)
+        × (first_verdict (plan_checks files names) ≡ passes)))
         (λ reply. Stops names (shelf_change S.files S.faults shelf.old shelf.new) Role.Plan
         (λ files. first_verdict (plan_checks files names)) reply.status (bytes_of reply.line)) }
 {
     match fetch(alloc, words, Role::Plan, shelf) {
-        Ok(bytes) => read_plan(&bytes),
-        Err(reply) => Some(reply),
+        Ok(bytes) => read_plan(alloc, &bytes),
+        Err(reply) => Err(reply),
     }
 }
 
-/// The input, after the plan was read too, or the reply to the first check on either that doesn't pass.
-pub(crate) fn open_input<S: Shelf>(
+/// The input and then the plan, or the reply to the first check on either that doesn't pass.
+pub(crate) fn open_outside<S: Shelf>(
     alloc: Global,
     words: &[String],
     shelf: &mut S,
-) -> Result<Vec<u8>, Reply>
+) -> Result<Outside, Reply>
     requires input { word_place Role.Input < length words.now }
     requires plan { word_place Role.Plan < length words.now }
     ensures files_stay { S.files shelf.new ≡ S.files shelf.old }
     ensures never_falls { NeverFalls (S.faults shelf.old) (S.faults shelf.new) }
     ensures opened { let names = map string_bytes words.now in MatchResult result
-        (λ input. IfTold (S.files shelf.old) (λ files. (input.items ≡ file_in files names Role.Input)
+        (λ outside. IfTold (S.files shelf.old) (λ files. (outside.input.items ≡ file_in files names Role.Input)
+        × (plan_of (file_in files names Role.Plan) ≡ Ok outside.plan)
         × (first_verdict (input_checks files names) ≡ passes)))
         (λ reply. StopsIn names (shelf_change S.files S.faults shelf.old shelf.new)
         (λ files. input_checks files names) reply.status (bytes_of reply.line)) }
@@ -69,7 +77,7 @@ pub(crate) fn open_input<S: Shelf>(
         Err(reply) => return Err(reply),
     };
     match open_plan(alloc, words, shelf) {
-        None => Ok(input),
-        Some(reply) => Err(reply),
+        Ok(plan) => Ok(Outside { input, plan }),
+        Err(reply) => Err(reply),
     }
 }

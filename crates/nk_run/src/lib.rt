@@ -23,9 +23,10 @@ mod scan;
 mod inputs;
 mod run;
 
-// A run: why it ends, its lines, its turns.
+// A run: its steps and why it ends, its lines, its loop.
 mod drive;
 mod ending;
+mod moves;
 mod run_lines;
 
 // The whole.

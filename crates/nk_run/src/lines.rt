@@ -106,11 +106,12 @@ pub(crate) fn noroom_line(alloc: Global, fault: &NoRoom) -> Result<String, Alloc
     format!(in alloc; "noroom {need} {have}\n")
 }
 
-/// The plan has a byte.
-pub(crate) fn plan_line() -> &'static str
-    ensures { result.now ≡ plan_line 1 }
+/// The first line of the plan that is out of form, numbered from 1.
+#[tactic(auto, unfolding(crate::specs::Lines::plan_line))]
+pub(crate) fn plan_line(alloc: Global, number: u64) -> Result<String, AllocError>
+    ensures { IfOk result (λ line. string_bytes line ≡ plan_line number) }
 {
-    "plan line 1\n"
+    format!(in alloc; "plan line {number}\n")
 }
 
 /// The four letters of rights.

@@ -1,6 +1,7 @@
 //! The command `run IMAGE INPUT PLAN STEPS FRAMES`.
-ghost use Rattle.std.specs.Prelude.{◌≡◌, ◌<◌, ◌≤◌, length, map, IfSome, MatchResult, Some};
+ghost use Rattle.std.specs.Prelude.{◌≡◌, ◌<◌, ◌≤◌, length, map, IfSome, MatchResult, Ok, Some};
 ghost use Rattle.std.specs.String.{string_bytes};
+ghost use Rattle.irq_plan.specs.PlanFile.{plan_of};
 ghost use Rattle.nk_host.specs.Told.{IfTold};
 ghost use Rattle.boot_map.specs.Division.{IsLayout, need};
 ghost use Rattle.nk_run.specs.CommandLine.{command_of, word_count, IsBounded};
@@ -13,12 +14,13 @@ ghost use Rattle.nk_run.specs.Replies.{CommandSays, IsAnswered, IsBegun, IsPrepa
 use crate::command_line::{Command, Role};
 use crate::drive::drive;
 use crate::image::open;
-use crate::inputs::open_input;
+use crate::inputs::{Outside, open_outside};
 use crate::lines::noroom_line;
 use crate::reply::{Reply, made, want};
 use boot_map::{Layout, OPENING_ROOT, prepare};
 use cpu_step::Cpu;
 use elf_image::Image;
+use irq_plan::Plan;
 use nk_bits::Control;
 use nk_host::{Shelf, Sink};
 use phys_mem::PhysMem;
@@ -55,7 +57,7 @@ const TSS: u64 = 0xFFFF_FF80_0000_0400;
 #[derive(Drop)]
 struct Held {
     image: Image,
-    input: Vec<u8>,
+    outside: Outside,
 }
 
 /// The machine between two turns.
@@ -63,6 +65,13 @@ struct Held {
 struct Machine {
     cpu: Cpu,
     memory: PhysMem,
+}
+
+/// A machine as its run begins, and the plan of the run.
+#[derive(Drop)]
+struct Prepared {
+    machine: Machine,
+    plan: Plan,
 }
 
 /// The registers as a run begins: the entry, the trap stack's top, the first free frame and the number of frames.
@@ -149,7 +158,8 @@ fn hold<S: Shelf>(alloc: Global, words: &[String], shelf: &mut S) -> Result<Held
     ensures files_stay { S.files shelf.new ≡ S.files shelf.old }
     ensures held { let names = map string_bytes words.now in MatchResult result
         (λ held. IfTold (S.files shelf.old) (λ files. (held.image ≡ file_in files names Role.Image)
-        × (held.input.items ≡ file_in files names Role.Input)
+        × (held.outside.input.items ≡ file_in files names Role.Input)
+        × (plan_of (file_in files names Role.Plan) ≡ Ok held.outside.plan)
         × (first_verdict (run_checks files names) ≡ passes)))
         (λ reply. StopsIn names (shelf_change S.files S.faults shelf.old shelf.new)
         (λ files. run_checks files names) reply.status (bytes_of reply.line)) }
@@ -158,26 +168,26 @@ fn hold<S: Shelf>(alloc: Global, words: &[String], shelf: &mut S) -> Result<Held
         Ok(image) => image,
         Err(reply) => return Err(reply),
     };
-    match open_input(alloc, words, shelf) {
-        Ok(input) => Ok(Held { image, input }),
+    match open_outside(alloc, words, shelf) {
+        Ok(outside) => Ok(Held { image, outside }),
         Err(reply) => Err(reply),
     }
 }
 
-/// The machine as the run begins, or the reply where it doesn't.
+/// The machine as the run begins, with the plan, or the reply where it doesn't.
 fn prepare_run<S: Shelf>(
     alloc: Global,
     words: &[String],
     steps: u64,
     frames: u32,
     shelf: &mut S,
-) -> Result<Machine, Reply>
+) -> Result<Prepared, Reply>
     requires asked { command_of (map string_bytes words.now) ≡ Some (Command.Run steps frames) }
     requires count { length words.now ≡ word_count (Command.Run steps frames) }
     requires bounds { IsBounded (Command.Run steps frames) }
     ensures files_stay { S.files shelf.new ≡ S.files shelf.old }
     ensures prepared { let names = map string_bytes words.now in MatchResult result
-        (λ machine. IsPrepared names (S.files shelf.old) steps machine.cpu machine.memory)
+        (λ it. IsPrepared names (S.files shelf.old) steps it.plan it.machine.cpu it.machine.memory)
         (λ reply. CommandSays names (shelf_change S.files S.faults shelf.old shelf.new)
         reply.status (bytes_of reply.line)) }
 {
@@ -185,9 +195,10 @@ fn prepare_run<S: Shelf>(
         Ok(held) => held,
         Err(reply) => return Err(reply),
     };
-    let Held { image, input } = held;
+    let Held { image, outside } = held;
+    let Outside { input, plan } = outside;
     match begin(alloc, &image, frames, input) {
-        Ok(machine) => Ok(machine),
+        Ok(machine) => Ok(Prepared { machine, plan }),
         Err(reply) => Err(reply),
     }
 }
@@ -211,7 +222,13 @@ pub(crate) fn run<S: Shelf, O: Sink>(
     }) result }
 {
     match prepare_run(alloc, words, steps, frames, shelf) {
-        Ok(mut machine) => drive(&mut machine.cpu, &mut machine.memory, steps, sink),
+        Ok(mut it) => drive(
+            &mut it.machine.cpu,
+            &mut it.machine.memory,
+            &it.plan,
+            steps,
+            sink,
+        ),
         Err(reply) => reply.write(sink),
     }
 }

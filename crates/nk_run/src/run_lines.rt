@@ -1,9 +1,11 @@
 //! The lines of a run. They take no memory: each is made on the stack. A text of hexadecimal digits has room for just
 //! its bytes, so that its encoding never fails.
-ghost use Rattle.std.specs.Prelude.{◌≡◌, ◌≤◌, ◌++◌, length, codes, decimal};
-ghost use Rattle.nk_run.specs.Lines.{console_line, ending_line, root_line, trap_line, turns_line};
+ghost use Rattle.std.specs.Prelude.{◌≡◌, ◌+◌, ◌<◌, ◌≤◌, ◌++◌, false, drop, length, codes, decimal};
+ghost use Rattle.std.specs.Fmt.{digit_glyph, digits};
+ghost use Rattle.nk_run.specs.Lines.{console_line, delivery_line, ending_line, hex_16, hex_16_word, hex_word, root_line, trap_line, turns_line};
 
 use crate::ending::Ending;
+use nk_bits::Delivery;
 
 /// The most bytes of a line that ends with a number: a word of eight, twenty digits, and the line's end.
 pub(crate) const NUMBERED: usize = 29;
@@ -60,10 +62,109 @@ fn numbered<'a>(room: &'a mut [u8; NUMBERED], word: &str, number: u64) -> &'a [u
     requires { length word.now ≤ 8 }
     ensures { result.now ≡ word.now ++ (decimal number ++ codes "\n") }
 {
-    let word = word.as_bytes();
     room[NUMBERED - 1] = b'\n';
     let digits = itoa::write_digits(number, room, NUMBERED - 1);
-    let start = digits - word.len();
-    room[start..digits].copy_from_slice(word);
+    let start = put(room, digits, word.as_bytes());
     room.split_at(start).1
+}
+
+/// The most bytes of the line of a delivery: `i`, a vector of three digits and three words of sixteen, each behind a
+/// space, and the line's end.
+pub(crate) const DELIVERY: usize = 57;
+
+/// A delivery, at the end of the room. It is put there from its last word to its first.
+pub(crate) fn delivery_line<'a>(room: &'a mut [u8; DELIVERY], it: &Delivery) -> &'a [u8]
+    ensures { result.now ≡ delivery_line it.now }
+{
+    room[DELIVERY - 1] = b'\n';
+    let cr2 = put_word_16(room, DELIVERY - 1, it.cr2);
+    let rip_end = put(room, cr2, b" ");
+    let rip = put_16(room, rip_end, it.rip);
+    let code_end = put(room, rip, b" ");
+    let code = put_word(room, code_end, it.code);
+    let vector_end = put(room, code, b" ");
+    let vector = itoa::write_digits(u64::from(it.vector), room, vector_end);
+    let start = put(room, vector, b"i ");
+    room.split_at(start).1
+}
+
+/// Puts a text before a place of the room, and gives the place where it starts.
+fn put(room: &mut [u8], end: usize, text: &[u8]) -> usize
+    requires room { length text.now ≤ end }
+    requires end { end ≤ length room.old }
+    ensures start { result + length text.now ≡ end }
+    ensures written { drop result room.new ≡ text.now ++ drop end room.old }
+{
+    let start = end - text.len();
+    room[start..end].copy_from_slice(text);
+    start
+}
+
+/// Puts sixteen hexadecimal digits, or `-` where there is no number.
+fn put_word_16(room: &mut [u8], end: usize, number: Option<u64>) -> usize
+    requires room { 16 ≤ end }
+    requires end { end ≤ length room.old }
+    ensures start { (result ≤ end) × (end ≤ result + 16) }
+    ensures written { drop result room.new ≡ hex_16_word number ++ drop end room.old }
+{
+    match number {
+        Some(number) => put_16(room, end, number),
+        None => put(room, end, b"-"),
+    }
+}
+
+/// Puts as few hexadecimal digits as there are, or `-` where there is no number.
+fn put_word(room: &mut [u8], end: usize, number: Option<u64>) -> usize
+    requires room { 16 ≤ end }
+    requires end { end ≤ length room.old }
+    ensures start { (result ≤ end) × (end ≤ result + 16) }
+    ensures written { drop result room.new ≡ hex_word number ++ drop end room.old }
+{
+    match number {
+        Some(number) => put_least(room, end, number),
+        None => put(room, end, b"-"),
+    }
+}
+
+/// Puts sixteen hexadecimal digits.
+fn put_16(room: &mut [u8], end: usize, number: u64) -> usize
+    requires room { 16 ≤ end }
+    requires end { end ≤ length room.old }
+    ensures start { result + 16 ≡ end }
+    ensures written { drop result room.new ≡ hex_16 number ++ drop end room.old }
+{
+    let mut digits = [0; 16];
+    let _whole = hex::encode_to_slice(number.to_be_bytes(), &mut digits);
+    put(room, end, &digits)
+}
+
+/// Puts as few hexadecimal digits as there are, from the last to the first.
+fn put_least(room: &mut [u8], end: usize, number: u64) -> usize
+    requires room { 16 ≤ end }
+    requires end { end ≤ length room.old }
+    ensures start { (result ≤ end) × (end ≤ result + 16) }
+    ensures written { drop result room.new ≡ digits 16 false number ++ drop end room.old }
+{
+    let mut start = end;
+    let mut rest = number;
+    loop {
+        start -= 1;
+        room[start] = digit((rest % 16) as u8);
+        rest /= 16;
+        if rest == 0 {
+            return start;
+        }
+    }
+}
+
+/// A hexadecimal digit.
+fn digit(value: u8) -> u8
+    requires { value < 16 }
+    ensures { result ≡ digit_glyph false value }
+{
+    if value < 10 {
+        b'0' + value
+    } else {
+        b'a' - 10 + value
+    }
 }

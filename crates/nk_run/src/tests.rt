@@ -1,5 +1,6 @@
 //! Worked cases of the command line, over a shelf and a sink in memory.
 mod compiled;
+mod deliveries;
 mod drive;
 mod run;
 

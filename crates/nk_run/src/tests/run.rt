@@ -27,17 +27,29 @@ fn files_of(
     Ok(files)
 }
 
-/// A run of this text, without input, at most so many turns long.
+/// A run of this text, without input and without events, at most so many turns long.
 fn run_text(alloc: Global, text: &[u8], steps: &str) -> Result<Ran, Fail> {
+    run_planned(alloc, text, "", steps)
+}
+
+/// As above, under a plan.
+pub(super) fn run_planned(
+    alloc: Global,
+    text: &[u8],
+    plan: &str,
+    steps: &str,
+) -> Result<Ran, Fail> {
+    let plan = plan.as_bytes().to_vec(alloc)?;
+    let files = files_of(alloc, text, Vec::new(alloc), plan)?;
+    let words = ["run", NAME, INPUT, PLAN, steps, "512"];
+    run_over(alloc, &words, files, &[], &[], 0)
+}
+
+/// A run of this text in which a put fails after so many bytes.
+fn run_failing(alloc: Global, text: &[u8], failing: u64, cut: usize) -> Result<Ran, Fail> {
     let files = files_of(alloc, text, Vec::new(alloc), Vec::new(alloc))?;
-    run_over(
-        alloc,
-        &["run", NAME, INPUT, PLAN, steps, "512"],
-        files,
-        &[],
-        &[],
-        0,
-    )
+    let words = ["run", NAME, INPUT, PLAN, "100", "512"];
+    run_over(alloc, &words, files, &[], &[failing], cut)
 }
 
 /// The halting kernel with this input and this plan; `failing` are the numbers of failing fetches.
@@ -62,9 +74,6 @@ fn a_run_is_told_line_by_line(rt: HostRuntime) -> Result<(), Fail> {
             shown
         )
     );
-    // UD2.
-    let stopped = "end stopped\nturns 0\nroot 5\ntrap ffffff80000011da\n";
-    assert!(rt; gives(&run_text(alloc, &[0x0f, 0x0b], "10")?, 0, stopped));
     Ok(())
 }
 
@@ -82,10 +91,19 @@ fn a_run_needs_room_for_its_opening(rt: HostRuntime) -> Result<(), Fail> {
 }
 
 #[test]
-fn a_plan_has_no_line_yet(rt: HostRuntime) -> Result<(), Fail> {
+fn the_first_line_out_of_form_is_named(rt: HostRuntime) -> Result<(), Fail> {
     let alloc = rt.alloc();
-    let ran = halt_with(alloc, Vec::new(alloc), vec![in alloc; 10; 1]?, &[])?;
-    assert!(rt; gives(&ran, 6, "plan line 1\n"));
+    let plans = [
+        ("\n", "plan line 1\n"),
+        ("5 irq 32\n9 irq", "plan line 2\n"),
+        ("5 irq 32\n4 irq 32\n", "plan line 2\n"),
+        ("5 irq 32\n\n\n", "plan line 2\n"),
+        ("0 irq 32\n0 drop 0\n0 fill 800000000000\n", "plan line 3\n"),
+    ];
+    for (plan, line) in plans {
+        let ran = run_planned(alloc, &[0xf4], plan, "10")?;
+        assert!(rt; gives(&ran, 6, line), "{line}");
+    }
     Ok(())
 }
 
@@ -136,9 +154,18 @@ fn a_plan_past_the_limit_is_longer(rt: HostRuntime) -> Result<(), Fail> {
 #[test]
 fn a_failing_put_ends_a_run_in_its_line(rt: HostRuntime) -> Result<(), Fail> {
     let alloc = rt.alloc();
-    let files = files_of(alloc, &[0xf4], Vec::new(alloc), Vec::new(alloc))?;
-    let ran = run_over(alloc, &WORDS, files, &[], &[2], 3)?;
+    let ran = run_failing(alloc, &[0xf4], 2, 3)?;
     assert!(rt; gives(&ran, 4, "end halted\ntur"));
+    // LMSW with a register: the first line is that of a delivery.
+    let cases: [(u64, usize, &str); 3] = [
+        (1, 0, ""),
+        (1, 5, "i 6 -"),
+        (2, 5, "i 6 - ffffffff80000000 -\nend h"),
+    ];
+    for (failing, cut, text) in cases {
+        let ran = run_failing(alloc, &[0x0f, 0x01, 0xd8], failing, cut)?;
+        assert!(rt; gives(&ran, 4, text), "{text}");
+    }
     Ok(())
 }
 

@@ -1,57 +1,74 @@
-use Rattle.std.proofs.Common.{◌≡◌, ◌+◌, arith, sym, ap, ◌∙◌, subst, []}
-use Rattle.std.specs.Prelude.{None}
+use Rattle.std.proofs.Common.{◌≡◌, ◌+◌, [], arith, sym, ◌∙◌, subst}
+use Rattle.std.specs.Prelude.{true, false}
 use Rattle.std.proofs.KnownBytes.{Appends-nil}
 use Rattle.cpu_step.specs.Turns.{Turned}
-use Rattle.nk_run.specs.RunStates.{run_text, shown, stops}
-use Rattle.nk_run.proofs.Runs.{IsGoing, at, closes, due_of, ends_by_due, goes_on, stops_here, was_cut}
+use Rattle.nk_run.specs.RunStates.{is_shutdown, run_text, shown}
+use Rattle.nk_run.proofs.MoveLemmas.{turn_left}
+use Rattle.nk_run.proofs.Runs.{IsGoing, at, closes, goes_on, moves_at, runs_at, shut_at, text_taken, text_turned, turned_at, was_cut}
+use Rattle.nk_run.specs.declared.ending.Ending.TheVariants as ending
+use Rattle.nk_run.specs.declared.moves.Move.TheVariants as move
 use Rattle.nk_run.proofs.drive.drive.Goals as goal
-use Rattle.nk_run.proofs.drive.drive.Goals.{in-Ran, in-Console+in_default-put_all}
 
-pub returns-in-Some-clause-written : goal.returns-in-Some-clause-written
-returns-in-Some-clause-written g c =
+pub returns-in-End-clause-written : goal.returns-in-End-clause-written
+returns-in-End-clause-written g c =
     let loop = c.loop-ending in
-    closes g.O.Sink.taken g.O.Sink.faults c.args.sink.now loop.sink c.args.steps
-    (run_text c.args.steps (at c.args.cpu.now c.args.memory.now 0)) loop.cpu loop.memory loop.turns loop.invariant
-    c.close.new.sink c.in-Some.ending c.close.result
-    (ends_by_due loop.cpu loop.memory loop.turns c.args.steps c.in-Some.ending (sym c.due.ensures ∙ c.in-Some.is))
+    let plan = c.args.plan.now in
+    closes g.O.Sink.taken g.O.Sink.faults c.args.sink.now loop.sink c.args.steps plan
+    (run_text c.args.steps plan (at c.args.cpu.now c.args.memory.now 0 0)) (at loop.cpu loop.memory loop.turns loop.taken) loop.invariant
+    c.close.new.sink c.in-End.ending c.close.result
+    (moves_at c.args.steps plan loop.cpu loop.memory loop.turns loop.taken (move.End c.in-End.ending) c.in-End.ensures.moved)
     c.close.ensures.written
+
+pub loop-ending-preserved-in-Take : goal.loop-ending-preserved-in-Take
+loop-ending-preserved-in-Take g c =
+    let loop = c.loop-ending in
+    let plan = c.args.plan.now in
+    goes_on g.O.Sink.taken g.O.Sink.faults c.args.sink.now loop.sink c.args.steps plan
+    (run_text c.args.steps plan (at c.args.cpu.now c.args.memory.now 0 0)) (at loop.cpu loop.memory loop.turns loop.taken) loop.invariant
+    loop.sink (at c.take_event.new.self loop.memory loop.turns (loop.taken + 1)) []
+    (text_taken c.args.steps plan loop.cpu c.take_event.new.self loop.memory loop.turns loop.taken c.in-Take.what c.in-Take.ensures.planned.1
+    c.in-Take.ensures.moved c.take_event.ensures.taken)
+    (Appends-nil (g.O.Sink.taken loop.sink)) (omega arith) loop.invariant.turns_within (omega (arith, c.in-Take.ensures.planned.1))
+    c.take_event.ensures.sound
 
 pub returns-in-Err-clause-written : goal.returns-in-Err-clause-written
 returns-in-Err-clause-written g c =
     let loop = c.loop-ending in
-    let t : Turned = record { processor = c.step.new.self; memory = c.step.new.mem; stepped = c.step.result } in
-    let none : due_of loop.turns c.args.steps loop.cpu.halted ≡ None = sym c.due.ensures ∙ c.in_default.is in
-    was_cut g.O.Sink.taken g.O.Sink.faults c.args.sink.now loop.sink c.args.steps
-    (run_text c.args.steps (at c.args.cpu.now c.args.memory.now 0)) loop.cpu loop.memory loop.turns loop.invariant
-    c.put_all.new.sink t c.console_line.result none c.step.ensures.turned (ap stops c.in-Console.is)
-    (c.console_line.ensures ∙ sym (ap shown c.in-Console.is)) c.in-Err.ensures.failed c.in-Err.ensures.some
+    let plan = c.args.plan.now in
+    let t : Turned = record { processor = c.step-stepped.new.self; memory = c.step-stepped.new.mem; stepped = c.step-stepped.result } in
+    let less = turn_left c.args.steps plan loop.cpu loop.turns loop.taken loop.invariant.turns_within c.in-Turn.ensures.moved in
+    was_cut g.O.Sink.taken g.O.Sink.faults c.args.sink.now loop.sink c.args.steps plan
+    (run_text c.args.steps plan (at c.args.cpu.now c.args.memory.now 0 0)) (at loop.cpu loop.memory loop.turns loop.taken) loop.invariant
+    c.show.new.sink (shown t.stepped) (run_text c.args.steps plan (turned_at t loop.turns loop.taken))
+    (text_turned c.args.steps plan loop.cpu loop.memory loop.turns loop.taken t less c.in-Turn.ensures.moved c.step-stepped.ensures.turned)
+    c.in-Err.ensures.failed c.in-Err.ensures.some
 
-pub returns-in-Stopped-clause-written : goal.returns-in-Stopped-clause-written
-returns-in-Stopped-clause-written g c =
+pub returns-then-is_shutdown-clause-written : goal.returns-then-is_shutdown-clause-written
+returns-then-is_shutdown-clause-written g c =
     let loop = c.loop-ending in
-    let t : Turned = record { processor = c.step.new.self; memory = c.step.new.mem; stepped = c.step.result } in
-    let none : due_of loop.turns c.args.steps loop.cpu.halted ≡ None = sym c.due.ensures ∙ c.in_default.is in
-    stops_here g.O.Sink.taken g.O.Sink.faults c.args.sink.now loop.sink c.args.steps
-    (run_text c.args.steps (at c.args.cpu.now c.args.memory.now 0)) loop.cpu loop.memory loop.turns loop.invariant
-    (λ it. c.effect_law.ensures.moved it.instr it.size) c.close-in-Stopped.new.sink t c.close-in-Stopped.result none
-    c.step.ensures.turned c.in-Stopped.is c.close-in-Stopped.ensures.written
+    let plan = c.args.plan.now in
+    let t : Turned = record { processor = c.step-stepped.new.self; memory = c.step-stepped.new.mem; stepped = c.step-stepped.result } in
+    let shut : is_shutdown t.stepped ≡ true = sym c.is_shutdown.ensures ∙ c.if-is_shutdown.true in
+    let less = turn_left c.args.steps plan loop.cpu loop.turns loop.taken loop.invariant.turns_within c.in-Turn.ensures.moved in
+    let whole = run_text c.args.steps plan (at c.args.cpu.now c.args.memory.now 0 0) in
+    let going = goes_on g.O.Sink.taken g.O.Sink.faults c.args.sink.now loop.sink c.args.steps plan whole
+    (at loop.cpu loop.memory loop.turns loop.taken) loop.invariant c.show.new.sink (turned_at t loop.turns loop.taken) (shown t.stepped)
+    (text_turned c.args.steps plan loop.cpu loop.memory loop.turns loop.taken t less c.in-Turn.ensures.moved c.step-stepped.ensures.turned)
+    c.in_default.ensures.all c.show.ensures.never_falls (omega (arith, less)) loop.invariant.taken_within c.step-stepped.ensures.sound in
+    closes g.O.Sink.taken g.O.Sink.faults c.args.sink.now c.show.new.sink c.args.steps plan whole (turned_at t loop.turns loop.taken) going
+    c.close-then-is_shutdown.new.sink ending.Stopped c.close-then-is_shutdown.result (shut_at c.args.steps plan t loop.turns loop.taken shut)
+    c.close-then-is_shutdown.ensures.written
 
 pub loop-ending-preserved : goal.loop-ending-preserved
 loop-ending-preserved g c =
     let loop = c.loop-ending in
-    let t : Turned = record { processor = c.step.new.self; memory = c.step.new.mem; stepped = c.step.result } in
-    let none : due_of loop.turns c.args.steps loop.cpu.halted ≡ None = sym c.due.ensures ∙ c.in_default.is in
-    let whole = run_text c.args.steps (at c.args.cpu.now c.args.memory.now 0) in
-    let here = λ (sink : g.row.O.Denot). IsGoing g.O.Sink.taken g.O.Sink.faults c.args.sink.now sink whole c.args.steps
-    (at c.step.new.self c.step.new.mem (loop.turns + 1)) in
-    elim c.match-step.branch [
-      | in-Ran w ↦ subst here (sym w.sink-is)
-          (goes_on g.O.Sink.taken g.O.Sink.faults c.args.sink.now loop.sink c.args.steps whole loop.cpu loop.memory loop.turns loop.invariant
-          loop.sink t [] none c.step.ensures.turned (ap stops w.in-Ran.is) (sym (ap shown w.in-Ran.is))
-          (Appends-nil (g.O.Sink.taken loop.sink)) (omega arith) c.step.ensures.sound)
-      | in-Console+in_default-put_all w ↦ subst here (sym w.sink-is)
-          (goes_on g.O.Sink.taken g.O.Sink.faults c.args.sink.now loop.sink c.args.steps whole loop.cpu loop.memory loop.turns loop.invariant
-          w.put_all.new.sink t w.console_line.result none c.step.ensures.turned (ap stops w.in-Console.is)
-          (w.console_line.ensures ∙ sym (ap shown w.in-Console.is)) w.in_default-put_all.ensures.all w.put_all.ensures.never_falls
-          c.step.ensures.sound)
-    ]
+    let plan = c.args.plan.now in
+    let t : Turned = record { processor = c.step-stepped.new.self; memory = c.step-stepped.new.mem; stepped = c.step-stepped.result } in
+    let runs : is_shutdown t.stepped ≡ false = sym c.is_shutdown.ensures ∙ c.if-is_shutdown.false in
+    let less = turn_left c.args.steps plan loop.cpu loop.turns loop.taken loop.invariant.turns_within c.in-Turn.ensures.moved in
+    let whole = run_text c.args.steps plan (at c.args.cpu.now c.args.memory.now 0 0) in
+    subst (IsGoing g.O.Sink.taken g.O.Sink.faults c.args.sink.now c.show.new.sink whole c.args.steps plan) (runs_at t loop.turns loop.taken runs)
+    (goes_on g.O.Sink.taken g.O.Sink.faults c.args.sink.now loop.sink c.args.steps plan whole
+    (at loop.cpu loop.memory loop.turns loop.taken) loop.invariant c.show.new.sink (turned_at t loop.turns loop.taken) (shown t.stepped)
+    (text_turned c.args.steps plan loop.cpu loop.memory loop.turns loop.taken t less c.in-Turn.ensures.moved c.step-stepped.ensures.turned)
+    c.in_default.ensures.all c.show.ensures.never_falls (omega (arith, less)) loop.invariant.taken_within c.step-stepped.ensures.sound)

@@ -8,4 +8,4 @@ returns-in-Err-clause-prepared g c =
 
 pub returns-clause-prepared : goal.returns-clause-prepared
 returns-clause-prepared g c =
-    room_says _ c.args.steps c.args.frames c.requires.asked _ _ _ c.in-Ok.ensures.held _ _ _ refl c.in-Err-begin.ensures
+    room_says _ c.args.steps c.args.frames c.requires.asked _ _ _ _ c.in-Ok.ensures.held _ _ _ refl c.in-Err-begin.ensures
