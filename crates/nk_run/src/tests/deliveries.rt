@@ -176,6 +176,66 @@ fn an_event_is_taken_once_it_is_due(rt: HostRuntime) -> Result<(), Fail> {
     Ok(())
 }
 
+/// NOP; STI; NOP; NOP; CLI; NOP; STI; NOP; HLT.
+const SWITCHES: [u8; 9] = [0x90, 0xfb, 0x90, 0x90, 0xfa, 0x90, 0xfb, 0x90, 0xf4];
+
+/// An interrupt that is due before each instruction in turn, and behind the last: it comes once IF is set and no shield
+/// stands, and wakes the machine.
+#[test]
+fn an_interrupt_is_due_before_each_instruction(rt: HostRuntime) -> Result<(), Fail> {
+    let alloc = rt.alloc();
+    let cases = [
+        (
+            "0 irq 32",
+            "i 32 - ffffffff80000003 -\nend halted\nturns 15",
+        ),
+        (
+            "1 irq 32",
+            "i 32 - ffffffff80000003 -\nend halted\nturns 15",
+        ),
+        (
+            "2 irq 32",
+            "i 32 - ffffffff80000003 -\nend halted\nturns 15",
+        ),
+        (
+            "3 irq 32",
+            "i 32 - ffffffff80000003 -\nend halted\nturns 15",
+        ),
+        (
+            "4 irq 32",
+            "i 32 - ffffffff80000004 -\nend halted\nturns 16",
+        ),
+        (
+            "5 irq 32",
+            "i 32 - ffffffff80000008 -\nend halted\nturns 20",
+        ),
+        (
+            "6 irq 32",
+            "i 32 - ffffffff80000008 -\nend halted\nturns 20",
+        ),
+        (
+            "7 irq 32",
+            "i 32 - ffffffff80000008 -\nend halted\nturns 20",
+        ),
+        (
+            "8 irq 32",
+            "i 32 - ffffffff80000008 -\nend halted\nturns 20",
+        ),
+        (
+            "9 irq 32",
+            "i 32 - ffffffff80000009 -\nend halted\nturns 21",
+        ),
+        (
+            "10 irq 32",
+            "i 32 - ffffffff80000009 -\nend halted\nturns 21",
+        ),
+    ];
+    for (plan, lines) in cases {
+        assert!(rt; ends(alloc, &SWITCHES, plan, "100", lines)?, "{plan}");
+    }
+    Ok(())
+}
+
 #[test]
 fn a_halted_machine_takes_the_events_that_are_left(rt: HostRuntime) -> Result<(), Fail> {
     let alloc = rt.alloc();
