@@ -1,10 +1,11 @@
 -- From what the top call says in the end, and how that is written, to its promises.
-use Rattle.std.proofs.Common.{◌≡◌, ℕ, ◌≤◌, ◌⊎◌, inl, inr, List, [], length, Option, Some, None, MatchOption, IsSome, IsSomeAnd, arith, refl, sym, ◌∙◌, ap, subst}
+use Rattle.std.proofs.Common.{◌≡◌, ℕ, ◌≤◌, ◌⊎◌, inl, inr, List, [], length, Option, Some, None, Result, Ok, Err, MatchOption, IsOk, IsSome, IsSomeAnd, arith, refl, sym, ◌∙◌, ap, subst}
 use Rattle.std.proofs.lemmas.Bool.{le-ltb, le-leb}
-use Rattle.std.specs.Prelude.{⊤}
+use Rattle.std.specs.Prelude.{unwrap_or, ⊤}
 use Rattle.elf_image.specs.Rows.{first_fault}
 use Rattle.byte_scanner.specs.FirstFound.{first_found}
-use Rattle.irq_plan.specs.PlanFile.{plan_of, read_from}
+use Rattle.irq_plan.specs.declared.event.Event.{Event}
+use Rattle.irq_plan.specs.PlanFile.{plan_of}
 use Rattle.boot_map.specs.Division.{need}
 use Rattle.nk_run.specs.declared.command_line.Command.{Command}
 use Rattle.nk_run.specs.declared.command_line.Command.TheVariants.{Scan, Map, Run}
@@ -13,7 +14,7 @@ use Rattle.nk_run.specs.CommandLine.{command_of, name_in}
 use Rattle.nk_run.specs.Lines.{longest_file}
 use Rattle.nk_run.specs.Witness.{Change, Files, ShelfState, Witness}
 use Rattle.nk_run.specs.Outcome.{Answer, Verdict, passes, decided, first_verdict, checks_of, text_of, outcome, outcome_of, fetched, formed, clean, planned, roomy, file_in}
-use Rattle.nk_run.specs.Clauses.{HasInput, HasRoom, IsComplete, IsCutByCount, IsCutWritten, IsDoable, IsDone, IsFaultless, IsGoodImage, IsOutside, IsStatus, IsText, IsUnreadByCount, IsUnreadWritten, IsUsage, IsUsageAlone, IsWantWritten, MaySay, Promises, TookAll, TookPrefix}
+use Rattle.nk_run.specs.Clauses.{HasInput, HasRoom, IsComplete, IsCutByCount, IsCutWritten, IsDoable, IsDone, IsFaultless, IsGoodImage, IsGoodPlan, IsOutside, IsStatus, IsText, IsUnreadByCount, IsUnreadWritten, IsUsage, IsUsageAlone, IsWantWritten, MaySay, Promises, TookAll, TookPrefix}
 use Rattle.nk_run.proofs.Told.{if_told, told_at}
 use Rattle.nk_run.specs.Replies.{CommandSays, IsAnswered, IsWritten, Says, SaysUsage}
 
@@ -24,6 +25,10 @@ some_and (Some x) P h = (x, refl, h)
 is_some_and : {A : Type 0} (o : Option A) (P : A → Type 0) → IsSomeAnd o P → o ≡ None → ⊥
 is_some_and None P h e = h
 is_some_and (Some x) P h e = cc
+
+read_passes : (read : Result (List Event) ℕ) → IsOk read → planned read ≡ passes
+read_passes (Ok events) good = refl
+read_passes (Err number) good = cc
 
 not_none : {A : Type 0} (o : Option A) → IsSome o → o ≡ None → ⊥
 not_none None h e = cc
@@ -53,12 +58,15 @@ module _ (words : List (List ℕ)) (files : Files) (image : List ℕ) (held : fi
       let (input, given, within) = some_and (files (name_in words Input)) _ wanted in
       rw given (rw (le-ltb longest_file (length input) within) refl)
 
-  plan_passes : files (name_in words Plan) ≡ Some [] → fetched Plan (files (name_in words Plan)) ≡ passes
-  plan_passes given = rw given refl
+  plan_passes : IsSomeAnd (files (name_in words Plan)) IsGoodPlan → fetched Plan (files (name_in words Plan)) ≡ passes
+  plan_passes wanted =
+      let (plan, given, plan_good) = some_and (files (name_in words Plan)) _ wanted in
+      rw given (rw (le-ltb longest_file (length plan) plan_good.within) refl)
 
-  plan_read : files (name_in words Plan) ≡ Some [] → planned (plan_of (file_in files words Plan)) ≡ passes
-  unfolding plan_of read_from
-  plan_read given = rw given refl
+  plan_read : IsSomeAnd (files (name_in words Plan)) IsGoodPlan → planned (plan_of (file_in files words Plan)) ≡ passes
+  plan_read wanted =
+      let (plan, given, plan_good) = some_and (files (name_in words Plan)) _ wanted in
+      ap (λ (o : Option (List ℕ)). planned (plan_of (unwrap_or o []))) given ∙ read_passes (plan_of plan) plan_good.formed
 
   checks_pass : (command : Command) → HasRoom command image → HasInput command words files
       → first_verdict (checks_of command files words) ≡ passes

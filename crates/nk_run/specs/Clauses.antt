@@ -1,12 +1,13 @@
 -- What the top call promises, in the order of the record `Promises` at the end: each promise is over what the call saw
 -- and its status.
-use Rattle.std.specs.Prelude.{◌≡◌, ℕ, ◌≤◌, ◌⊎◌, List, [], length, Some, None, MatchOption, IsSomeAnd, ⊤}
+use Rattle.std.specs.Prelude.{◌≡◌, ℕ, ◌≤◌, ◌⊎◌, List, length, Some, None, MatchOption, IsSomeAnd, IsOk, ⊤}
 use Rattle.std.specs.Io.KnownBytes.{Appends}
 use Rattle.nk_host.specs.FaultCounts.{Rose, RoseTo}
 use Rattle.nk_host.specs.Taken.{AppendsPrefix}
 use Rattle.nk_host.specs.Told.{IfTold}
 use Rattle.elf_image.specs.Rows.{first_fault}
 use Rattle.byte_scanner.specs.FirstFound.{first_found}
+use Rattle.irq_plan.specs.PlanFile.{plan_of}
 use Rattle.boot_map.specs.Division.{need}
 use Rattle.nk_run.specs.declared.command_line.Command.{Command}
 use Rattle.nk_run.specs.declared.command_line.Command.TheVariants.{Scan, Map, Run}
@@ -122,13 +123,18 @@ HasRoom Scan b = ⊤
 HasRoom (Map frames va) b = need b frames ≤ frames
 HasRoom (Run steps frames) b = need b frames ≤ frames
 
--- the command's other files are held: an input within the limit, and an empty plan
+-- the plan is within the limit, and each of its lines is in form
+pub record IsGoodPlan (b : List ℕ) : Type 0 where
+  pub within : length b ≤ longest_file
+  pub formed : IsOk (plan_of b)
+
+-- the command's other files are held: an input within the limit, and a plan that is good
 abbrev pub HasInput : Command → List (List ℕ) → Files → Type 0
 HasInput Scan words files = ⊤
 HasInput (Map frames va) words files = ⊤
 HasInput (Run steps frames) words files =
     IsSomeAnd (files (name_in words Input)) (λ input. length input ≤ longest_file)
-    × (files (name_in words Plan) ≡ Some [])
+    × IsSomeAnd (files (name_in words Plan)) IsGoodPlan
 
 -- what the words ask for can be done with the files
 abbrev pub IsDoable : Command → List (List ℕ) → Files → Type 0
