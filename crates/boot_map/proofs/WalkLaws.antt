@@ -1,18 +1,21 @@
 -- The walk from the opening's root: over the entries and over memory it is one.
 use Rattle.std.proofs.Common.{◌≡◌, ◌==◌, ◌⊎◌, ℕ, zero, suc, ◌+◌, ◌-◌, ◌^◌, ◌<◌, ◌≤◌, Bool, true, false, cond, List, length, nat_lt, Option, Some, None, refl, sym, ap, subst, ◌∙◌, arith, inl, inr}
-use Rattle.std.proofs.lemmas.Bool.{cond_both, cond-true, cond-false, ltb-true, leb-false, lt-ltb, le-ltb, eq-eqb, ne_eqb, or_parts, both_ways}
+use Rattle.std.proofs.lemmas.Bool.{false≢true, cond_both, cond-true, cond-false, ltb-true, leb-false, lt-ltb, le-ltb, eq-eqb, ne_eqb, or_parts, both_ways}
 use Rattle.std.proofs.lemmas.List.Quantifiers.{position-Some}
 use Rattle.std.specs.List.{position}
 use Rattle.nk_bits.specs.declared.leaf.Rights.{Rights}
 use Rattle.phys_mem.specs.Memory.{entry_in}
 use Rattle.nk_bits.specs.Paging.{all_rights, common, frame_of, is_missing, is_present, page_index, rights_of, walk}
 use Rattle.boot_map.specs.declared.part.Part.{Part}
-use Rattle.boot_map.specs.declared.part.Part.TheVariants.{Root, SlotTable, AreaDirectory, ImageDirectory, RangeTable, MapRoot, MapDirectory, MapTable, Free}
+use Rattle.boot_map.specs.declared.part.Part.TheVariants.{Root, SlotTable, AreaDirectory, AreaTable, ImageDirectory, RangeTable, MapRoot, MapDirectory, MapTable, Free}
 use Rattle.boot_map.specs.Division.{Division, IsLayout, division_of, free_start, map_start, map_tables, pages_start, tables_start}
 use Rattle.boot_map.specs.Parts.{part_at, sized_part}
 use Rattle.boot_map.specs.OpeningEntries.{opening_entry, entry_of_part, link, map_directory_entry, range_entry, range_link, table_level}
 use Rattle.boot_map.specs.Opening.{IsOpening}
 use Rattle.boot_map.specs.FixedFrames.{opening_root}
+use Rattle.boot_map.specs.KernelSlot.{HoldsSlot, HoldsTables, is_slot_table}
+use Rattle.boot_map.specs.OpeningKinds.{kind_at, kind_of_part}
+use Rattle.nk_bits.specs.Kinds.{is_storable}
 use Rattle.boot_map.proofs.EntryLaws.{entry_stands}
 use Rattle.boot_map.proofs.WalkSchema.{walk_alike, walk_by_level}
 
@@ -152,16 +155,59 @@ root_at : (d : Division) → table_level (part_at d opening_root) ≡ 4
 unfolding part_at
 root_at d = refl
 
--- the walk over the opening memory is that over the opening's entries
-pub same_walk : (b m : List ℕ) (frames page : ℕ) → IsOpening b frames m → IsLayout b (division_of b frames) → walk (entry_in m) frames opening_root page ≡ walk (opening_entry b frames) frames opening_root page
-same_walk b m frames page opening layout =
+-- the opening memory holds the opening's tables
+pub opening_tables : (b m : List ℕ) (frames : ℕ) → IsOpening b frames m → IsLayout b (division_of b frames) → HoldsTables b frames (entry_in m)
+opening_tables b m frames opening layout =
+    record { entries = λ f i within small table. entry_stands b m frames f i opening layout within small table }
+
+-- the walk over tables that hold the opening's is that over the opening's entries
+pub held_walk : (b : List ℕ) (frames page : ℕ) (t : ℕ → ℕ → ℕ) → HoldsTables b frames t → IsLayout b (division_of b frames) → walk t frames opening_root page ≡ walk (opening_entry b frames) frames opening_root page
+held_walk b frames page t holds layout =
     let d : Division = division_of b frames in
     let least : 512 ≤ frames = layout.least in
     let most : frames ≤ 16384 = layout.most in
     let room : free_start d ≤ frames = layout.room in
     let small : free_start d ≤ 2 ^ 40 = omega arith in
-    walk_by_level (entry_in m) frames opening_root page
-    ∙ walk_alike (opening_entry b frames) frames page (IsTableAt d) (carries b frames page small) (entry_in m)
-    (λ level f r table. entry_stands b m frames f (page_index page (suc level)) opening layout table.0 (index_small page (suc level)) (omega (arith, table.1)))
+    walk_by_level t frames opening_root page
+    ∙ walk_alike (opening_entry b frames) frames page (IsTableAt d) (carries b frames page small) t
+    (λ level f r table. holds.entries f (page_index page (suc level)) table.0 (index_small page (suc level)) (omega (arith, table.1)))
     4 opening_root all_rights (omega arith, root_at d)
     ∙ sym (walk_by_level (opening_entry b frames) frames opening_root page)
+
+pub same_walk : (b m : List ℕ) (frames page : ℕ) → IsOpening b frames m → IsLayout b (division_of b frames) → walk (entry_in m) frames opening_root page ≡ walk (opening_entry b frames) frames opening_root page
+same_walk b m frames page opening layout = held_walk b frames page (entry_in m) (opening_tables b m frames opening layout) layout
+
+-- the slot's own tables are among them, and the opening's root
+slot_table_level : (part : Part) → is_slot_table part ≡ true → 0 < table_level part
+slot_table_level SlotTable is = omega arith
+slot_table_level AreaDirectory is = omega arith
+slot_table_level AreaTable is = omega arith
+slot_table_level ImageDirectory is = omega arith
+slot_table_level (RangeTable k) is = omega arith
+slot_table_level _ is = absurd (false≢true is)
+
+pub held_slot : (b : List ℕ) (frames : ℕ) (t : ℕ → ℕ → ℕ) → HoldsTables b frames t → HoldsSlot b frames t
+held_slot b frames t holds =
+    record { entries = λ f i within small is. holds.entries f i within small (slot_table_level (part_at (division_of b frames) f) is) }
+
+pub held_root : (b : List ℕ) (frames : ℕ) (t : ℕ → ℕ → ℕ) → IsLayout b (division_of b frames) → HoldsTables b frames t → t opening_root 511 ≡ opening_entry b frames opening_root 511
+held_root b frames t layout holds =
+    let least : 512 ≤ frames = layout.least in
+    holds.entries opening_root 511 (omega arith) (omega arith) (omega (arith, root_at (division_of b frames)))
+
+-- no page table may be stored to
+tables_unstorable : (b : List ℕ) (part : Part) → 0 < table_level part → is_storable (kind_of_part b part) ≡ false
+tables_unstorable b Root is = refl
+tables_unstorable b SlotTable is = refl
+tables_unstorable b AreaDirectory is = refl
+tables_unstorable b AreaTable is = refl
+tables_unstorable b ImageDirectory is = refl
+tables_unstorable b (RangeTable k) is = refl
+tables_unstorable b MapRoot is = refl
+tables_unstorable b MapDirectory is = refl
+tables_unstorable b (MapTable k) is = refl
+tables_unstorable b _ is = absurd (omega arith)
+
+pub table_kept : (b : List ℕ) (frames frame : ℕ) → 0 < table_level (part_at (division_of b frames) frame) → is_storable (kind_at b frames frame) ≡ false
+unfolding kind_at
+table_kept b frames frame is = tables_unstorable b (part_at (division_of b frames) frame) is

@@ -8,7 +8,7 @@ use Rattle.boot_map.specs.declared.part.Part.TheVariants.{SlotTable, AreaDirecto
 use Rattle.boot_map.specs.FixedFrames.{gate_text, handler_slot, idt_and_tss, nested_stack, trap_stack}
 use Rattle.boot_map.specs.Division.{division_of, pages_start}
 use Rattle.boot_map.specs.Parts.{part_at}
-use Rattle.boot_map.specs.OpeningEntries.{opening_entry}
+use Rattle.boot_map.specs.OpeningEntries.{opening_entry, table_level}
 
 -- the slot's first page, at FFFFFF8000000000, which is the nested area's first too
 abbrev pub slot_start : ℕ
@@ -62,6 +62,11 @@ is_slot_table _ = false
 pub record HoldsSlot (b : List ℕ) (frames : ℕ) (t : ℕ → ℕ → ℕ) : Type 0 where
   pub entries : (f i : ℕ) → f < frames → i < 512
       → is_slot_table (part_at (division_of b frames) f) ≡ true → t f i ≡ opening_entry b frames f i
+
+-- these tables hold the opening's: each page table of the opening has its entries
+pub record HoldsTables (b : List ℕ) (frames : ℕ) (t : ℕ → ℕ → ℕ) : Type 0 where
+  pub entries : (f i : ℕ) → f < frames → i < 512
+      → 0 < table_level (part_at (division_of b frames) f) → t f i ≡ opening_entry b frames f i
 
 -- the page is one of the image that may be executed, and stands in this frame
 pub record IsCodePage (b : List ℕ) (frames page frame : ℕ) : Type 0 where

@@ -14,7 +14,7 @@ ghost use Rattle.boot_map.specs.OpeningKinds.{kind_at, kinds};
 ghost use Rattle.boot_map.specs.OpeningEntries.{opening_entry, link, table_level};
 ghost use Rattle.boot_map.specs.Opening.{IsOpening};
 ghost use Rattle.boot_map.specs.Parts.{part_at};
-ghost use Rattle.boot_map.specs.KernelSlot.{HoldsSlot, IsCodePage, slot_leaf, slot_start};
+ghost use Rattle.boot_map.specs.KernelSlot.{HoldsSlot, HoldsTables, IsCodePage, slot_leaf, slot_start};
 
 /// The entries of the opening's tables stand in its memory, so that the walk from the opening's root finds in memory
 /// what it finds in the entries.
@@ -43,6 +43,22 @@ pub fn slot_law()
     ensures held { (b m : List ℕ) (frames : ℕ) → IsOpening b frames m
         → IsLayout b (division_of b frames) → HoldsSlot b frames (entry_in m) }
     ensures link { link slot_table ≡ slot_value }
+{}
+
+/// What follows for tables that hold the opening's page tables: they hold the kernel slot, from the opening's root too,
+/// whose walk finds in them what it finds in the opening's entries. The opening's memory holds them, and no page table
+/// may be stored to.
+pub fn held_law()
+    ensures opening { (b m : List ℕ) (frames : ℕ) → IsOpening b frames m
+        → IsLayout b (division_of b frames) → HoldsTables b frames (entry_in m) }
+    ensures slot { (b : List ℕ) (frames : ℕ) (t : ℕ → ℕ → ℕ) → HoldsTables b frames t → HoldsSlot b frames t }
+    ensures root { (b : List ℕ) (frames : ℕ) (t : ℕ → ℕ → ℕ) → IsLayout b (division_of b frames)
+        → HoldsTables b frames t → t opening_root 511 ≡ slot_value }
+    ensures walk { (b : List ℕ) (frames page : ℕ) (t : ℕ → ℕ → ℕ) → HoldsTables b frames t
+        → IsLayout b (division_of b frames) → walk t frames opening_root page
+        ≡ walk (opening_entry b frames) frames opening_root page }
+    ensures kept { (b : List ℕ) (frames frame : ℕ)
+        → 0 < table_level (part_at (division_of b frames) frame) → is_storable (kind_at b frames frame) ≡ false }
 {}
 
 /// What the leaves of the kernel slot grant: none is the user's, each names a frame in memory; an executable one is the

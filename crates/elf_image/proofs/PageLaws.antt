@@ -11,7 +11,8 @@ use Rattle.std.specs.List.{All, Contains, flat_map, list_any, range_with_len}
 use Rattle.elf_image.specs.declared.program_header.ProgramHeader.{ProgramHeader}
 use Rattle.elf_image.specs.Elf.{e_entry, has_flag, header_at, pf_w, pf_x, segments}
 use Rattle.elf_image.specs.Home.{home_end, home_start, page_size}
-use Rattle.elf_image.specs.Segments.{covers, first_page, is_code_at, is_writable_code, last_page, loads, pages_of_segment, pages_touched, shares_page, total_pages, touches}
+use Rattle.elf_image.specs.Segments.{covers, first_page, is_code_at, last_page, loads, pages_of_segment, pages_touched, shares_page, total_pages, touches}
+use Rattle.elf_image.specs.Rows.{first_fault}
 use Rattle.elf_image.specs.Loaded.{IsLoaded, IsPlaced, Supplies}
 use Rattle.elf_image.specs.Pages.{IsPageList, byte_from, byte_of, executable_page_count, home_pages, is_executable, is_in_memory, is_page, is_writable, numbers_from, page_count, pages_of}
 use Rattle.elf_image.proofs.FormLaws.{all_placed, lawful, segments_apart, some_segment}
@@ -48,6 +49,64 @@ kept_some p (x ∷ xs) h =
 second_false : (x y : Bool) → x ≡ true → (x && y) ≡ false → y ≡ false
 second_false true y h e = e
 second_false false y h e = absurd (false≢true h)
+
+-- a file in form, with its segments in the order of its table
+module _ (b : List ℕ) (form : first_fault b ≡ None) where
+  in_home : (low m n : ℕ) → low * page_size ≡ home_start → (low + m) * page_size ≡ home_end → is_page b n ≡ true → (low ≤ n) × (n < low + m)
+  unfolding is_page
+  in_home low m n starts ends h =
+      let a = Any-from_list_any (λ s. touches s n) (segments b) h in
+      let s : ProgramHeader = get_or (segments b) a.0 a.1 in
+      let p : IsPlaced (length b) s = all_placed b form a.0 a.1 a.2 in
+      let parts = and_parts (leb (first_page s) n) (leb n (last_page s)) (ap (λ (t : ProgramHeader). touches t n) a.3 ∙ a.4) in
+      let low_end : first_page s ≤ n = leb-true _ _ parts.0 in
+      let high_end : n ≤ last_page s = leb-true _ _ parts.1 in
+      (omega (arith, low_end, p.above, starts), omega (arith, high_end, p.below, p.takes, ends))
+
+  covered : (va : ℕ) → is_in_memory b va ≡ true → is_page b (va / page_size) ≡ true
+  unfolding is_in_memory is_page
+  covered va h = weaker_any (λ s. covers s va) (λ s. touches s (va / page_size)) (segments b) (λ s e. covers_touches s va e) h
+
+  covering : (n : ℕ) → is_page b n ≡ true → (va : ℕ) × (va / page_size ≡ n) × (is_in_memory b va ≡ true)
+  unfolding is_in_memory is_page
+  covering n h =
+      let a = Any-from_list_any (λ s. touches s n) (segments b) h in
+      let w = touches_covers (get_or (segments b) a.0 a.1) n (all_placed b form a.0 a.1 a.2).takes (ap (λ (t : ProgramHeader). touches t n) a.3 ∙ a.4) in
+      (w.0, w.1, list_any_at (λ s. covers s w.0) (segments b) a.0 a.1 a.2 w.2)
+
+  executable_touched : (n : ℕ) → is_executable b n ≡ true → is_page b n ≡ true
+  unfolding is_executable is_page
+  executable_touched n h = weaker_any (λ s. touches s n && has_flag s pf_x) (λ s. touches s n) (segments b) (λ s e. (and_parts (touches s n) (has_flag s pf_x) e).0) h
+
+  unwritable : (n : ℕ) → is_executable b n ≡ true → is_writable b n ≡ false
+  unfolding is_executable is_writable
+  unwritable n h =
+      let a = Any-from_list_any (λ s. touches s n && has_flag s pf_x) (segments b) h in
+      let here = and_parts (touches (get_or (segments b) a.0 a.1) n) (has_flag (get_or (segments b) a.0 a.1) pf_x) (ap (λ (t : ProgramHeader). touches t n && has_flag t pf_x) a.3 ∙ a.4) in
+      list_any_none (λ s. touches s n && has_flag s pf_w) (segments b) (All-from_get_or (λ s. (touches s n && has_flag s pf_w) ≡ false) (segments b) a.1 (λ j hj.
+      elim (cases_eq a.0 j) [
+        | inl same ↦
+            let code : has_flag (get_or (segments b) j a.1) pf_x ≡ true = ap (λ (k : ℕ). has_flag (get_or (segments b) k a.1) pf_x) (sym same) ∙ here.1 in
+            and_right (touches (get_or (segments b) j a.1) n) (has_flag (get_or (segments b) j a.1) pf_w) (second_false _ _ code ((lawful b form).rights j a.1 hj))
+        | inr other ↦ and_left (touches (get_or (segments b) j a.1) n) (has_flag (get_or (segments b) j a.1) pf_w) (touched_once (segments b) (segments_apart b form) n a.0 j a.1 a.2 hj other here.0)
+      ]))
+
+  list_in : (low m : ℕ) → low * page_size ≡ home_start → (low + m) * page_size ≡ home_end → IsPageList b (filter (is_page b) (numbers_from low m))
+  unfolding numbers_from
+  list_in low m starts ends = record {
+    ascending = λ i j below within. kept_ascending (is_page b) low m i j 0 below within;
+    home = λ i h. let k = kept_within (is_page b) low m i 0 h in (omega (arith, k.0), omega (arith, k.1));
+    touched = λ i h. filter_passes (is_page b) (range_with_len low m) i 0 h;
+    complete = λ n h. let inside = in_home low m n starts ends h in kept_all (is_page b) low m n h inside.0 inside.1;
+    holds = covering;
+    held = covered;
+    unwritable = unwritable;
+    executable = executable_touched;
+  }
+
+  pub page_list : IsPageList b (pages_of b)
+  unfolding pages_of home_pages
+  page_list = list_in _ _ refl refl
 
 -- an image with its segments in the order of their addresses
 module _ (b : List ℕ) (segs : List ProgramHeader) (image : IsLoaded b segs) where
@@ -91,42 +150,6 @@ module _ (b : List ℕ) (segs : List ProgramHeader) (image : IsLoaded b segs) wh
   pub some_page : 0 < total_pages segs
   some_page = at_least_one segs (omega (arith, length_permutation (segments b) segs image.same, some_segment b image.form))
 
-  in_home : (low m n : ℕ) → low * page_size ≡ home_start → (low + m) * page_size ≡ home_end → is_page b n ≡ true → (low ≤ n) × (n < low + m)
-  in_home low m n starts ends h =
-      let a = Any-from_list_any (λ s. touches s n) segs (sym (touched_by n) ∙ h) in
-      let s : ProgramHeader = get_or segs a.0 a.1 in
-      let p : IsPlaced (length b) s = placed a.0 a.1 a.2 in
-      let parts = and_parts (leb (first_page s) n) (leb n (last_page s)) (ap (λ (t : ProgramHeader). touches t n) a.3 ∙ a.4) in
-      let low_end : first_page s ≤ n = leb-true _ _ parts.0 in
-      let high_end : n ≤ last_page s = leb-true _ _ parts.1 in
-      (omega (arith, low_end, p.above, starts), omega (arith, high_end, p.below, p.takes, ends))
-
-  covered_by : (va : ℕ) → is_in_memory b va ≡ list_any (λ s. covers s va) segs
-  unfolding is_in_memory
-  covered_by va = list_any-IsPermutation (λ s. covers s va) (segments b) segs image.same
-
-  covered : (va : ℕ) → is_in_memory b va ≡ true → is_page b (va / page_size) ≡ true
-  covered va h = touched_by (va / page_size) ∙ weaker_any (λ s. covers s va) (λ s. touches s (va / page_size)) segs (λ s e. covers_touches s va e) (sym (covered_by va) ∙ h)
-
-  covering : (n : ℕ) → is_page b n ≡ true → (va : ℕ) × (va / page_size ≡ n) × (is_in_memory b va ≡ true)
-  covering n h =
-      let a = Any-from_list_any (λ s. touches s n) segs (sym (touched_by n) ∙ h) in
-      let w = touches_covers (get_or segs a.0 a.1) n (placed a.0 a.1 a.2).takes (ap (λ (t : ProgramHeader). touches t n) a.3 ∙ a.4) in
-      (w.0, w.1, covered_by w.0 ∙ list_any_at (λ s. covers s w.0) segs a.0 a.1 a.2 w.2)
-
-  unwritable : (n : ℕ) → is_executable b n ≡ true → is_writable b n ≡ false
-  unwritable n h =
-      let a = Any-from_list_any (λ s. touches s n && has_flag s pf_x) segs (sym (executable_by n) ∙ h) in
-      let here = and_parts (touches (get_or segs a.0 a.1) n) (has_flag (get_or segs a.0 a.1) pf_x) (ap (λ (t : ProgramHeader). touches t n && has_flag t pf_x) a.3 ∙ a.4) in
-      writable_by n ∙ list_any_none (λ s. touches s n && has_flag s pf_w) segs (All-from_get_or (λ s. (touches s n && has_flag s pf_w) ≡ false) segs a.1 (λ j hj.
-      elim (cases_eq a.0 j) [
-        | inl same ↦
-            let rights : is_writable_code (get_or segs j a.1) ≡ false = All-permutation (λ s. is_writable_code s ≡ false) (segments b) segs image.same (lawful b image.form).rights j a.1 hj in
-            let code : has_flag (get_or segs j a.1) pf_x ≡ true = ap (λ (k : ℕ). has_flag (get_or segs k a.1) pf_x) (sym same) ∙ here.1 in
-            and_right (touches (get_or segs j a.1) n) (has_flag (get_or segs j a.1) pf_w) (second_false _ _ code rights)
-        | inr other ↦ and_left (touches (get_or segs j a.1) n) (has_flag (get_or segs j a.1) pf_w) (touched_once segs apart n a.0 j a.1 a.2 hj other here.0)
-      ]))
-
   -- the page of the entry may be executed
   pub entry_page : is_executable b (e_entry b / page_size) ≡ true
   entry_page =
@@ -134,23 +157,6 @@ module _ (b : List ℕ) (segs : List ProgramHeader) (image : IsLoaded b segs) wh
       ∙ weaker_any (is_code_at (e_entry b)) (λ s. touches s (e_entry b / page_size) && has_flag s pf_x) segs
       (λ s e. let parts = and_parts (has_flag s pf_x) (covers s (e_entry b)) e in and_from (touches s (e_entry b / page_size)) (has_flag s pf_x) (covers_touches s (e_entry b) parts.1) parts.0)
       (sym (list_any-IsPermutation (is_code_at (e_entry b)) (segments b) segs image.same) ∙ (lawful b image.form).entry)
-
-  list_in : (low m : ℕ) → low * page_size ≡ home_start → (low + m) * page_size ≡ home_end → IsPageList b (filter (is_page b) (numbers_from low m))
-  unfolding numbers_from
-  list_in low m starts ends = record {
-    ascending = λ i j below within. kept_ascending (is_page b) low m i j 0 below within;
-    home = λ i h. let k = kept_within (is_page b) low m i 0 h in (omega (arith, k.0), omega (arith, k.1));
-    touched = λ i h. filter_passes (is_page b) (range_with_len low m) i 0 h;
-    complete = λ n h. let inside = in_home low m n starts ends h in kept_all (is_page b) low m n h inside.0 inside.1;
-    holds = covering;
-    held = covered;
-    unwritable = unwritable;
-    executable = λ n h. touched_by n ∙ weaker_any (λ s. touches s n && has_flag s pf_x) (λ s. touches s n) segs (λ s e. (and_parts (touches s n) (has_flag s pf_x) e).0) (sym (executable_by n) ∙ h);
-  }
-
-  pub page_list : IsPageList b (pages_of b)
-  unfolding pages_of home_pages
-  page_list = list_in _ _ refl refl
 
   -- where a segment touches a page, the page has the segment's rights
   pub same_rights : (i : ℕ) (d : ProgramHeader) → i < length segs → (n : ℕ) → touches (get_or segs i d) n ≡ true → is_executable b n ≡ has_flag (get_or segs i d) pf_x
@@ -225,7 +231,7 @@ module _ (b : List ℕ) (segs : List ProgramHeader) (image : IsLoaded b segs) wh
       )
 
   pub page_in_home : (i : ℕ) → i < page_count b → (home_start ≤ page_size * get_or (pages_of b) i 0) × (page_size * get_or (pages_of b) i 0 + page_size ≤ home_end)
-  page_in_home i h = page_list.home i h
+  page_in_home i h = (page_list b image.form).home i h
 
   some_executable : 0 < sum_by pages_touched (filter (λ s. has_flag s pf_x) segs)
   some_executable =

@@ -1,6 +1,6 @@
 //! The image: a file in form, and what it loads.
 
-ghost use Rattle.std.specs.Prelude.{◌≡◌, ◌+◌, ◌*◌, ◌/◌, ◌<◌, ◌≤◌, length, slice_index, IsTrue, IfOk, OnOk, IfErr, Some};
+ghost use Rattle.std.specs.Prelude.{◌≡◌, ℕ, ◌+◌, ◌*◌, ◌/◌, ◌<◌, ◌≤◌, length, slice_index, IsTrue, IfOk, OnOk, IfErr, Some};
 ghost use Rattle.elf_image.specs.Home.{home_end, home_start, page_size};
 ghost use Rattle.elf_image.specs.Loaded.{IsPartOf, IsPlaced, Supplies};
 ghost use Rattle.elf_image.specs.Pages.{IsBytesOfPage, IsPageList, byte_of, entry_of, executable_page_count, is_executable, is_writable, page_count, pages_of};
@@ -49,6 +49,11 @@ impl Model for Image {
     ghost invariant = { λ i. IsLoaded i.bytes.items i.segments.items };
 }
 
+/// Each element of a slice of bytes is below 256.
+fn are_bytes(bytes: &[u8])
+    ensures { (i : ℕ) → slice_index bytes.now i < 256 }
+{}
+
 impl Image {
     /// Reads an image from the bytes of a file. Takes no memory.
     ///
@@ -72,8 +77,11 @@ impl Image {
         ensures entry { result ≡ entry_of self.now }
         ensures code { IsTrue (is_executable self.now (result / page_size)) }
         ensures form { IsForm self.now }
+        ensures bytes { (i : ℕ) → slice_index self.now i < 256 }
     {
-        xword(&self.bytes, E_ENTRY)
+        let bytes: &[u8] = &self.bytes;
+        are_bytes(bytes);
+        xword(bytes, E_ENTRY)
     }
 
     /// The number of pages, 1 to 8,192.

@@ -24,9 +24,12 @@ mod page_bytes;
 mod page_list;
 // The image.
 mod image_file;
+// What follows.
+mod laws;
 #[cfg(test)]
 mod tests;
 
 pub use elf::{HOME_END, HOME_START, MOST_PAGES, PAGE_SIZE};
 pub use fault::{FaultKind, ImageFault};
 pub use image_file::{Image, PageInfo};
+pub use laws::{entry_law, pages_law};

@@ -1,2 +1,3 @@
 -- What a reader must believe.
 pub mod Listing
+pub mod GatePoints

@@ -28,3 +28,22 @@ fn body_is_an_instruction_of_its_own(rt: HostRuntime) {
     assert_eq!(rt; byte(body), 0x0F);
     assert_eq!(rt; byte(body + 1), 0x0B);
 }
+
+/// Fourteen in the gates, and two in each of the sixteen stubs of interrupts.
+#[test]
+fn points_by_number(rt: HostRuntime) {
+    let points = (0..512usize).filter(|offset| is_point(*offset)).count();
+    assert_eq!(rt; points, 46);
+    assert!(rt; !is_point(4095));
+}
+
+/// The first behind the load that clears WP, the body's place, the last stub; neither the loads nor the stub of a fault.
+#[test]
+fn points_of_the_listing(rt: HostRuntime) {
+    for point in [16, 27, 37, 320, 442, 457] {
+        assert!(rt; is_point(point));
+    }
+    for other in [13, 47, 64, 312, 321, 467] {
+        assert!(rt; !is_point(other));
+    }
+}

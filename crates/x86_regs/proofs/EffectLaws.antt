@@ -53,12 +53,12 @@ record IsCalm (size : ℕ) (regs : Regs) (change : Change) : Type 0 where
   calm : IsCalmAct size change.act
 
 -- what holds of two things holds of the one that is chosen
-either : {A : Type 0} (P : A → Type 0) (b : Bool) (one other : A) → P one → P other → P (if b then one else other)
+pub either : {A : Type 0} (P : A → Type 0) (b : Bool) (one other : A) → P one → P other → P (if b then one else other)
 either P true one other first second = first
 either P false one other first second = second
 
 -- what holds of the answer of a step, whatever the step before answered, holds after both
-then_ok : {F A B : Type 0} (Q : B → Type 0) (answer : Result A F) (tlb : Translations) (next : A → Translations → Outcome F B) →
+pub then_ok : {F A B : Type 0} (Q : B → Type 0) (answer : Result A F) (tlb : Translations) (next : A → Translations → Outcome F B) →
     ((x : A) → IfOk (next x tlb).answer Q) → IfOk (then_by answer tlb next).answer Q
 then_ok Q (Ok x) tlb next later = later x
 then_ok Q (Err fault) tlb next later = tt

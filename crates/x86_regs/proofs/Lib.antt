@@ -1,4 +1,9 @@
+mod CalmActs
 mod EffectLaws
+mod GrantedAccesses
+mod GrantedEffects
+mod KeptRegisters
+mod PlannedSpans
 mod WorkedEffectsAccesses
 mod WorkedEffectsArithmetic
 mod WorkedEffectsFlow

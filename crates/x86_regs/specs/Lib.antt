@@ -6,3 +6,4 @@ pub mod OperationForms
 pub mod OperandPlans
 pub mod OperandOutcomes
 pub mod Effects
+pub mod EffectsKept

@@ -1,11 +1,19 @@
 //! What follows from the definition of an effect, for those who say what a turn of the processor keeps.
 
-ghost use Rattle.std.specs.Prelude.{◌≡◌, ℕ, List, length, IfOk};
+ghost use Rattle.std.specs.Prelude.{◌≡◌, ℕ, ◌%◌, Bool, true, false, List, length, All, IfOk, IfSome};
 ghost use Rattle.x86_decode.specs.declared.instruction.Instr.{Instr};
+ghost use Rattle.x86_decode.specs.Conditions.{is_protected};
+ghost use Rattle.x86_decode.specs.WellFormed.{IsWellFormed};
 ghost use Rattle.nk_bits.specs.declared.control.Control.{Control};
-ghost use Rattle.nk_bits.specs.Translations.{Translations};
+ghost use Rattle.nk_bits.specs.declared.leaf.Leaf.{Leaf};
+ghost use Rattle.nk_bits.specs.Accesses.{IsWalked};
+ghost use Rattle.nk_bits.specs.Translations.{NamesFramesIn, Translations};
+ghost use Rattle.page_walk.specs.MemoryAccess.{view_of};
 ghost use Rattle.x86_regs.specs.declared.registers.Regs.{Regs};
 ghost use Rattle.x86_regs.specs.Effects.{LeavesToDelivery, LoadsFrameIn, effect_of};
+ghost use Rattle.x86_regs.specs.EffectsKept.{AreRegisters, IsGranted, LoadsNothing};
+
+use nk_bits::{access_law, walk_law};
 
 /// What no instruction does by itself: it leaves the CPL and SS, and loads CR3 with a frame in memory alone. An
 /// interrupt or a return moves RIP on, and leaves all else to its delivery.
@@ -18,3 +26,31 @@ pub fn effect_law()
     ensures moved { (i : Instr) (size : ℕ) (regs : Regs) (control : Control) (m : List ℕ) (tlb : Translations)
         → IfOk (effect_of i size regs control m tlb).answer (LeavesToDelivery regs) }
 {}
+
+/// Where registers have 64 bits and the instruction is well formed, they stay so, translations keep what holds of each,
+/// and such translations grant the write. Only protected operations, at CPL 0, load a control register or a table.
+pub fn grant_law()
+    ensures registers { (i : Instr) (size : ℕ) (regs : Regs) (control : Control) (m : List ℕ) (tlb : Translations)
+        → IsWellFormed i → AreRegisters regs
+        → IfOk (effect_of i size regs control m tlb).answer (λ effect. AreRegisters effect.regs) }
+    ensures calm { (i : Instr) (size : ℕ) (regs : Regs) (control : Control) (m : List ℕ) (tlb : Translations)
+        → is_protected i.op ≡ false
+        → IfOk (effect_of i size regs control m tlb).answer (λ effect. LoadsNothing effect.act) }
+    ensures supervisor { (i : Instr) (size : ℕ) (regs : Regs) (control : Control) (m : List ℕ) (tlb : Translations)
+        → is_protected i.op ≡ true
+        → IfOk (effect_of i size regs control m tlb).answer (λ effect. regs.cpl ≡ 0) }
+    ensures translations { (i : Instr) (size : ℕ) (regs : Regs) (control : Control) (m : List ℕ) (tlb : Translations)
+        (test : ℕ × Leaf → Bool)
+        → IsWellFormed i → AreRegisters regs → IsWalked (view_of m control regs.cpl) test
+        → All (λ pair. test pair ≡ true) tlb
+        → All (λ pair. test pair ≡ true) (effect_of i size regs control m tlb).tlb }
+    ensures granted { (i : Instr) (size : ℕ) (regs : Regs) (control : Control) (m : List ℕ) (tlb : Translations)
+        (test : ℕ × Leaf → Bool)
+        → IsWellFormed i → AreRegisters regs → length m % 4096 ≡ 0 → NamesFramesIn (length m) tlb
+        → IsWalked (view_of m control regs.cpl) test → All (λ pair. test pair ≡ true) tlb
+        → IfOk (effect_of i size regs control m tlb).answer
+        (λ effect. IfSome effect.write (IsGranted (view_of m control regs.cpl) test (length m))) }
+{
+    access_law();
+    walk_law();
+}

@@ -19,4 +19,4 @@ returns-clause-few c = omega (arith, c.total_pages.ensures, ap total_pages c.as_
 pub returns-clause-list : goal.returns-clause-list
 returns-clause-list c =
     let P : List ℕ → Type 0 = λ b. IsPageList b (pages_of b) in
-    subst P c.self.view_is (page_list _ _ c.self.invariant)
+    subst P c.self.view_is (page_list _ c.self.invariant.form)
