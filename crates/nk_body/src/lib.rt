@@ -1,0 +1,18 @@
+//! The nested kernel's work on one call: it judges the call by the rules of `specs/CallRules.antt`, in order, and makes
+//! what an accepted one asks of the record that `specs/NestedRecord.antt` reads from its books and memory. It touches the
+//! memory that it is handed and its own books, and no register; only its start takes memory. Floor: nested kernel.
+#![tactic(auto)]
+
+// What is read for a call, and the books with the calls on them.
+mod kernel;
+mod source;
+
+// What follows from the definitions.
+mod laws;
+
+pub use kernel::{Kernel, NoMemory};
+pub use laws::call_law;
+pub use source::Source;
+
+#[cfg(test)]
+mod tests;
