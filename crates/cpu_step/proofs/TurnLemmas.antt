@@ -90,14 +90,8 @@ turned_by_act p m asked regs tlb at made left =
     ∙ ap (λ (o : Outcome Fault Effect). turned_by o.answer p m o.tlb) (sym made)
     ∙ sym (set_back asked.act p.regs regs (asked.write ≡ None) (record p { regs = regs; tlb = tlb }) (memory_after asked.write m) left)
 
--- a turn where the body is to run, and elsewhere by the vector that is deliverable
-pub turned_before_body : (p : Processor) (m : List ℕ) → enters_body p ≡ true → turned p m ≡ turned_to p m stepped.Stopped
-unfolding turned
-turned_before_body p m enters = ap (λ (b : Bool). if b then turned_to p m stepped.Stopped else turned_unless (deliverable p) p m) enters
-
-pub turned_else : (p : Processor) (m : List ℕ) (vector : Option ℕ) → enters_body p ≡ false → deliverable p ≡ vector
+-- a turn by the vector that is deliverable
+pub turned_by_vector : (p : Processor) (m : List ℕ) (vector : Option ℕ) → deliverable p ≡ vector
     → turned p m ≡ turned_unless vector p m
 unfolding turned
-turned_else p m vector enters is =
-    ap (λ (b : Bool). if b then turned_to p m stepped.Stopped else turned_unless (deliverable p) p m) enters
-    ∙ ap (λ (v : Option ℕ). turned_unless v p m) is
+turned_by_vector p m vector is = ap (λ (v : Option ℕ). turned_unless v p m) is

@@ -175,8 +175,6 @@ abbrev pub turned_unless : Option ℕ → Processor → List ℕ → Turned
 turned_unless (Some vector) p m = trapped vector None (woken vector p) m
 turned_unless None p m = instructed (record p { shielded = false }) m
 
--- the turn of a processor that runs, or that an interrupt wakes
+-- the turn of a processor that runs, or that an interrupt wakes, and for which no body is to run
 unfoldable pub turned : Processor → List ℕ → Turned
-turned p m =
-    if enters_body p then turned_to p m stepped.Stopped
-    else turned_unless (deliverable p) p m
+turned p m = turned_unless (deliverable p) p m

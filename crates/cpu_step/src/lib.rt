@@ -2,7 +2,8 @@
 //! it asks of the processor done; a fault is delivered. It meets `turned` of `specs/Turns.antt`: registers, control
 //! registers, translations, ports and memory after the turn, and what the turn shows; and `event_taken` for the events
 //! of a plan. It owns the processor's state, and changes memory by an instruction's one write and the pushes of a
-//! delivery. The nested kernel's body isn't run: the processor stops before it. No turn takes memory. Floor: processor.
+//! delivery. The nested kernel's body isn't run here: no turn begins where it is to run. No turn takes memory. Floor:
+//! processor.
 #![tactic(auto)]
 
 // What a turn shows, and the fetch that begins it.

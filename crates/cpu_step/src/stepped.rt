@@ -13,6 +13,4 @@ pub enum Stepped {
     Delivered(Delivery),
     /// A delivery shut the machine down.
     Shutdown,
-    /// No turn was made, and all stays as it was: the nested kernel's body is to run.
-    Stopped,
 }

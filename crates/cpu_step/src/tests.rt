@@ -253,13 +253,17 @@ fn frame(mem: &PhysMem) -> [u64; 6]
     ]
 }
 
-/// What one more turn shows, or None where the processor is halted and no interrupt wakes it.
+/// What one more turn shows, or None where the body is to run, and where the processor is halted and no interrupt wakes
+/// it.
 fn next(cpu: &mut Cpu, mem: &mut PhysMem) -> Option<Stepped>
     requires sound { IsSound 40960 cpu.old }
     requires length { length mem.old ≡ 40960 }
     ensures sound { IsSound 40960 cpu.new }
     ensures length { length mem.new ≡ 40960 }
 {
+    if cpu.enters_body() {
+        return None;
+    }
     match cpu.deliverable() {
         Some(_) => Some(cpu.step(mem)),
         None => {

@@ -26,9 +26,10 @@ const BODY_STACK: u64 = 0xFFFF_FF80_0000_4FF8;
 const WP: u8 = 16;
 
 impl Cpu {
-    /// One turn: an interrupt that is delivered, or an instruction; or `Stopped` where the nested kernel's body is to
-    /// run, and none is made. A fault is delivered, and an interrupt and a return by an instruction are made.
+    /// One turn: an interrupt that is delivered, or an instruction. A fault is delivered, and an interrupt and a return
+    /// by an instruction are made. Where the nested kernel's body is to run, its caller runs it instead.
     pub fn step(&mut self, mem: &mut PhysMem) -> Stepped
+        requires body { enters_body self.old ≡ false }
         requires running { (self.old.halted ≡ false) ⊎ IsSome (deliverable self.old) }
         requires sound { IsSound (length mem.old) self.old }
         ensures turned { record { processor = self.new; memory = mem.new; stepped = result }
@@ -36,9 +37,6 @@ impl Cpu {
         ensures sound { IsSound (length mem.new) self.new }
         ensures length { length mem.new ≡ length mem.old }
     {
-        if self.enters_body() {
-            return Stepped::Stopped;
-        }
         match self.deliverable() {
             Some(vector) => {
                 self.wake(vector);

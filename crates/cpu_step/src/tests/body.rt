@@ -44,18 +44,14 @@ fn cpu_without_wp(alloc: Global) -> Result<Cpu, NoMemory>
     }
 }
 
-/// A vector is pending too: the body comes first, and nothing changes.
+/// A vector is pending too: the body comes first.
 #[test]
 fn wp_is_clear(rt: HostRuntime) -> Result<(), Fail> {
     let mut mem = memory(rt.alloc())?;
     let mut cpu = cpu_without_wp(rt.alloc())?;
     cpu.take_event(&mem, What::Irq(32));
-    let stopped = After {
-        stepped: Stepped::Stopped,
-        control: WITHOUT_WP,
-        ..ran(&BODY, BODY.rip)
-    };
-    assert_eq!(rt; turned(&mut cpu, &mut mem), Some(stopped));
+    assert!(rt; cpu.enters_body());
+    assert_eq!(rt; turned(&mut cpu, &mut mem), None);
     assert_eq!(rt; cpu.deliverable(), Some(32));
     Ok(())
 }

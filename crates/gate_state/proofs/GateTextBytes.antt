@@ -1,0 +1,83 @@
+-- The gates' text and the image's code stand in memory as the opening put them there.
+use Rattle.std.proofs.Common.{◌≡◌, ◌⊎◌, ℕ, ◌+◌, ◌*◌, ◌/◌, ◌<◌, ◌≤◌, true, List, sym, ap, refl, ◌∙◌, arith, inl, inr}
+use Rattle.std.proofs.lemmas.List.FromFn.{get_or-map-range_with_len, length-map-range_with_len}
+use Rattle.nk_bits.specs.declared.control.Control.{Control}
+use Rattle.nk_bits.specs.declared.kind.Kind.{Kind}
+use Rattle.nk_bits.specs.declared.kind.Kind.TheVariants.{Code, Fixed}
+use Rattle.nk_bits.specs.Kinds.{kind_of}
+use Rattle.phys_mem.specs.Memory.{byte_at}
+use Rattle.elf_image.specs.Pages.{byte_of}
+use Rattle.gate_text.specs.Listing.{gate_byte}
+use Rattle.boot_map.specs.Division.{division_of, free_start, pages_start}
+use Rattle.boot_map.specs.KernelSlot.{IsCodePage}
+use Rattle.boot_map.specs.Opening.{IsOpening, byte_in}
+use Rattle.boot_map.specs.OpeningKinds.{kind_at}
+use Rattle.gate_state.specs.GuardedStates.{IsAdmitted, is_kept}
+use Rattle.gate_state.specs.MachineOpening.{opening_memory}
+use Rattle.gate_state.specs.MachineStates.{Opening}
+use Rattle.gate_state.proofs.LowerLaws.{LowerLaws}
+use Rattle.gate_state.proofs.Scene.{IsScene}
+
+-- the list of the opening's bytes is an opening
+pub opening_is : (o : Opening) → IsOpening o.image o.frames (opening_memory o)
+unfolding opening_memory
+opening_is o = record {
+  length = length-map-range_with_len (byte_in o.image o.frames) 0 (4096 * o.frames);
+  bytes = λ p below. get_or-map-range_with_len (byte_in o.image o.frames) 0 (4096 * o.frames) p p 0 below (omega arith);
+}
+
+module _ (laws : LowerLaws) (o : Opening) (ks : List Kind) where
+  opening_gates : (p : ℕ) → IsAdmitted o → p < 4096 → byte_in o.image o.frames (4096 + p) ≡ gate_byte p
+  opening_gates p admitted below =
+      let least : 512 ≤ o.frames = admitted.layout.least in
+      let opening : IsOpening o.image o.frames (opening_memory o) = opening_is o in
+      sym (opening.bytes (4096 + p) (omega (arith, least, below)))
+      ∙ laws.opening.gates o.image (opening_memory o) o.frames p opening admitted.layout below
+
+  opening_code : (page frame p : ℕ) → IsAdmitted o → IsCodePage o.image o.frames page frame → p < 4096
+      → byte_in o.image o.frames (4096 * frame + p) ≡ byte_of o.image (4096 * page + p)
+  opening_code page frame p admitted code below =
+      let room : free_start (division_of o.image o.frames) ≤ o.frames = admitted.layout.room in
+      let inside : 4096 * (pages_start (division_of o.image o.frames) + code.place) + p < 4096 * o.frames =
+      omega (arith, room, code.within, below) in
+      let opening : IsOpening o.image o.frames (opening_memory o) = opening_is o in
+      ap (λ (f : ℕ). byte_in o.image o.frames (4096 * f + p)) code.frame_is
+      ∙ (sym (opening.bytes (4096 * (pages_start (division_of o.image o.frames) + code.place) + p) inside)
+      ∙ (laws.opening.image o.image (opening_memory o) o.frames code.place p opening admitted.layout code.within below
+      ∙ ap (λ (n : ℕ). byte_of o.image (4096 * n + p)) code.page_is))
+
+  module _ (m : List ℕ) (control : Control) (scene : IsScene o ks m control) where
+    -- the kind of a frame is the opening's
+    kind_there : (frame : ℕ) (kind : Kind) → frame < o.frames → kind_at o.image o.frames frame ≡ kind
+        → kind_of ks frame ≡ kind
+    kind_there frame kind inside is =
+        ap (λ (list : List Kind). kind_of list frame) scene.kinds_are
+        ∙ (laws.opening.each o.image o.frames frame inside ∙ is)
+
+    -- a byte of a frame of such a kind, but for the handler slot's
+    byte_there : (frame p : ℕ) (kind : Kind) → frame < o.frames → kind_at o.image o.frames frame ≡ kind
+        → is_kept kind ≡ true
+        → p < 4096 → (4096 * frame + p < 0x2000) ⊎ (0x2008 ≤ 4096 * frame + p)
+        → byte_at m (4096 * frame + p) ≡ byte_in o.image o.frames (4096 * frame + p)
+    byte_there frame p kind inside is kept below apart =
+        let same : (4096 * frame + p) / 4096 ≡ frame = omega (arith, below) in
+        scene.memory.bytes (4096 * frame + p)
+        (ap (λ (f : ℕ). is_kept (kind_of ks f)) same ∙ (ap is_kept (kind_there frame kind inside is) ∙ kept)) apart
+
+    -- the gates' text stands in frame 1
+    pub gate_there : (p : ℕ) → p < 4096 → byte_at m (4096 * 1 + p) ≡ gate_byte p
+    gate_there p below =
+        let least : 512 ≤ o.frames = scene.admitted.layout.least in
+        byte_there 1 p Fixed (omega (arith, least)) (laws.opening.fixed o.image o.frames).1 refl below
+        (inl (omega (arith, below)))
+        ∙ opening_gates p scene.admitted below
+
+    -- a page of code stands in its frame
+    pub code_there : (page frame p : ℕ) → IsCodePage o.image o.frames page frame → p < 4096
+        → byte_at m (4096 * frame + p) ≡ byte_of o.image (4096 * page + p)
+    code_there page frame p code below =
+        let room : free_start (division_of o.image o.frames) ≤ o.frames = scene.admitted.layout.room in
+        let inside : frame < o.frames = omega (arith, room, code.within, code.frame_is) in
+        byte_there frame p Code inside (laws.opening.code o.image o.frames page frame code) refl below
+        (inr (omega (arith, code.frame_is)))
+        ∙ opening_code page frame p scene.admitted code below

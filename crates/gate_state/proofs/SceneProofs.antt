@@ -1,0 +1,91 @@
+-- The laws of a scene, from the laws of the crates below.
+use Rattle.std.proofs.Common.{◌≡◌, ℕ, ◌*◌, ◌/◌, ◌^◌, ◌<◌, ◌≤◌, true, List, length, ◌∙◌, arith}
+use Rattle.std.specs.Prelude.{IfSome, Option, Some, None, Result, Ok, Err}
+use Rattle.std.specs.Result.{result_ok}
+use Rattle.nk_bits.specs.declared.access.Access.{Access}
+use Rattle.nk_bits.specs.declared.control.Control.{Control}
+use Rattle.nk_bits.specs.declared.kind.Kind.{Kind}
+use Rattle.nk_bits.specs.declared.leaf.Leaf.{Leaf}
+use Rattle.nk_bits.specs.AccessRights.{may}
+use Rattle.nk_bits.specs.Accesses.{place_in, reached, smep_of, wp_of}
+use Rattle.nk_bits.specs.Paging.{page_of, walk}
+use Rattle.nk_bits.specs.Translations.{Translations, look, translation}
+use Rattle.phys_mem.specs.Memory.{entry_in}
+use Rattle.boot_map.specs.FixedFrames.{opening_root}
+use Rattle.boot_map.specs.KernelSlot.{slot_leaf, slot_start}
+use Rattle.boot_map.specs.OpeningKinds.{kinds}
+use Rattle.page_walk.specs.MemoryAccess.{view_of}
+use Rattle.gate_state.specs.GuardedStates.{IsAdmitted}
+use Rattle.gate_state.specs.MachineStates.{Opening}
+use Rattle.gate_state.specs.RespectedKinds.{respects}
+use Rattle.gate_state.proofs.LowerLaws.{AllPass, LowerLaws}
+use Rattle.gate_state.proofs.Scene.{IsScene, SceneLaws}
+use Rattle.gate_state.proofs.SceneProofsAccesses.{accessed_there, on_one_page, reached_there, slot_canonical_bytes, translation_is}
+use Rattle.gate_state.proofs.SceneProofsRespects.{leaf_within, look_passes, slot_page}
+use Rattle.gate_state.proofs.SceneProofsStores.{stores_hold}
+use Rattle.gate_state.proofs.SceneProofsWalks.{frames_within, laid_by_walk, view_walks, walk_respects}
+
+-- what a result holds, where it holds something
+ok_from : (r : Result Leaf ℕ) (leaf : Leaf) → result_ok r ≡ Some leaf → r ≡ Ok leaf
+ok_from (Ok found) leaf is = cc
+ok_from (Err level) leaf is = cc
+
+one_leaf : (found : Option Leaf) (leaf laid : Leaf) → found ≡ Some leaf → found ≡ Some laid → leaf ≡ laid
+one_leaf found leaf laid is same = cc
+
+pub slot_is : (o : Opening) (ks : List Kind) (page : ℕ) (leaf : Leaf) → slot_start ≤ page → page < 2 ^ 52
+    → respects o ks (page, leaf) ≡ true
+    → slot_leaf o.image o.frames page ≡ Some leaf
+slot_is o ks page leaf low high = leaf_within o ks page leaf (slot_page page low high)
+
+module _ (laws : LowerLaws) (o : Opening) (ks : List Kind) (m : List ℕ) (control : Control)
+    (scene : IsScene o ks m control) where
+  -- what is kept for a page of the slot is the layout's leaf
+  kept_is : (tlb : Translations) (page : ℕ) (laid : Leaf) → AllPass (respects o ks) tlb → slot_start ≤ page
+      → page < 2 ^ 52
+      → slot_leaf o.image o.frames page ≡ Some laid → IfSome (look tlb page) (λ leaf. leaf ≡ laid)
+  kept_is tlb page laid pass low high is = go (look tlb page) (look_passes (respects o ks) tlb page pass)
+    where
+      go : (found : Option Leaf) → IfSome found (λ leaf. respects o ks (page, leaf) ≡ true)
+          → IfSome found (λ leaf. leaf ≡ laid)
+      go (Some leaf) passes = one_leaf (slot_leaf o.image o.frames page) leaf laid
+          (slot_is o ks page leaf low high passes) is
+      go None passes = tt
+
+  slot_translation : (tlb : Translations) (page : ℕ) (laid : Leaf) → AllPass (respects o ks) tlb → slot_start ≤ page
+      → page < 2 ^ 52
+      → slot_leaf o.image o.frames page ≡ Some laid
+      → translation (entry_in m) (length m / 4096) control.root tlb page ≡ Some laid
+  slot_translation tlb page laid pass low high is =
+      translation_is (entry_in m) (length m / 4096) control.root tlb page laid (kept_is tlb page laid pass low high is)
+      (view_walks laws o ks scene.admitted scene.kinds_are m scene.memory control.root page scene.root
+      ∙ ok_from (walk (entry_in m) o.frames opening_root page) laid
+      (laid_by_walk laws o ks scene.admitted scene.kinds_are m scene.memory page low high ∙ is))
+
+  pub reached_in_slot : (cpl : ℕ) (access : Access) (tlb : Translations) (va : ℕ) (laid : Leaf)
+      → AllPass (respects o ks) tlb → va < 2 ^ 64
+      → 4096 * slot_start ≤ va → slot_leaf o.image o.frames (page_of va) ≡ Some laid
+      → may access laid.rights cpl (wp_of control.cr0) (smep_of control.cr4) ≡ true
+      → (reached (view_of m control cpl) access tlb va).answer ≡ Ok (place_in laid va)
+  reached_in_slot cpl access tlb va laid pass fits low is serves =
+      reached_there (view_of m control cpl) access tlb va laid
+      (slot_translation tlb (page_of va) laid pass (omega arith) (omega arith) is) serves
+
+pub scene_laws : LowerLaws → (o : Opening) (ks : List Kind) → IsAdmitted o → ks ≡ kinds o.image o.frames
+    → SceneLaws o ks
+scene_laws laws o ks admitted kinds_are = record {
+  walked = λ m control cpl scene. walk_respects laws o ks scene.admitted scene.kinds_are m scene.memory control cpl
+      scene.root;
+  named = λ m control tlb scene pass. frames_within laws o ks scene.admitted scene.kinds_are m scene.memory tlb pass;
+  slot_is = slot_is o ks;
+  slot_reached = λ m control cpl access tlb va laid scene pass fits low is serves.
+      reached_in_slot laws o ks m control scene cpl access tlb va laid pass fits low is serves;
+  slot_accessed = λ m control cpl access tlb va width laid scene pass fits low some within is serves.
+      accessed_there (view_of m control cpl) access tlb va width (place_in laid va)
+      (slot_canonical_bytes va width fits low within) (on_one_page va width within)
+      (reached_in_slot laws o ks m control scene cpl access tlb va laid pass fits low is serves);
+  accessed_pass = λ m control cpl access tlb va width scene pass fits some.
+      laws.access.kept (view_of m control cpl) access (respects o ks) tlb va width
+      (walk_respects laws o ks scene.admitted scene.kinds_are m scene.memory control cpl scene.root) fits some pass;
+  held_stored = λ m ws admitted kinds_are held are. stores_hold laws o ks m ws admitted kinds_are held are;
+}

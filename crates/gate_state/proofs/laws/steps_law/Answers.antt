@@ -1,0 +1,100 @@
+use Rattle.std.proofs.Common.{◌∙◌, arith}
+use Rattle.gate_state.specs.GuardedStates.{IsAdmitted, IsGuarded}
+use Rattle.gate_state.specs.MachineStates.{MachineState, Opening}
+use Rattle.gate_state.proofs.Assembly.{turn_facts}
+use Rattle.gate_state.proofs.BodyKept.{body_guarded, body_serves}
+use Rattle.gate_state.proofs.CallThrough.{called_through}
+use Rattle.gate_state.proofs.LowerLaws.{LowerLaws}
+use Rattle.gate_state.proofs.OpeningGuarded.{opening_guarded}
+use Rattle.gate_state.proofs.SceneProofs.{scene_laws}
+use Rattle.gate_state.proofs.SceneProofsWalks.{kind_is}
+use Rattle.gate_state.proofs.StatesKept.{event_guarded, guarded_safe, guarded_sound, turn_guarded, turn_stays}
+use Rattle.gate_state.proofs.TurnFacts.{TurnFacts}
+use Rattle.gate_state.proofs.laws.steps_law.Goals as goal
+
+pub returns : goal.returns
+returns c =
+    let laws : LowerLaws = record {
+      access = record {
+        first = c.span_law.ensures.first;
+        kept = c.access_law.ensures.kept;
+        served = c.access_law.ensures.served;
+        reached_kept = c.access_law.ensures.reached_kept;
+        reached_served = c.access_law.ensures.reached_served;
+      };
+      kind = record {
+        storable = c.kind_law.ensures.storable;
+        not_fetched = c.kind_law.ensures.not_fetched;
+        allowed_in_memory = c.kind_law.ensures.allowed_in_memory;
+        storable_in_memory = c.kind_law.ensures.storable_in_memory;
+      };
+      store = record {
+        length = c.memory_law.ensures.length;
+        append = c.memory_law.ensures.append;
+        byte_elsewhere = c.memory_law.ensures.byte_elsewhere;
+        number_elsewhere = c.memory_law.ensures.number_elsewhere;
+        entry_elsewhere = c.frame_law.ensures.entry_elsewhere;
+        within_frame = c.frame_law.ensures.within_frame;
+        bytes = c.memory_law.ensures.bytes;
+        within = c.memory_law.ensures.places;
+        values = c.memory_law.ensures.values;
+        places = c.places_law.ensures;
+      };
+      opening = record {
+        slot_walk = c.slot_law.ensures.any;
+        in_memory = c.slot_leaf_law.ensures.in_memory;
+        executable = c.slot_leaf_law.ensures.executable;
+        code = c.slot_leaf_law.ensures.code;
+        writable = c.slot_leaf_law.ensures.writable;
+        fixed = c.opening_kinds_law.ensures.fixed;
+        trap = c.opening_kinds_law.ensures.trap;
+        root_kind = c.opening_kinds_law.ensures.root;
+        count = c.opening_kinds_law.ensures.count;
+        each = c.opening_kinds_law.ensures.each;
+        gates = c.opening_bytes_law.ensures.gates;
+        image = c.opening_bytes_law.ensures.image;
+        respected = c.opening_respects_law.ensures;
+        held = c.held_law.ensures.opening;
+        held_slot = c.held_law.ensures.slot;
+        held_root = c.held_law.ensures.root;
+        held_walk = c.held_law.ensures.walk;
+        table_kept = c.held_law.ensures.kept;
+      };
+      code = record {
+        right = c.decoding_law.ensures.right;
+        formed = c.spelling_law.ensures.formed;
+        protected = c.spelling_law.ensures.protected;
+        longer = c.longer_law.ensures.protected;
+        front = c.prefixes_law.ensures.front;
+        prefixes = c.prefixes_law.ensures.all;
+        gate_bytes = c.listing_law.ensures.bytes;
+        loads = c.listing_law.ensures.loads;
+        instructions = c.listing_law.ensures.instructions;
+      };
+      flag = record { same = c.flag_law.ensures.same; others = c.flag_law.ensures.others };
+      effect = record {
+        privilege = c.effect_law.ensures.privilege;
+        moved = c.effect_law.ensures.moved;
+        registers = c.grant_law.ensures.registers;
+        calm = c.grant_law.ensures.calm;
+        supervisor = c.grant_law.ensures.supervisor;
+        translations = c.grant_law.ensures.translations;
+        granted = c.grant_law.ensures.granted;
+      };
+    } in
+    let facts : (o : Opening) (s : MachineState) → IsAdmitted o → IsGuarded o s → TurnFacts o s.kinds =
+    λ o s admitted guarded. turn_facts laws o s.kinds (scene_laws laws o s.kinds admitted guarded.kinds) in
+    record {
+      opening = λ o input admitted. opening_guarded laws o admitted (c.entry_law.ensures o.image admitted.bytes) input;
+      event = λ o s what admitted plannable guarded. event_guarded laws o admitted s what plannable guarded;
+      turn = λ o s admitted takes guarded. turn_guarded laws o admitted s guarded (facts o s admitted guarded) takes;
+      body = λ o s admitted at guarded. body_guarded laws o s at guarded;
+      stays = λ o s admitted takes guarded. turn_stays laws o admitted s guarded (facts o s admitted guarded) takes;
+      serves = λ o s admitted guarded. body_serves c.call_law.ensures o s guarded
+          (kind_is laws o s.kinds admitted guarded.kinds 2 (omega (arith, admitted.layout.least)) ∙ (laws.opening.fixed o.image o.frames).2)
+          (omega (arith, guarded.memory.size, admitted.layout.least));
+      safe = λ o s admitted guarded. guarded_safe laws o admitted s guarded (facts o s admitted guarded);
+      called = λ o s plan k admitted in_form guarded calling.
+          called_through laws o admitted (λ ks are. turn_facts laws o ks (scene_laws laws o ks admitted are)) (body_guarded laws o) plan s k in_form guarded calling;
+      sound = λ o s admitted guarded. guarded_sound laws o admitted s guarded;
+    }

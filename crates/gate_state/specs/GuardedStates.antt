@@ -1,0 +1,71 @@
+-- The invariant of the machine: what holds in every state of every run, of which safety follows.
+use Rattle.std.specs.Prelude.{◌≡◌, ◌⊎◌, ℕ, ◌*◌, ◌/◌, ◌^◌, ◌<◌, ◌≤◌, Bool, true, false, List, length, slice_index, All}
+use Rattle.nk_bits.specs.declared.kind.Kind.{Kind}
+use Rattle.nk_bits.specs.declared.kind.Kind.TheVariants.{Data, Code, Table, Fixed, Trap, Guarded, Hidden}
+use Rattle.nk_bits.specs.Accesses.{wp_of}
+use Rattle.nk_bits.specs.Kinds.{kind_of}
+use Rattle.phys_mem.specs.Memory.{IsBytes, byte_at, entry_in}
+use Rattle.elf_image.specs.Pages.{IsPageList, pages_of}
+use Rattle.byte_scanner.specs.ImageCode.{code_at}
+use Rattle.byte_scanner.specs.LeastPlace.{IsNowhere}
+use Rattle.boot_map.specs.Division.{IsLayout, division_of}
+use Rattle.boot_map.specs.KernelSlot.{HoldsTables}
+use Rattle.boot_map.specs.Opening.{byte_in}
+use Rattle.boot_map.specs.OpeningKinds.{kinds}
+use Rattle.cpu_step.specs.Processor.{Processor}
+use Rattle.x86_regs.specs.EffectsKept.{AreRegisters}
+use Rattle.gate_state.specs.GateWindow.{IsGatePoint}
+use Rattle.gate_state.specs.MachineOpening.{opening_tables}
+use Rattle.gate_state.specs.MachineStates.{MachineState, Opening}
+use Rattle.gate_state.specs.RespectedKinds.{respects}
+
+-- the opening is that of an image that was admitted and has room: a file of bytes whose layout fits and whose pages are
+-- an image's, without a protected encoding anywhere in its code
+pub record IsAdmitted (o : Opening) : Type 0 where
+  pub bytes : (i : ℕ) → slice_index o.image i < 256
+  pub layout : IsLayout o.image (division_of o.image o.frames)
+  pub pages : IsPageList o.image (pages_of o.image)
+  pub clean : IsNowhere (code_at o.image)
+
+-- CR0 has PE and PG, WP or not, CD or not, and NW only with CD: it is one of six values
+abbrev pub IsCr0 : ℕ → Type 0
+IsCr0 cr0 =
+    (cr0 ≡ 0x80000001) ⊎ (cr0 ≡ 0x80010001) ⊎ (cr0 ≡ 0xC0000001)
+    ⊎ (cr0 ≡ 0xC0010001) ⊎ (cr0 ≡ 0xE0000001) ⊎ (cr0 ≡ 0xE0010001)
+
+-- the registers of control are the opening's, but for CR0 and CR2; the CPL is 0 or 3; the pending vectors are 32 to 47
+pub record IsControlled (p : Processor) : Type 0 where
+  pub cr0 : IsCr0 p.control.cr0
+  pub cr4 : p.control.cr4 ≡ 0x100020
+  pub efer : p.control.efer ≡ 0xD00
+  pub tables : p.tables ≡ opening_tables
+  pub cpl : (p.regs.cpl ≡ 0) ⊎ (p.regs.cpl ≡ 3)
+  pub registers : AreRegisters p.regs
+  pub pending : p.pending < 2 ^ 16
+
+-- frames of these kinds keep the opening's bytes
+abbrev pub is_kept : Kind → Bool
+is_kept Data = false
+is_kept Code = true
+is_kept (Table level) = false
+is_kept Fixed = true
+is_kept Trap = false
+is_kept Guarded = false
+is_kept Hidden = false
+
+-- memory keeps the opening's bytes in frames that are fixed or code, but for the eight bytes of the handler slot, and the
+-- opening's entries in its page tables
+pub record IsHeld (o : Opening) (kinds : List Kind) (m : List ℕ) : Type 0 where
+  pub size : length m ≡ 4096 * o.frames
+  pub are_bytes : IsBytes m
+  pub bytes : (place : ℕ) → is_kept (kind_of kinds (place / 4096)) ≡ true → (place < 0x2000) ⊎ (0x2008 ≤ place)
+      → byte_at m place ≡ byte_in o.image o.frames place
+  pub tables : HoldsTables o.image o.frames (entry_in m)
+
+pub record IsGuarded (o : Opening) (s : MachineState) : Type 0 where
+  pub control : IsControlled s.processor
+  pub root : s.processor.control.root ≡ 5
+  pub kinds : s.kinds ≡ kinds o.image o.frames
+  pub memory : IsHeld o s.kinds s.memory
+  pub translations : All (λ pair. respects o s.kinds pair ≡ true) s.processor.tlb
+  pub window : wp_of s.processor.control.cr0 ≡ false → IsGatePoint s.processor

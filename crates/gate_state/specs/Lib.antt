@@ -1,0 +1,14 @@
+-- What a reader must believe.
+pub mod MachineStates
+pub mod MachineOpening
+pub mod MachineSteps
+pub mod GateWindow
+pub mod RespectedKinds
+pub mod SafeStates
+pub mod GuardedStates
+pub mod StepsTaken
+pub mod WholeMachine
+pub mod GateCalls
+pub mod MachineOf
+-- Words of private clauses and proofs.
+pub mod EventMoves

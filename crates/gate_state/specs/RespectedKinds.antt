@@ -1,0 +1,47 @@
+-- Which translations respect the kinds of frames: outside the kernel slot by the rights that the kind allows, and in the
+-- slot those of its linear layout.
+use Rattle.std.specs.Prelude.{ℕ, Bool, true, false, not, ◌==◌, ◌&&◌, ◌||◌, if◌then◌else◌, List, Option, None, Some}
+use Rattle.nk_bits.specs.declared.kind.Kind.{Kind}
+use Rattle.nk_bits.specs.declared.kind.Kind.TheVariants.{Data, Code, Table, Fixed, Trap, Guarded, Hidden}
+use Rattle.nk_bits.specs.declared.leaf.Leaf.{Leaf}
+use Rattle.nk_bits.specs.Kinds.{allows, is_storable, kind_of}
+use Rattle.nk_bits.specs.Paging.{is_slot_page}
+use Rattle.boot_map.specs.KernelSlot.{slot_leaf}
+use Rattle.gate_state.specs.MachineStates.{Opening}
+
+-- the frame holds code of the image
+abbrev pub is_code : Kind → Bool
+is_code Data = false
+is_code Code = true
+is_code (Table level) = false
+is_code Fixed = false
+is_code Trap = false
+is_code Guarded = false
+is_code Hidden = false
+
+-- two truth values are one
+abbrev pub is_alike : Bool → Bool → Bool
+is_alike a b = if a then b else not b
+
+-- the layout has this leaf
+abbrev pub is_leaf : Option Leaf → Leaf → Bool
+is_leaf None leaf = false
+is_leaf (Some laid) leaf =
+    laid.frame == leaf.frame
+    && is_alike laid.rights.can_write leaf.rights.can_write
+    && is_alike laid.rights.user leaf.rights.user
+    && is_alike laid.rights.exec leaf.rights.exec
+
+-- what may be written is data or the trap stack; what may be executed is the gates' text, in frame 1, or code
+abbrev pub fits_kind : List Kind → Leaf → Bool
+fits_kind kinds leaf =
+    (not leaf.rights.can_write || is_storable (kind_of kinds leaf.frame))
+    && (not leaf.rights.exec || (leaf.frame == 1 || is_code (kind_of kinds leaf.frame)))
+
+-- the translation of a page respects the kinds: outside the slot the kind of the frame allows its rights, which a kind does
+-- for frames in memory alone
+unfoldable pub respects : Opening → List Kind → ℕ × Leaf → Bool
+respects o kinds pair =
+    if is_slot_page pair.0
+    then is_leaf (slot_leaf o.image o.frames pair.0) pair.1 && fits_kind kinds pair.1
+    else allows (kind_of kinds pair.1.frame) pair.1.rights

@@ -1,0 +1,32 @@
+-- The machine with the opening that its run began from, as the three states own it.
+use Rattle.std.specs.Prelude.{◌≡◌, Bool, true, false, List}
+use Rattle.nk_body.specs.NestedRecord.{AreBooks, Books}
+use Rattle.irq_plan.specs.declared.event.Event.{Event}
+use Rattle.gate_state.specs.declared.moves.Move.{Move}
+use Rattle.gate_state.specs.declared.moves.Move.TheVariants as move
+use Rattle.gate_state.specs.MachineStates.{MachineState, Opening}
+use Rattle.gate_state.specs.MachineSteps.{next, served}
+use Rattle.gate_state.specs.GuardedStates.{IsAdmitted, IsGuarded}
+
+pub record WholeState : Type 0 where
+  pub opening : Opening
+  pub state : MachineState
+
+-- what holds of opening, state and books at each moment
+pub record IsWhole (opening : Opening) (state : MachineState) (books : Books) : Type 0 where
+  pub admitted : IsAdmitted opening
+  pub guarded : IsGuarded opening state
+  pub kept : AreBooks books state.memory
+  pub root : books.root ≡ state.processor.control.root
+
+-- the machine after a step, and after the body
+abbrev pub next_whole : List Event → WholeState → WholeState
+next_whole plan w = record w { state = next plan w.state }
+
+abbrev pub served_whole : WholeState → WholeState
+served_whole w = record w { state = served w.state }
+
+-- no step is left
+abbrev pub is_rest : Move → Bool
+is_rest move.Rest = true
+is_rest _ = false

@@ -1,0 +1,77 @@
+//! The machine in the gates: WP is clear, and the supervisor stands at a gate point that isn't the body's place.
+
+ghost use Rattle.std.specs.Prelude.{◌≡◌, ◌<◌, false};
+ghost use Rattle.nk_body.specs.NestedRecord.{AreBooks};
+ghost use Rattle.cpu_step.specs.Turns.{enters_body};
+ghost use Rattle.gate_state.specs.MachineOf.{whole_of};
+ghost use Rattle.gate_state.specs.MachineSteps.{move_of, seen_by};
+ghost use Rattle.gate_state.specs.SafeStates.{IsSafe};
+ghost use Rattle.gate_state.specs.WholeMachine.{is_rest, next_whole};
+
+use crate::machine::{Machine, step};
+use crate::seen::Seen;
+use crate::whole::{Finished, Whole};
+use irq_plan::Plan;
+use std::marker::Model;
+
+/// The machine with WP clear in the gates.
+pub struct GateMachine<'i> {
+    pub(crate) whole: Whole<'i>,
+}
+
+impl<'i> Model for GateMachine<'i> {
+    ghost use Rattle.std.specs.Prelude.{◌≡◌, false};
+    ghost use Rattle.nk_bits.specs.Accesses.{wp_of};
+    ghost use Rattle.cpu_step.specs.Turns.{enters_body};
+    ghost use Rattle.gate_state.specs.WholeMachine.{WholeState};
+
+    ghost Value = { WholeState };
+
+    ghost view = { λ m. m.whole };
+
+    ghost invariant = { λ m. (wp_of m.whole.state.processor.control.cr0 ≡ false)
+        × (enters_body m.whole.state.processor ≡ false) };
+}
+
+impl<'i> GateMachine<'i> {
+    /// One step: an event of the plan, or a turn; with what it shows. In the gates the machine never rests.
+    pub fn step(self, plan: &Plan) -> (Machine<'i>, Seen)
+        requires turns { self.state.turns < 4294967296 }
+        ensures next { whole_of result.0 ≡ next_whole plan.now self.entry }
+        ensures seen { result.1 ≡ seen_by (move_of plan.now self.entry.state) self.entry.state }
+        ensures no_body { enters_body self.entry.state.processor ≡ false }
+        ensures safe { IsSafe self.entry.opening self.entry.state }
+    {
+        let GateMachine { whole } = self;
+        whole.is_running(plan);
+        step(whole, plan)
+    }
+
+    /// Whether the machine rests for good. In the gates the machine never rests.
+    pub fn done(&self, plan: &Plan) -> bool
+        ensures { result ≡ is_rest (move_of plan.now self.now.state) }
+    {
+        self.whole.is_running(plan);
+        false
+    }
+
+    /// How many turns were taken.
+    pub fn turns(&self) -> u64
+        ensures { result ≡ self.now.state.turns }
+    {
+        self.whole.turns
+    }
+
+    /// Memory and books, at the end of a run.
+    pub fn finish(self) -> Finished
+        ensures memory { result.mem ≡ self.entry.state.memory }
+        ensures kinds { result.kernel.kinds ≡ self.entry.state.kinds }
+        ensures root { result.kernel.root ≡ self.entry.state.processor.control.root }
+        ensures books { AreBooks result.kernel result.mem }
+        ensures safe { IsSafe self.entry.opening self.entry.state }
+    {
+        let GateMachine { whole } = self;
+        whole.is_safe();
+        whole.finish()
+    }
+}

@@ -1,0 +1,95 @@
+//! What follows from the definitions: the invariant holds in every state of every run, and what it holds of is safe.
+
+ghost use Rattle.std.specs.Prelude.{◌≡◌, ℕ, List, length, true};
+ghost use Rattle.irq_plan.specs.declared.event.Event.{Event};
+ghost use Rattle.irq_plan.specs.declared.event.What.{What};
+ghost use Rattle.irq_plan.specs.PlannedEvents.{IsPlan, IsPlannable};
+ghost use Rattle.cpu_step.specs.Processor.{IsSound};
+ghost use Rattle.cpu_step.specs.Turns.{enters_body};
+ghost use Rattle.nk_body.specs.CallRules.{after_call};
+ghost use Rattle.gate_state.specs.GateCalls.{IsCalledThrough, IsCalling};
+ghost use Rattle.gate_state.specs.GuardedStates.{IsAdmitted, IsGuarded};
+ghost use Rattle.gate_state.specs.MachineOpening.{opening_state};
+ghost use Rattle.gate_state.specs.MachineStates.{MachineState, Opening, nested_of};
+ghost use Rattle.gate_state.specs.MachineSteps.{after_event, after_turn, call_in, calls, made_by_all, move_of, next, served, state};
+ghost use Rattle.gate_state.specs.SafeStates.{IsSafe, TakesTurn};
+ghost use Rattle.gate_state.specs.StepsTaken.{Counts};
+
+use boot_map::{
+    held_law, opening_bytes_law, opening_kinds_law, opening_respects_law, slot_law, slot_leaf_law,
+};
+use decode_fields::{longer_law, prefixes_law};
+use elf_image::entry_law;
+use gate_text::listing_law;
+use nk_bits::{access_law, kind_law, span_law};
+use nk_body::call_law;
+use page_walk::places_law;
+use phys_mem::{frame_law, memory_law};
+use x86_alu::flag_law;
+use x86_decode::{decoding_law, spelling_law};
+use x86_regs::{effect_law, grant_law};
+
+/// Each kind of step keeps the invariant, over which a state is safe and the processor sound.
+pub(crate) fn steps_law()
+    ensures opening { (o : Opening) (input : List ℕ) → IsAdmitted o → IsGuarded o (opening_state o input) }
+    ensures event { (o : Opening) (s : MachineState) (what : What) → IsAdmitted o → IsPlannable what
+        → IsGuarded o s → IsGuarded o (after_event what s) }
+    ensures turn { (o : Opening) (s : MachineState) → IsAdmitted o → TakesTurn s.processor
+        → IsGuarded o s → IsGuarded o (after_turn s) }
+    ensures body { (o : Opening) (s : MachineState) → IsAdmitted o → enters_body s.processor ≡ true
+        → IsGuarded o s → IsGuarded o (served s) }
+    ensures stays { (o : Opening) (s : MachineState) → IsAdmitted o → TakesTurn s.processor
+        → IsGuarded o s → nested_of (after_turn s) ≡ nested_of s }
+    ensures serves { (o : Opening) (s : MachineState) → IsAdmitted o → IsGuarded o s
+        → nested_of (served s) ≡ after_call (nested_of s) (call_in s.processor.regs) }
+    ensures safe { (o : Opening) (s : MachineState) → IsAdmitted o → IsGuarded o s → IsSafe o s }
+    ensures called { (o : Opening) (s : MachineState) (plan : List Event) (k : ℕ) → IsAdmitted o → IsPlan plan
+        → IsGuarded o s → IsCalling s.processor → IsCalledThrough plan s k }
+    ensures sound { (o : Opening) (s : MachineState) → IsAdmitted o → IsGuarded o s
+        → IsSound (length s.memory) s.processor }
+{
+    access_law();
+    span_law();
+    kind_law();
+    memory_law();
+    frame_law();
+    places_law();
+    slot_law();
+    slot_leaf_law();
+    opening_kinds_law();
+    opening_bytes_law();
+    opening_respects_law();
+    held_law();
+    decoding_law();
+    spelling_law();
+    longer_law();
+    prefixes_law();
+    listing_law();
+    flag_law();
+    effect_law();
+    grant_law();
+    entry_law();
+    call_law();
+}
+
+/// Every state of every run is guarded, and so safe: in the opening, and after each step under any plan. What the nested
+/// kernel guards in it is what the accepted calls make of the opening's record. A call that is made through the gates
+/// with interrupts off is answered.
+pub fn safety_law()
+    ensures opening { (o : Opening) (input : List ℕ) → IsAdmitted o → IsGuarded o (opening_state o input) }
+    ensures safe { (o : Opening) (input : List ℕ) (plan : List Event) (k : ℕ) → IsAdmitted o → IsPlan plan
+        → IsSafe o (state plan (opening_state o input) k) }
+    ensures nested { (o : Opening) (input : List ℕ) (plan : List Event) (k : ℕ) → IsAdmitted o → IsPlan plan
+        → nested_of (state plan (opening_state o input) k)
+        ≡ made_by_all (nested_of (opening_state o input)) (calls plan (opening_state o input) k) }
+    ensures called { (o : Opening) (input : List ℕ) (plan : List Event) (n k : ℕ) → IsAdmitted o → IsPlan plan
+        → IsCalling (state plan (opening_state o input) n).processor
+        → IsCalledThrough plan (state plan (opening_state o input) n) k }
+{
+    steps_law();
+}
+
+/// A step takes one turn or one event of the plan; a machine that rests stays as it is.
+pub fn moves_law()
+    ensures { (plan : List Event) (s : MachineState) → Counts plan (move_of plan s) s (next plan s) }
+{}

@@ -1,0 +1,36 @@
+//! The whole machine in its three states: `OuterMachine` with WP set, `GateMachine` with WP clear at a gate point, and
+//! `NestedMachine` with WP clear at the nested kernel's body. Each owns processor, memory and books, and is consumed by
+//! its step, so that only the body changes what the nested kernel guards. It meets the definitions of `specs/`: the next
+//! state, the record guarded, what is safe, and the invariant of which safety follows, in every state of every run. What
+//! a run writes, and how many turns it takes, others say. No step takes memory. Floor: whole.
+#![tactic(auto)]
+
+// The step from a state, and what it shows.
+mod moves;
+mod seen;
+
+// The machine as a run begins, and what its three states share.
+mod opening;
+mod whole;
+
+// The three states.
+mod gate;
+mod machine;
+mod nested;
+mod outer;
+
+// What follows from the definitions.
+mod laws;
+
+pub use gate::GateMachine;
+pub use laws::{moves_law, safety_law};
+pub use machine::Machine;
+pub use moves::Move;
+pub use nested::NestedMachine;
+pub use opening::NoMemory;
+pub use outer::OuterMachine;
+pub use seen::{Called, Seen, Took};
+pub use whole::Finished;
+
+#[cfg(test)]
+mod tests;

@@ -1,0 +1,91 @@
+//! The machine in one of its three states.
+
+ghost use Rattle.std.specs.Prelude.{◌≡◌, ◌<◌, false};
+ghost use Rattle.cpu_step.specs.Turns.{enters_body};
+ghost use Rattle.nk_body.specs.NestedRecord.{AreBooks};
+ghost use Rattle.gate_state.specs.MachineOf.{whole_of};
+ghost use Rattle.gate_state.specs.MachineSteps.{move_of, seen_by};
+ghost use Rattle.gate_state.specs.SafeStates.{IsSafe};
+ghost use Rattle.gate_state.specs.WholeMachine.{is_rest, next_whole};
+
+use crate::gate::GateMachine;
+use crate::nested::NestedMachine;
+use crate::outer::OuterMachine;
+use crate::seen::Seen;
+use crate::whole::{Finished, Whole};
+use irq_plan::Plan;
+
+/// The machine between two steps, by what its supervisor may write: with WP set, with WP clear in the gates, and with WP
+/// clear at the nested kernel's body.
+pub enum Machine<'i> {
+    Outer(OuterMachine<'i>),
+    Gate(GateMachine<'i>),
+    Nested(NestedMachine<'i>),
+}
+
+impl<'i> Machine<'i> {
+    /// Whether the machine rests for good. In the gates it never does.
+    pub fn done(&self, plan: &Plan) -> bool
+        ensures { result ≡ is_rest (move_of plan.now (whole_of self.now).state) }
+    {
+        match self {
+            Machine::Outer(machine) => machine.done(plan),
+            Machine::Gate(machine) => machine.done(plan),
+            Machine::Nested(machine) => machine.done(plan),
+        }
+    }
+
+    /// How many turns were taken.
+    pub fn turns(&self) -> u64
+        ensures { result ≡ (whole_of self.now).state.turns }
+    {
+        match self {
+            Machine::Outer(machine) => machine.turns(),
+            Machine::Gate(machine) => machine.turns(),
+            Machine::Nested(machine) => machine.turns(),
+        }
+    }
+
+    /// Memory and books, at the end of a run.
+    pub fn finish(self) -> Finished
+        ensures memory { result.mem ≡ (whole_of self.entry).state.memory }
+        ensures kinds { result.kernel.kinds ≡ (whole_of self.entry).state.kinds }
+        ensures root { result.kernel.root ≡ (whole_of self.entry).state.processor.control.root }
+        ensures books { AreBooks result.kernel result.mem }
+        ensures safe { IsSafe (whole_of self.entry).opening (whole_of self.entry).state }
+    {
+        match self {
+            Machine::Outer(machine) => machine.finish(),
+            Machine::Gate(machine) => machine.finish(),
+            Machine::Nested(machine) => machine.finish(),
+        }
+    }
+}
+
+/// The state that the machine is in.
+fn sorted<'i>(whole: Whole<'i>) -> Machine<'i>
+    ensures { whole_of result ≡ whole.entry }
+{
+    if whole.keeps_supervisor() {
+        Machine::Outer(OuterMachine { whole })
+    } else if whole.is_at_body() {
+        Machine::Nested(NestedMachine { whole })
+    } else {
+        Machine::Gate(GateMachine { whole })
+    }
+}
+
+/// The step of a machine for which no body is to run, with what it shows.
+pub(crate) fn step<'i>(whole: Whole<'i>, plan: &Plan) -> (Machine<'i>, Seen)
+    requires no_body { enters_body whole.state.processor ≡ false }
+    requires left { is_rest (move_of plan.now whole.state) ≡ false }
+    requires turns { whole.state.turns < 4294967296 }
+    ensures next { whole_of result.0 ≡ next_whole plan.now whole.entry }
+    ensures seen { result.1 ≡ seen_by (move_of plan.now whole.entry.state) whole.entry.state }
+    ensures safe { IsSafe whole.entry.opening whole.entry.state }
+{
+    whole.is_safe();
+    let mut whole = whole;
+    let seen = whole.advance(plan);
+    (sorted(whole), seen)
+}

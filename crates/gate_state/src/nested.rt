@@ -1,0 +1,75 @@
+//! The machine at the nested kernel's body: WP is clear.
+
+ghost use Rattle.std.specs.Prelude.{◌≡◌, ◌<◌, true};
+ghost use Rattle.nk_body.specs.NestedRecord.{AreBooks};
+ghost use Rattle.cpu_step.specs.Turns.{enters_body};
+ghost use Rattle.gate_state.specs.MachineSteps.{called_in, move_of};
+ghost use Rattle.gate_state.specs.SafeStates.{IsSafe};
+ghost use Rattle.gate_state.specs.WholeMachine.{is_rest, served_whole};
+
+use crate::gate::GateMachine;
+use crate::seen::Called;
+use crate::whole::{Finished, Whole};
+use irq_plan::Plan;
+use std::marker::Model;
+
+/// The machine with WP clear at the body's place: the one state from which what the nested kernel guards changes.
+pub struct NestedMachine<'i> {
+    pub(crate) whole: Whole<'i>,
+}
+
+impl<'i> Model for NestedMachine<'i> {
+    ghost use Rattle.std.specs.Prelude.{◌≡◌, true};
+    ghost use Rattle.cpu_step.specs.Turns.{enters_body};
+    ghost use Rattle.gate_state.specs.WholeMachine.{WholeState};
+
+    ghost Value = { WholeState };
+
+    ghost view = { λ m. m.whole };
+
+    ghost invariant = { λ m. enters_body m.whole.state.processor ≡ true };
+}
+
+impl<'i> NestedMachine<'i> {
+    /// The body: the call that the registers hold is served, and the exit gate is next.
+    pub fn serve(self) -> (GateMachine<'i>, Called)
+        requires turns { self.state.turns < 4294967296 }
+        ensures next { result.0 ≡ served_whole self.entry }
+        ensures called { result.1 ≡ called_in self.entry.state }
+        ensures body { enters_body self.entry.state.processor ≡ true }
+        ensures safe { IsSafe self.entry.opening self.entry.state }
+    {
+        let NestedMachine { mut whole } = self;
+        whole.is_safe();
+        let called = whole.serve();
+        (GateMachine { whole }, called)
+    }
+
+    /// Whether the machine rests for good. At the body the machine never rests.
+    pub fn done(&self, plan: &Plan) -> bool
+        ensures { result ≡ is_rest (move_of plan.now self.now.state) }
+    {
+        self.whole.is_serving(plan);
+        false
+    }
+
+    /// How many turns were taken.
+    pub fn turns(&self) -> u64
+        ensures { result ≡ self.now.state.turns }
+    {
+        self.whole.turns
+    }
+
+    /// Memory and books, at the end of a run.
+    pub fn finish(self) -> Finished
+        ensures memory { result.mem ≡ self.entry.state.memory }
+        ensures kinds { result.kernel.kinds ≡ self.entry.state.kinds }
+        ensures root { result.kernel.root ≡ self.entry.state.processor.control.root }
+        ensures books { AreBooks result.kernel result.mem }
+        ensures safe { IsSafe self.entry.opening self.entry.state }
+    {
+        let NestedMachine { whole } = self;
+        whole.is_safe();
+        whole.finish()
+    }
+}

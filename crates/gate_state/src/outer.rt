@@ -1,0 +1,129 @@
+//! The outer kernel's machine: WP is set.
+
+ghost use Rattle.std.specs.Prelude.{◌≡◌, ◌<◌, true, false, IfOk, None};
+ghost use Rattle.boot_map.specs.Division.{IsLayout};
+ghost use Rattle.boot_map.specs.Opening.{IsOpening};
+ghost use Rattle.boot_map.specs.OpeningKinds.{kinds};
+ghost use Rattle.byte_scanner.specs.FirstFound.{first_found};
+ghost use Rattle.nk_body.specs.NestedRecord.{AreBooks};
+ghost use Rattle.cpu_step.specs.Turns.{enters_body};
+ghost use Rattle.gate_state.specs.MachineOf.{whole_of};
+ghost use Rattle.gate_state.specs.MachineOpening.{opening_state};
+ghost use Rattle.gate_state.specs.MachineSteps.{move_of, seen_by};
+ghost use Rattle.gate_state.specs.SafeStates.{IsSafe};
+ghost use Rattle.gate_state.specs.WholeMachine.{is_rest, next_whole};
+
+use crate::laws::safety_law;
+use crate::machine::{Machine, step};
+use crate::moves::Move;
+use crate::opening::{NoMemory, opening_cpu};
+use crate::seen::Seen;
+use crate::whole::{Finished, Whole};
+use boot_map::Layout;
+use byte_scanner::clean_image_law;
+use elf_image::Image;
+use irq_plan::Plan;
+use nk_body::Kernel;
+use phys_mem::PhysMem;
+use std::alloc::Global;
+use std::marker::Model;
+
+/// The machine with WP set: the outer kernel runs, or the gates do before they clear WP and after they set it.
+pub struct OuterMachine<'i> {
+    pub(crate) whole: Whole<'i>,
+}
+
+impl<'i> Model for OuterMachine<'i> {
+    ghost use Rattle.std.specs.Prelude.{◌≡◌, true};
+    ghost use Rattle.nk_bits.specs.Accesses.{wp_of};
+    ghost use Rattle.gate_state.specs.WholeMachine.{WholeState};
+
+    ghost Value = { WholeState };
+
+    ghost view = { λ m. m.whole };
+
+    ghost invariant = { λ m. wp_of m.whole.state.processor.control.cr0 ≡ true };
+}
+
+impl<'i> OuterMachine<'i> {
+    /// The machine as a run of the image begins, with the memory and the books of its opening.
+    ///
+    /// Returns an error where there is no room for the processor's translations; memory, books and input are dropped.
+    pub fn start(
+        alloc: Global,
+        mem: PhysMem,
+        kernel: Kernel,
+        image: &'i Image,
+        layout: &'i Layout,
+        input: Vec<u8>,
+    ) -> Result<OuterMachine<'i>, NoMemory>
+        requires layout { IsLayout image.now layout.now }
+        requires opening { IsOpening image.now layout.now.frames mem }
+        requires kinds { kernel.kinds ≡ kinds image.now layout.now.frames }
+        requires root { kernel.root ≡ 5 }
+        requires books { AreBooks kernel mem }
+        requires clean { first_found image.now ≡ None }
+        ensures opening { IfOk result (λ machine. machine.opening ≡ record { image = image.now; frames = layout.now.frames }) }
+        ensures state { IfOk result (λ machine. machine.state
+            ≡ opening_state (record { image = image.now; frames = layout.now.frames }) input.items) }
+    {
+        safety_law();
+        clean_image_law(image);
+        let _entry = image.entry();
+        let _pages = image.pages();
+        let cpu = match opening_cpu(alloc, image, layout, input) {
+            Ok(cpu) => cpu,
+            Err(fault) => return Err(fault),
+        };
+        let whole = Whole {
+            cpu,
+            mem,
+            kernel,
+            turns: 0,
+            taken: 0,
+            image,
+            layout,
+        };
+        Ok(OuterMachine { whole })
+    }
+
+    /// One step: an event of the plan, or a turn; with what it shows.
+    pub fn step(self, plan: &Plan) -> (Machine<'i>, Seen)
+        requires left { is_rest (move_of plan.now self.state) ≡ false }
+        requires turns { self.state.turns < 4294967296 }
+        ensures next { whole_of result.0 ≡ next_whole plan.now self.entry }
+        ensures seen { result.1 ≡ seen_by (move_of plan.now self.entry.state) self.entry.state }
+        ensures no_body { enters_body self.entry.state.processor ≡ false }
+        ensures safe { IsSafe self.entry.opening self.entry.state }
+    {
+        let OuterMachine { whole } = self;
+        step(whole, plan)
+    }
+
+    /// Whether the machine is halted for good: no vector wakes it, and no event of the plan is left.
+    pub fn done(&self, plan: &Plan) -> bool
+        ensures { result ≡ is_rest (move_of plan.now self.now.state) }
+    {
+        matches!(self.whole.next_move(plan), Move::Rest)
+    }
+
+    /// How many turns were taken.
+    pub fn turns(&self) -> u64
+        ensures { result ≡ self.now.state.turns }
+    {
+        self.whole.turns
+    }
+
+    /// Memory and books, at the end of a run.
+    pub fn finish(self) -> Finished
+        ensures memory { result.mem ≡ self.entry.state.memory }
+        ensures kinds { result.kernel.kinds ≡ self.entry.state.kinds }
+        ensures root { result.kernel.root ≡ self.entry.state.processor.control.root }
+        ensures books { AreBooks result.kernel result.mem }
+        ensures safe { IsSafe self.entry.opening self.entry.state }
+    {
+        let OuterMachine { whole } = self;
+        whole.is_safe();
+        whole.finish()
+    }
+}

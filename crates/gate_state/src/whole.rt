@@ -1,0 +1,276 @@
+//! What the three states share: the machine with the opening of its run.
+
+ghost use Rattle.std.specs.Prelude.{◌≡◌, ℕ, ◌+◌, ◌<◌, ◌^◌, true, false, slice_get, Some, None};
+ghost use Rattle.irq_plan.specs.PlannedEvents.{IsPlannable};
+ghost use Rattle.nk_bits.specs.Accesses.{wp_of};
+ghost use Rattle.cpu_step.specs.Turns.{enters_body};
+ghost use Rattle.nk_body.specs.NestedRecord.{AreBooks};
+ghost use Rattle.gate_state.specs.EventMoves.{IfTaken};
+ghost use Rattle.gate_state.specs.MachineSteps.{after_event, after_turn, answered_with, call_in, called_in, move_by, move_of, seen_by, shown_by_turn, turn_of, waits};
+ghost use Rattle.gate_state.specs.SafeStates.{IsSafe, TakesTurn};
+ghost use Rattle.gate_state.specs.WholeMachine.{is_rest, next_whole, served_whole};
+
+use crate::laws::steps_law;
+use crate::moves::Move;
+use crate::seen::{Called, Seen, Took};
+use boot_map::Layout;
+use cpu_step::{Cpu, Stepped};
+use elf_image::Image;
+use irq_plan::{Event, Plan, What};
+use nk_bits::{Answer, CallWords};
+use nk_body::{Kernel, Source};
+use phys_mem::PhysMem;
+use std::marker::Model;
+use x86_regs::{Regs, bit};
+
+/// Processor, memory and books, with how many turns and events were taken.
+pub(crate) struct Whole<'i> {
+    pub cpu: Cpu,
+    pub mem: PhysMem,
+    pub kernel: Kernel,
+    pub turns: u64,
+    pub taken: usize,
+    pub image: &'i Image,
+    pub layout: &'i Layout,
+}
+
+impl<'i> Model for Whole<'i> {
+    ghost use Rattle.gate_state.specs.WholeMachine.{IsWhole, WholeState};
+
+    ghost Value = { WholeState };
+
+    ghost view = { λ w. record {
+      opening = record { image = w.image.now; frames = w.layout.now.frames };
+      state = record {
+        processor = w.cpu;
+        memory = w.mem;
+        kinds = w.kernel.kinds;
+        turns = w.turns;
+        taken = w.taken;
+      };
+    } };
+
+    ghost invariant = { λ w. IsWhole (record { image = w.image.now; frames = w.layout.now.frames })
+        (record { processor = w.cpu; memory = w.mem; kinds = w.kernel.kinds; turns = w.turns; taken = w.taken })
+        w.kernel };
+}
+
+impl<'i> Whole<'i> {
+    /// The step from this state.
+    pub fn next_move(&self, plan: &Plan) -> Move
+        ensures moved { result ≡ move_of plan.now self.now.state }
+        ensures planned { IfTaken result (λ what. IsPlannable what × (self.now.state.taken + 1 < 2 ^ 64)) }
+    {
+        if self.cpu.enters_body() {
+            return Move::Serve;
+        }
+        move_by(&self.cpu, plan, self.turns, self.taken)
+    }
+
+    /// Takes the step from a state at which no body is to run.
+    pub fn advance(&mut self, plan: &Plan) -> Seen
+        requires no_body { enters_body self.old.state.processor ≡ false }
+        requires left { is_rest (move_of plan.now self.old.state) ≡ false }
+        requires turns { self.old.state.turns < 4294967296 }
+        ensures next { self.new ≡ next_whole plan.now self.old }
+        ensures seen { result ≡ seen_by (move_of plan.now self.old.state) self.old.state }
+    {
+        match self.next_move(plan) {
+            Move::Take(what) => self.take(what),
+            Move::Turn => self.turn(),
+            Move::Serve | Move::Rest => unreachable!(),
+        }
+    }
+
+    /// Takes an event of the plan.
+    fn take(&mut self, what: What) -> Seen
+        requires what { IsPlannable what }
+        requires count { self.old.state.taken + 1 < 2 ^ 64 }
+        ensures taken { self.new ≡ record self.old { state = after_event what self.old.state } }
+        ensures seen { result ≡ Seen.Event }
+    {
+        steps_law();
+        self.cpu.take_event(&self.mem, what);
+        self.taken += 1;
+        Seen::Event
+    }
+
+    /// Takes a turn of the processor.
+    fn turn(&mut self) -> Seen
+        requires takes { TakesTurn self.old.state.processor }
+        requires turns { self.old.state.turns < 4294967296 }
+        ensures turned { self.new ≡ record self.old { state = after_turn self.old.state } }
+        ensures seen { result ≡ shown_by_turn (turn_of self.old.state).stepped }
+    {
+        steps_law();
+        let stepped = self.cpu.step(&mut self.mem);
+        self.turns += 1;
+        seen_of(stepped)
+    }
+
+    /// Runs the nested kernel's body.
+    pub fn serve(&mut self) -> Called
+        requires body { enters_body self.old.state.processor ≡ true }
+        requires turns { self.old.state.turns < 4294967296 }
+        ensures served { self.new ≡ served_whole self.old }
+        ensures called { result ≡ called_in self.old.state }
+    {
+        steps_law();
+        let call = call_in(self.cpu.regs());
+        let answer = self.kernel.serve(&mut self.mem, &call, Source::NotTaken);
+        answer_with(&mut self.cpu, &answer, self.kernel.root());
+        self.turns += 1;
+        Called {
+            call,
+            source: Took::NotTaken,
+            answer,
+        }
+    }
+
+    /// Whether WP is set.
+    #[tactic(auto, unfolding(nk_bits::specs::Accesses::wp_of))]
+    pub fn keeps_supervisor(&self) -> bool
+        ensures { result ≡ wp_of self.now.state.processor.control.cr0 }
+    {
+        bit(self.cpu.control().cr0, WP)
+    }
+
+    /// Whether the nested kernel's body is to run.
+    pub fn is_at_body(&self) -> bool
+        ensures { result ≡ enters_body self.now.state.processor }
+    {
+        self.cpu.enters_body()
+    }
+
+    /// With WP clear the machine never rests.
+    pub fn is_running(&self, plan: &Plan)
+        requires { wp_of self.now.state.processor.control.cr0 ≡ false }
+        ensures { is_rest (move_of plan.now self.now.state) ≡ false }
+    {
+        let _taken = self.taken;
+    }
+
+    /// Nor does it at the body.
+    pub fn is_serving(&self, plan: &Plan)
+        requires { enters_body self.now.state.processor ≡ true }
+        ensures { is_rest (move_of plan.now self.now.state) ≡ false }
+    {
+        let _taken = self.taken;
+    }
+
+    /// What the invariant gives: the state is safe.
+    pub fn is_safe(&self)
+        ensures { IsSafe self.now.opening self.now.state }
+    {
+        steps_law();
+        let _taken = self.taken;
+    }
+
+    /// Memory and books.
+    pub fn finish(self) -> Finished
+        ensures memory { result.mem ≡ self.entry.state.memory }
+        ensures kinds { result.kernel.kinds ≡ self.entry.state.kinds }
+        ensures root { result.kernel.root ≡ self.entry.state.processor.control.root }
+        ensures books { AreBooks result.kernel result.mem }
+    {
+        let Whole {
+            cpu: _,
+            mem,
+            kernel,
+            turns: _,
+            taken: _,
+            image: _,
+            layout: _,
+        } = self;
+        Finished { mem, kernel }
+    }
+}
+
+/// Memory and books of a machine that was spent.
+#[derive(Drop)]
+pub struct Finished {
+    pub mem: PhysMem,
+    pub kernel: Kernel,
+}
+
+/// Bit 16 of CR0: the supervisor's writes need a writable page (SDM volume 3, 2.5).
+const WP: u8 = 16;
+
+/// The step that the next event of the plan decides, or that none is left.
+fn move_by(cpu: &Cpu, plan: &Plan, turns: u64, taken: usize) -> Move
+    ensures moved { result ≡ move_by (slice_get plan.now taken) turns cpu.now }
+    ensures planned { IfTaken result (λ what. IsPlannable what × (taken + 1 < 2 ^ 64)) }
+{
+    if taken < plan.len() {
+        move_before(&plan.event(taken), turns, cpu)
+    } else {
+        move_without(cpu)
+    }
+}
+
+/// The step where this event is the next one.
+fn move_before(event: &Event, turns: u64, cpu: &Cpu) -> Move
+    ensures { result ≡ move_by (Some event.now) turns cpu.now }
+{
+    if event.due <= turns || waits(cpu) {
+        Move::Take(event.what)
+    } else {
+        Move::Turn
+    }
+}
+
+/// The step where no event is left.
+fn move_without(cpu: &Cpu) -> Move
+    ensures { (turns : ℕ) → result ≡ move_by None turns cpu.now }
+{
+    if waits(cpu) { Move::Rest } else { Move::Turn }
+}
+
+/// Whether the processor is halted, and no pending vector wakes it.
+fn waits(cpu: &Cpu) -> bool
+    ensures { result ≡ waits cpu.now }
+{
+    cpu.halted() && cpu.deliverable().is_none()
+}
+
+/// What a turn shows.
+fn seen_of(stepped: Stepped) -> Seen
+    ensures { result ≡ shown_by_turn stepped }
+{
+    match stepped {
+        Stepped::Ran | Stepped::Shutdown => Seen::Quiet,
+        Stepped::Console(byte) => Seen::Console(byte),
+        Stepped::Delivered(it) => Seen::Delivered(it),
+    }
+}
+
+/// The call that the registers hold: its number in RDI, its arguments in RSI, RDX, RCX and R8.
+fn call_in(regs: &Regs) -> CallWords
+    ensures { result ≡ call_in regs.now }
+{
+    CallWords {
+        number: regs.general[7],
+        a: regs.general[6],
+        b: regs.general[2],
+        c: regs.general[1],
+        d: regs.general[8],
+    }
+}
+
+/// Where the exit gate goes on behind the body.
+const BEHIND_BODY: u64 = 0xFFFF_FF80_0000_101D;
+
+/// The processor behind the body: R9 has the answer, RDX the place of a region, if one was placed.
+fn answer_with(cpu: &mut Cpu, answer: &Answer, root: u32)
+    ensures { cpu.new ≡ answered_with answer.now root cpu.old }
+{
+    cpu.set_reg(9, answer.value);
+    if let Some(place) = answer.place {
+        cpu.set_reg(2, place);
+    }
+    cpu.set_rip(BEHIND_BODY);
+    cpu.set_root(root);
+    if answer.flush {
+        cpu.tlb_mut().flush();
+    }
+}
