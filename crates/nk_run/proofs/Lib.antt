@@ -2,13 +2,12 @@ pub mod Checks
 pub mod Told
 pub mod Digits
 pub mod Forms
-pub mod Handler
 pub mod Hexadecimal
 pub mod LineRoom
 pub mod Numerals
-pub mod OpeningList
 pub mod Rows
 pub mod Promises
-pub mod MoveLemmas
 pub mod Runs
+pub mod SafeRuns
+pub mod Moves
 pub mod Texts

@@ -1,5 +1,5 @@
 -- From what the top call says in the end, and how that is written, to its promises.
-use Rattle.std.proofs.Common.{◌≡◌, ℕ, ◌≤◌, ◌⊎◌, inl, inr, List, [], length, Option, Some, None, Result, Ok, Err, MatchOption, IsOk, IsSome, IsSomeAnd, arith, refl, sym, ◌∙◌, ap, subst}
+use Rattle.std.proofs.Common.{◌≡◌, ℕ, ◌≤◌, ◌⊎◌, inl, inr, List, [], length, Option, Some, None, Result, Ok, Err, MatchOption, IfSome, IsOk, IsSome, IsSomeAnd, arith, refl, sym, ◌∙◌, ap, subst}
 use Rattle.std.proofs.lemmas.Bool.{le-ltb, le-leb}
 use Rattle.std.specs.Prelude.{unwrap_or, ⊤}
 use Rattle.elf_image.specs.Rows.{first_fault}
@@ -14,13 +14,17 @@ use Rattle.nk_run.specs.CommandLine.{command_of, name_in}
 use Rattle.nk_run.specs.Lines.{longest_file}
 use Rattle.nk_run.specs.Witness.{Change, Files, ShelfState, Witness}
 use Rattle.nk_run.specs.Outcome.{Answer, Verdict, passes, decided, first_verdict, checks_of, text_of, outcome, outcome_of, fetched, formed, clean, planned, roomy, file_in}
-use Rattle.nk_run.specs.Clauses.{HasInput, HasRoom, IsComplete, IsCutByCount, IsCutWritten, IsDoable, IsDone, IsFaultless, IsGoodImage, IsGoodPlan, IsOutside, IsStatus, IsText, IsUnreadByCount, IsUnreadWritten, IsUsage, IsUsageAlone, IsWantWritten, MaySay, Promises, TookAll, TookPrefix}
+use Rattle.nk_run.specs.Clauses.{HasInput, HasRoom, HasSafeRun, IsComplete, IsCutByCount, IsCutWritten, IsDoable, IsDone, IsFaultless, IsGoodImage, IsGoodPlan, IsOutside, IsSafeWhereRun, IsStatus, IsText, IsUnreadByCount, IsUnreadWritten, IsUsage, IsUsageAlone, IsWantWritten, MaySay, Promises, TookAll, TookPrefix}
 use Rattle.nk_run.proofs.Told.{if_told, told_at}
 use Rattle.nk_run.specs.Replies.{CommandSays, IsAnswered, IsWritten, Says, SaysUsage}
 
 some_and : {A : Type 0} (o : Option A) (P : A → Type 0) → IsSomeAnd o P → (x : A) × (o ≡ Some x) × P x
 some_and None P h = absurd h
 some_and (Some x) P h = (x, refl, h)
+
+if_some : {A : Type 0} (o : Option A) (P : A → Type 0) → ((x : A) → o ≡ Some x → P x) → IfSome o P
+if_some None P h = tt
+if_some (Some x) P h = h x refl
 
 is_some_and : {A : Type 0} (o : Option A) (P : A → Type 0) → IsSomeAnd o P → o ≡ None → ⊥
 is_some_and None P h e = h
@@ -256,8 +260,16 @@ module _ (seen : Witness) (status : ℕ) (text : List ℕ) (result : ℕ) where
   done says written =
       if_told seen.shelf.before.files _ (λ files e wanted none. done_with files wanted (faultless none files e says written))
 
-pub promised : (seen : Witness) (result : ℕ) → IsAnswered seen result → Promises seen result
-promised seen result r = record {
+-- where the checks of a run pass, the run is safe
+run_safe : (seen : Witness) → ((words : List (List ℕ)) (files : Files) (command : Command) → command_of words ≡ Some command → HasSafeRun command words files)
+    → IsSafeWhereRun seen
+run_safe seen law =
+    if_told seen.shelf.before.files _ (λ files e. if_some (command_of seen.words) (λ command. HasSafeRun command seen.words files) (law seen.words files))
+
+pub promised : (seen : Witness) (result : ℕ)
+    → ((words : List (List ℕ)) (files : Files) (command : Command) → command_of words ≡ Some command → HasSafeRun command words files)
+    → IsAnswered seen result → Promises seen result
+promised seen result law r = record {
   status_range = status_range seen r.status r.text result r.says r.written;
   usage = usage seen r.status r.text result r.says r.written;
   usage_alone = usage_alone seen r.status r.text result r.says r.written;
@@ -271,4 +283,5 @@ promised seen result r = record {
   files_stay = r.files_stay;
   complete = complete seen r.status r.text result r.says r.written;
   done = done seen r.status r.text result r.says r.written;
+  run_safe = run_safe seen law;
 }

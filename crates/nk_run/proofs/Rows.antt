@@ -1,5 +1,5 @@
 -- What the row of a run's checks says of the outcome.
-use Rattle.std.proofs.Common.{◌≡◌, ℕ, ◌≤◌, inl, inr, Bool, true, false, List, [], ◌∷◌, ◌++◌, Option, Some, None, IsSome, IsSomeAnd, Ok, Contains, arith, refl, sym, ap, subst, ◌∙◌}
+use Rattle.std.proofs.Common.{◌≡◌, ℕ, ◌≤◌, inl, inr, Bool, true, false, List, [], ◌∷◌, ◌++◌, Option, Some, None, IsSome, IsSomeAnd, Ok, Result, Contains, arith, refl, sym, ap, subst, ◌∙◌}
 use Rattle.std.proofs.lemmas.Grind.{common_steps}
 use Rattle.std.specs.Prelude.{MatchBool, ⊤}
 use Rattle.nk_host.specs.FaultCounts.{NeverFalls, RoseTo}
@@ -13,7 +13,9 @@ use Rattle.nk_run.specs.declared.command_line.Role.{Role}
 use Rattle.nk_run.specs.declared.command_line.Role.TheVariants.{Image, Input, Plan}
 use Rattle.nk_run.specs.CommandLine.{IsAsked, command_of, is_same, name_in, roles_of}
 use Rattle.nk_run.specs.Witness.{Change, Files, ShelfState}
-use Rattle.nk_run.specs.Outcome.{Answer, Check, DoesPass, IsReached, IsReachedAfter, Verdict, checks_of, decided, ends, file_in, first_verdict, outcome, outcome_of, passes, image_checks, input_checks, roomy, run_checks, test, text_of, unheld, unless_ended}
+use Rattle.nk_run.specs.Outcome.{Answer, Check, DoesPass, IsReached, IsReachedAfter, Verdict, checks_of, decided, ends, events_in, file_in, first_verdict, outcome, outcome_of, passes, image_checks, input_checks, opening_in, roomy, run_checks, test, text_of, unheld, unless_ended}
+use Rattle.gate_state.specs.MachineOpening.{opening_state}
+use Rattle.nk_run.specs.RunStates.{run_text}
 use Rattle.nk_run.specs.Replies.{CommandSays, IsOwn, RefusesBy, StopsIn}
 use Rattle.nk_run.proofs.Checks.{first_verdict-append}
 use Rattle.nk_run.proofs.Told.{if_told, told_at}
@@ -35,7 +37,7 @@ reached-append role (x ∷ xs) ys h =
     reached_after x.fetches role x.finds (IsReached role xs) (IsReached role (xs ++ ys)) (reached-append role xs ys) h
 
 -- a check that is reached in a row is reached behind checks that pass
-both_pass : (u v : Verdict) → unless_ended u v ≡ passes → (u ≡ passes) × (v ≡ passes)
+pub both_pass : (u v : Verdict) → unless_ended u v ≡ passes → (u ≡ passes) × (v ≡ passes)
 both_pass passes v h = (refl, h)
 both_pass (ends answer) v h = cc
 both_pass unheld v h = cc
@@ -94,6 +96,15 @@ own_one status e = record {
   not_want = λ h. omega (arith, e, h);
 }
 
+own_zero : IsOwn 0
+own_zero = record {
+  small = omega arith;
+  not_usage = λ h. omega (arith, h);
+  not_unread = λ h. omega (arith, h);
+  not_cut = λ h. omega (arith, h);
+  not_want = λ h. omega (arith, h);
+}
+
 some_is : {A : Type 0} (o : Option A) (x : A) → o ≡ Some x → IsSome o
 some_is {A = A} o x e = let P : Option A → Type 0 = λ p. IsSome p in subst P (sym e) refl
 
@@ -123,6 +134,16 @@ module _ (words : List (List ℕ)) (steps frames : ℕ) (asked : command_of word
   outcome_is files =
       ap (λ (o : Option Command). outcome_of o words files) asked
       ∙ ap (λ (v : Verdict). decided v (run_answer files)) (first_verdict-append (run_checks files words) (test (room files) ∷ []))
+
+  -- the text of the run, of what the files are
+  text_is : {image input : List ℕ} {plan : List Event} (files : Files) → plan_of (file_in files words Plan) ≡ Ok plan
+      → image ≡ file_in files words Image → input ≡ file_in files words Input
+      → Some (run_answer files) ≡ Some (record { status = 0; text = run_text steps plan (opening_state (record { image = image; frames = frames }) input) })
+  unfolding run_answer
+  text_is {image = image} {plan = plan} files plan_is image_is input_is =
+      ap (λ (r : Result (List Event) ℕ). Some (record { status = 0; text = run_text steps (events_in r) (opening_state (opening_in files words frames) (file_in files words Input)) })) plan_is
+      ∙ ap (λ (b : List ℕ). Some (record { status = 0; text = run_text steps plan (opening_state (record { image = b; frames = frames }) (file_in files words Input)) })) (sym image_is)
+      ∙ ap (λ (b : List ℕ). Some (record { status = 0; text = run_text steps plan (opening_state (record { image = image; frames = frames }) b) })) (sym input_is)
 
   -- a check of the row ended it
   row_ended : (files : Files) (answer : Answer) → first_verdict (run_checks files words) ≡ ends answer → outcome words files ≡ Some answer
@@ -158,6 +179,11 @@ module _ (words : List (List ℕ)) (steps frames : ℕ) (asked : command_of word
     own = stop.own;
   }))
 
+  -- the run was made
+  pub ran_says : (shelf : Change ShelfState) (text : List ℕ)
+      → IfTold shelf.before.files (λ files. outcome words files ≡ Some (record { status = 0; text = text })) → CommandSays words shelf 0 text
+  ran_says shelf text is = inr (inr (record { asked = some_is (command_of words) _ asked; outcome_is = is; own = own_zero }))
+
   -- the files are those that are told, where they are told, and the row passed on them
   module _ (told : Option Files) (image input : List ℕ) (plan : List Event) (held : IfTold told (λ files. (image ≡ file_in files words Image) × (input ≡ file_in files words Input) × (plan_of (file_in files words Plan) ≡ Ok plan) × (first_verdict (run_checks files words) ≡ passes))) where
     room_is : (files : Files) (v : Verdict) → told ≡ Some files → roomy (need image frames) frames ≡ v → room files ≡ v
@@ -177,3 +203,15 @@ module _ (words : List (List ℕ)) (steps frames : ℕ) (asked : command_of word
           ∙ ap (λ (v : Verdict). decided v (run_answer files)) (last_ends (room files) answer (room_is files _ told_is ended)));
       own = own_one status one;
     }))
+
+    -- the row and the room pass, and the text is that of the run
+    pub ready_says : roomy (need image frames) frames ≡ passes → IfTold told (λ files. outcome words files ≡ Some (record {
+      status = 0;
+      text = run_text steps plan (opening_state (record { image = image; frames = frames }) input);
+    }))
+    ready_says fits =
+        if_told told _ (λ files e.
+        let given = told_at told _ files e held in
+        row_passed files given.3
+        ∙ ap (λ (v : Verdict). decided (unless_ended v passes) (run_answer files)) (room_is files passes e fits)
+        ∙ text_is files given.2 given.0 given.1)

@@ -1,14 +1,20 @@
 -- What the top call promises, in the order of the record `Promises` at the end: each promise is over what the call saw
 -- and its status.
-use Rattle.std.specs.Prelude.{◌≡◌, ℕ, ◌≤◌, ◌⊎◌, List, length, Some, None, MatchOption, IsSomeAnd, IsOk, ⊤}
+use Rattle.std.specs.Prelude.{◌≡◌, ℕ, ◌<◌, ◌≤◌, ◌⊎◌, List, length, slice_index, None, MatchOption, IfSome, IsSomeAnd, IsOk, ⊤}
 use Rattle.std.specs.Io.KnownBytes.{Appends}
 use Rattle.nk_host.specs.FaultCounts.{Rose, RoseTo}
 use Rattle.nk_host.specs.Taken.{AppendsPrefix}
 use Rattle.nk_host.specs.Told.{IfTold}
 use Rattle.elf_image.specs.Rows.{first_fault}
 use Rattle.byte_scanner.specs.FirstFound.{first_found}
+use Rattle.irq_plan.specs.declared.event.Event.{Event}
 use Rattle.irq_plan.specs.PlanFile.{plan_of}
 use Rattle.boot_map.specs.Division.{need}
+use Rattle.gate_state.specs.GateCalls.{IsCalledThrough, IsCalling}
+use Rattle.gate_state.specs.MachineOpening.{opening_state}
+use Rattle.gate_state.specs.MachineStates.{Opening, nested_of}
+use Rattle.gate_state.specs.MachineSteps.{calls, made_by_all, state}
+use Rattle.gate_state.specs.SafeStates.{IsSafe}
 use Rattle.nk_run.specs.declared.command_line.Command.{Command}
 use Rattle.nk_run.specs.declared.command_line.Command.TheVariants.{Scan, Map, Run}
 use Rattle.nk_run.specs.declared.command_line.Role.{Role}
@@ -16,7 +22,7 @@ use Rattle.nk_run.specs.declared.command_line.Role.TheVariants.{Image, Input, Pl
 use Rattle.nk_run.specs.CommandLine.{command_of, name_in, IsAsked}
 use Rattle.nk_run.specs.Lines.{longest_file, no_memory_line, unread_line, usage_line}
 use Rattle.nk_run.specs.Witness.{Change, Files, ShelfState, SinkState, Witness}
-use Rattle.nk_run.specs.Outcome.{checks_of, outcome, IsReached}
+use Rattle.nk_run.specs.Outcome.{checks_of, events_in, file_in, first_verdict, opening_in, outcome, passes, IsReached}
 
 -- the count of faults of the name of a role's file rose
 abbrev pub NameRose : List (List ℕ) → Change ShelfState → Role → Type 0
@@ -148,6 +154,34 @@ IsDone seen status = IfTold seen.shelf.before.files (λ files.
     IsSomeAnd (command_of seen.words) (λ command. IsDoable command seen.words files) →
     IsFaultless seen → (status ≡ 0) ⊎ (status ≡ 5))
 
+-- what is safe of a run under a plan, from the opening of an image with these bytes of input
+pub record IsSafeRun (plan : List Event) (o : Opening) (input : List ℕ) : Type 0 where
+  -- each of its states is safe
+  pub safe : (k : ℕ) → IsSafe o (state plan (opening_state o input) k)
+  -- and what the nested kernel guards in it is what the accepted calls made of the opening's record
+  pub nested : (k : ℕ) → nested_of (state plan (opening_state o input) k)
+      ≡ made_by_all (nested_of (opening_state o input)) (calls plan (opening_state o input) k)
+  -- a call that is made through the gates with interrupts off is answered
+  pub called : (n k : ℕ) → IsCalling (state plan (opening_state o input) n).processor
+      → IsCalledThrough plan (state plan (opening_state o input) n) k
+
+-- a file holds bytes
+abbrev pub IsFileOfBytes : List ℕ → Type 0
+IsFileOfBytes b = (i : ℕ) → slice_index b i < 256
+
+-- where the checks of a run pass, the run is safe
+abbrev pub HasSafeRun : Command → List (List ℕ) → Files → Type 0
+HasSafeRun Scan words files = ⊤
+HasSafeRun (Map frames va) words files = ⊤
+HasSafeRun (Run steps frames) words files =
+    IsFileOfBytes (file_in files words Image)
+    → first_verdict (checks_of (Run steps frames) files words) ≡ passes
+    → IsSafeRun (events_in (plan_of (file_in files words Plan))) (opening_in files words frames) (file_in files words Input)
+
+abbrev pub IsSafeWhereRun : Witness → Type 0
+IsSafeWhereRun seen = IfTold seen.shelf.before.files (λ files.
+    IfSome (command_of seen.words) (λ command. HasSafeRun command seen.words files))
+
 pub record Promises (seen : Witness) (status : ℕ) : Type 0 where
   pub status_range : status ≤ 7
   -- words without a form, and the counts: over every shelf and sink, whether they tell their content or not
@@ -166,3 +200,5 @@ pub record Promises (seen : Witness) (status : ℕ) : Type 0 where
   -- without a fault of the outside the work is done, if memory is given
   pub complete : IsComplete seen status
   pub done : IsDone seen status
+  -- the run whose text is written is safe in each of its states
+  pub run_safe : IsSafeWhereRun seen

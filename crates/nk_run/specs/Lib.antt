@@ -4,10 +4,8 @@ pub mod CommandLine
 pub mod Lines
 pub mod Witness
 pub mod RunStates
-pub mod RunOpening
 pub mod Outcome
 pub mod Clauses
 -- Words of private clauses and proofs.
 pub mod ReplyText
 pub mod Replies
-pub mod EventMoves

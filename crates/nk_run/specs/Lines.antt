@@ -5,6 +5,9 @@ use Rattle.hex.specs.Hex.{encode_lower}
 use Rattle.nk_bits.specs.declared.call.Delivery.{Delivery}
 use Rattle.nk_bits.specs.declared.leaf.Leaf.{Leaf}
 use Rattle.nk_bits.specs.declared.leaf.Rights.{Rights}
+use Rattle.gate_state.specs.declared.seen.Called.{Called}
+use Rattle.gate_state.specs.declared.seen.Took.{Took}
+use Rattle.gate_state.specs.declared.seen.Took.TheVariants.{NotTaken, Unreadable, Taken}
 use Rattle.nk_run.specs.declared.ending.Ending.{Ending}
 use Rattle.nk_run.specs.declared.ending.Ending.TheVariants as ending
 use Rattle.nk_run.specs.declared.command_line.Role.{Role}
@@ -81,8 +84,8 @@ abbrev pub walk_line : Result Leaf ℕ → List ℕ
 walk_line (Ok leaf) = frame_line leaf.frame leaf.rights
 walk_line (Err level) = missing_line level
 
--- the lines of a run: a byte of the console, a delivery, why it ended, how many turns it took, the root's frame, and the address of
--- the trap handler
+-- the lines of a run: a byte of the console, a delivery, a call, why it ended, how many turns it took, the root's frame,
+-- and the address of the trap handler
 unfoldable pub console_line : ℕ → List ℕ
 console_line byte = codes "c " ++ (encode_lower (byte ∷ []) ++ codes "\n")
 
@@ -101,10 +104,23 @@ delivery_line it =
     codes "i " ++ (decimal it.vector ++ (codes " " ++ (hex_word it.code ++ (codes " " ++ (hex_16 it.rip ++ (codes " "
     ++ (hex_16_word it.cr2 ++ codes "\n")))))))
 
+-- what a call took from memory: `-` where it takes nothing, `!` where a byte couldn't be read; no call takes bytes
+abbrev pub source_word : Took → List ℕ
+source_word NotTaken = codes "-"
+source_word Unreadable = codes "!"
+source_word Taken = []
+
+-- a call: its number and its four arguments, what it took, the answer, and the place of a region
+unfoldable pub call_line : Called → List ℕ
+call_line it =
+    codes "k " ++ (digits 16 false it.call.number ++ (codes " " ++ (digits 16 false it.call.a ++ (codes " "
+    ++ (digits 16 false it.call.b ++ (codes " " ++ (digits 16 false it.call.c ++ (codes " "
+    ++ (digits 16 false it.call.d ++ (codes " " ++ (source_word it.source ++ (codes " "
+    ++ (decimal it.answer.value ++ (codes " " ++ (hex_16_word it.answer.place ++ codes "\n")))))))))))))))
+
 unfoldable pub ending_line : Ending → List ℕ
 ending_line ending.Steps = codes "end steps\n"
 ending_line ending.Halted = codes "end halted\n"
-ending_line ending.Stopped = codes "end stopped\n"
 
 unfoldable pub turns_line : ℕ → List ℕ
 turns_line turns = codes "turns " ++ (decimal turns ++ codes "\n")

@@ -14,6 +14,8 @@ use Rattle.irq_plan.specs.PlanFile.{plan_of}
 use Rattle.boot_map.specs.Division.{need}
 use Rattle.boot_map.specs.FixedFrames.{opening_root}
 use Rattle.boot_map.specs.OpeningEntries.{opening_entry}
+use Rattle.gate_state.specs.MachineOpening.{opening_state}
+use Rattle.gate_state.specs.MachineStates.{Opening}
 use Rattle.nk_run.specs.declared.command_line.Command.{Command}
 use Rattle.nk_run.specs.declared.command_line.Command.TheVariants.{Scan, Map, Run}
 use Rattle.nk_run.specs.declared.command_line.Role.{Role}
@@ -22,7 +24,6 @@ use Rattle.nk_run.specs.CommandLine.{command_of, is_same, name_in}
 use Rattle.nk_run.specs.Witness.{Files}
 use Rattle.nk_run.specs.Lines.{longest_file, usage_line, longer_line, image_line, protected_line, admitted_line, noroom_line, plan_line, walk_line}
 use Rattle.nk_run.specs.RunStates.{run_text}
-use Rattle.nk_run.specs.RunOpening.{opening_state}
 
 -- a status and the text that goes with it
 pub record Answer : Type 0 where
@@ -124,6 +125,10 @@ roomy need frames =
 abbrev pub translation_of : List ℕ → ℕ → ℕ → Result Leaf ℕ
 translation_of image frames va = walk (opening_entry image frames) frames opening_root (page_of va)
 
+-- what a run begins from: the file of the image, in a memory of so many frames
+abbrev pub opening_in : Files → List (List ℕ) → ℕ → Opening
+opening_in files words frames = record { image = file_in files words Image; frames = frames }
+
 -- the checks of a command, in order, and its text where all pass
 abbrev pub checks_of : Command → Files → List (List ℕ) → List Check
 checks_of Scan files words = image_checks files words
@@ -138,7 +143,7 @@ text_of Scan files words =
 text_of (Map frames va) files words = walk_line (translation_of (file_in files words Image) frames va)
 text_of (Run steps frames) files words =
     run_text steps (events_in (plan_of (file_in files words Plan)))
-    (opening_state (file_in files words Image) (file_in files words Input) frames)
+    (opening_state (opening_in files words frames) (file_in files words Input))
 
 -- the outcome of the words, of which the command is what they spell
 abbrev pub outcome_of : Option Command → List (List ℕ) → Files → Option Answer

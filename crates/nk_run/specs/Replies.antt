@@ -1,16 +1,17 @@
 -- What the top call says, and how it is written.
-use Rattle.std.specs.Prelude.{◌≡◌, ◌≢◌, ℕ, ◌≤◌, ◌⊎◌, List, Option, None, Some, Result, IsSome, length}
+use Rattle.std.specs.Prelude.{◌≡◌, ◌≢◌, ℕ, ◌≤◌, ◌⊎◌, List, Option, None, Some, Result, IsSome}
 use Rattle.nk_bits.specs.declared.leaf.Leaf.{Leaf}
 use Rattle.irq_plan.specs.declared.event.Event.{Event}
 use Rattle.nk_host.specs.Told.{IfTold}
-use Rattle.cpu_step.specs.Processor.{IsSound, Processor}
+use Rattle.byte_scanner.specs.FirstFound.{first_found}
+use Rattle.boot_map.specs.Division.{Division, IsLayout}
+use Rattle.gate_state.specs.MachineOpening.{opening_state}
 use Rattle.nk_run.specs.declared.command_line.Role.{Role}
 use Rattle.nk_run.specs.CommandLine.{command_of}
 use Rattle.nk_run.specs.Lines.{no_memory_line, unread_line, usage_line, walk_line}
 use Rattle.nk_run.specs.Witness.{Change, Files, ShelfState, SinkState, Witness}
 use Rattle.nk_run.specs.Outcome.{Check, Verdict, ends, decided, first_verdict, outcome, IsReached}
-use Rattle.nk_run.specs.RunStates.{begun, run_text}
-use Rattle.nk_run.specs.RunOpening.{opening_state}
+use Rattle.nk_run.specs.RunStates.{run_text}
 use Rattle.nk_run.specs.Clauses.{AreKept, IsUnread, NameRose, SinkRose, TookAll, TookPrefix}
 
 -- a status that a command's own answer may have: neither that of the usage line nor one of the outside
@@ -125,16 +126,13 @@ Concludes verdict answer status text =
 abbrev pub ShowsWalk : Result Leaf ℕ → ℕ → List ℕ → Type 0
 ShowsWalk found status text = IsWant status text ⊎ ((status ≡ 0) × (text ≡ walk_line found))
 
--- the machine is that of the opening of the image, with the input behind its ports
-pub record IsBegun (image input : List ℕ) (frames : ℕ) (processor : Processor) (memory : List ℕ) : Type 0 where
-  pub opening : begun processor memory ≡ opening_state image input frames
-  pub sound : IsSound (length memory) processor
-
--- the machine may take its turns, and where files are told the text of these turns is the outcome's
-pub record IsPrepared (words : List (List ℕ)) (told : Option Files) (steps : ℕ) (plan : List Event) (processor : Processor)
-    (memory : List ℕ) : Type 0 where
+-- a run may begin: the image was scanned and has its layout, and where files are told the text of the run is the outcome's
+pub record IsReady (words : List (List ℕ)) (told : Option Files) (steps frames : ℕ) (image : List ℕ) (layout : Division)
+    (input : List ℕ) (plan : List Event) : Type 0 where
+  pub layout_is : IsLayout image layout
+  pub frames_are : layout.frames ≡ frames
+  pub clean : first_found image ≡ None
   pub outcome_is : IfTold told (λ files. outcome words files ≡ Some (record {
     status = 0;
-    text = run_text steps plan (begun processor memory);
+    text = run_text steps plan (opening_state (record { image = image; frames = frames }) input);
   }))
-  pub sound : IsSound (length memory) processor

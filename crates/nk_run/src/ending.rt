@@ -7,6 +7,4 @@ pub(crate) enum Ending {
     Steps,
     /// The processor is halted, and nothing is left that could wake it.
     Halted,
-    /// The nested kernel's body is to run, or a delivery shut the machine down.
-    Stopped,
 }

@@ -1,5 +1,5 @@
 //! The checks on the image, which every command makes first.
-ghost use Rattle.std.specs.Prelude.{◌≡◌, ◌<◌, length, map, MatchOption, MatchResult};
+ghost use Rattle.std.specs.Prelude.{◌≡◌, ◌<◌, length, map, None, IfOk, MatchOption, MatchResult};
 ghost use Rattle.std.specs.String.{string_bytes};
 ghost use Rattle.nk_host.specs.FaultCounts.{NeverFalls};
 ghost use Rattle.nk_host.specs.Told.{IfTold};
@@ -69,7 +69,7 @@ fn form(alloc: Global, bytes: Vec<u8>) -> Result<Image, Reply>
 /// Nothing where the image's code holds no protected encoding, else the reply to the first one.
 fn admit(alloc: Global, image: &Image) -> Option<Reply>
     ensures { MatchOption result
-        (clean (first_found image.now) ≡ passes)
+        ((first_found image.now ≡ None) × (clean (first_found image.now) ≡ passes))
         (λ reply. RefusesBy 1 (clean (first_found image.now)) reply.status (bytes_of reply.line)) }
 {
     match scan(image) {
@@ -83,6 +83,7 @@ pub(crate) fn open<S: Shelf>(alloc: Global, words: &[String], shelf: &mut S) -> 
     requires { word_place Role.Image < length words.now }
     ensures files_stay { S.files shelf.new ≡ S.files shelf.old }
     ensures never_falls { NeverFalls (S.faults shelf.old) (S.faults shelf.new) }
+    ensures clean { IfOk result (λ image. first_found image ≡ None) }
     ensures opened { let names = map string_bytes words.now in MatchResult result
         (λ image. IfTold (S.files shelf.old) (λ files. (image ≡ file_in files names Role.Image)
         × (first_verdict (image_checks files names) ≡ passes)))

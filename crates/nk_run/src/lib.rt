@@ -26,11 +26,11 @@ mod run;
 // A run: its steps and why it ends, its lines, its loop.
 mod drive;
 mod ending;
-mod moves;
 mod run_lines;
 
 // The whole.
 mod answer;
+mod laws;
 mod top;
 
 pub use crate::command_line::{Command, Role};

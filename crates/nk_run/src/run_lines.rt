@@ -2,10 +2,11 @@
 //! its bytes, so that its encoding never fails.
 ghost use Rattle.std.specs.Prelude.{◌≡◌, ◌+◌, ◌<◌, ◌≤◌, ◌++◌, false, drop, length, codes, decimal};
 ghost use Rattle.std.specs.Fmt.{digit_glyph, digits};
-ghost use Rattle.nk_run.specs.Lines.{console_line, delivery_line, ending_line, hex_16, hex_16_word, hex_word, root_line, trap_line, turns_line};
+ghost use Rattle.nk_run.specs.Lines.{call_line, console_line, delivery_line, ending_line, hex_16, hex_16_word, hex_word, root_line, source_word, trap_line, turns_line};
 
 use crate::ending::Ending;
-use nk_bits::Delivery;
+use gate_state::{Called, Took};
+use nk_bits::{CallWords, Delivery};
 
 /// The most bytes of a line that ends with a number: a word of eight, twenty digits, and the line's end.
 pub(crate) const NUMBERED: usize = 29;
@@ -28,7 +29,6 @@ pub(crate) fn ending_line(ending: Ending) -> &'static str
     match ending {
         Ending::Steps => "end steps\n",
         Ending::Halted => "end halted\n",
-        Ending::Stopped => "end stopped\n",
     }
 }
 
@@ -86,6 +86,57 @@ pub(crate) fn delivery_line<'a>(room: &'a mut [u8; DELIVERY], it: &Delivery) -> 
     let vector = itoa::write_digits(u64::from(it.vector), room, vector_end);
     let start = put(room, vector, b"i ");
     room.split_at(start).1
+}
+
+/// The most bytes of the line of a call: `k`, five words of sixteen, the source, twenty digits and a place of sixteen,
+/// each behind a space, and the line's end.
+pub(crate) const CALL: usize = 127;
+
+/// A call, at the end of the room. It is put there from its last word to its first.
+pub(crate) fn call_line<'a>(room: &'a mut [u8; CALL], it: &Called) -> &'a [u8]
+    ensures { result.now ≡ call_line it.now }
+{
+    room[CALL - 1] = b'\n';
+    let place = put_word_16(room, CALL - 1, it.answer.place);
+    let value_end = put(room, place, b" ");
+    let value = itoa::write_digits(it.answer.value, room, value_end);
+    let source_end = put(room, value, b" ");
+    let source = put(room, source_end, source_word(it.source));
+    let words_end = put(room, source, b" ");
+    let words = put_arguments(room, words_end, &it.call);
+    let number_end = put(room, words, b" ");
+    let number = put_least(room, number_end, it.call.number);
+    let start = put(room, number, b"k ");
+    room.split_at(start).1
+}
+
+/// What a call took from memory.
+#[tactic(auto, unfolding(crate::specs::Lines::source_word))]
+fn source_word(source: Took) -> &'static [u8]
+    ensures { result.now ≡ source_word source }
+{
+    match source {
+        Took::NotTaken => b"-",
+        Took::Unreadable => b"!",
+        Took::Taken => b"",
+    }
+}
+
+/// Puts the four arguments of a call.
+fn put_arguments(room: &mut [u8], end: usize, call: &CallWords) -> usize
+    requires room { 67 ≤ end }
+    requires end { end ≤ length room.old }
+    ensures start { (result ≤ end) × (end ≤ result + 67) }
+    ensures written { drop result room.new ≡ digits 16 false call.now.a ++ (codes " " ++ (digits 16 false call.now.b
+        ++ (codes " " ++ (digits 16 false call.now.c ++ (codes " " ++ (digits 16 false call.now.d ++ drop end room.old)))))) }
+{
+    let d = put_least(room, end, call.d);
+    let c_end = put(room, d, b" ");
+    let c = put_least(room, c_end, call.c);
+    let b_end = put(room, c, b" ");
+    let b = put_least(room, b_end, call.b);
+    let a_end = put(room, b, b" ");
+    put_least(room, a_end, call.a)
 }
 
 /// Puts a text before a place of the room, and gives the place where it starts.

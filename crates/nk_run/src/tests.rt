@@ -1,7 +1,7 @@
 //! Worked cases of the command line, over a shelf and a sink in memory.
+mod calls;
 mod compiled;
 mod deliveries;
-mod drive;
 mod run;
 
 use crate::{Command, nk_main};

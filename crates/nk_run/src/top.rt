@@ -5,6 +5,7 @@ ghost use Rattle.nk_run.specs.Witness.{shelf_change, sink_change};
 ghost use Rattle.nk_run.specs.Clauses.{Promises};
 
 use crate::answer::answer;
+use crate::laws::run_law;
 use nk_host::{Shelf, Sink};
 use std::alloc::Global;
 
@@ -29,5 +30,6 @@ pub fn nk_main<S: Shelf, O: Sink>(
       sink = sink_change O.taken O.faults sink.old sink.new;
     }) result }
 {
+    run_law();
     answer(alloc, words, shelf, sink)
 }

@@ -7,7 +7,13 @@ use std::test::Fail;
 
 /// What a run of this text under this plan writes ends so: its lines, why it ended, its turns, and the section of an
 /// opening that nothing changed.
-fn ends(alloc: Global, text: &[u8], plan: &str, steps: &str, lines: &str) -> Result<bool, Fail> {
+pub(super) fn ends(
+    alloc: Global,
+    text: &[u8],
+    plan: &str,
+    steps: &str,
+    lines: &str,
+) -> Result<bool, Fail> {
     let ran = run_planned(alloc, text, plan, steps)?;
     let whole = format!(in alloc; "{lines}\nroot 5\ntrap ffffff80000011da\n")?;
     Ok(gives(&ran, 0, &whole))
@@ -111,19 +117,6 @@ fn jumps_into_the_gates_are_refused(rt: HostRuntime) -> Result<(), Fail> {
     for (text, plan, lines) in cases {
         assert!(rt; ends(alloc, text, plan, "100", lines)?, "{lines}");
     }
-    Ok(())
-}
-
-#[test]
-fn the_body_isn_t_run_yet(rt: HostRuntime) -> Result<(), Fail> {
-    // To offset 13 with WP clear in EAX.
-    let text = [
-        0x48, 0xb9, 0x0d, 0x10, 0x00, 0x00, 0x80, 0xff, 0xff, 0xff, 0xb8, 0x01, 0x00, 0x00, 0x80,
-        0xff, 0xe1,
-    ];
-    assert!(rt; ends(rt.alloc(), &text, "", "100", "end stopped\nturns 6")?);
-    // As many turns as it may take come first.
-    assert!(rt; ends(rt.alloc(), &text, "", "6", "end steps\nturns 6")?);
     Ok(())
 }
 

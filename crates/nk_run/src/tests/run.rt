@@ -46,7 +46,12 @@ pub(super) fn run_planned(
 }
 
 /// A run of this text in which a put fails after so many bytes.
-fn run_failing(alloc: Global, text: &[u8], failing: u64, cut: usize) -> Result<Ran, Fail> {
+pub(super) fn run_failing(
+    alloc: Global,
+    text: &[u8],
+    failing: u64,
+    cut: usize,
+) -> Result<Ran, Fail> {
     let files = files_of(alloc, text, Vec::new(alloc), Vec::new(alloc))?;
     let words = ["run", NAME, INPUT, PLAN, "100", "512"];
     run_over(alloc, &words, files, &[], &[failing], cut)
@@ -164,6 +169,24 @@ fn a_failing_put_ends_a_run_in_its_line(rt: HostRuntime) -> Result<(), Fail> {
     ];
     for (failing, cut, text) in cases {
         let ran = run_failing(alloc, &[0x0f, 0x01, 0xd8], failing, cut)?;
+        assert!(rt; gives(&ran, 4, text), "{text}");
+    }
+    Ok(())
+}
+
+#[test]
+fn each_line_of_a_run_may_be_cut(rt: HostRuntime) -> Result<(), Fail> {
+    // MOV AL, 5E; OUT E9, AL; NOP; HLT.
+    let code = [0xb0, 0x5e, 0xe6, 0xe9, 0x90, 0xf4];
+    let texts = [
+        "c ",
+        "c 5e\nen",
+        "c 5e\nend halted\ntu",
+        "c 5e\nend halted\nturns 4\nro",
+        "c 5e\nend halted\nturns 4\nroot 5\ntr",
+    ];
+    for (failing, text) in [1, 2, 3, 4, 5].into_iter().zip(texts) {
+        let ran = run_failing(rt.alloc(), &code, failing, 2)?;
         assert!(rt; gives(&ran, 4, text), "{text}");
     }
     Ok(())

@@ -1,10 +1,9 @@
 use Rattle.std.proofs.Common.{◌++◌, ◌∙◌}
 use Rattle.nk_run.specs.Lines.{ending_line, root_line, trap_line, turns_line}
-use Rattle.nk_run.specs.RunStates.{handler_in}
 use Rattle.nk_run.proofs.Texts.{went_on}
 use Rattle.nk_run.proofs.drive.close.Goals as goal
 
 pub returns-in-Ok-clause-written : goal.returns-in-Ok-clause-written
 returns-in-Ok-clause-written g c =
     went_on g.O.Sink.taken g.O.Sink.faults c.args.sink.now c.put_all.new.sink c.put_turns.new.sink c.as_bytes.result.now (ending_line c.args.ending)
-    (turns_line c.args.turns ++ (root_line c.args.cpu.now.control.root ++ trap_line (handler_in c.args.memory.now))) 0 _ (c.as_bytes.ensures.value ∙ c.ending_line.ensures) c.put_all.ensures.never_falls c.in-Ok.ensures.all c.put_turns.ensures.written
+    (turns_line c.args.turns ++ (root_line c.args.kernel.now.root ++ trap_line c.args.kernel.now.trap)) 0 _ (c.as_bytes.ensures.value ∙ c.ending_line.ensures) c.put_all.ensures.never_falls c.in-Ok.ensures.all c.put_turns.ensures.written

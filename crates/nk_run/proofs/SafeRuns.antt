@@ -1,0 +1,159 @@
+-- Where the checks of a run pass, the image is admitted and has room, and the plan is in form: the run is safe.
+use Rattle.std.proofs.Common.{◌≡◌, ℕ, ◌≤◌, Bool, true, false, inl, inr, List, [], ◌∷◌, Option, Some, None, Result, Ok, Err, refl, sym, ap, ◌∙◌, arith}
+use Rattle.std.specs.Prelude.{if◌then◌else◌, ◌&&◌, nat_le}
+use Rattle.std.proofs.lemmas.Bool.{and_parts, cases_Bool, leb-true}
+use Rattle.elf_image.specs.declared.fault.ImageFault.{ImageFault}
+use Rattle.elf_image.specs.Pages.{IsPageList, pages_of}
+use Rattle.elf_image.specs.Rows.{first_fault}
+use Rattle.byte_scanner.specs.declared.encoding.Found.{Found}
+use Rattle.byte_scanner.specs.FirstFound.{first_found}
+use Rattle.byte_scanner.specs.ImageCode.{code_at}
+use Rattle.byte_scanner.specs.LeastPlace.{IsNowhere}
+use Rattle.irq_plan.specs.declared.event.Event.{Event}
+use Rattle.irq_plan.specs.PlanFile.{plan_of}
+use Rattle.irq_plan.specs.PlannedEvents.{IsPlan}
+use Rattle.gate_state.specs.GateCalls.{IsCalledThrough, IsCalling}
+use Rattle.gate_state.specs.GuardedStates.{IsAdmitted}
+use Rattle.gate_state.specs.MachineOpening.{opening_state}
+use Rattle.gate_state.specs.MachineStates.{Opening, nested_of}
+use Rattle.gate_state.specs.MachineSteps.{calls, made_by_all, state}
+use Rattle.gate_state.specs.SafeStates.{IsSafe}
+use Rattle.nk_run.specs.declared.command_line.Command.{Command}
+use Rattle.nk_run.specs.declared.command_line.Command.TheVariants.{Scan, Map, Run}
+use Rattle.nk_run.specs.declared.command_line.Role.TheVariants.{Image, Input, Plan}
+use Rattle.nk_run.specs.Clauses.{HasSafeRun, IsFileOfBytes, IsSafeRun}
+use Rattle.nk_run.specs.CommandLine.{command_of, map_with, run_with}
+use Rattle.nk_run.specs.NumberWords.{address_of, bounded, decimal_within, is_least_long, is_numeral}
+use Rattle.nk_run.specs.Outcome.{Answer, checks_of, clean, ends, events_in, file_in, first_verdict, formed, opening_in, passes, planned, roomy}
+use Rattle.nk_run.specs.Witness.{Files}
+use Rattle.nk_run.proofs.Rows.{both_pass}
+
+-- What the words of a run say of the number of frames.
+
+bounded_by : (low high n f : ℕ) → bounded low high n ≡ Some f → (low ≤ f) × (f ≤ high)
+bounded_by low high n f e =
+    elim (cases_Bool (nat_le low n && nat_le n high)) [
+      | inl within ↦
+          let parts = and_parts (nat_le low n) (nat_le n high) within in
+          let same : n ≡ f = some_same n f (sym (ap (λ (b : Bool). if b then Some n else None) within) ∙ e) in
+          let above : low ≤ n = leb-true low n parts.0 in
+          let below : n ≤ high = leb-true n high parts.1 in
+          (omega (arith, same, above), omega (arith, same, below))
+      | inr outside ↦ absurd (none_some f (sym (ap (λ (b : Bool). if b then Some n else None) outside) ∙ e))
+    ]
+  where
+    some_same : (a b : ℕ) → Some a ≡ Some b → a ≡ b
+    some_same a b h = cc
+
+    none_some : (b : ℕ) → None ≡ Some b → ⊥
+    none_some b h = cc
+
+spelled_within : (low high : ℕ) (word : List ℕ) (f : ℕ) → decimal_within low high word ≡ Some f → (low ≤ f) × (f ≤ high)
+spelled_within low high word f e = chosen (is_numeral 10 word && is_least_long word) _ e
+  where
+    chosen : (b : Bool) (n : ℕ) → (if b then bounded low high n else None) ≡ Some f → (low ≤ f) × (f ≤ high)
+    chosen true n h = bounded_by low high n f h
+    chosen false n h = absurd (cc)
+
+run_frames : (a b : Option ℕ) (steps frames : ℕ) → run_with a b ≡ Some (Run steps frames) → b ≡ Some frames
+run_frames (Some s) (Some f) steps frames e = cc
+run_frames (Some s) None steps frames e = absurd (cc)
+run_frames None b steps frames e = absurd (cc)
+
+no_map : (a b : Option ℕ) (steps frames : ℕ) → map_with a b ≡ Some (Run steps frames) → ⊥
+no_map (Some f) (Some va) steps frames e = cc
+no_map (Some f) None steps frames e = cc
+no_map None va steps frames e = cc
+
+no_scan : (b : Bool) (steps frames : ℕ) → (if b then Some Scan else None) ≡ Some (Run steps frames) → ⊥
+no_scan true steps frames e = cc
+no_scan false steps frames e = cc
+
+not_mapped : (b : Bool) (x y : Option ℕ) (steps frames : ℕ) → (if b then map_with x y else None) ≡ Some (Run steps frames) → ⊥
+not_mapped true x y steps frames e = no_map x y steps frames e
+not_mapped false x y steps frames e = cc
+
+run_chosen : (b : Bool) (x : Option ℕ) (word : List ℕ) (steps frames : ℕ)
+    → (if b then run_with x (decimal_within 512 16384 word) else None) ≡ Some (Run steps frames) → (512 ≤ frames) × (frames ≤ 16384)
+run_chosen true x word steps frames e = spelled_within 512 16384 word frames (run_frames x (decimal_within 512 16384 word) steps frames e)
+run_chosen false x word steps frames e = absurd (cc)
+
+-- a run is asked for with 512 to 16,384 frames
+run_within : (words : List (List ℕ)) (steps frames : ℕ) → command_of words ≡ Some (Run steps frames) → (512 ≤ frames) × (frames ≤ 16384)
+run_within [] steps frames e = absurd (cc)
+run_within (a ∷ []) steps frames e = absurd (cc)
+run_within (a ∷ b ∷ []) steps frames e = absurd (no_scan _ steps frames e)
+run_within (a ∷ b ∷ c ∷ []) steps frames e = absurd (cc)
+run_within (a ∷ b ∷ c ∷ d ∷ []) steps frames e = absurd (not_mapped _ (decimal_within 512 16384 c) (address_of d) steps frames e)
+run_within (a ∷ b ∷ c ∷ d ∷ x ∷ []) steps frames e = absurd (cc)
+run_within (a ∷ b ∷ c ∷ d ∷ x ∷ f ∷ []) steps frames e = run_chosen _ (decimal_within 0 4294967296 x) f steps frames e
+run_within (a ∷ b ∷ c ∷ d ∷ x ∷ f ∷ g ∷ more) steps frames e = absurd (cc)
+
+-- What the checks say where they pass.
+
+no_fault : (o : Option ImageFault) → formed o ≡ passes → o ≡ None
+no_fault None e = refl
+no_fault (Some fault) e = absurd (cc)
+
+none_found : (o : Option Found) → clean o ≡ passes → o ≡ None
+none_found None e = refl
+none_found (Some found) e = absurd (cc)
+
+read_whole : (read : Result (List Event) ℕ) → planned read ≡ passes → read ≡ Ok (events_in read)
+read_whole (Ok events) e = refl
+read_whole (Err number) e = absurd (cc)
+
+fits : (n frames : ℕ) → roomy n frames ≡ passes → n ≤ frames
+fits n frames e =
+    elim (cases_Bool (nat_le n frames)) [
+      | inl within ↦ leb-true n frames within
+      | inr outside ↦ absurd (chosen _ _ outside e)
+    ]
+  where
+    chosen : (b : Bool) (answer : Answer) → b ≡ false → (if b then passes else ends answer) ≡ passes → ⊥
+    chosen true answer h e = cc
+    chosen false answer h e = cc
+
+module _ (pages_hold : (b : List ℕ) → first_fault b ≡ None → IsPageList b (pages_of b))
+    (clean_holds : (b : List ℕ) → IsPageList b (pages_of b) → first_found b ≡ None → IsNowhere (code_at b))
+    (plan_holds : (bytes : List ℕ) (events : List Event) → plan_of bytes ≡ Ok events → IsPlan events)
+    (safe_holds : (o : Opening) (input : List ℕ) (plan : List Event) (k : ℕ) → IsAdmitted o → IsPlan plan
+    → IsSafe o (state plan (opening_state o input) k))
+    (nested_holds : (o : Opening) (input : List ℕ) (plan : List Event) (k : ℕ) → IsAdmitted o → IsPlan plan
+    → nested_of (state plan (opening_state o input) k)
+    ≡ made_by_all (nested_of (opening_state o input)) (calls plan (opening_state o input) k))
+    (called_holds : (o : Opening) (input : List ℕ) (plan : List Event) (n k : ℕ) → IsAdmitted o → IsPlan plan
+    → IsCalling (state plan (opening_state o input) n).processor
+    → IsCalledThrough plan (state plan (opening_state o input) n) k) where
+  safe_run : (words : List (List ℕ)) (files : Files) (steps frames : ℕ) → (512 ≤ frames) × (frames ≤ 16384)
+      → IsFileOfBytes (file_in files words Image) → first_verdict (checks_of (Run steps frames) files words) ≡ passes
+      → IsSafeRun (events_in (plan_of (file_in files words Plan))) (opening_in files words frames) (file_in files words Input)
+  safe_run words files steps frames within bytes passed =
+      let image = file_in files words Image in
+      let plan = events_in (plan_of (file_in files words Plan)) in
+      let fetched_image = both_pass _ _ passed in
+      let form = both_pass _ _ fetched_image.1 in
+      let code = both_pass _ _ form.1 in
+      let fetched_input = both_pass _ _ code.1 in
+      let fetched_plan = both_pass _ _ fetched_input.1 in
+      let read = both_pass _ _ fetched_plan.1 in
+      let room = both_pass _ _ read.1 in
+      let pages = pages_hold image (no_fault _ form.0) in
+      let admitted : IsAdmitted (opening_in files words frames) = record {
+        bytes = bytes;
+        layout = record { division = refl; least = within.0; most = within.1; room = fits _ _ room.0 };
+        pages = pages;
+        clean = clean_holds image pages (none_found _ code.0);
+      } in
+      let planned_are : IsPlan plan = plan_holds (file_in files words Plan) plan (read_whole _ read.0) in
+      record {
+        safe = λ k. safe_holds _ _ plan k admitted planned_are;
+        nested = λ k. nested_holds _ _ plan k admitted planned_are;
+        called = λ n k. called_holds _ _ plan n k admitted planned_are;
+      }
+
+  pub safe_where_run : (words : List (List ℕ)) (files : Files) (command : Command) → command_of words ≡ Some command
+      → HasSafeRun command words files
+  safe_where_run words files Scan asked = tt
+  safe_where_run words files (Map frames va) asked = tt
+  safe_where_run words files (Run steps frames) asked = safe_run words files steps frames (run_within words steps frames asked)
