@@ -1,0 +1,16 @@
+pub mod CountBounds
+pub mod CountLaws
+pub mod CountingSteps
+pub mod Counts
+pub mod DescriptorLaws
+pub mod KindChanges
+pub mod KindsKept
+pub mod LawfulForms
+pub mod MemoryTables
+pub mod NewTables
+pub mod SlotLeafTables
+pub mod SoundWalk
+pub mod Sums
+pub mod TableDescriptors
+pub mod TablesKept
+mod WorkedTables

@@ -1,0 +1,4 @@
+-- What a reader must believe.
+pub mod FrameCounts
+pub mod FrameDescriptors
+pub mod SoundTables
