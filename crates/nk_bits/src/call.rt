@@ -3,7 +3,7 @@
 /// A call of the nested kernel: its number and its four arguments, as the gate's registers hold them.
 #[derive(Clone, Copy, Debug, PartialEq, Eq)]
 pub struct CallWords {
-    /// The call's number, 1 to 9 for the calls that exist.
+    /// The call's number.
     pub number: u64,
     /// The first argument.
     pub a: u64,

@@ -6,7 +6,7 @@ ghost use Rattle.nk_bits.specs.Rules.{number_of};
 /// A rule that a call may break, in the order of the rules' numbers.
 #[derive(Clone, Copy, Debug, PartialEq, Eq)]
 pub enum Rule {
-    /// The call's number isn't 1 to 9.
+    /// The number is that of no call.
     BadCall,
     /// The frame isn't below the number of frames.
     BadFrame,

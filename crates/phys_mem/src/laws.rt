@@ -33,6 +33,12 @@ pub fn frame_law()
         → entry_in (frame_zeroed m a) a i ≡ 0 }
     ensures entry_zeroed_elsewhere { (m : List ℕ) (a f i : ℕ) → 4096 * a + 4096 ≤ length m → i < 512 → f ≢ a
         → entry_in (frame_zeroed m a) f i ≡ entry_in m f i }
+    ensures byte_zeroed { (m : List ℕ) (a p : ℕ) → 4096 * a + 4096 ≤ length m → p / 4096 ≡ a
+        → byte_at (frame_zeroed m a) p ≡ 0 }
+    ensures byte_zeroed_elsewhere { (m : List ℕ) (a p : ℕ) → 4096 * a + 4096 ≤ length m → p / 4096 ≢ a
+        → byte_at (frame_zeroed m a) p ≡ byte_at m p }
+    ensures length_zeroed { (m : List ℕ) (a : ℕ) → 4096 * a + 4096 ≤ length m
+        → length (frame_zeroed m a) ≡ length m }
     ensures frame_elsewhere { (m : List ℕ) (ws : List (ℕ × ℕ)) (f : ℕ) → All (λ w. w.0 / 4096 ≢ f) ws
         → frame_bytes (stored m ws) f ≡ frame_bytes m f }
     ensures frame_zeroed_elsewhere { (m : List ℕ) (a f : ℕ) → 4096 * a + 4096 ≤ length m → f ≢ a

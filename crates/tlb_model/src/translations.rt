@@ -21,7 +21,7 @@ pub struct NoMemory;
 #[derive(Drop)]
 pub struct Tlb {
     pairs: Vec<(u64, Leaf)>,
-    index: Index,
+    index: Box<Index>,
 }
 
 impl Model for Tlb {
@@ -34,7 +34,7 @@ impl Model for Tlb {
 
     ghost view = { λ t. t.pairs.items };
 
-    ghost invariant = { λ t. (length t.pairs.items ≤ capacity) × (capacity ≤ vec_capacity t.pairs) × HasDistinctPages t.pairs.items × HoldsKept t.index.slots t.pairs.items };
+    ghost invariant = { λ t. (length t.pairs.items ≤ capacity) × (capacity ≤ vec_capacity t.pairs) × HasDistinctPages t.pairs.items × HoldsKept t.index.value.slots t.pairs.items };
 }
 
 impl Tlb {
@@ -45,10 +45,7 @@ impl Tlb {
         ensures distinct { IfOk result (λ tlb. HasDistinctPages tlb) }
     {
         match Vec::with_capacity(alloc, CAPACITY) {
-            Ok(pairs) => Ok(Tlb {
-                pairs,
-                index: Index::new(),
-            }),
+            Ok(pairs) => indexed(alloc, pairs),
             Err(_) => Err(NoMemory),
         }
     }
@@ -99,6 +96,18 @@ impl Tlb {
     {
         self.index.clear();
         self.pairs.clear();
+    }
+}
+
+/// The empty list, in this room, with an index of its own; the index is boxed, so that a machine which moves stays small.
+fn indexed(alloc: Global, pairs: Vec<(u64, Leaf)>) -> Result<Tlb, NoMemory>
+    requires none { pairs.items ≡ [] }
+    requires room { vec_capacity pairs ≡ CAPACITY }
+    ensures { IfOk result (λ tlb. tlb ≡ flushed) }
+{
+    match Box::new(alloc, Index::new()) {
+        Ok(index) => Ok(Tlb { pairs, index }),
+        Err(_) => Err(NoMemory),
     }
 }
 

@@ -8,5 +8,4 @@ pub mod Decoding
 pub mod WellFormed
 -- Computations that a law says are right.
 pub mod Reader
--- Words of private clauses and proofs.
 pub mod Grid

@@ -1,7 +1,8 @@
 use Rattle.std.proofs.Common.{sym, subst, arith}
 use Rattle.std.proofs.lemmas.Grind.{common_steps}
 use Rattle.nk_bits.specs.Translations.{HasDistinctPages}
-use Rattle.tlb_model.specs.PageSlots.{HoldsKept}
+use Rattle.tlb_model.specs.PageSlots.{HoldsKept, HoldsNoOther}
+use Rattle.tlb_model.specs.declared.index.Index.{Index}
 use Rattle.tlb_model.proofs.PairLaws.{distinct_dropped}
 use Rattle.tlb_model.proofs.KeptSlots.{kept_dropped}
 use Rattle.tlb_model.proofs.translations.Tlb.drop_page.Goals as goal
@@ -14,7 +15,8 @@ distinct c =
 kept : (c : goal.After-remove_page) → HoldsKept c.forget.new.self.slots c.remove_page.new.pairs.items
 kept c =
     subst (HoldsKept c.forget.new.self.slots) (sym c.remove_page.ensures.dropped)
-    (kept_dropped c.forget.new.self.slots c.self.inside.index.slots c.self.inside.pairs.items c.args.page c.self.invariant.3 c.forget.ensures.others
+    (kept_dropped c.forget.new.self.slots c.self.inside.index.value.slots c.self.inside.pairs.items c.args.page c.self.invariant.3
+    (subst (λ (index : Index). HoldsNoOther c.forget.new.self.slots index.slots c.args.page) c.deref_mut.ensures.value c.forget.ensures.others)
     c.forget.ensures.page (c.translation_law.ensures.dropped_other c.self.inside.pairs.items c.args.page))
 
 pub invariant_of-self : goal.invariant_of-self

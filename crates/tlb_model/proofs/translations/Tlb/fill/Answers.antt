@@ -2,7 +2,8 @@ use Rattle.std.proofs.Common.{◌≡◌, ◌≤◌, ◌+◌, ◌-◌, ◌∷◌,
 use Rattle.std.specs.Prelude.{Some}
 use Rattle.std.proofs.lemmas.Grind.{common_steps}
 use Rattle.nk_bits.specs.Translations.{capacity, look, dropped, filled, HasDistinctPages}
-use Rattle.tlb_model.specs.PageSlots.{HoldsKept}
+use Rattle.tlb_model.specs.PageSlots.{HoldsKept, HoldsNoOther}
+use Rattle.tlb_model.specs.declared.index.Index.{Index}
 use Rattle.tlb_model.proofs.Pairs.{youngest_made}
 use Rattle.tlb_model.proofs.PairLaws.{distinct_filled, length-filled}
 use Rattle.tlb_model.proofs.KeptSlots.{kept_filled}
@@ -11,10 +12,10 @@ use Rattle.tlb_model.proofs.translations.Tlb.fill.Goals as goal
 pub unwrap-requires : goal.unwrap-requires
 unwrap-requires c = c.push.ensures.succeeds (grind (arith, common_steps))
 
-pushed : (c : goal.After-hold) → c.push.new.self.items ≡ c.make_room.new.pairs.items ++ (c.args.page, c.args.leaf) ∷ []
+pushed : (c : goal.After-self-2-1) → c.push.new.self.items ≡ c.make_room.new.pairs.items ++ (c.args.page, c.args.leaf) ∷ []
 pushed c = rw c.unwrap.ensures at c.push.ensures.items
 
-pairs_after : (c : goal.After-hold) → c.push.new.self.items ≡ filled c.args.self.now c.args.page c.args.leaf
+pairs_after : (c : goal.After-self-2-1) → c.push.new.self.items ≡ filled c.args.self.now c.args.page c.args.leaf
 unfolding filled capacity
 pairs_after c =
     let left : c.self.inside.pairs.items ≡ dropped c.args.self.now c.args.page = c.self.view_is ∙ c.drop_page.ensures.dropped in
@@ -22,18 +23,19 @@ pairs_after c =
     ∙ ap (λ tlb. tlb ++ (c.args.page, c.args.leaf) ∷ []) (c.make_room.ensures.youngest ∙ ap (λ tlb. drop (length tlb + 1 - capacity) tlb) left)
     ∙ youngest_made capacity (dropped c.args.self.now c.args.page) (c.args.page, c.args.leaf) (omega (arith, ap length left, c.self.invariant.0)) (omega arith)
 
-kept : (c : goal.After-hold) → HoldsKept c.hold.new.self.slots c.push.new.self.items
+kept : (c : goal.After-self-2-1) → HoldsKept c.hold.new.self.slots c.push.new.self.items
 kept c =
     let found : look (c.make_room.new.pairs.items ++ (c.args.page, c.args.leaf) ∷ []) c.args.page ≡ Some c.args.leaf =
     ap (λ tlb. look tlb c.args.page) (sym (pushed c) ∙ pairs_after c) ∙ c.translation_law.ensures.filled c.args.self.now c.args.page c.args.leaf in
     subst (HoldsKept c.hold.new.self.slots) (sym (pushed c))
-    (kept_filled c.hold.new.self.slots c.make_room.new.index.slots c.make_room.new.pairs.items c.args.page c.make_room.ensures.kept c.hold.ensures.others
+    (kept_filled c.hold.new.self.slots c.make_room.new.index.slots c.make_room.new.pairs.items c.args.page c.make_room.ensures.kept
+    (subst (λ (index : Index). HoldsNoOther c.hold.new.self.slots index.slots c.args.page) c.deref_mut-2.ensures.value c.hold.ensures.others)
     c.args.leaf c.hold.ensures.page found)
 
-bound : (c : goal.After-hold) → length c.push.new.self.items ≤ capacity
+bound : (c : goal.After-self-2-1) → length c.push.new.self.items ≤ capacity
 bound c = rw (pairs_after c) (length-filled c.args.self.now c.args.page c.args.leaf)
 
-distinct : (c : goal.After-hold) → HasDistinctPages c.push.new.self.items
+distinct : (c : goal.After-self-2-1) → HasDistinctPages c.push.new.self.items
 distinct c =
     subst HasDistinctPages (sym (pairs_after c))
     (distinct_filled c.args.self.now c.args.page c.args.leaf (subst HasDistinctPages c.drop_page.ensures.dropped c.drop_page.ensures.distinct))
