@@ -1,9 +1,12 @@
 pub mod Bytes
+pub mod EntryBits
+pub mod EntryKinds
 pub mod EntryLaws
 pub mod FillLaws
 pub mod MapLaws
 pub mod OpeningLaws
 pub mod PlaceLaws
+pub mod SlotEntries
 pub mod SlotLaws
 pub mod SlotLeaves
 pub mod SlotTables

@@ -1,11 +1,13 @@
 -- The linear layout of the kernel slot at the opening of the image b: the frame and the rights of each of its pages.
-use Rattle.std.specs.Prelude.{◌≡◌, ℕ, ◌+◌, ◌-◌, ◌/◌, ◌<◌, Bool, true, false, ◌==◌, ◌&&◌, nat_le, nat_lt, if◌then◌else◌, List, slice_index, Option, Some, None}
+use Rattle.std.specs.Prelude.{◌≡◌, ◌⊎◌, ℕ, ◌+◌, ◌-◌, ◌/◌, ◌<◌, Bool, true, false, ◌==◌, ◌&&◌, nat_le, nat_lt, if◌then◌else◌, List, slice_index, Option, Some, None}
 use Rattle.std.specs.List.{position}
 use Rattle.nk_bits.specs.declared.leaf.Leaf.{Leaf}
+use Rattle.nk_bits.specs.Paging.{frame_of, is_present}
+use Rattle.nk_bits.specs.Paging.{is_writable as grants_writes}
 use Rattle.elf_image.specs.Pages.{is_executable, is_writable, page_count, pages_of}
 use Rattle.boot_map.specs.declared.part.Part.{Part}
 use Rattle.boot_map.specs.declared.part.Part.TheVariants.{SlotTable, AreaDirectory, AreaTable, ImageDirectory, RangeTable}
-use Rattle.boot_map.specs.FixedFrames.{gate_text, handler_slot, idt_and_tss, nested_stack, trap_stack}
+use Rattle.boot_map.specs.FixedFrames.{area_table, gate_text, handler_slot, idt_and_tss, image_directory, nested_stack, trap_stack}
 use Rattle.boot_map.specs.Division.{division_of, pages_start}
 use Rattle.boot_map.specs.Parts.{part_at}
 use Rattle.boot_map.specs.OpeningEntries.{opening_entry, table_level}
@@ -75,3 +77,22 @@ pub record IsCodePage (b : List ℕ) (frames page frame : ℕ) : Type 0 where
   pub page_is : slice_index (pages_of b) place ≡ page
   pub executable : is_executable b page ≡ true
   pub frame_is : frame ≡ pages_start (division_of b frames) + place
+
+-- entry at of the table in this frame is present and names the other frame
+pub record IsNamedIn (t : ℕ → ℕ → ℕ) (table frame : ℕ) : Type 0 where
+  pub at : ℕ
+  pub inside : at < 512
+  pub present : is_present (t table at) ≡ true
+  pub names : frame_of (t table at) ≡ frame
+
+-- a writable entry of one of the kernel slot's own tables of level 1 names the frame: that table is the nested area's, or one
+-- that the image's table of level 2 names
+pub record IsWrittenInSlot (frames : ℕ) (t : ℕ → ℕ → ℕ) (frame : ℕ) : Type 0 where
+  pub table : ℕ
+  pub in_memory : table < frames
+  pub slots : (table ≡ area_table) ⊎ IsNamedIn t image_directory table
+  pub index : ℕ
+  pub inside : index < 512
+  pub present : is_present (t table index) ≡ true
+  pub names : frame_of (t table index) ≡ frame
+  pub written : grants_writes (t table index) ≡ true

@@ -1,11 +1,11 @@
 //! What follows from the definitions of the opening for those who read its memory.
 
-ghost use Rattle.std.specs.Prelude.{◌≡◌, ◌⊎◌, ℕ, ◌+◌, ◌*◌, ◌^◌, ◌<◌, ◌≤◌, true, false, List, IfOk, IfSome, length, slice_index};
+ghost use Rattle.std.specs.Prelude.{◌≡◌, ◌≢◌, ◌⊎◌, ℕ, ◌+◌, ◌*◌, ◌^◌, ◌<◌, ◌≤◌, true, false, List, IfOk, IfSome, length, slice_index};
 ghost use Rattle.std.specs.Result.{result_ok};
 ghost use Rattle.phys_mem.specs.Memory.{byte_at, entry_in};
 ghost use Rattle.nk_bits.specs.declared.kind.Kind.TheVariants.{Code, Fixed, Table, Trap};
-ghost use Rattle.nk_bits.specs.Kinds.{allows, is_storable, kind_of};
-ghost use Rattle.nk_bits.specs.Paging.{is_canonical_page, slot_value, walk};
+ghost use Rattle.nk_bits.specs.Kinds.{allows, is_storable, kind_of, level_of};
+ghost use Rattle.nk_bits.specs.Paging.{frame_of, is_canonical_page, is_executable, is_present, is_slot_entry, is_user, is_writable, rights_of, slot_value, walk};
 ghost use Rattle.gate_text.specs.Listing.{gate_byte};
 ghost use Rattle.elf_image.specs.Pages.{IsPageList, byte_of, page_count, pages_of};
 ghost use Rattle.boot_map.specs.FixedFrames.{area_directory, area_table, gate_text, handler_slot, idt_and_tss, image_directory, nested_stack, opening_root, slot_table, trap_stack};
@@ -14,7 +14,7 @@ ghost use Rattle.boot_map.specs.OpeningKinds.{kind_at, kinds};
 ghost use Rattle.boot_map.specs.OpeningEntries.{opening_entry, link, table_level};
 ghost use Rattle.boot_map.specs.Opening.{IsOpening};
 ghost use Rattle.boot_map.specs.Parts.{part_at};
-ghost use Rattle.boot_map.specs.KernelSlot.{HoldsSlot, HoldsTables, IsCodePage, slot_leaf, slot_start};
+ghost use Rattle.boot_map.specs.KernelSlot.{HoldsSlot, HoldsTables, IsCodePage, IsWrittenInSlot, slot_leaf, slot_start};
 
 /// The entries of the opening's tables stand in its memory, so that the walk from the opening's root finds in memory
 /// what it finds in the entries.
@@ -110,4 +110,30 @@ pub fn opening_respects_law()
         → IsPageList b (pages_of b) → is_canonical_page page ≡ true → page < slot_start
         → IfOk (walk (opening_entry b frames) frames opening_root page)
         (λ leaf. allows (kind_of (kinds b frames) leaf.frame) leaf.rights ≡ true) }
+{}
+
+/// Tables that hold the opening's: no table is of a level above 4; a present entry at level 1 names a frame whose kind allows
+/// its rights, one above it a table of the next lower level, with every right, and entry 511 of the root is the kernel
+/// slot's. Tables that hold the kernel slot: its table for the image names fixed frames other than the handler's, and a
+/// writable leaf of the slot stands in one of its tables of level 1.
+pub fn opening_entries_law()
+    ensures levels { (b : List ℕ) (frames f : ℕ) → level_of (kind_of (kinds b frames) f) ≤ 4 }
+    ensures leaf { (b : List ℕ) (frames f i : ℕ) (t : ℕ → ℕ → ℕ) → IsLayout b (division_of b frames)
+        → IsPageList b (pages_of b) → HoldsTables b frames t → i < 512 → level_of (kind_of (kinds b frames) f) ≡ 1
+        → is_present (t f i) ≡ true
+        → allows (kind_of (kinds b frames) (frame_of (t f i))) (rights_of (t f i)) ≡ true }
+    ensures link { (b : List ℕ) (frames f i : ℕ) (t : ℕ → ℕ → ℕ) → IsLayout b (division_of b frames)
+        → HoldsTables b frames t → i < 512 → 2 ≤ level_of (kind_of (kinds b frames) f)
+        → is_slot_entry (level_of (kind_of (kinds b frames) f)) i ≡ false → is_present (t f i) ≡ true
+        → (level_of (kind_of (kinds b frames) (frame_of (t f i))) + 1 ≡ level_of (kind_of (kinds b frames) f))
+        × (is_writable (t f i) ≡ true) × (is_user (t f i) ≡ true) × (is_executable (t f i) ≡ true) }
+    ensures slot { (b : List ℕ) (frames f : ℕ) (t : ℕ → ℕ → ℕ) → IsLayout b (division_of b frames)
+        → HoldsTables b frames t → level_of (kind_of (kinds b frames) f) ≡ 4 → t f 511 ≡ slot_value }
+    ensures named { (b : List ℕ) (frames i : ℕ) (t : ℕ → ℕ → ℕ) → IsLayout b (division_of b frames)
+        → HoldsSlot b frames t → i < 512 → is_present (t image_directory i) ≡ true
+        → (kind_of (kinds b frames) (frame_of (t image_directory i)) ≡ Fixed)
+        × (frame_of (t image_directory i) ≢ handler_slot) }
+    ensures written { (b : List ℕ) (frames page : ℕ) (t : ℕ → ℕ → ℕ) → IsLayout b (division_of b frames)
+        → IsPageList b (pages_of b) → HoldsSlot b frames t → slot_start ≤ page → page < 2 ^ 52
+        → IfSome (slot_leaf b frames page) (λ leaf. leaf.rights.can_write ≡ true → IsWrittenInSlot frames t leaf.frame) }
 {}

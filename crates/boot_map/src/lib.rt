@@ -26,8 +26,8 @@ pub use fixed_frames::{
     NESTED_STACK, OPENING_ROOT, SLOT_TABLE, TRAP_STACK, fixed_frames_law,
 };
 pub use laws::{
-    held_law, opening_bytes_law, opening_kinds_law, opening_respects_law, slot_law, slot_leaf_law,
-    tables_law,
+    held_law, opening_bytes_law, opening_entries_law, opening_kinds_law, opening_respects_law,
+    slot_law, slot_leaf_law, tables_law,
 };
 pub use layout::{Layout, NoRoom};
 pub use opening::{NoMemory, prepare};

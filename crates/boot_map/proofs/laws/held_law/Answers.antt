@@ -1,5 +1,4 @@
 use Rattle.std.proofs.Common.{◌∙◌}
-use Rattle.boot_map.specs.FixedFrames.{opening_root}
 use Rattle.boot_map.proofs.SlotLaws.{root_entry_511}
 use Rattle.boot_map.proofs.SlotTables.{slot_link}
 use Rattle.boot_map.proofs.WalkLaws.{held_root, held_slot, held_walk, opening_tables, table_kept}
