@@ -2,12 +2,15 @@ pub mod CountBounds
 pub mod CountLaws
 pub mod CountingSteps
 pub mod Counts
+pub mod CountsWhere
 pub mod DescriptorLaws
 pub mod KindChanges
 pub mod KindsKept
 pub mod LawfulForms
 pub mod MemoryTables
 pub mod NewTables
+pub mod PageTableStores
+pub mod PageTableValues
 pub mod SlotLeafTables
 pub mod SoundWalk
 pub mod Sums

@@ -2,3 +2,4 @@
 pub mod FrameCounts
 pub mod FrameDescriptors
 pub mod SoundTables
+pub mod PageTables

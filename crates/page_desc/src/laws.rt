@@ -1,7 +1,7 @@
 //! What follows from the definitions, for those who change tables and kinds. Tables are any function from frame and index
 //! to a value, so that the laws serve memory and every other record of the tables alike.
 
-ghost use Rattle.std.specs.Prelude.{◌≡◌, ◌≢◌, ℕ, ◌+◌, ◌*◌, ◌^◌, ◌<◌, ◌≤◌, true, false, ◌&&◌, ◌==◌, List, length, slice_set, Ok};
+ghost use Rattle.std.specs.Prelude.{◌≡◌, ◌≢◌, All, ℕ, ◌+◌, ◌*◌, ◌^◌, ◌<◌, ◌≤◌, true, false, ◌&&◌, ◌==◌, List, length, slice_set, Ok};
 ghost use Rattle.phys_mem.specs.Memory.{entry_in, frame_zeroed, stored, stores};
 ghost use Rattle.nk_bits.specs.declared.kind.Kind.{Kind};
 ghost use Rattle.nk_bits.specs.declared.kind.Kind.TheVariants.{Data, Fixed, Guarded, Table};
@@ -11,10 +11,11 @@ ghost use Rattle.nk_bits.specs.Kinds.{allows, kind_of, level_of};
 ghost use Rattle.nk_bits.specs.Paging.{emptied, frame_of, is_canonical_page, is_present, is_slot_entry, is_slot_page, is_user, is_writable, replaced, rights_of, slot_value, walk, zeroed};
 ghost use Rattle.page_desc.specs.FrameCounts.{IsSlotFixed, holds_leaves, holds_links, is_link_level, is_link_to, is_loose_leaf, links_in, loose_in, may_hold_table, one_if};
 ghost use Rattle.page_desc.specs.FrameDescriptors.{AreCounted, Descriptors, IsReplaceable, IsReplaced, last_value};
+ghost use Rattle.page_desc.specs.PageTables.{AreDescribed, HoldsSoundTables, is_table, is_unguarded, links_of, loose_of, tables_in, value_in};
 ghost use Rattle.page_desc.specs.SoundTables.{AreTables, grants_all, is_lawful};
 
 use nk_bits::kind_law;
-use phys_mem::frame_law;
+use phys_mem::{frame_law, memory_law};
 
 /// The counts made anew after an entry of a table is replaced, over tables that agree in each frame that may hold one, after
 /// the kind of a frame with no present entry changes, and after a frame becomes a new table or an empty one data: then the
@@ -63,8 +64,9 @@ pub fn count_law()
 }
 
 /// The carried counts may be changed as `Frames::replace` changes them, and go on being those of the tables: over an entry
-/// replaced, over tables of the same entries, over changes in frames that hold no table, over another kind of a frame with no present entry, over a new
-/// table whose last entry was counted, and over an empty table whose last entry is counted no more.
+/// replaced, over tables of the same entries, over changes in frames that hold no table, over another kind of a frame with
+/// no present entry, over a new table whose last entry was counted, and over an empty table whose last entry is counted no
+/// more.
 pub fn descriptor_law()
     ensures replaceable { (d : Descriptors) (t : ℕ → ℕ → ℕ) (a b c : ℕ) → AreCounted d t → IsSlotFixed d.kinds t
         → length d.kinds ≤ 16384 → 1 ≤ level_of (kind_of d.kinds a) → b < 512
@@ -148,5 +150,27 @@ pub fn memory_tables_law()
         → entry_in (stored (frame_zeroed m a) (stores 8 (4096 * a + 8 * 511) (last_value level))) f i
         ≡ emptied (entry_in m) a level f i }
 {
+    frame_law();
+}
+
+/// What memory's sound tables stand for: their counts are those of memory; and stores outside tables and outside the bytes
+/// that never change leave them, and keep them sound, with the descriptors.
+pub fn page_tables_law()
+    ensures loose { (kinds : List Kind) (root : ℕ) (m : List ℕ) (frame : ℕ) → HoldsSoundTables kinds root m
+        → loose_of (tables_in kinds root m) frame ≡ loose_in kinds (entry_in m) frame }
+    ensures links { (kinds : List Kind) (root : ℕ) (m : List ℕ) (frame : ℕ) → HoldsSoundTables kinds root m
+        → links_of (tables_in kinds root m) frame ≡ links_in kinds (entry_in m) frame }
+    ensures of_table { (kinds : List Kind) (root : ℕ) (m : List ℕ) (f i : ℕ) → i < 512
+        → is_table (kind_of kinds f) ≡ true → value_in (tables_in kinds root m) f i ≡ entry_in m f i }
+    ensures of_fixed { (kinds : List Kind) (root : ℕ) (m : List ℕ) (f i : ℕ) → i < 512
+        → kind_of kinds f ≡ Fixed → f ≢ 2 → value_in (tables_in kinds root m) f i ≡ entry_in m f i }
+    ensures stays { (kinds : List Kind) (root : ℕ) (m : List ℕ) (ws : List (ℕ × ℕ))
+        → All (λ w. is_unguarded kinds w.0 ≡ true) ws → tables_in kinds root (stored m ws) ≡ tables_in kinds root m }
+    ensures sound { (kinds : List Kind) (root : ℕ) (m : List ℕ) (ws : List (ℕ × ℕ)) → HoldsSoundTables kinds root m
+        → All (λ w. is_unguarded kinds w.0 ≡ true) ws → HoldsSoundTables kinds root (stored m ws) }
+    ensures described { (d : Descriptors) (root : ℕ) (m : List ℕ) (ws : List (ℕ × ℕ)) → AreDescribed d root m
+        → All (λ w. is_unguarded d.kinds w.0 ≡ true) ws → AreDescribed d root (stored m ws) }
+{
+    memory_law();
     frame_law();
 }

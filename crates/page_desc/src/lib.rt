@@ -17,4 +17,4 @@ mod laws;
 mod tests;
 
 pub use frames::{Frames, NoMemory};
-pub use laws::{count_law, descriptor_law, memory_tables_law, sound_law};
+pub use laws::{count_law, descriptor_law, memory_tables_law, page_tables_law, sound_law};
