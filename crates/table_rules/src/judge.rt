@@ -1,0 +1,134 @@
+//! The rules on a value, in order.
+
+ghost use Rattle.std.specs.Prelude.{◌≡◌, ◌≤◌, ◌==◌, ◌/◌, ◌%◌};
+ghost use Rattle.nk_bits.specs.EntryForms.{has_form, has_leaf_form, has_table_form};
+ghost use Rattle.nk_bits.specs.Kinds.{allows, is_hidden, kind_of, level_of};
+ghost use Rattle.nk_bits.specs.Paging.{frame_of, is_present, rights_of};
+ghost use Rattle.table_rules.specs.ValueRules.{is_target, rule_of, value_rule};
+
+use nk_bits::{Entry, Kind, Rights, Rule};
+use page_desc::Frames;
+
+// The bits 8 and 7, which are clear in every form.
+fn lacks_size_and_global(value: u64) -> bool
+    ensures { result ≡ (value / 128 % 4 == 0) }
+{
+    (value >> 7) & 3 == 0
+}
+
+// In a table of level 2 to 4: present, writable, user and accessed, cached, and no bit set above the frame's.
+#[tactic(auto, unfolding(nk_bits::specs::EntryForms::has_table_form))]
+fn has_table_form(value: u64) -> bool
+    ensures { result ≡ has_table_form value }
+{
+    (value & 0x3F == 0x27) & lacks_size_and_global(value) & ((value >> 52) & 0xFFF == 0)
+}
+
+// In a table of level 1: present and accessed, dirty where it is writable, cached, and no bit set above the frame's but
+// the last.
+#[tactic(auto, unfolding(nk_bits::specs::EntryForms::has_leaf_form))]
+fn has_leaf_form(entry: Entry) -> bool
+    ensures { result ≡ has_leaf_form entry.0 }
+{
+    let value = entry.0;
+    let is_accessed = entry.is_present() & ((value >> 3) & 7 == 4);
+    let is_dirty = !entry.rights().can_write | ((value >> 6) & 1 == 1);
+    is_accessed & is_dirty & lacks_size_and_global(value) & ((value >> 52) & 0x7FF == 0)
+}
+
+// In a table of this level.
+fn has_form(level: u8, entry: Entry) -> bool
+    ensures { result ≡ has_form level entry.0 }
+{
+    if level == 1 {
+        has_leaf_form(entry)
+    } else {
+        has_table_form(entry.0)
+    }
+}
+
+// The level of a table; 0 for every other kind.
+fn level_of(kind: Kind) -> u8
+    ensures { result ≡ level_of kind }
+{
+    match kind {
+        Kind::Table(level) => level,
+        _ => 0,
+    }
+}
+
+// Whether no leaf may name a frame of this kind.
+fn is_hidden(kind: Kind) -> bool
+    ensures { result ≡ is_hidden kind }
+{
+    match kind {
+        Kind::Hidden => true,
+        _ => false,
+    }
+}
+
+// Whether a leaf may name a frame of this kind with these rights.
+fn allows(kind: Kind, rights: Rights) -> bool
+    ensures { result ≡ allows kind rights }
+{
+    match kind {
+        Kind::Data => rights.user | !rights.exec,
+        Kind::Trap => !rights.user & !rights.exec,
+        Kind::Hidden => false,
+        Kind::Code | Kind::Table(_) | Kind::Fixed | Kind::Guarded => {
+            !rights.can_write & !rights.user & !rights.exec
+        }
+    }
+}
+
+// The kind of a frame; Hidden past the end of memory.
+fn kind_of(frames: &Frames, frame: u64) -> Kind
+    ensures { result ≡ kind_of frames.now.kinds frame }
+{
+    if frame < u64::from(frames.frames()) {
+        frames.kind(frame as u32)
+    } else {
+        Kind::Hidden
+    }
+}
+
+// Whether the value names a frame in memory: for a leaf one that isn't hidden, for a link a table one level below.
+fn is_target(frames: &Frames, level: u8, entry: Entry) -> bool
+    ensures { result ≡ is_target frames.now.kinds level entry.0 }
+{
+    let frame = entry.frame();
+    let kind = kind_of(frames, frame);
+    let is_named = if level == 1 {
+        !is_hidden(kind)
+    } else {
+        u16::from(level_of(kind)) + 1 == u16::from(level)
+    };
+    (frame < u64::from(frames.frames())) & is_named
+}
+
+// Whether a leaf grants no right that the kind of its frame forbids.
+fn is_allowed(frames: &Frames, entry: Entry) -> bool
+    ensures { result ≡ allows (kind_of frames.now.kinds (frame_of entry.0)) (rights_of entry.0) }
+{
+    allows(kind_of(frames, entry.frame()), entry.rights())
+}
+
+/// Judges a value that is to stand in a table of this level, 1 to 4: the first rule that it breaks is the error.
+#[tactic(auto, unfolding(crate::specs::ValueRules::value_rule))]
+pub fn judge_entry(frames: &Frames, level: u8, value: u64) -> Result<(), Rule>
+    requires level { (1 ≤ level) × (level ≤ 4) }
+    ensures { rule_of result ≡ value_rule frames.now.kinds level value }
+{
+    let entry = Entry(value);
+    let is_present = entry.is_present();
+    if is_present & !has_form(level, entry) {
+        return Err(Rule::BadBits);
+    }
+    if is_present & !is_target(frames, level, entry) {
+        return Err(Rule::BadTarget);
+    }
+    if is_present & (level == 1) & !is_allowed(frames, entry) {
+        return Err(Rule::TooFree);
+    }
+    Ok(())
+}

@@ -1,0 +1,9 @@
+pub mod LowerLaws
+pub mod ChangedFrames
+pub mod CallFacts
+pub mod DeclaredTables
+pub mod WrittenEntries
+pub mod RemovedTables
+pub mod CarriedRules
+pub mod CarriedCounts
+pub mod SmallOpening

@@ -1,0 +1,204 @@
+//! The rules of the calls, each list in order, by the counts that the descriptors carry.
+
+ghost use Rattle.std.specs.Prelude.{◌≡◌, ◌≤◌, ◌<◌, ℕ, IfNone, ◌+◌, ◌*◌, ◌&&◌, ◌||◌, ◌==◌, false, not, nat_le, nat_lt, length, List, None, slice_index};
+ghost use Rattle.std.specs.List.{list_any, range_with_len};
+ghost use Rattle.phys_mem.specs.Memory.{entry_in};
+ghost use Rattle.nk_bits.specs.declared.rule.Rule.TheVariants.{BadFrame, BadLevel, NotData, NotEmpty, NotTable, StillLinked, StillLoose};
+ghost use Rattle.nk_bits.specs.Kinds.{is_data, kind_of, level_of};
+ghost use Rattle.nk_bits.specs.Paging.{is_present, is_slot_entry};
+ghost use Rattle.page_desc.specs.PageTables.{is_table, tables_in};
+ghost use Rattle.table_rules.specs.ValueRules.{broken};
+ghost use Rattle.vmmu.specs.TableCalls.{entry_rule, root_rule};
+
+use nk_bits::{Entry, Kind, Rule};
+use page_desc::Frames;
+use phys_mem::PhysMem;
+use table_rules::judge_entry;
+
+/// The number of entries of a table.
+const ENTRIES: u64 = 512;
+
+// The frame isn't one of memory's.
+fn is_outside(frames: &Frames, frame: u64) -> bool
+    ensures outside { result ≡ not (nat_lt frame (length frames.now.kinds)) }
+    ensures bound { result ≡ false → frame < 16384 }
+{
+    frame >= u64::from(frames.frames())
+}
+
+// The kind of a frame; Hidden past the end of memory.
+fn kind_of(frames: &Frames, frame: u64) -> Kind
+    ensures { result ≡ kind_of frames.now.kinds frame }
+{
+    if frame < u64::from(frames.frames()) {
+        frames.kind(frame as u32)
+    } else {
+        Kind::Hidden
+    }
+}
+
+/// The level of the table in a frame; 0 where it holds none.
+pub fn level_at(frames: &Frames, frame: u64) -> u8
+    ensures { result ≡ level_of (kind_of frames.now.kinds frame) }
+{
+    match kind_of(frames, frame) {
+        Kind::Table(level) => level,
+        _ => 0,
+    }
+}
+
+// The frame holds data.
+fn is_data(frames: &Frames, frame: u64) -> bool
+    ensures { result ≡ is_data (kind_of frames.now.kinds frame) }
+{
+    match kind_of(frames, frame) {
+        Kind::Data => true,
+        _ => false,
+    }
+}
+
+// The level is that of a page table.
+fn is_level(level: u64) -> bool
+    ensures { result ≡ (nat_le 1 level && nat_le level 4) }
+{
+    (1 <= level) & (level <= 4)
+}
+
+// A loose leaf names the frame.
+fn is_loose(frames: &Frames, frame: u64) -> bool
+    requires { frame < length frames.now.kinds }
+    ensures { result ≡ not (slice_index frames.now.loose frame == 0) }
+{
+    let _frames = frames.frames();
+    frames.loose(frame as u32) != 0
+}
+
+// An entry names the table in the frame, or it is the root.
+fn is_linked(frames: &Frames, root: u32, frame: u64) -> bool
+    requires { frame < length frames.now.kinds }
+    ensures { result ≡ (not (slice_index frames.now.links frame == 0) || frame == root) }
+{
+    let _frames = frames.frames();
+    (frames.links(frame as u32) != 0) | (frame == u64::from(root))
+}
+
+// The entry is the kernel slot's.
+fn is_slot_entry(level: u8, index: u64) -> bool
+    ensures { result ≡ is_slot_entry level index }
+{
+    (level == 4) & (index == 511)
+}
+
+/// The entry of the table in a frame of memory.
+#[tactic(auto, unfolding(phys_mem::specs::Memory::entry_in))]
+pub fn entry(mem: &PhysMem, frame: u64, index: u64) -> Entry
+    requires frame { 4096 * frame + 4096 ≤ length mem.now }
+    requires index { index < 512 }
+    ensures { result.0 ≡ entry_in mem.now frame index }
+{
+    let _frames = mem.frames();
+    Entry(mem.load64(4096 * frame + 8 * index))
+}
+
+// The entry is present, and not the kernel slot's.
+fn is_filled_at(mem: &PhysMem, level: u8, frame: u64, index: u64) -> bool
+    requires frame { 4096 * frame + 4096 ≤ length mem.now }
+    requires index { index < 512 }
+    ensures { result ≡ (is_present (entry_in mem.now frame index) && not (is_slot_entry level index)) }
+{
+    entry(mem, frame, index).is_present() & !is_slot_entry(level, index)
+}
+
+// An entry of the table is present, beside the kernel slot's.
+fn is_filled(mem: &PhysMem, level: u8, frame: u64) -> bool
+    requires { 4096 * frame + 4096 ≤ length mem.now }
+    ensures { result ≡ list_any (λ i. is_present (entry_in mem.now frame i) && not (is_slot_entry level i)) (range_with_len 0 512) }
+{
+    (0..ENTRIES).any(|index| is_filled_at(mem, level, frame, index))
+}
+
+/// Judges that a table of this level is declared in a frame.
+pub fn judge_declare(frames: &Frames, level: u64, frame: u64) -> Option<Rule>
+    ensures bounds { IfNone result ((frame < length frames.now.kinds) × (frame < 16384) × (level ≤ 4)) }
+    ensures judged { result ≡ broken (not (nat_lt frame (length frames.now.kinds))) BadFrame
+        (broken (not (nat_le 1 level && nat_le level 4)) BadLevel
+        (broken (not (is_data (kind_of frames.now.kinds frame))) NotData
+        (broken (not (slice_index frames.now.loose frame == 0)) StillLoose None))) }
+{
+    if is_outside(frames, frame) {
+        return Some(Rule::BadFrame);
+    }
+    if !is_level(level) {
+        return Some(Rule::BadLevel);
+    }
+    if !is_data(frames, frame) {
+        return Some(Rule::NotData);
+    }
+    if is_loose(frames, frame) {
+        return Some(Rule::StillLoose);
+    }
+    None
+}
+
+/// Judges that a value is written in an entry of the table in a frame.
+#[tactic(auto, unfolding(crate::specs::TableCalls::entry_rule))]
+pub fn judge_write(frames: &Frames, frame: u64, index: u64, value: u64) -> Option<Rule>
+    requires { (f : ℕ) → level_of (kind_of frames.now.kinds f) ≤ 4 }
+    ensures bounds { IfNone result ((frame < length frames.now.kinds) × (frame < 16384) × (index < 512)) }
+    ensures judged { (root : ℕ) (m : List ℕ) → result ≡ entry_rule (tables_in frames.now.kinds root m) frame index value }
+{
+    if is_outside(frames, frame) {
+        return Some(Rule::BadFrame);
+    }
+    let level = level_at(frames, frame);
+    if level == 0 {
+        return Some(Rule::NotTable);
+    }
+    if index >= ENTRIES {
+        return Some(Rule::BadIndex);
+    }
+    if is_slot_entry(level, index) {
+        return Some(Rule::KernelSlot);
+    }
+    judge_entry(frames, level, value).err()
+}
+
+/// Judges that the table in a frame is removed.
+pub fn judge_remove(frames: &Frames, root: u32, mem: &PhysMem, frame: u64) -> Option<Rule>
+    requires { length mem.now ≡ 4096 * length frames.now.kinds }
+    ensures bounds { IfNone result ((frame < length frames.now.kinds) × (frame < 16384)) }
+    ensures judged { result ≡ broken (not (nat_lt frame (length frames.now.kinds))) BadFrame
+        (broken (not (is_table (kind_of frames.now.kinds frame))) NotTable
+        (broken (not (slice_index frames.now.links frame == 0) || frame == root) StillLinked
+        (broken (list_any (λ i. is_present (entry_in mem.now frame i) && not (is_slot_entry (level_of (kind_of frames.now.kinds frame)) i)) (range_with_len 0 512)) NotEmpty None))) }
+{
+    if is_outside(frames, frame) {
+        return Some(Rule::BadFrame);
+    }
+    let level = level_at(frames, frame);
+    if level == 0 {
+        return Some(Rule::NotTable);
+    }
+    if is_linked(frames, root, frame) {
+        return Some(Rule::StillLinked);
+    }
+    if is_filled(mem, level, frame) {
+        return Some(Rule::NotEmpty);
+    }
+    None
+}
+
+/// Judges that the table in a frame becomes the root.
+#[tactic(auto, unfolding(crate::specs::TableCalls::root_rule))]
+pub fn judge_root(frames: &Frames, frame: u64) -> Option<Rule>
+    ensures bounds { IfNone result ((frame < length frames.now.kinds) × (frame < 16384)) }
+    ensures judged { (root : ℕ) (m : List ℕ) → result ≡ root_rule (tables_in frames.now.kinds root m) frame }
+{
+    if is_outside(frames, frame) {
+        Some(Rule::BadFrame)
+    } else if level_at(frames, frame) != 4 {
+        Some(Rule::NotRoot)
+    } else {
+        None
+    }
+}
