@@ -1,1 +1,9 @@
-pub mod RecordLemmas
+pub mod LowerLaws
+pub mod CallNumbers
+pub mod CallsMade
+pub mod HandlerStores
+pub mod CallChanges
+pub mod CallRecords
+pub mod CallAnswers
+pub mod StoresKept
+pub mod OpeningSound

@@ -1,0 +1,65 @@
+-- What is used of the laws of the crates below.
+use Rattle.std.proofs.Common.{◌≡◌, ◌≢◌, ◌⊎◌, ℕ, ◌+◌, ◌*◌, ◌/◌, ◌%◌, ◌^◌, ◌<◌, ◌≤◌, true, List, length, All}
+use Rattle.std.specs.Prelude.{None}
+use Rattle.nk_bits.specs.declared.kind.Kind.{Kind}
+use Rattle.phys_mem.specs.Memory.{IsBytes, byte_at, entry_in, frame_zeroed, number_at, stored, stores}
+use Rattle.page_desc.specs.FrameCounts.{loose_in}
+use Rattle.page_desc.specs.FrameDescriptors.{Descriptors}
+use Rattle.page_desc.specs.PageTables.{AreDescribed, HoldsSoundTables, Tables, is_unguarded, loose_of, tables_in}
+use Rattle.vmmu.specs.AcceptedCalls.{IsDeclarable, IsRemovable, IsRoot, IsWritable}
+use Rattle.vmmu.specs.TableCalls.{declare_rule, declared, entry_rule, entry_written, memory_declared, memory_removed, memory_written, remove_rule, removed, root_loaded, root_rule}
+
+-- memory after stores, and after a frame is zeroed
+pub record ByteLaws : Type 0 where
+  pub size : (m : List ℕ) (ws : List (ℕ × ℕ)) → length (stored m ws) ≡ length m
+  pub byte_elsewhere : (m : List ℕ) (ws : List (ℕ × ℕ)) (p : ℕ) → All (λ w. w.0 ≢ p) ws → byte_at (stored m ws) p ≡ byte_at m p
+  pub number_elsewhere : (m : List ℕ) (ws : List (ℕ × ℕ)) (n p : ℕ) → All (λ w. (w.0 < p) ⊎ (p + n ≤ w.0)) ws
+      → number_at (stored m ws) n p ≡ number_at m n p
+  pub number_stored : (m : List ℕ) (n p v : ℕ) → p + n ≤ length m → number_at (stored m (stores n p v)) n p ≡ v % 256 ^ n
+  pub bytes : (m : List ℕ) (ws : List (ℕ × ℕ)) → All (λ w. w.1 < 256) ws → IsBytes m → IsBytes (stored m ws)
+  pub places : (n p v : ℕ) → All (λ w. (p ≤ w.0) × (w.0 < p + n)) (stores n p v)
+  pub values : (n p v : ℕ) → All (λ w. w.1 < 256) (stores n p v)
+  pub byte_zeroed : (m : List ℕ) (a p : ℕ) → 4096 * a + 4096 ≤ length m → p / 4096 ≡ a → byte_at (frame_zeroed m a) p ≡ 0
+  pub byte_zeroed_elsewhere : (m : List ℕ) (a p : ℕ) → 4096 * a + 4096 ≤ length m → p / 4096 ≢ a
+      → byte_at (frame_zeroed m a) p ≡ byte_at m p
+  pub size_zeroed : (m : List ℕ) (a : ℕ) → 4096 * a + 4096 ≤ length m → length (frame_zeroed m a) ≡ length m
+
+-- sound tables after stores elsewhere
+pub record StoreLaws : Type 0 where
+  pub loose : (kinds : List Kind) (root : ℕ) (m : List ℕ) (frame : ℕ) → HoldsSoundTables kinds root m
+      → loose_of (tables_in kinds root m) frame ≡ loose_in kinds (entry_in m) frame
+  pub stays : (kinds : List Kind) (root : ℕ) (m : List ℕ) (ws : List (ℕ × ℕ)) → All (λ w. is_unguarded kinds w.0 ≡ true) ws
+      → tables_in kinds root (stored m ws) ≡ tables_in kinds root m
+  pub sound : (kinds : List Kind) (root : ℕ) (m : List ℕ) (ws : List (ℕ × ℕ)) → HoldsSoundTables kinds root m
+      → All (λ w. is_unguarded kinds w.0 ≡ true) ws → HoldsSoundTables kinds root (stored m ws)
+  pub described : (d : Descriptors) (root : ℕ) (m : List ℕ) (ws : List (ℕ × ℕ)) → AreDescribed d root m
+      → All (λ w. is_unguarded d.kinds w.0 ≡ true) ws → AreDescribed d root (stored m ws)
+
+-- what a call leaves, and what it is where it breaks no rule
+abbrev pub Stands : Tables → List ℕ → Type 0
+Stands after m = (tables_in after.kinds after.root m ≡ after) × HoldsSoundTables after.kinds after.root m
+
+pub record TableLaws : Type 0 where
+  pub declared : (kinds : List Kind) (root level frame : ℕ) (m : List ℕ) → HoldsSoundTables kinds root m
+      → declare_rule (tables_in kinds root m) level frame ≡ None
+      → Stands (declared (tables_in kinds root m) level frame) (memory_declared m level frame)
+  pub written : (kinds : List Kind) (root frame index value : ℕ) (m : List ℕ) → HoldsSoundTables kinds root m → value < 2 ^ 64
+      → entry_rule (tables_in kinds root m) frame index value ≡ None
+      → Stands (entry_written (tables_in kinds root m) frame index value) (memory_written m frame index value)
+  pub removed : (kinds : List Kind) (root frame : ℕ) (m : List ℕ) → HoldsSoundTables kinds root m
+      → remove_rule (tables_in kinds root m) frame ≡ None
+      → Stands (removed (tables_in kinds root m) frame) (memory_removed m frame)
+  pub loaded : (kinds : List Kind) (root frame : ℕ) (m : List ℕ) → HoldsSoundTables kinds root m
+      → root_rule (tables_in kinds root m) frame ≡ None → Stands (root_loaded (tables_in kinds root m) frame) m
+
+pub record AcceptedLaws : Type 0 where
+  pub declared : (t : Tables) (level frame : ℕ) → declare_rule t level frame ≡ None → IsDeclarable t level frame
+  pub written : (t : Tables) (frame index value : ℕ) → entry_rule t frame index value ≡ None → IsWritable t frame index value
+  pub removed : (t : Tables) (frame : ℕ) → remove_rule t frame ≡ None → IsRemovable t frame
+  pub loaded : (t : Tables) (frame : ℕ) → root_rule t frame ≡ None → IsRoot t frame
+
+pub record LowerLaws : Type 0 where
+  pub byte : ByteLaws
+  pub store : StoreLaws
+  pub table : TableLaws
+  pub accepted : AcceptedLaws

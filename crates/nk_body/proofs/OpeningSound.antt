@@ -1,0 +1,79 @@
+-- The opening's memory holds sound tables.
+use Rattle.std.proofs.Common.{◌≡◌, ◌≢◌, ℕ, ◌+◌, ◌*◌, ◌<◌, ◌≤◌, Bool, true, false, List, length, arith, refl, sym, ap, ◌∙◌, inl, inr}
+use Rattle.std.specs.Prelude.{not, ◌||◌, ◌==◌, if◌then◌else◌}
+use Rattle.std.proofs.lemmas.Bool.{and_from, and_parts, cases_Bool, eq-eqb, eqb-true}
+use Rattle.std.proofs.lemmas.Bool.Decides.{eqb_tells}
+use Rattle.nk_bits.specs.declared.kind.Kind.{Kind}
+use Rattle.nk_bits.specs.declared.kind.Kind.TheVariants.{Fixed, Table}
+use Rattle.nk_bits.specs.Kinds.{allows, kind_of, level_of}
+use Rattle.nk_bits.specs.Paging.{frame_of, is_executable, is_present, is_slot_entry, is_user, is_writable, rights_of, slot_value}
+use Rattle.phys_mem.specs.Memory.{entry_in}
+use Rattle.boot_map.specs.Opening.{IsOpening}
+use Rattle.boot_map.specs.OpeningKinds.{kind_at, kinds}
+use Rattle.page_desc.specs.PageTables.{HoldsSoundTables}
+use Rattle.page_desc.specs.SoundTables.{grants_all, is_lawful, is_lawful_leaf, is_lawful_link}
+
+-- what is used of the laws of the opening and of sound tables
+pub record OpeningLaws (b m : List ℕ) (frames : ℕ) : Type 0 where
+  pub count : length (kinds b frames) ≡ frames
+  pub each : (f : ℕ) → f < frames → kind_of (kinds b frames) f ≡ kind_at b frames f
+  pub handler : kind_at b frames 2 ≡ Fixed
+  pub root : kind_at b frames 5 ≡ Table 4
+  pub area : kind_at b frames 8 ≡ Fixed
+  pub directory : kind_at b frames 9 ≡ Fixed
+  pub levels : (f : ℕ) → level_of (kind_of (kinds b frames) f) ≤ 4
+  pub leaf : (f i : ℕ) → i < 512 → level_of (kind_of (kinds b frames) f) ≡ 1 → is_present (entry_in m f i) ≡ true
+      → allows (kind_of (kinds b frames) (frame_of (entry_in m f i))) (rights_of (entry_in m f i)) ≡ true
+  pub link : (f i : ℕ) → i < 512 → 2 ≤ level_of (kind_of (kinds b frames) f)
+      → is_slot_entry (level_of (kind_of (kinds b frames) f)) i ≡ false → is_present (entry_in m f i) ≡ true
+      → (level_of (kind_of (kinds b frames) (frame_of (entry_in m f i))) + 1 ≡ level_of (kind_of (kinds b frames) f))
+      × (is_writable (entry_in m f i) ≡ true) × (is_user (entry_in m f i) ≡ true) × (is_executable (entry_in m f i) ≡ true)
+  pub slot : (f : ℕ) → level_of (kind_of (kinds b frames) f) ≡ 4 → entry_in m f 511 ≡ slot_value
+  pub named : (i : ℕ) → i < 512 → is_present (entry_in m 9 i) ≡ true
+      → (kind_of (kinds b frames) (frame_of (entry_in m 9 i)) ≡ Fixed) × (frame_of (entry_in m 9 i) ≢ 2)
+  pub lawful_leaf : (ks : List Kind) (i e : ℕ)
+      → (is_present e ≡ true → allows (kind_of ks (frame_of e)) (rights_of e) ≡ true) → is_lawful ks 1 i e ≡ true
+  pub lawful_link : (ks : List Kind) (level i e : ℕ) → level ≢ 1 → is_slot_entry level i ≡ false
+      → (is_present e ≡ true → (level_of (kind_of ks (frame_of e)) + 1 ≡ level) × (grants_all e ≡ true))
+      → is_lawful ks level i e ≡ true
+
+-- the kernel slot's value is lawful in its entry
+lawful_slot : (ks : List Kind) (level i e : ℕ) → is_slot_entry level i ≡ true → e ≡ slot_value → is_lawful ks level i e ≡ true
+unfolding is_lawful
+lawful_slot ks level i e at is =
+    ap (λ (x : Bool). if x then e == slot_value else not (is_present e) || (if level == 1 then is_lawful_leaf ks e else is_lawful_link ks level e)) at
+    ∙ ap (λ n. n == slot_value) is ∙ eq-eqb slot_value slot_value refl
+
+module _ (b m : List ℕ) (frames : ℕ) (laws : OpeningLaws b m frames) (least : 512 ≤ frames) (opening : IsOpening b frames m) where
+  abbrev ks : List Kind
+  ks = kinds b frames
+
+  lawful : (f i : ℕ) → i < 512 → 1 ≤ level_of (kind_of ks f) → level_of (kind_of ks f) ≤ 4
+      → is_lawful ks (level_of (kind_of ks f)) i (entry_in m f i) ≡ true
+  lawful f i small least most = elim (cases_Bool (is_slot_entry (level_of (kind_of ks f)) i)) [
+    | inl at ↦
+        let parts = and_parts (level_of (kind_of ks f) == 4) (i == 511) at in
+        lawful_slot ks (level_of (kind_of ks f)) i (entry_in m f i) at
+        (ap (entry_in m f) (eqb-true i 511 parts.1) ∙ laws.slot f (eqb-true _ 4 parts.0))
+    | inr other ↦ elim (eqb_tells (level_of (kind_of ks f)) 1) [
+      | inl one ↦ ap (λ n. is_lawful ks n i (entry_in m f i)) one.1 ∙ laws.lawful_leaf ks i (entry_in m f i) (laws.leaf f i small one.1)
+      | inr more ↦ laws.lawful_link ks (level_of (kind_of ks f)) i (entry_in m f i) more.1 other
+          (λ present. let is = laws.link f i small (omega (arith, least, more.1)) other present in
+          (is.0, and_from _ _ (and_from _ _ is.1 is.2) is.3))
+    ]
+  ]
+
+  pub opening_sound : HoldsSoundTables ks 5 m
+  opening_sound = record {
+    size = opening.length ∙ ap (λ n. 4096 * n) (sym laws.count);
+    levels = laws.levels;
+    tables = record { lawful = lawful };
+    root_level = ap level_of (laws.each 5 (omega (arith, least)) ∙ laws.root);
+    slot = record {
+      table = laws.each 8 (omega (arith, least)) ∙ laws.area;
+      directory = laws.each 9 (omega (arith, least)) ∙ laws.directory;
+      named = λ i small present. (laws.named i small present).0;
+    };
+    handler = laws.each 2 (omega (arith, least)) ∙ laws.handler;
+    apart = λ i small present. (laws.named i small present).1;
+  }
