@@ -73,13 +73,13 @@ chosen false x y z e = inr (refl, e)
 
 module _ (o : Opening) (ks : List Kind) (facts : TurnFacts o ks) (storable : is_storable (kind_of ks 3) ≡ true) where
   -- a byte that goes to the console, or is lost
-  shown_kept : (wp : Bool) (byte : Option ℕ) (p : Processor) (m : List ℕ) → IsReady o ks p m → wp_of p.control.cr0 ≡ true → Kept o ks wp m (shown byte p m)
+  shown_kept : (wp : Bool) (byte : Option ℕ) (p : Processor) (m : List ℕ) → IsReady o ks p m → wp_of p.control.cr0 ≡ true → Kept o ks wp p.control.root m (shown byte p m)
   shown_kept wp None p m ready set = ran_kept o ks wp p m ready (set_never o ks facts storable (wp_of p.control.cr0) set)
   shown_kept wp (Some byte) p m ready set =
-      let kept : Kept o ks wp m (ran p m) = ran_kept o ks wp p m ready (set_never o ks facts storable (wp_of p.control.cr0) set) in
+      let kept : Kept o ks wp p.control.root m (ran p m) = ran_kept o ks wp p m ready (set_never o ks facts storable (wp_of p.control.cr0) set) in
       record {
         control = kept.control;
-        root = kept.root;
+        same_root = kept.same_root;
         pass = kept.pass;
         window = kept.window;
         runs = λ e. absurd (cc);
@@ -92,17 +92,17 @@ module _ (o : Opening) (ks : List Kind) (facts : TurnFacts o ks) (storable : is_
   -- an interrupt by an instruction
   interrupted_kept : (wp : Bool) (allowed : Result Bool Shut) (vector : ℕ) (before : Regs) (p : Processor) (m : List ℕ)
       → (allowed ≡ Ok false) ⊎ ((allowed ≡ Ok true) × (vector < 48)) → IsReady o ks p m → IsReady o ks (record p { regs = before }) m → wp_of p.control.cr0 ≡ true
-      → Kept o ks wp m (interrupted_by allowed vector before p m)
+      → Kept o ks wp p.control.root m (interrupted_by allowed vector before p m)
   interrupted_kept wp allowed vector before p m (inl refused) ready old set =
-      subst (λ (a : Result Bool Shut). Kept o ks wp m (interrupted_by a vector before p m)) (sym refused)
+      subst (λ (a : Result Bool Shut). Kept o ks wp p.control.root m (interrupted_by a vector before p m)) (sym refused)
       (raise_kept o ks facts storable wp (record p { regs = before }) m (fault.General (8 * vector + 2)) old set)
   interrupted_kept wp allowed vector before p m (inr asked) ready old set =
-      subst (λ (a : Result Bool Shut). Kept o ks wp m (interrupted_by a vector before p m)) (sym asked.0)
+      subst (λ (a : Result Bool Shut). Kept o ks wp p.control.root m (interrupted_by a vector before p m)) (sym asked.0)
       (trap_kept o ks facts storable wp p m vector None ready asked.1 (set_never o ks facts storable (wp_of p.control.cr0) set))
 
   -- a return: the CPL is 3, or 0
   returns_ok : (wp : Bool) (regs before : Regs) (frame : Frame) (p : Processor) (m : List ℕ) → IsReady o ks p m → IsReady o ks (record p { regs = before }) m
-      → wp_of p.control.cr0 ≡ true → AreRegisters regs → Kept o ks wp m (returned_by (returned regs frame) before p m)
+      → wp_of p.control.cr0 ≡ true → AreRegisters regs → Kept o ks wp p.control.root m (returned_by (returned regs frame) before p m)
   unfolding returned
   returns_ok wp regs before frame p m ready old set are =
       return_choice wp (may_return regs.cpl (selector frame.cs) (selector frame.ss) && is_canonical frame.rip) (at_return regs frame) before p m ready old set
@@ -114,7 +114,7 @@ module _ (o : Opening) (ks : List Kind) (facts : TurnFacts o ks) (storable : is_
 
       return_choice : (wp : Bool) (b : Bool) (after before : Regs) (p : Processor) (m : List ℕ) → IsReady o ks p m → IsReady o ks (record p { regs = before }) m → wp_of p.control.cr0 ≡ true
           → (b ≡ true → AreRegisters after × ((after.cpl ≡ 0) ⊎ (after.cpl ≡ 3)))
-          → Kept o ks wp m (returned_by (if b then Ok after else Err (fault.General 0)) before p m)
+          → Kept o ks wp p.control.root m (returned_by (if b then Ok after else Err (fault.General 0)) before p m)
       return_choice wp true after before p m ready old set is =
           ran_kept o ks wp (record p { regs = after }) m (with_registers o ks p m after ready (is refl).0 (is refl).1) (set_never o ks facts storable (wp_of p.control.cr0) set)
       return_choice wp false after before p m ready old set is = raise_kept o ks facts storable wp (record p { regs = before }) m (fault.General 0) old set
@@ -125,7 +125,7 @@ module _ (o : Opening) (ks : List Kind) (facts : TurnFacts o ks) (storable : is_
 
   -- any act that loads neither a control register nor a table
   pub act_kept : (wp : Bool) (a : Act) (before : Regs) (p : Processor) (m : List ℕ) → LoadsNothing a → IsReady o ks p m → IsReady o ks (record p { regs = before }) m
-      → wp_of p.control.cr0 ≡ true → Kept o ks wp m (acted a before p m)
+      → wp_of p.control.cr0 ≡ true → Kept o ks wp p.control.root m (acted a before p m)
   act_kept wp act.Quiet before p m calm ready old set = ran_kept o ks wp p m ready (set_never o ks facts storable (wp_of p.control.cr0) set)
   act_kept wp (act.Out byte port) before p m calm ready old set = shown_kept wp (console_byte port byte) p m ready set
   act_kept wp (act.In port) before p m calm ready old set =

@@ -1,30 +1,38 @@
--- The body keeps the invariant: a call changes the handler slot alone, and the supervisor stands behind the body.
-use Rattle.std.proofs.Common.{◌≡◌, ◌≢◌, ◌⊎◌, ℕ, ◌+◌, ◌/◌, ◌^◌, ◌<◌, ◌≤◌, Bool, true, false, List, length, All, refl, sym, subst, ◌∙◌, arith, inl, inr}
-use Rattle.std.specs.Prelude.{Option, None, Some, not, ◌==◌}
+-- The body keeps the invariant: a call leaves what no call changes and keeps the tables sound, and the supervisor
+-- stands behind the body.
+use Rattle.std.proofs.Common.{◌≡◌, ◌≢◌, ℕ, ◌/◌, Bool, true, false, List, refl, sym, ap, subst, ◌∙◌, arith}
+use Rattle.std.specs.Prelude.{IfSome, Option, None, Some, not, ◌==◌, if◌then◌else◌}
 use Rattle.std.proofs.lemmas.Bool.{and_parts, eqb-true, false≢true}
-use Rattle.std.proofs.lemmas.List.Elements.{All-weaker}
+use Rattle.std.proofs.lemmas.List.Elements.{All-nil}
 use Rattle.nk_bits.specs.declared.call.Answer.{Answer}
 use Rattle.nk_bits.specs.declared.call.CallWords.{CallWords}
 use Rattle.nk_bits.specs.declared.kind.Kind.{Kind}
-use Rattle.nk_bits.specs.declared.rule.Rule.{Rule}
+use Rattle.nk_bits.specs.declared.kind.Kind.TheVariants.{Code, Fixed}
+use Rattle.nk_bits.specs.declared.leaf.Leaf.{Leaf}
 use Rattle.nk_bits.specs.Accesses.{wp_of}
-use Rattle.nk_bits.specs.Kinds.{kind_of}
-use Rattle.phys_mem.specs.Memory.{stored, stores}
+use Rattle.nk_bits.specs.Kinds.{is_storable, kind_of}
+use Rattle.nk_bits.specs.Translations.{flushed}
+use Rattle.phys_mem.specs.Memory.{entry_in}
 use Rattle.boot_map.specs.Division.{division_of}
-use Rattle.boot_map.specs.OpeningEntries.{table_level}
+use Rattle.boot_map.specs.KernelSlot.{IsWrittenInSlot, is_slot_table, slot_leaf}
+use Rattle.boot_map.specs.OpeningKinds.{kinds}
 use Rattle.boot_map.specs.Parts.{part_at}
-use Rattle.nk_body.specs.NestedRecord.{Nested, nested_in}
-use Rattle.nk_bits.specs.declared.kind.Kind.TheVariants.{Fixed}
-use Rattle.nk_body.specs.CallRules.{after_call, answer_to, made_unless, memory_after_call, verdict, written_unless}
+use Rattle.page_desc.specs.PageTables.{is_kept}
+use Rattle.nk_body.specs.CallRules.{after_call, answer_to, memory_after_call}
+use Rattle.nk_body.specs.KindsKept.{is_reserved, is_settled}
+use Rattle.nk_body.specs.NestedRecord.{Nested}
+use Rattle.x86_regs.specs.EffectsKept.{AreRegisters}
 use Rattle.x86_regs.specs.Operands.{with_register}
 use Rattle.cpu_step.specs.Processor.{Processor}
 use Rattle.cpu_step.specs.Turns.{enters_body, is_at_body}
-use Rattle.gate_state.specs.GuardedStates.{IsGuarded, IsHeld}
+use Rattle.gate_state.specs.GuardedStates.{AreKinds, IsAdmitted, IsGuarded, IsHeld}
 use Rattle.gate_state.specs.MachineStates.{MachineState, Opening, nested_of}
-use Rattle.gate_state.specs.MachineSteps.{answered_with, call_in, served}
+use Rattle.gate_state.specs.MachineSteps.{answered_with, call_in, served, with_place}
 use Rattle.gate_state.specs.RespectedKinds.{respects}
-use Rattle.gate_state.proofs.LowerLaws.{LowerLaws}
+use Rattle.gate_state.proofs.LooseLeaves.{written_loose}
+use Rattle.gate_state.proofs.LowerLaws.{AllPass, LowerLaws}
 use Rattle.gate_state.proofs.RegisterBounds.{registers_at, registers_with}
+use Rattle.gate_state.proofs.SceneProofsStores.{slot_fixed}
 use Rattle.gate_state.proofs.Window.{answered_point}
 
 -- at the body's place the supervisor stands, with WP clear
@@ -37,83 +45,129 @@ body_stands p enters =
     clear true is = absurd (false≢true is)
     clear false is = refl
 
-module _ (laws : LowerLaws) (o : Opening) where
-  -- stores in the handler slot leave what is held
-  slot_held : (ks : List Kind) (m : List ℕ) (address : ℕ) → IsHeld o ks m → IsHeld o ks (stored m (stores 8 0x2000 address))
-  unfolding part_at
-  slot_held ks m address held = record {
-    size = laws.store.length m (stores 8 0x2000 address) ∙ held.size;
-    are_bytes = laws.store.bytes m (stores 8 0x2000 address) (laws.store.values 8 0x2000 address) held.are_bytes;
+-- a frame whose bytes never change is of a kind that no call gives, and that no call changes
+kept_reserved : (kind : Kind) → is_kept kind ≡ true → is_reserved kind ≡ true
+kept_reserved Code kept = refl
+kept_reserved Fixed kept = refl
+kept_reserved kind kept = absurd (false≢true kept)
+
+kept_settled : (kind : Kind) → is_kept kind ≡ true → is_settled kind ≡ true
+kept_settled Code kept = refl
+kept_settled Fixed kept = refl
+kept_settled kind kept = absurd (false≢true kept)
+
+-- the handler's frame holds none of the slot's tables
+handler_apart : (o : Opening) (f : ℕ) → is_slot_table (part_at (division_of o.image o.frames) f) ≡ true → f ≡ 2 → ⊥
+unfolding part_at
+handler_apart o f table is =
+    let P : ℕ → Type 0 = λ n. is_slot_table (part_at (division_of o.image o.frames) n) ≡ true in
+    let none : false ≡ true = subst P is table in
+    false≢true none
+
+module _ (laws : LowerLaws) (o : Opening) (admitted : IsAdmitted o) (s : MachineState) (guarded : IsGuarded o s)
+    (call : CallWords) where
+  abbrev before : Nested
+  before = nested_of s
+
+  abbrev after : Nested
+  after = after_call (nested_of s) call
+
+  abbrev root : ℕ
+  root = s.processor.control.root
+
+  -- kinds: what the slot's writable leaves name may be stored to still
+  still_storable : (found : Option Leaf)
+      → IfSome found (λ leaf. leaf.rights.can_write ≡ true → is_storable (kind_of s.kinds leaf.frame) ≡ true)
+      → IfSome found (λ leaf. leaf.rights.can_write ≡ true → IsWrittenInSlot o.frames (entry_in s.memory) leaf.frame)
+      → IfSome found (λ leaf. leaf.rights.can_write ≡ true → is_storable (kind_of after.tables.kinds leaf.frame) ≡ true)
+  still_storable None storable written = tt
+  still_storable (Some leaf) storable written = λ write.
+      laws.call.loose s.kinds root leaf.frame s.memory call guarded.tables
+      (written_loose laws s.kinds (entry_in s.memory) leaf.frame o.frames guarded.kinds.count (written write)) (storable write)
+
+  kinds_kept : AreKinds o after.tables.kinds
+  kinds_kept = record {
+    count = laws.call.count s.kinds root s.memory call ∙ guarded.kinds.count;
+    settled = λ f is.
+        let here : kind_of s.kinds f ≡ kind_of (kinds o.image o.frames) f = guarded.kinds.settled f is in
+        laws.call.settled s.kinds root f s.memory call guarded.tables (ap is_settled here ∙ is) ∙ here;
+    writable = λ page low high.
+        still_storable (slot_leaf o.image o.frames page) (guarded.kinds.writable page low high)
+        (laws.opening.written o.image o.frames page (entry_in s.memory) admitted.layout admitted.pages
+        guarded.memory.slot low high);
+  }
+
+  -- bytes that never change, and the slot's tables
+  memory_kept : IsHeld o after.tables.kinds (memory_after_call before call s.memory)
+  memory_kept = record {
+    size = laws.call.length_is s.kinds root s.memory call guarded.tables ∙ guarded.memory.size;
+    are_bytes = laws.call.are_bytes s.kinds root s.memory call guarded.tables guarded.memory.are_bytes;
     bytes = λ place kept beside.
-        laws.store.byte_elsewhere m (stores 8 0x2000 address) place
-        (All-weaker (λ (w : ℕ × ℕ). (0x2000 ≤ w.0) × (w.0 < 0x2000 + 8)) (λ (w : ℕ × ℕ). w.0 ≢ place) (λ w within same. apart w.0 place within beside same) (stores 8 0x2000 address) (laws.store.within 8 0x2000 address))
-        ∙ held.bytes place kept beside;
-    tables = record {
+        let same : kind_of after.tables.kinds (place / 4096) ≡ kind_of s.kinds (place / 4096) =
+        laws.call.reserved s.kinds root (place / 4096) s.memory call guarded.tables
+        (kept_reserved (kind_of after.tables.kinds (place / 4096)) kept) in
+        let here : is_kept (kind_of s.kinds (place / 4096)) ≡ true = ap is_kept (sym same) ∙ kept in
+        laws.call.bytes s.kinds root place s.memory call guarded.tables
+        (kept_settled (kind_of s.kinds (place / 4096)) here) beside
+        ∙ guarded.memory.bytes place here beside;
+    slot = record {
       entries = λ f i below small table.
-          laws.store.entry_elsewhere m (stores 8 0x2000 address) f i small
-          (All-weaker (λ (w : ℕ × ℕ). w.0 / 4096 ≡ 2) (λ (w : ℕ × ℕ). w.0 / 4096 ≢ f) (λ w at same. no_table f table (sym same ∙ at)) (stores 8 0x2000 address) (laws.store.within_frame 8 0x2000 address 2 (omega arith) (omega arith)))
-          ∙ held.tables.entries f i below small table;
+          laws.call.entries s.kinds root f i s.memory call guarded.tables
+          (ap is_settled (slot_fixed laws o s.kinds admitted guarded.kinds f below table)) (handler_apart o f table) small
+          ∙ guarded.memory.slot.entries f i below small table;
     };
   }
-    where
-      apart : (at place : ℕ) → (0x2000 ≤ at) × (at < 0x2000 + 8) → (place < 0x2000) ⊎ (0x2008 ≤ place) → at ≡ place → ⊥
-      apart at place within (inl below) same = absurd (omega (arith, within, below, same))
-      apart at place within (inr above) same = absurd (omega (arith, within, above, same))
 
-      no_table : (f : ℕ) → 0 < table_level (part_at (division_of o.image o.frames) f) → f ≡ 2 → ⊥
-      no_table f table is = let P : ℕ → Type 0 = λ n. 0 < table_level (part_at (division_of o.image o.frames) n) in let none : 0 < 0 = subst P is table in absurd (omega (arith, none))
+  -- translations go, or the kinds are what they were
+  pass_kept : (flush : Bool) → (answer_to before call).flush ≡ flush
+      → AllPass (respects o after.tables.kinds) (if flush then flushed else s.processor.tlb)
+  pass_kept true is = All-nil (λ (pair : ℕ × Leaf). respects o after.tables.kinds pair ≡ true)
+  pass_kept false is =
+      subst (λ (ks : List Kind). AllPass (respects o ks) s.processor.tlb)
+      (sym (laws.call.same s.kinds root s.memory call is).0) guarded.translations
 
-  -- whatever the call is
-  call_held : (nk : Nested) (call : CallWords) (ks : List Kind) (m : List ℕ) → IsHeld o ks m → IsHeld o ks (memory_after_call nk call m)
-  call_held nk call ks m held = by_verdict (verdict nk call)
-    where
-      by_verdict : (v : Option Rule) → IsHeld o ks (written_unless v call m)
-      by_verdict None = slot_held ks m call.a held
-      by_verdict (Some rule) = held
+  -- the registers behind the body
+  registers_kept : (named : ℕ) → AreRegisters (answered_with (answer_to before call) named s.processor).regs
+  registers_kept named =
+      let p : Processor = s.processor in
+      let answer : Answer = answer_to before call in
+      let general : List ℕ = with_register p.regs.general 9 answer.value in
+      registers_at (record p.regs { general = general }) (answered_with answer named p).regs
+      (registers_with p.regs 9 answer.value (omega arith) guarded.control.registers)
+      (ap (λ (place : Option ℕ). with_place place general) (laws.call.place s.kinds root s.memory call)) (omega arith)
 
-  -- a call leaves kinds and root
-  call_leaves : (nk : Nested) (call : CallWords) → ((after_call nk call).kinds ≡ nk.kinds) × ((after_call nk call).root ≡ nk.root)
-  call_leaves nk call = by_verdict (verdict nk call)
-    where
-      by_verdict : (v : Option Rule) → ((made_unless v nk call).kinds ≡ nk.kinds) × ((made_unless v nk call).root ≡ nk.root)
-      by_verdict None = (refl, refl)
-      by_verdict (Some rule) = (refl, refl)
-
-  pub body_guarded : (s : MachineState) → enters_body s.processor ≡ true → IsGuarded o s → IsGuarded o (served s)
-  unfolding served
-  body_guarded s enters guarded =
-      let nk : Nested = nested_of s in
-      let call : CallWords = call_in s.processor.regs in
-      let leaves = call_leaves nk call in
-      let stands = body_stands s.processor enters in
-      let answer : Answer = answer_to nk call in
-      let runs : s.processor.halted ≡ false = (guarded.window stands.1).stands.runs in
-      record {
-        control = record {
-          cr0 = guarded.control.cr0;
-          cr4 = guarded.control.cr4;
-          efer = guarded.control.efer;
-          tables = guarded.control.tables;
-          cpl = guarded.control.cpl;
-          registers = registers_at (record s.processor.regs { general = with_register s.processor.regs.general 9 answer.value }) (answered_with answer (after_call nk call).root s.processor).regs (registers_with s.processor.regs 9 answer.value (omega arith) guarded.control.registers) refl (omega arith);
-          pending = guarded.control.pending;
-        };
-        root = leaves.1 ∙ guarded.root;
-        kinds = leaves.0 ∙ guarded.kinds;
-        memory = subst (λ (ks : List Kind). IsHeld o ks (memory_after_call nk call s.memory)) (sym leaves.0) (call_held nk call s.kinds s.memory guarded.memory);
-        translations = subst (λ (ks : List Kind). All (λ pair. respects o ks pair ≡ true) s.processor.tlb) (sym leaves.0) guarded.translations;
-        window = λ clear. answered_point s.processor answer (after_call nk call).root stands.0 runs;
-      }
-
--- memory after a call stands for the record that the call makes
-abbrev pub CallLaw : Type 0
-CallLaw = (kinds : List Kind) (root : ℕ) (m : List ℕ) (call : CallWords) → kind_of kinds 2 ≡ Fixed → 0x2008 ≤ length m → call.a < 2 ^ 64
-    → let after : Nested = after_call (nested_in kinds root m) call in
-    nested_in after.kinds after.root (memory_after_call (nested_in kinds root m) call m) ≡ after
+pub body_guarded : LowerLaws → (o : Opening) → IsAdmitted o → (s : MachineState) → enters_body s.processor ≡ true
+    → IsGuarded o s → IsGuarded o (served s)
+unfolding served
+body_guarded laws o admitted s enters guarded =
+    let nk : Nested = nested_of s in
+    let call : CallWords = call_in s.processor.regs in
+    let stands = body_stands s.processor enters in
+    let answer : Answer = answer_to nk call in
+    let root : ℕ = (after_call nk call).tables.root in
+    let runs : s.processor.halted ≡ false = (guarded.window stands.1).stands.runs in
+    record {
+      control = record {
+        cr0 = guarded.control.cr0;
+        cr4 = guarded.control.cr4;
+        efer = guarded.control.efer;
+        tables = guarded.control.tables;
+        cpl = guarded.control.cpl;
+        registers = registers_kept laws o admitted s guarded call root;
+        pending = guarded.control.pending;
+      };
+      kinds = kinds_kept laws o admitted s guarded call;
+      tables = laws.call.sound s.kinds s.processor.control.root s.memory call guarded.tables
+          (guarded.control.registers.bounds 6) (guarded.control.registers.bounds 1);
+      memory = memory_kept laws o admitted s guarded call;
+      translations = pass_kept laws o admitted s guarded call answer.flush refl;
+      window = λ clear. answered_point s.processor answer root stands.0 runs;
+    }
 
 -- the record after the body is what the call makes of it
-pub body_serves : CallLaw → (o : Opening) (s : MachineState) → IsGuarded o s → kind_of s.kinds 2 ≡ Fixed → 0x2008 ≤ length s.memory
+pub body_serves : LowerLaws → (o : Opening) (s : MachineState) → IsGuarded o s
     → nested_of (served s) ≡ after_call (nested_of s) (call_in s.processor.regs)
 unfolding served
-body_serves law o s guarded slot long =
-    law s.kinds s.processor.control.root s.memory (call_in s.processor.regs) slot long (guarded.control.registers.bounds 6)
+body_serves laws o s guarded =
+    laws.call.nested s.kinds s.processor.control.root s.memory (call_in s.processor.regs) guarded.tables
+    (guarded.control.registers.bounds 6) (guarded.control.registers.bounds 1)

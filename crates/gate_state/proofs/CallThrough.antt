@@ -3,12 +3,11 @@
 use Rattle.std.proofs.Common.{◌≡◌, ◌⊎◌, ℕ, zero, suc, ◌+◌, ◌<◌, true, false, List, refl, sym, subst, arith, inl, inr}
 use Rattle.std.specs.Prelude.{◌==◌}
 use Rattle.nk_bits.specs.declared.kind.Kind.{Kind}
-use Rattle.boot_map.specs.OpeningKinds.{kinds}
 use Rattle.irq_plan.specs.declared.event.Event.{Event}
 use Rattle.irq_plan.specs.PlannedEvents.{IsPlan}
 use Rattle.cpu_step.specs.Turns.{enters_body}
 use Rattle.gate_state.specs.GateCalls.{IsCalledThrough, IsAnswered, IsCalling}
-use Rattle.gate_state.specs.GuardedStates.{IsAdmitted, IsGuarded}
+use Rattle.gate_state.specs.GuardedStates.{AreKinds, IsAdmitted, IsGuarded}
 use Rattle.gate_state.specs.MachineStates.{MachineState, Opening}
 use Rattle.gate_state.specs.MachineSteps.{after_turn, next, served, state}
 use Rattle.gate_state.proofs.LowerLaws.{LowerLaws}
@@ -52,7 +51,7 @@ at_fourteen o s t Returning at done =
 at_fourteen o s t _ at done = absurd (omega (arith, at.turns, done))
 
 module _ (laws : LowerLaws) (o : Opening) (admitted : IsAdmitted o)
-    (facts : (ks : List Kind) → ks ≡ kinds o.image o.frames → TurnFacts o ks)
+    (facts : (ks : List Kind) → AreKinds o ks → TurnFacts o ks)
     (body : (s : MachineState) → enters_body s.processor ≡ true → IsGuarded o s → IsGuarded o (served s)) where
   -- at a stage but the body's, an event leaves the stage, and a turn leads on
   module _ (plan : List Event) (s t : MachineState) (planned : IsPlan plan) where
@@ -77,7 +76,7 @@ module _ (laws : LowerLaws) (o : Opening) (admitted : IsAdmitted o)
     from_stage Stacking at = goes_on Stacking at refl (inl (Serving, from_stacking laws o admitted facts s t at))
     from_stage Serving at =
         subst (IsUnderway o s) (sym (by_serving plan t (enters t.processor at.stands at.holds.2)))
-        (inl (Rereading, from_serving o body s t at))
+        (inl (Rereading, from_serving laws o body s t at))
     from_stage Rereading at = goes_on Rereading at refl (inl (Raising, from_rereading laws o admitted facts s t at))
     from_stage Raising at = goes_on Raising at refl (inl (Setting, from_raising laws o admitted facts s t at))
     from_stage Setting at = goes_on Setting at refl (inl (Testing, from_setting laws o admitted facts s t at))

@@ -4,7 +4,6 @@ use Rattle.std.specs.Prelude.{◌==◌, bit_and, bit_or}
 use Rattle.decode_fields.specs.declared.place.Place.TheVariants.{Reg}
 use Rattle.nk_bits.specs.declared.kind.Kind.{Kind}
 use Rattle.nk_bits.specs.Accesses.{wp_of}
-use Rattle.boot_map.specs.OpeningKinds.{kinds}
 use Rattle.x86_alu.specs.Bitwise.{logic_flags}
 use Rattle.x86_alu.specs.Flags.{with_flag}
 use Rattle.x86_alu.specs.SignedNumbers.{bit, cut}
@@ -14,7 +13,7 @@ use Rattle.x86_regs.specs.Operands.{next_of, with_register}
 use Rattle.x86_regs.specs.Registers.{held, written}
 use Rattle.cpu_step.specs.Processor.{Processor}
 use Rattle.cpu_step.specs.Turns.{kept_in_cr0}
-use Rattle.gate_state.specs.GuardedStates.{IsAdmitted}
+use Rattle.gate_state.specs.GuardedStates.{AreKinds, IsAdmitted}
 use Rattle.gate_state.specs.MachineStates.{MachineState, Opening}
 use Rattle.gate_state.specs.MachineSteps.{after_turn}
 use Rattle.gate_state.proofs.ControlWord.{IsRaised, raised_cr0}
@@ -36,7 +35,7 @@ unfolding condition_stands
 zero_condition flags clear = clear
 
 module _ (laws : LowerLaws) (o : Opening) (admitted : IsAdmitted o)
-    (facts : (ks : List Kind) → ks ≡ kinds o.image o.frames → TurnFacts o ks) (s t : MachineState) where
+    (facts : (ks : List Kind) → AreKinds o ks → TurnFacts o ks) (s t : MachineState) where
   -- RAX takes CR0
   pub from_rereading : IsAt o Rereading s t → IsAt o Raising s (after_turn t)
   from_rereading at =

@@ -4,7 +4,6 @@ use Rattle.std.specs.Prelude.{bit_and}
 use Rattle.decode_fields.specs.declared.place.Place.TheVariants.{Reg}
 use Rattle.nk_bits.specs.declared.kind.Kind.{Kind}
 use Rattle.nk_bits.specs.Accesses.{wp_of}
-use Rattle.boot_map.specs.OpeningKinds.{kinds}
 use Rattle.x86_alu.specs.Bitwise.{logic_flags}
 use Rattle.x86_alu.specs.Flags.{with_flag}
 use Rattle.x86_alu.specs.SignedNumbers.{cut}
@@ -13,7 +12,7 @@ use Rattle.x86_regs.specs.Operands.{next_of, with_register}
 use Rattle.x86_regs.specs.Registers.{held, written}
 use Rattle.cpu_step.specs.Processor.{Processor}
 use Rattle.cpu_step.specs.Turns.{kept_in_cr0}
-use Rattle.gate_state.specs.GuardedStates.{IsAdmitted}
+use Rattle.gate_state.specs.GuardedStates.{AreKinds, IsAdmitted}
 use Rattle.gate_state.specs.MachineStates.{MachineState, Opening}
 use Rattle.gate_state.specs.MachineSteps.{after_turn}
 use Rattle.gate_state.proofs.ControlWord.{raised_cr0}
@@ -30,7 +29,7 @@ use Rattle.gate_state.proofs.WindowKept.{low_same, register_same}
 use Rattle.gate_state.proofs.WindowRows.{cli, mov_cr0_rax, mov_rax_cr0, mov_rsp}
 
 module _ (laws : LowerLaws) (o : Opening) (admitted : IsAdmitted o)
-    (facts : (ks : List Kind) → ks ≡ kinds o.image o.frames → TurnFacts o ks) (s t : MachineState) where
+    (facts : (ks : List Kind) → AreKinds o ks → TurnFacts o ks) (s t : MachineState) where
   -- R10 keeps RSP
   pub from_keeping : IsAt o Keeping s t → IsAt o Reading s (after_turn t)
   from_keeping at =

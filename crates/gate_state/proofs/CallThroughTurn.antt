@@ -7,7 +7,6 @@ use Rattle.nk_bits.specs.Accesses.{wp_of}
 use Rattle.nk_bits.specs.Outcomes.{Outcome, then_by}
 use Rattle.nk_bits.specs.Translations.{Translations}
 use Rattle.page_walk.specs.MemoryAccess.{view_of}
-use Rattle.boot_map.specs.OpeningKinds.{kinds}
 use Rattle.gate_text.specs.GatePoints.{instruction_bytes}
 use Rattle.gate_text.specs.Listing.{gate_address}
 use Rattle.x86_alu.specs.SignedNumbers.{bit}
@@ -25,7 +24,7 @@ use Rattle.cpu_step.specs.declared.fetch.Fetched.{Fetched}
 use Rattle.cpu_step.specs.InstructionFetch.{instruction_at}
 use Rattle.cpu_step.specs.Processor.{Processor, deliverable, highest_pending}
 use Rattle.cpu_step.specs.Turns.{Turned, enters_body, instructed, instruction_made, is_at_body, kept_in_cr0, refused_body, turned, turned_by, turned_unless}
-use Rattle.gate_state.specs.GuardedStates.{IsAdmitted, IsGuarded}
+use Rattle.gate_state.specs.GuardedStates.{AreKinds, IsAdmitted, IsGuarded}
 use Rattle.gate_state.specs.MachineStates.{MachineState, Opening, nested_of}
 use Rattle.gate_state.specs.MachineSteps.{after_turn, turn_of, waits}
 use Rattle.gate_state.specs.SafeStates.{TakesTurn}
@@ -120,7 +119,7 @@ record Leaves (p : Processor) (general : List ℕ) (flags rip cr0 : ℕ) (turned
   runs : turned.processor.halted ≡ p.halted
 
 module _ (laws : LowerLaws) (o : Opening) (admitted : IsAdmitted o)
-    (facts : (ks : List Kind) → ks ≡ kinds o.image o.frames → TurnFacts o ks) where
+    (facts : (ks : List Kind) → AreKinds o ks → TurnFacts o ks) where
   -- the row at the offset is what is fetched
   row_fetched : (t : MachineState) (offset : ℕ) (i : Instr) (size : ℕ) → IsGuarded o t
       → IsStanding offset t.processor → IsRow offset i size

@@ -1,10 +1,11 @@
 -- A delivery of a vector in a scene never shuts the machine down: it leads to the vector's stub, and stores on the trap
 -- stack alone.
-use Rattle.std.proofs.Common.{◌≡◌, ◌⊎◌, ℕ, ◌+◌, ◌*◌, ◌-◌, ◌/◌, ◌<◌, ◌≤◌, Bool, true, false, List, length, All, refl, sym, ap, subst, ◌∙◌, arith, inl, inr}
+use Rattle.std.proofs.Common.{◌≡◌, ◌⊎◌, ℕ, ◌+◌, ◌*◌, ◌-◌, ◌/◌, ◌<◌, ◌≤◌, Bool, true, false, List, length, All, refl, sym, ap, subst, arith, inl, inr}
 use Rattle.std.specs.Prelude.{Option, Some, None, Result, Ok, nat_le}
 use Rattle.std.proofs.lemmas.Bool.{cases_lt, cond-false, cond-true, le-ltb, lt-ltb}
 use Rattle.nk_bits.specs.declared.control.Control.{Control}
 use Rattle.nk_bits.specs.declared.kind.Kind.{Kind}
+use Rattle.nk_bits.specs.declared.kind.Kind.TheVariants.{Fixed}
 use Rattle.nk_bits.specs.Kinds.{kind_of}
 use Rattle.nk_bits.specs.Outcomes.{Outcome, and_then, answered, refused}
 use Rattle.nk_bits.specs.Translations.{Translations}
@@ -17,7 +18,7 @@ use Rattle.trap_unit.specs.declared.delivery.Entry.{Entry}
 use Rattle.trap_unit.specs.declared.gate.Gate.{Gate}
 use Rattle.trap_unit.specs.declared.shutdown.Shut.{Shut}
 use Rattle.trap_unit.specs.TrapDelivery.{Delivered, Pushed, arrived, at_handler, codes_of, delivered, entered, entry_found, frame_values, gate_address, gate_found, gate_level, gate_offset, gate_read, if_good, interrupt_allowed, is_good, passes_limit, pushes, read_at, shut}
-use Rattle.gate_state.specs.GuardedStates.{is_kept}
+use Rattle.page_desc.specs.PageTables.{is_kept}
 use Rattle.gate_state.specs.MachineOpening.{opening_tables}
 use Rattle.gate_state.specs.MachineStates.{Opening}
 use Rattle.gate_state.specs.RespectedKinds.{respects}
@@ -81,8 +82,8 @@ module _ (laws : LowerLaws) (o : Opening) (ks : List Kind) (scenes : SceneLaws o
   first_kept : (m : List ℕ) (control : Control) → IsScene o ks m control → is_kept (kind_of ks 0) ≡ true
   first_kept m control scene =
       let least : 512 ≤ o.frames = scene.admitted.layout.least in
-      ap is_kept (kind_is laws o ks scene.admitted scene.kinds_are 0 (omega arith)
-      ∙ (laws.opening.fixed o.image o.frames).0)
+      ap is_kept (kind_is laws o ks scene.admitted scene.kinds_are 0 Fixed (omega arith)
+      (laws.opening.fixed o.image o.frames).0 refl)
 
   module _ (m : List ℕ) (control : Control) (scene : IsScene o ks m control) where
     -- a read of the first frame finds what the opening has there

@@ -9,7 +9,8 @@ use Rattle.boot_map.specs.Opening.{byte_in, byte_of_number, byte_of_part, gate_o
 use Rattle.boot_map.specs.Parts.{part_at}
 use Rattle.trap_unit.specs.declared.gate.Gate.{Gate}
 use Rattle.trap_unit.specs.TrapDelivery.{gate_offset, is_good}
-use Rattle.gate_state.specs.GuardedStates.{IsHeld, is_kept}
+use Rattle.page_desc.specs.PageTables.{is_kept}
+use Rattle.gate_state.specs.GuardedStates.{IsHeld}
 use Rattle.gate_state.specs.MachineStates.{Opening}
 
 -- the number that n bytes from place p on spell, by a function from places to bytes

@@ -5,6 +5,7 @@ use Rattle.std.proofs.lemmas.List.Elements.{All-append, All-nil, All-weaker}
 use Rattle.nk_bits.specs.declared.access.Access.TheVariants.{Write}
 use Rattle.nk_bits.specs.declared.control.Control.{Control}
 use Rattle.nk_bits.specs.declared.kind.Kind.{Kind}
+use Rattle.nk_bits.specs.declared.kind.Kind.TheVariants.{Trap}
 use Rattle.nk_bits.specs.declared.leaf.Target.{Target}
 use Rattle.nk_bits.specs.Accesses.{accessed, first_part}
 use Rattle.nk_bits.specs.Kinds.{is_storable, kind_of}
@@ -56,8 +57,8 @@ module _ (laws : LowerLaws) (o : Opening) (ks : List Kind) (scenes : SceneLaws o
   trap_storable : (m : List ℕ) (control : Control) → IsScene o ks m control → is_storable (kind_of ks 3) ≡ true
   trap_storable m control scene =
       let least : 512 ≤ o.frames = scene.admitted.layout.least in
-      ap is_storable (kind_is laws o ks scene.admitted scene.kinds_are 3 (omega arith)
-      ∙ laws.opening.trap o.image o.frames)
+      ap is_storable (kind_is laws o ks scene.admitted scene.kinds_are 3 Trap (omega arith)
+      (laws.opening.trap o.image o.frames) refl)
 
   pub stores_kept : (m : List ℕ) (control : Control) (ws : List (ℕ × ℕ)) → All (λ w. w.0 / 4096 ≡ 3) ws
       → All (λ w. w.1 < 256) ws → IsScene o ks m control → AreStores ks ws

@@ -12,11 +12,14 @@ use Rattle.boot_map.specs.Division.{division_of, free_start, pages_start}
 use Rattle.boot_map.specs.KernelSlot.{IsCodePage}
 use Rattle.boot_map.specs.Opening.{IsOpening, byte_in}
 use Rattle.boot_map.specs.OpeningKinds.{kind_at}
-use Rattle.gate_state.specs.GuardedStates.{IsAdmitted, is_kept}
+use Rattle.page_desc.specs.PageTables.{is_kept}
+use Rattle.nk_body.specs.KindsKept.{is_settled}
+use Rattle.gate_state.specs.GuardedStates.{IsAdmitted}
 use Rattle.gate_state.specs.MachineOpening.{opening_memory}
 use Rattle.gate_state.specs.MachineStates.{Opening}
 use Rattle.gate_state.proofs.LowerLaws.{LowerLaws}
 use Rattle.gate_state.proofs.Scene.{IsScene}
+use Rattle.gate_state.proofs.SceneProofsWalks.{kind_is}
 
 -- the list of the opening's bytes is an opening
 pub opening_is : (o : Opening) → IsOpening o.image o.frames (opening_memory o)
@@ -47,28 +50,22 @@ module _ (laws : LowerLaws) (o : Opening) (ks : List Kind) where
       ∙ ap (λ (n : ℕ). byte_of o.image (4096 * n + p)) code.page_is))
 
   module _ (m : List ℕ) (control : Control) (scene : IsScene o ks m control) where
-    -- the kind of a frame is the opening's
-    kind_there : (frame : ℕ) (kind : Kind) → frame < o.frames → kind_at o.image o.frames frame ≡ kind
-        → kind_of ks frame ≡ kind
-    kind_there frame kind inside is =
-        ap (λ (list : List Kind). kind_of list frame) scene.kinds_are
-        ∙ (laws.opening.each o.image o.frames frame inside ∙ is)
-
-    -- a byte of a frame of such a kind, but for the handler slot's
+    -- a byte of a frame of a kind whose bytes no call changes, but for the handler slot's
     byte_there : (frame p : ℕ) (kind : Kind) → frame < o.frames → kind_at o.image o.frames frame ≡ kind
-        → is_kept kind ≡ true
+        → is_settled kind ≡ true → is_kept kind ≡ true
         → p < 4096 → (4096 * frame + p < 0x2000) ⊎ (0x2008 ≤ 4096 * frame + p)
         → byte_at m (4096 * frame + p) ≡ byte_in o.image o.frames (4096 * frame + p)
-    byte_there frame p kind inside is kept below apart =
+    byte_there frame p kind inside is settled kept below apart =
         let same : (4096 * frame + p) / 4096 ≡ frame = omega (arith, below) in
         scene.memory.bytes (4096 * frame + p)
-        (ap (λ (f : ℕ). is_kept (kind_of ks f)) same ∙ (ap is_kept (kind_there frame kind inside is) ∙ kept)) apart
+        (ap (λ (f : ℕ). is_kept (kind_of ks f)) same
+        ∙ (ap is_kept (kind_is laws o ks scene.admitted scene.kinds_are frame kind inside is settled) ∙ kept)) apart
 
     -- the gates' text stands in frame 1
     pub gate_there : (p : ℕ) → p < 4096 → byte_at m (4096 * 1 + p) ≡ gate_byte p
     gate_there p below =
         let least : 512 ≤ o.frames = scene.admitted.layout.least in
-        byte_there 1 p Fixed (omega (arith, least)) (laws.opening.fixed o.image o.frames).1 refl below
+        byte_there 1 p Fixed (omega (arith, least)) (laws.opening.fixed o.image o.frames).1 refl refl below
         (inl (omega (arith, below)))
         ∙ opening_gates p scene.admitted below
 
@@ -78,6 +75,6 @@ module _ (laws : LowerLaws) (o : Opening) (ks : List Kind) where
     code_there page frame p code below =
         let room : free_start (division_of o.image o.frames) ≤ o.frames = scene.admitted.layout.room in
         let inside : frame < o.frames = omega (arith, room, code.within, code.frame_is) in
-        byte_there frame p Code inside (laws.opening.code o.image o.frames page frame code) refl below
+        byte_there frame p Code inside (laws.opening.code o.image o.frames page frame code) refl refl below
         (inr (omega (arith, code.frame_is)))
         ∙ opening_code page frame p scene.admitted code below

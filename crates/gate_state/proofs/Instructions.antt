@@ -71,19 +71,19 @@ module _ (laws : LowerLaws) (o : Opening) (ks : List Kind) (scenes : SceneLaws o
   with_cr0 : (p : Processor) (m : List ℕ) (cr0 : ℕ) → IsReady o ks p m → IsCr0 cr0 → IsReady o ks (record p { control = record p.control { cr0 = cr0 } }) m
   with_cr0 p m cr0 ready is = record {
     control = record { cr0 = is; cr4 = ready.control.cr4; efer = ready.control.efer; tables = ready.control.tables; cpl = ready.control.cpl; registers = ready.control.registers; pending = ready.control.pending };
-    scene = record { admitted = ready.scene.admitted; kinds_are = ready.scene.kinds_are; memory = ready.scene.memory; root = ready.scene.root; smep = ready.scene.smep };
+    scene = record { admitted = ready.scene.admitted; kinds_are = ready.scene.kinds_are; memory = ready.scene.memory; tables = ready.scene.tables; smep = ready.scene.smep };
     pass = ready.pass;
   }
 
   -- such an act, where it leaves the supervisor at a gate point if it leaves WP clear
   cr0_kept : (wp : Bool) (a : Act) (before : Regs) (p : Processor) (m : List ℕ) → IsCr0Act a → IsReady o ks p m → IsCr0 (cr0_after a p.control.cr0)
       → (wp_of (cr0_after a p.control.cr0) ≡ false → IsGatePoint (record p { control = record p.control { cr0 = cr0_after a p.control.cr0 } }))
-      → Kept o ks wp m (acted a before p m)
+      → Kept o ks wp p.control.root m (acted a before p m)
   cr0_kept wp a before p m (inl quiet) ready is point =
-      subst (λ (x : Act). Kept o ks wp m (acted x before p m)) (sym quiet)
+      subst (λ (x : Act). Kept o ks wp p.control.root m (acted x before p m)) (sym quiet)
       (ran_kept o ks wp p m ready (subst (λ (x : Act). wp_of (cr0_after x p.control.cr0) ≡ false → IsGatePoint (record p { control = record p.control { cr0 = cr0_after x p.control.cr0 } })) quiet point))
   cr0_kept wp a before p m (inr loads) ready is point =
-      subst (λ (x : Act). Kept o ks wp m (acted x before p m)) (sym loads.1)
+      subst (λ (x : Act). Kept o ks wp p.control.root m (acted x before p m)) (sym loads.1)
       (ran_kept o ks wp (record p { control = record p.control { cr0 = kept_in_cr0 loads.0 } }) m
       (with_cr0 p m (kept_in_cr0 loads.0) ready (subst (λ (x : Act). IsCr0 (cr0_after x p.control.cr0)) loads.1 is))
       (subst (λ (x : Act). wp_of (cr0_after x p.control.cr0) ≡ false → IsGatePoint (record p { control = record p.control { cr0 = cr0_after x p.control.cr0 } })) loads.1 point))
@@ -118,7 +118,7 @@ module _ (laws : LowerLaws) (o : Opening) (ks : List Kind) (scenes : SceneLaws o
 
   -- an instruction of the gates, with WP clear
   pub window_kept : (p : Processor) (m : List ℕ) (tlb : Translations) (effect : Effect) → IsReady o ks p m → AllPass (respects o ks) tlb → IsMade p m effect → KeepsWindow p effect
-      → (wp : Bool) → Kept o ks wp m (acted effect.act p.regs (record p { regs = effect.regs; tlb = tlb }) (memory_after effect.write m))
+      → (wp : Bool) → Kept o ks wp p.control.root m (acted effect.act p.regs (record p { regs = effect.regs; tlb = tlb }) (memory_after effect.write m))
   window_kept p m tlb effect ready pass done keeps wp =
       let view = view_of m p.control p.regs.cpl in
       let places : All (λ (s : ℕ × ℕ). s.0 / 4096 ≡ 3) (stores_of effect.write) =
@@ -131,7 +131,7 @@ module _ (laws : LowerLaws) (o : Opening) (ks : List Kind) (scenes : SceneLaws o
       (All-nil (λ (s : ℕ × ℕ). s.1 < 256)) (λ w granted. stores_bytes laws w.va w.width w.target w.value) in
       let are : AreStores ks (stores_of effect.write) = trap_stores o ks facts storable (stores_of effect.write) places bytes in
       let q : Processor = record p { regs = effect.regs; tlb = tlb } in
-      kept_behind o ks laws.store wp m (memory_after effect.write m) (stores_of effect.write) _ (memory_stored effect.write m) are (λ clear. places)
+      kept_behind o ks laws.store wp p.control.root m (memory_after effect.write m) (stores_of effect.write) _ (memory_stored effect.write m) are (λ clear. places)
       (cr0_kept wp effect.act p.regs q (memory_after effect.write m) keeps.act_is (behind p m tlb effect ready pass done are) keeps.cr0_is
       (λ clear. let point : IsGatePoint (record p { regs = effect.regs; control = record p.control { cr0 = cr0_after effect.act p.control.cr0 } }) = keeps.window clear in
       record { offset = point.offset; stands = record { supervisor = point.stands.supervisor; runs = point.stands.runs; rip = point.stands.rip; point = point.stands.point; holds = point.stands.holds } }))
@@ -146,17 +146,17 @@ module _ (laws : LowerLaws) (o : Opening) (ks : List Kind) (scenes : SceneLaws o
   pub set_kept : (p : Processor) (m : List ℕ) (tlb after : Translations) (it : Fetched) (effect : Effect) → IsReady o ks p m → AllPass (respects o ks) tlb → AllPass (respects o ks) after → IsWellFormed it.instr
       → wp_of p.control.cr0 ≡ true → p.halted ≡ false → (p.regs.cpl ≡ 0 → is_protected it.instr.op ≡ true → IsLoad p.regs.rip it)
       → (effect_of it.instr it.size p.regs p.control m tlb).answer ≡ Ok effect
-      → Kept o ks true m (acted effect.act p.regs (record p { regs = effect.regs; tlb = after }) (memory_after effect.write m))
+      → Kept o ks true p.control.root m (acted effect.act p.regs (record p { regs = effect.regs; tlb = after }) (memory_after effect.write m))
   set_kept p m tlb after it effect ready pass pass_after formed set runs loads is =
       let done : IsMade p m effect = made p m tlb it effect ready pass formed is in
       let are : AreStores ks (stores_of effect.write) = set_stores p m effect done set in
       let q : Processor = record p { regs = effect.regs; tlb = after } in
       let now : IsReady o ks q (memory_after effect.write m) = behind p m after effect ready pass_after done are in
-      kept_behind o ks laws.store true m (memory_after effect.write m) (stores_of effect.write) _ (memory_stored effect.write m) are (λ never. absurd (false≢true (sym never)))
+      kept_behind o ks laws.store true p.control.root m (memory_after effect.write m) (stores_of effect.write) _ (memory_stored effect.write m) are (λ never. absurd (false≢true (sym never)))
       (by_op (is_protected it.instr.op) refl now)
     where
       by_op : (b : Bool) → is_protected it.instr.op ≡ b → IsReady o ks (record p { regs = effect.regs; tlb = after }) (memory_after effect.write m)
-          → Kept o ks true (memory_after effect.write m) (acted effect.act p.regs (record p { regs = effect.regs; tlb = after }) (memory_after effect.write m))
+          → Kept o ks true p.control.root (memory_after effect.write m) (acted effect.act p.regs (record p { regs = effect.regs; tlb = after }) (memory_after effect.write m))
       by_op false calm now =
           act_kept o ks facts storable true effect.act p.regs (record p { regs = effect.regs; tlb = after }) (memory_after effect.write m)
           (ok_at (λ (e : Effect). LoadsNothing e.act) _ effect is (laws.effect.calm it.instr it.size p.regs p.control m tlb calm)) now

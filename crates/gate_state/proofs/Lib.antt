@@ -38,6 +38,7 @@ pub mod Pending
 pub mod TurnKept
 pub mod StatesKept
 pub mod Assembly
+pub mod LooseLeaves
 pub mod BodyKept
 pub mod OpeningBytes
 pub mod OpeningGuarded

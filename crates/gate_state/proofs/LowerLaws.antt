@@ -1,5 +1,5 @@
 -- What is used of the laws of the crates below, as one record a subject.
-use Rattle.std.specs.Prelude.{◌≡◌, ◌≢◌, ◌⊎◌, ℕ, ◌+◌, ◌*◌, ◌/◌, ◌%◌, ◌^◌, ◌<◌, ◌≤◌, ◌==◌, ◌++◌, Bool, true, false, List, length, slice_index, slice_get, drop, All, IfOk, IfSome}
+use Rattle.std.specs.Prelude.{◌≡◌, ◌≢◌, ◌⊎◌, ℕ, ◌+◌, ◌*◌, ◌/◌, ◌%◌, ◌^◌, ◌<◌, ◌≤◌, ◌==◌, ◌++◌, Bool, true, false, List, length, slice_index, slice_get, drop, All, IfOk, IfSome, None, Ok}
 use Rattle.std.specs.List.{list_any, list_all}
 use Rattle.std.specs.Result.{result_ok}
 use Rattle.decode_fields.specs.Prefixes.{is_prefix, prefix_bytes}
@@ -14,31 +14,35 @@ use Rattle.x86_alu.specs.Flags.{with_flag}
 use Rattle.x86_alu.specs.SignedNumbers.{bit}
 use Rattle.nk_bits.specs.declared.access.Access.{Access}
 use Rattle.nk_bits.specs.declared.access.Access.TheVariants.{Fetch}
+use Rattle.nk_bits.specs.declared.call.CallWords.{CallWords}
 use Rattle.nk_bits.specs.declared.control.Control.{Control}
 use Rattle.nk_bits.specs.declared.kind.Kind.{Kind}
-use Rattle.nk_bits.specs.declared.kind.Kind.TheVariants.{Code, Fixed, Table, Trap}
+use Rattle.nk_bits.specs.declared.kind.Kind.TheVariants.{Code, Fixed, Trap}
 use Rattle.nk_bits.specs.declared.leaf.Leaf.{Leaf}
 use Rattle.nk_bits.specs.declared.leaf.Rights.{Rights}
-use Rattle.nk_bits.specs.declared.leaf.Target.{Target}
 use Rattle.nk_bits.specs.AccessRights.{may}
-use Rattle.nk_bits.specs.Accesses.{IsTarget, IsWalked, Serves, View, accessed, crosses, has_canonical_bytes, next_page, reached}
-use Rattle.nk_bits.specs.Kinds.{allows, is_storable, kind_of}
-use Rattle.nk_bits.specs.Paging.{is_canonical, is_canonical_page, slot_value, walk}
+use Rattle.nk_bits.specs.Accesses.{IsWalked, Serves, View, accessed, crosses, next_page}
+use Rattle.nk_bits.specs.Kinds.{allows, is_storable, kind_of, level_of}
+use Rattle.nk_bits.specs.Paging.{frame_of, is_canonical_page, is_present, is_slot_page, is_user, is_writable, slot_value, walk}
 use Rattle.nk_bits.specs.Translations.{NamesFramesIn, Translations}
-use Rattle.phys_mem.specs.Memory.{IsBytes, byte_at, entry_in, number_at, stored, stores}
+use Rattle.phys_mem.specs.Memory.{IsBytes, byte_at, entry_in, stored, stores}
 use Rattle.elf_image.specs.Pages.{IsPageList, byte_of, page_count, pages_of}
 use Rattle.gate_text.specs.GatePoints.{instruction_bytes, is_point}
 use Rattle.gate_text.specs.Listing.{cr0_loads, gate_at, gate_byte}
 use Rattle.boot_map.specs.Division.{IsLayout, division_of, pages_start}
-use Rattle.boot_map.specs.FixedFrames.{area_directory, area_table, gate_text, handler_slot, idt_and_tss, image_directory, nested_stack, opening_root, slot_table, trap_stack}
-use Rattle.boot_map.specs.KernelSlot.{HoldsSlot, HoldsTables, IsCodePage, slot_leaf, slot_start}
+use Rattle.boot_map.specs.FixedFrames.{area_directory, area_table, gate_text, handler_slot, idt_and_tss, image_directory, nested_stack, slot_table, trap_stack}
+use Rattle.boot_map.specs.KernelSlot.{HoldsSlot, IsCodePage, IsWrittenInSlot, slot_leaf, slot_start}
 use Rattle.boot_map.specs.Opening.{IsOpening}
-use Rattle.boot_map.specs.OpeningEntries.{opening_entry, table_level}
 use Rattle.boot_map.specs.OpeningKinds.{kind_at, kinds}
-use Rattle.boot_map.specs.Parts.{part_at}
-use Rattle.page_walk.specs.MemoryAccess.{stores_at, view_of}
+use Rattle.page_desc.specs.FrameCounts.{holds_leaves, loose_in}
+use Rattle.page_desc.specs.PageTables.{HoldsSoundTables}
+use Rattle.page_desc.specs.SoundTables.{AreTables}
+use Rattle.nk_body.specs.CallRules.{after_call, answer_to, memory_after_call}
+use Rattle.nk_body.specs.KindsKept.{is_reserved, is_settled}
+use Rattle.nk_body.specs.NestedRecord.{AreBooks, Books, Nested, nested_in}
+use Rattle.page_walk.specs.MemoryAccess.{view_of}
 use Rattle.x86_regs.specs.declared.registers.Regs.{Regs}
-use Rattle.x86_regs.specs.Effects.{LeavesToDelivery, effect_of}
+use Rattle.x86_regs.specs.Effects.{effect_of}
 use Rattle.x86_regs.specs.EffectsKept.{AreRegisters, IsGranted, LoadsNothing}
 
 -- a test holds of each translation kept
@@ -47,39 +51,29 @@ AllPass test tlb = All (λ pair. test pair ≡ true) tlb
 
 -- accesses, by translations of which a test holds
 pub record AccessLaws : Type 0 where
-  pub first : (va width : ℕ) → va < 2 ^ 64 → 1 ≤ width → has_canonical_bytes va width ≡ true → is_canonical va ≡ true
   pub kept : (view : View) (access : Access) (test : ℕ × Leaf → Bool) (tlb : Translations) (va width : ℕ) → IsWalked view test
       → va < 2 ^ 64 → 1 ≤ width → AllPass test tlb → AllPass test (accessed view access tlb va width).tlb
   pub served : (view : View) (access : Access) (test : ℕ × Leaf → Bool) (tlb : Translations) (va width : ℕ) → IsWalked view test
       → va < 2 ^ 64 → 1 ≤ width → AllPass test tlb → IfOk (accessed view access tlb va width).answer (λ target.
       Serves view access test va target.first × (crosses va width ≡ true → Serves view access test (next_page va) target.second))
-  pub reached_kept : (view : View) (access : Access) (test : ℕ × Leaf → Bool) (tlb : Translations) (va : ℕ) → IsWalked view test
-      → is_canonical va ≡ true → AllPass test tlb → AllPass test (reached view access tlb va).tlb
-  pub reached_served : (view : View) (access : Access) (test : ℕ × Leaf → Bool) (tlb : Translations) (va : ℕ) → IsWalked view test
-      → is_canonical va ≡ true → AllPass test tlb → IfOk (reached view access tlb va).answer (Serves view access test va)
 
 -- kinds of frames
 pub record KindLaws : Type 0 where
   pub storable : (kind : Kind) (r : Rights) → allows kind r ≡ true → r.can_write ≡ true → is_storable kind ≡ true
   pub not_fetched : (kind : Kind) (r : Rights) (wp : Bool) → allows kind r ≡ true → may Fetch r 0 wp true ≡ false
   pub allowed_in_memory : (kinds : List Kind) (f : ℕ) (r : Rights) → allows (kind_of kinds f) r ≡ true → f < length kinds
-  pub storable_in_memory : (kinds : List Kind) (f : ℕ) → is_storable (kind_of kinds f) ≡ true → f < length kinds
+  pub table_in_memory : (kinds : List Kind) (f : ℕ) → 1 ≤ level_of (kind_of kinds f) → f < length kinds
 
 -- memory after stores
 pub record StoreLaws : Type 0 where
   pub length : (m : List ℕ) (ws : List (ℕ × ℕ)) → length (stored m ws) ≡ length m
   pub append : (m : List ℕ) (ws more : List (ℕ × ℕ)) → stored m (ws ++ more) ≡ stored (stored m ws) more
   pub byte_elsewhere : (m : List ℕ) (ws : List (ℕ × ℕ)) (p : ℕ) → All (λ w. w.0 ≢ p) ws → byte_at (stored m ws) p ≡ byte_at m p
-  pub number_elsewhere : (m : List ℕ) (ws : List (ℕ × ℕ)) (n p : ℕ) → All (λ w. (w.0 < p) ⊎ (p + n ≤ w.0)) ws
-      → number_at (stored m ws) n p ≡ number_at m n p
   pub entry_elsewhere : (m : List ℕ) (ws : List (ℕ × ℕ)) (f i : ℕ) → i < 512 → All (λ w. w.0 / 4096 ≢ f) ws
       → entry_in (stored m ws) f i ≡ entry_in m f i
   pub within_frame : (n p v f : ℕ) → 4096 * f ≤ p → p + n ≤ 4096 * f + 4096 → All (λ w. w.0 / 4096 ≡ f) (stores n p v)
   pub bytes : (m : List ℕ) (ws : List (ℕ × ℕ)) → All (λ w. w.1 < 256) ws → IsBytes m → IsBytes (stored m ws)
-  pub within : (n p v : ℕ) → All (λ w. (p ≤ w.0) × (w.0 < p + n)) (stores n p v)
   pub values : (n p v : ℕ) → All (λ w. w.1 < 256) (stores n p v)
-  pub places : (size va width value : ℕ) (target : Target) → IsTarget size va width target → width ≤ 4096
-      → All (λ w. (w.0 / 4096 ≡ target.first / 4096) ⊎ (w.0 / 4096 ≡ target.second / 4096)) (stores_at va width target value)
 
 -- the opening: its kernel slot, kinds, bytes and tables
 pub record OpeningLaws : Type 0 where
@@ -93,29 +87,72 @@ pub record OpeningLaws : Type 0 where
   pub code : (b : List ℕ) (frames page frame : ℕ) → IsCodePage b frames page frame → kind_at b frames frame ≡ Code
   pub writable : (b : List ℕ) (frames page : ℕ) → IfSome (slot_leaf b frames page)
       (λ leaf. leaf.rights.can_write ≡ true → is_storable (kind_at b frames leaf.frame) ≡ true)
+  pub written : (b : List ℕ) (frames page : ℕ) (t : ℕ → ℕ → ℕ) → IsLayout b (division_of b frames) → IsPageList b (pages_of b)
+      → HoldsSlot b frames t → slot_start ≤ page → page < 2 ^ 52 → IfSome (slot_leaf b frames page)
+      (λ leaf. leaf.rights.can_write ≡ true → IsWrittenInSlot frames t leaf.frame)
   pub fixed : (b : List ℕ) (frames : ℕ) → (kind_at b frames idt_and_tss ≡ Fixed) × (kind_at b frames gate_text ≡ Fixed)
       × (kind_at b frames handler_slot ≡ Fixed) × (kind_at b frames nested_stack ≡ Fixed)
       × (kind_at b frames slot_table ≡ Fixed) × (kind_at b frames area_directory ≡ Fixed)
       × (kind_at b frames area_table ≡ Fixed) × (kind_at b frames image_directory ≡ Fixed)
   pub trap : (b : List ℕ) (frames : ℕ) → kind_at b frames trap_stack ≡ Trap
-  pub root_kind : (b : List ℕ) (frames : ℕ) → kind_at b frames opening_root ≡ Table 4
   pub count : (b : List ℕ) (frames : ℕ) → length (kinds b frames) ≡ frames
   pub each : (b : List ℕ) (frames frame : ℕ) → frame < frames → kind_of (kinds b frames) frame ≡ kind_at b frames frame
   pub gates : (b m : List ℕ) (frames o : ℕ) → IsOpening b frames m → IsLayout b (division_of b frames) → o < 4096
       → byte_at m (4096 * gate_text + o) ≡ gate_byte o
   pub image : (b m : List ℕ) (frames place o : ℕ) → IsOpening b frames m → IsLayout b (division_of b frames) → place < page_count b
       → o < 4096 → byte_at m (4096 * (pages_start (division_of b frames) + place) + o) ≡ byte_of b (4096 * slice_index (pages_of b) place + o)
-  pub respected : (b : List ℕ) (frames page : ℕ) → IsLayout b (division_of b frames) → IsPageList b (pages_of b)
-      → is_canonical_page page ≡ true → page < slot_start → IfOk (walk (opening_entry b frames) frames opening_root page)
-      (λ leaf. allows (kind_of (kinds b frames) leaf.frame) leaf.rights ≡ true)
-  pub held : (b m : List ℕ) (frames : ℕ) → IsOpening b frames m → IsLayout b (division_of b frames) → HoldsTables b frames (entry_in m)
-  pub held_slot : (b : List ℕ) (frames : ℕ) (t : ℕ → ℕ → ℕ) → HoldsTables b frames t → HoldsSlot b frames t
-  pub held_root : (b : List ℕ) (frames : ℕ) (t : ℕ → ℕ → ℕ) → IsLayout b (division_of b frames) → HoldsTables b frames t
-      → t opening_root 511 ≡ slot_value
-  pub held_walk : (b : List ℕ) (frames page : ℕ) (t : ℕ → ℕ → ℕ) → HoldsTables b frames t → IsLayout b (division_of b frames)
-      → walk t frames opening_root page ≡ walk (opening_entry b frames) frames opening_root page
-  pub table_kept : (b : List ℕ) (frames frame : ℕ) → 0 < table_level (part_at (division_of b frames) frame)
-      → is_storable (kind_at b frames frame) ≡ false
+  pub held : (b m : List ℕ) (frames : ℕ) → IsOpening b frames m → IsLayout b (division_of b frames) → HoldsSlot b frames (entry_in m)
+  pub sound : (b m : List ℕ) (frames : ℕ) → IsLayout b (division_of b frames) → IsPageList b (pages_of b) → IsOpening b frames m
+      → HoldsSoundTables (kinds b frames) 5 m
+
+-- sound page tables: walks, entries and counts; and that stores in frames that may be stored to leave them
+pub record TableLaws : Type 0 where
+  pub walk : (kinds : List Kind) (t : ℕ → ℕ → ℕ) (frames root page : ℕ) (leaf : Leaf) → AreTables kinds t
+      → level_of (kind_of kinds root) ≡ 4 → is_canonical_page page ≡ true → is_slot_page page ≡ false
+      → walk t frames root page ≡ Ok leaf → allows (kind_of kinds leaf.frame) leaf.rights ≡ true
+  pub slot : (kinds : List Kind) (t : ℕ → ℕ → ℕ) (f : ℕ) → AreTables kinds t → level_of (kind_of kinds f) ≡ 4 → t f 511 ≡ slot_value
+  pub no_loose_leaf : (kinds : List Kind) (t : ℕ → ℕ → ℕ) (frame f i : ℕ) → loose_in kinds t frame ≡ 0
+      → f < length kinds → i < 512 → holds_leaves kinds t f ≡ true → is_present (t f i) ≡ true → frame_of (t f i) ≡ frame
+      → (is_writable (t f i) ≡ false) × (is_user (t f i) ≡ false)
+  pub nested_stays : (kinds : List Kind) (root : ℕ) (m : List ℕ) (ws : List (ℕ × ℕ)) → kind_of kinds 2 ≡ Fixed
+      → All (λ w. is_storable (kind_of kinds (w.0 / 4096)) ≡ true) ws → nested_in kinds root (stored m ws) ≡ nested_in kinds root m
+  pub sound_stays : (kinds : List Kind) (root : ℕ) (m : List ℕ) (ws : List (ℕ × ℕ)) → HoldsSoundTables kinds root m
+      → All (λ w. is_storable (kind_of kinds (w.0 / 4096)) ≡ true) ws → HoldsSoundTables kinds root (stored m ws)
+  pub books_stay : (books : Books) (m : List ℕ) (ws : List (ℕ × ℕ)) → AreBooks books m
+      → All (λ w. is_storable (kind_of books.frames.kinds (w.0 / 4096)) ≡ true) ws → AreBooks books (stored m ws)
+
+-- what a call leaves of the record and of memory
+pub record CallLaws : Type 0 where
+  pub nested : (kinds : List Kind) (root : ℕ) (m : List ℕ) (call : CallWords) → HoldsSoundTables kinds root m
+      → call.a < 2 ^ 64 → call.c < 2 ^ 64 → let after : Nested = after_call (nested_in kinds root m) call in
+      nested_in after.tables.kinds after.tables.root (memory_after_call (nested_in kinds root m) call m) ≡ after
+  pub sound : (kinds : List Kind) (root : ℕ) (m : List ℕ) (call : CallWords) → HoldsSoundTables kinds root m
+      → call.a < 2 ^ 64 → call.c < 2 ^ 64 → let after : Nested = after_call (nested_in kinds root m) call in
+      HoldsSoundTables after.tables.kinds after.tables.root (memory_after_call (nested_in kinds root m) call m)
+  pub count : (kinds : List Kind) (root : ℕ) (m : List ℕ) (call : CallWords)
+      → length (after_call (nested_in kinds root m) call).tables.kinds ≡ length kinds
+  pub settled : (kinds : List Kind) (root f : ℕ) (m : List ℕ) (call : CallWords) → HoldsSoundTables kinds root m
+      → is_settled (kind_of kinds f) ≡ true → kind_of (after_call (nested_in kinds root m) call).tables.kinds f ≡ kind_of kinds f
+  pub reserved : (kinds : List Kind) (root f : ℕ) (m : List ℕ) (call : CallWords) → HoldsSoundTables kinds root m
+      → is_reserved (kind_of (after_call (nested_in kinds root m) call).tables.kinds f) ≡ true
+      → kind_of (after_call (nested_in kinds root m) call).tables.kinds f ≡ kind_of kinds f
+  pub loose : (kinds : List Kind) (root f : ℕ) (m : List ℕ) (call : CallWords) → HoldsSoundTables kinds root m
+      → 1 ≤ loose_in kinds (entry_in m) f → is_storable (kind_of kinds f) ≡ true
+      → is_storable (kind_of (after_call (nested_in kinds root m) call).tables.kinds f) ≡ true
+  pub bytes : (kinds : List Kind) (root place : ℕ) (m : List ℕ) (call : CallWords) → HoldsSoundTables kinds root m
+      → is_settled (kind_of kinds (place / 4096)) ≡ true → (place < 0x2000) ⊎ (0x2008 ≤ place)
+      → byte_at (memory_after_call (nested_in kinds root m) call m) place ≡ byte_at m place
+  pub entries : (kinds : List Kind) (root f i : ℕ) (m : List ℕ) (call : CallWords) → HoldsSoundTables kinds root m
+      → is_settled (kind_of kinds f) ≡ true → f ≢ 2 → i < 512
+      → entry_in (memory_after_call (nested_in kinds root m) call m) f i ≡ entry_in m f i
+  pub length_is : (kinds : List Kind) (root : ℕ) (m : List ℕ) (call : CallWords) → HoldsSoundTables kinds root m
+      → length (memory_after_call (nested_in kinds root m) call m) ≡ length m
+  pub are_bytes : (kinds : List Kind) (root : ℕ) (m : List ℕ) (call : CallWords) → HoldsSoundTables kinds root m
+      → IsBytes m → IsBytes (memory_after_call (nested_in kinds root m) call m)
+  pub same : (kinds : List Kind) (root : ℕ) (m : List ℕ) (call : CallWords) → (answer_to (nested_in kinds root m) call).flush ≡ false
+      → ((after_call (nested_in kinds root m) call).tables.kinds ≡ kinds) × ((after_call (nested_in kinds root m) call).tables.root ≡ root)
+  pub value : (kinds : List Kind) (root : ℕ) (m : List ℕ) (call : CallWords) → (answer_to (nested_in kinds root m) call).value < 2 ^ 64
+  pub place : (kinds : List Kind) (root : ℕ) (m : List ℕ) (call : CallWords) → (answer_to (nested_in kinds root m) call).place ≡ None
 
 -- spellings, and the gates' text
 pub record CodeLaws : Type 0 where
@@ -140,8 +177,6 @@ pub record FlagLaws : Type 0 where
 pub record EffectLaws : Type 0 where
   pub privilege : (i : Instr) (size : ℕ) (regs : Regs) (control : Control) (m : List ℕ) (tlb : Translations)
       → IfOk (effect_of i size regs control m tlb).answer (λ effect. (effect.regs.cpl ≡ regs.cpl) × (effect.regs.ss ≡ regs.ss))
-  pub moved : (i : Instr) (size : ℕ) (regs : Regs) (control : Control) (m : List ℕ) (tlb : Translations)
-      → IfOk (effect_of i size regs control m tlb).answer (LeavesToDelivery regs)
   pub registers : (i : Instr) (size : ℕ) (regs : Regs) (control : Control) (m : List ℕ) (tlb : Translations)
       → IsWellFormed i → AreRegisters regs
       → IfOk (effect_of i size regs control m tlb).answer (λ effect. AreRegisters effect.regs)
@@ -163,6 +198,8 @@ pub record LowerLaws : Type 0 where
   pub kind : KindLaws
   pub store : StoreLaws
   pub opening : OpeningLaws
+  pub table : TableLaws
+  pub call : CallLaws
   pub code : CodeLaws
   pub flag : FlagLaws
   pub effect : EffectLaws

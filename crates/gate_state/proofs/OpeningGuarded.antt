@@ -1,19 +1,21 @@
 -- The opening is guarded.
 use Rattle.std.proofs.Common.{◌≡◌, ℕ, zero, suc, ◌*◌, ◌/◌, ◌^◌, ◌<◌, ◌≤◌, true, List, [], ◌∷◌, refl, sym, ap, subst, ◌∙◌, arith, inl, inr}
-use Rattle.std.specs.Prelude.{slice_index}
+use Rattle.std.specs.Prelude.{IfSome, Option, None, Some, slice_index}
 use Rattle.std.proofs.lemmas.Bool.{cases_lt, false≢true}
 use Rattle.std.proofs.lemmas.List.{get_or_past}
 use Rattle.std.proofs.lemmas.List.Elements.{All-nil}
 use Rattle.nk_bits.specs.declared.leaf.Leaf.{Leaf}
 use Rattle.nk_bits.specs.Accesses.{wp_of}
 use Rattle.nk_bits.specs.declared.kind.Kind.TheVariants.{Hidden}
-use Rattle.nk_bits.specs.Kinds.{kind_of}
+use Rattle.nk_bits.specs.Kinds.{is_storable, kind_of}
 use Rattle.phys_mem.specs.Memory.{IsBytes}
 use Rattle.elf_image.specs.Pages.{entry_of}
 use Rattle.boot_map.specs.Division.{need}
-use Rattle.boot_map.specs.OpeningKinds.{kinds}
+use Rattle.boot_map.specs.KernelSlot.{slot_leaf}
+use Rattle.boot_map.specs.OpeningKinds.{kind_at, kinds}
 use Rattle.x86_regs.specs.EffectsKept.{AreRegisters}
-use Rattle.gate_state.specs.GuardedStates.{IsAdmitted, IsGuarded, IsHeld, is_kept}
+use Rattle.page_desc.specs.PageTables.{is_kept}
+use Rattle.gate_state.specs.GuardedStates.{AreKinds, IsAdmitted, IsGuarded, IsHeld}
 use Rattle.gate_state.specs.MachineOpening.{opening_memory, opening_regs, opening_state}
 use Rattle.gate_state.specs.MachineStates.{Opening}
 use Rattle.gate_state.specs.RespectedKinds.{respects}
@@ -58,18 +60,32 @@ module _ (laws : LowerLaws) (o : Opening) (admitted : IsAdmitted o) (entry : ent
       | inl within ↦ (opening_is o).bytes place within
       | inr past ↦ absurd (false≢true (sym (ap is_kept (hidden_past (place / 4096) (omega (arith, past)))) ∙ kept))
     ];
-    tables = laws.opening.held o.image (opening_memory o) o.frames (opening_is o) admitted.layout;
+    slot = laws.opening.held o.image (opening_memory o) o.frames (opening_is o) admitted.layout;
   }
     where
       hidden_past : (frame : ℕ) → o.frames ≤ frame → kind_of (kinds o.image o.frames) frame ≡ Hidden
       hidden_past frame past = get_or_past (kinds o.image o.frames) frame Hidden (omega (arith, laws.opening.count o.image o.frames, past))
 
+  opening_kinds : AreKinds o (kinds o.image o.frames)
+  opening_kinds = record {
+    count = laws.opening.count o.image o.frames;
+    settled = λ f is. refl;
+    writable = λ page low high. both (slot_leaf o.image o.frames page)
+        (laws.opening.in_memory o.image o.frames page admitted.layout) (laws.opening.writable o.image o.frames page);
+  }
+    where
+      both : (found : Option Leaf) → IfSome found (λ leaf. leaf.frame < o.frames)
+          → IfSome found (λ leaf. leaf.rights.can_write ≡ true → is_storable (kind_at o.image o.frames leaf.frame) ≡ true)
+          → IfSome found (λ leaf. leaf.rights.can_write ≡ true → is_storable (kind_of (kinds o.image o.frames) leaf.frame) ≡ true)
+      both None inside storable = tt
+      both (Some leaf) inside storable = λ write. ap is_storable (laws.opening.each o.image o.frames leaf.frame inside) ∙ storable write
+
   pub opening_guarded : (input : List ℕ) → IsGuarded o (opening_state o input)
   unfolding wp_of
   opening_guarded input = record {
     control = record { cr0 = inr (inl refl); cr4 = refl; efer = refl; tables = refl; cpl = inl refl; registers = registers; pending = omega arith };
-    root = refl;
-    kinds = refl;
+    kinds = opening_kinds;
+    tables = laws.opening.sound o.image (opening_memory o) o.frames admitted.layout admitted.pages (opening_is o);
     memory = held;
     translations = All-nil (λ (pair : ℕ × Leaf). respects o (kinds o.image o.frames) pair ≡ true);
     window = λ clear. absurd (false≢true (sym clear ∙ wp_set));

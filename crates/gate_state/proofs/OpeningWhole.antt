@@ -24,8 +24,8 @@ module _ (o : Opening) (input : List ℕ) (p : Processor) where
   abbrev Starts : Type 0
   Starts = p ≡ started (opening_regs o) opening_control opening_tables input
 
-  pub starts_at : (m : List ℕ) (books : Books) → Starts → IsOpening o.image o.frames m → books.kinds ≡ kinds o.image o.frames
-      → record { processor = p; memory = m; kinds = books.kinds; turns = 0; taken = 0 } ≡ opening_state o input
+  pub starts_at : (m : List ℕ) (books : Books) → Starts → IsOpening o.image o.frames m → books.frames.kinds ≡ kinds o.image o.frames
+      → record { processor = p; memory = m; kinds = books.frames.kinds; turns = 0; taken = 0 } ≡ opening_state o input
   starts_at m books starts opening kinds_are =
       let memory : m ≡ opening_memory o = opening_list o m opening in
       λ i. record { processor = starts i; memory = memory i; kinds = kinds_are i; turns = 0; taken = 0 }
@@ -35,8 +35,8 @@ module _ (o : Opening) (input : List ℕ) (p : Processor) where
   starts_set starts = ap (λ (q : Processor). wp_of q.control.cr0) starts
 
   pub opening_whole : (m : List ℕ) (books : Books) → IsAdmitted o → ((o : Opening) (input : List ℕ) → IsAdmitted o → IsGuarded o (opening_state o input)) → Starts
-      → IsOpening o.image o.frames m → books.kinds ≡ kinds o.image o.frames → books.root ≡ 5 → AreBooks books m
-      → IsWhole o (record { processor = p; memory = m; kinds = books.kinds; turns = 0; taken = 0 }) books
+      → IsOpening o.image o.frames m → books.frames.kinds ≡ kinds o.image o.frames → books.root ≡ 5 → AreBooks books m
+      → IsWhole o (record { processor = p; memory = m; kinds = books.frames.kinds; turns = 0; taken = 0 }) books
   opening_whole m books admitted guarded starts opening kinds_are root_is are = record {
     admitted = admitted;
     guarded = subst (IsGuarded o) (sym (starts_at m books starts opening kinds_are)) (guarded o input admitted);

@@ -20,10 +20,10 @@ pub record IsReady (o : Opening) (ks : List Kind) (p : Processor) (m : List ℕ)
   pub scene : IsScene o ks m p.control
   pub pass : AllPass (respects o ks) p.tlb
 
--- what a turn keeps, over the memory m before it; where WP was clear before, it stores on the trap stack alone
-pub record Kept (o : Opening) (ks : List Kind) (wp : Bool) (m : List ℕ) (t : Turned) : Type 0 where
+-- what a turn keeps, over the root and the memory m before it; where WP was clear before, it stores on the trap stack alone
+pub record Kept (o : Opening) (ks : List Kind) (wp : Bool) (root : ℕ) (m : List ℕ) (t : Turned) : Type 0 where
   pub control : IsControlled t.processor
-  pub root : t.processor.control.root ≡ 5
+  pub same_root : t.processor.control.root ≡ root
   pub pass : AllPass (respects o ks) t.processor.tlb
   pub window : wp_of t.processor.control.cr0 ≡ false → IsGatePoint t.processor
   pub runs : t.stepped ≢ stepped.Shutdown
@@ -44,11 +44,11 @@ unfolding stored
 stored_none m = refl
 
 -- a turn behind stores
-pub kept_behind : (o : Opening) (ks : List Kind) (laws : StoreLaws) (wp : Bool) (m after : List ℕ) (ws : List (ℕ × ℕ)) (t : Turned) → after ≡ stored m ws → AreStores ks ws
-    → (wp ≡ false → All (λ w. w.0 / 4096 ≡ 3) ws) → Kept o ks wp after t → Kept o ks wp m t
-kept_behind o ks laws wp m after ws t is are in_trap kept = record {
+pub kept_behind : (o : Opening) (ks : List Kind) (laws : StoreLaws) (wp : Bool) (root : ℕ) (m after : List ℕ) (ws : List (ℕ × ℕ)) (t : Turned) → after ≡ stored m ws → AreStores ks ws
+    → (wp ≡ false → All (λ w. w.0 / 4096 ≡ 3) ws) → Kept o ks wp root after t → Kept o ks wp root m t
+kept_behind o ks laws wp root m after ws t is are in_trap kept = record {
   control = kept.control;
-  root = kept.root;
+  same_root = kept.same_root;
   pass = kept.pass;
   window = kept.window;
   runs = kept.runs;
@@ -63,10 +63,10 @@ kept_behind o ks laws wp m after ws t is are in_trap kept = record {
 
 -- a turn that leaves this processor, and memory as it is
 pub ran_kept : (o : Opening) (ks : List Kind) (wp : Bool) (p : Processor) (m : List ℕ) → IsReady o ks p m → (wp_of p.control.cr0 ≡ false → IsGatePoint p)
-    → Kept o ks wp m (ran p m)
+    → Kept o ks wp p.control.root m (ran p m)
 ran_kept o ks wp p m ready point = record {
   control = ready.control;
-  root = ready.scene.root;
+  same_root = refl;
   pass = ready.pass;
   window = point;
   runs = λ e. absurd (cc);

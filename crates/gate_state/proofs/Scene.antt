@@ -13,19 +13,19 @@ use Rattle.nk_bits.specs.Paging.{page_of}
 use Rattle.nk_bits.specs.Translations.{NamesFramesIn, Translations}
 use Rattle.phys_mem.specs.Memory.{stored}
 use Rattle.boot_map.specs.KernelSlot.{slot_leaf, slot_start}
-use Rattle.boot_map.specs.OpeningKinds.{kinds}
+use Rattle.page_desc.specs.PageTables.{HoldsSoundTables}
 use Rattle.page_walk.specs.MemoryAccess.{view_of}
-use Rattle.gate_state.specs.GuardedStates.{IsAdmitted, IsHeld}
+use Rattle.gate_state.specs.GuardedStates.{AreKinds, IsAdmitted, IsHeld}
 use Rattle.gate_state.specs.MachineStates.{Opening}
 use Rattle.gate_state.specs.RespectedKinds.{respects}
 use Rattle.gate_state.proofs.LowerLaws.{AllPass}
 
--- memory holds what is guarded, of an opening that was admitted, under the opening's root with SMEP set
+-- memory holds what is guarded, of an opening that was admitted, and sound tables under the root, with SMEP set
 pub record IsScene (o : Opening) (ks : List Kind) (m : List ℕ) (control : Control) : Type 0 where
   pub admitted : IsAdmitted o
-  pub kinds_are : ks ≡ kinds o.image o.frames
+  pub kinds_are : AreKinds o ks
   pub memory : IsHeld o ks m
-  pub root : control.root ≡ 5
+  pub tables : HoldsSoundTables ks control.root m
   pub smep : smep_of control.cr4 ≡ true
 
 -- stores of bytes in frames that may be stored to
@@ -59,9 +59,11 @@ pub record SceneLaws (o : Opening) (ks : List Kind) : Type 0 where
   pub accessed_pass : (m : List ℕ) (control : Control) (cpl : ℕ) (access : Access) (tlb : Translations) (va width : ℕ)
       → IsScene o ks m control → AllPass (respects o ks) tlb → va < 2 ^ 64 → 1 ≤ width
       → AllPass (respects o ks) (accessed (view_of m control cpl) access tlb va width).tlb
-  -- stores in frames that may be stored to leave what is guarded
-  pub held_stored : (m : List ℕ) (ws : List (ℕ × ℕ)) → IsAdmitted o → ks ≡ kinds o.image o.frames → IsHeld o ks m
+  -- stores in frames that may be stored to leave what is guarded, and sound tables
+  pub held_stored : (m : List ℕ) (ws : List (ℕ × ℕ)) → IsAdmitted o → AreKinds o ks → IsHeld o ks m
       → AreStores ks ws → IsHeld o ks (stored m ws)
+  pub tables_stored : (root : ℕ) (m : List ℕ) (ws : List (ℕ × ℕ)) → HoldsSoundTables ks root m
+      → AreStores ks ws → HoldsSoundTables ks root (stored m ws)
 
 -- the same of a scene
 pub scene_stored : (o : Opening) (ks : List Kind) → SceneLaws o ks → (m : List ℕ) (control : Control) (ws : List (ℕ × ℕ))
@@ -70,6 +72,6 @@ scene_stored o ks laws m control ws scene storable = record {
   admitted = scene.admitted;
   kinds_are = scene.kinds_are;
   memory = laws.held_stored m ws scene.admitted scene.kinds_are scene.memory storable;
-  root = scene.root;
+  tables = laws.tables_stored control.root m ws scene.tables storable;
   smep = scene.smep;
 }

@@ -11,11 +11,9 @@ use Rattle.nk_bits.specs.Accesses.{place_in, reached, smep_of, wp_of}
 use Rattle.nk_bits.specs.Paging.{page_of, walk}
 use Rattle.nk_bits.specs.Translations.{Translations, look, translation}
 use Rattle.phys_mem.specs.Memory.{entry_in}
-use Rattle.boot_map.specs.FixedFrames.{opening_root}
 use Rattle.boot_map.specs.KernelSlot.{slot_leaf, slot_start}
-use Rattle.boot_map.specs.OpeningKinds.{kinds}
 use Rattle.page_walk.specs.MemoryAccess.{view_of}
-use Rattle.gate_state.specs.GuardedStates.{IsAdmitted}
+use Rattle.gate_state.specs.GuardedStates.{AreKinds, IsAdmitted}
 use Rattle.gate_state.specs.MachineStates.{Opening}
 use Rattle.gate_state.specs.RespectedKinds.{respects}
 use Rattle.gate_state.proofs.LowerLaws.{AllPass, LowerLaws}
@@ -23,7 +21,7 @@ use Rattle.gate_state.proofs.Scene.{IsScene, SceneLaws}
 use Rattle.gate_state.proofs.SceneProofsAccesses.{accessed_there, on_one_page, reached_there, slot_canonical_bytes, translation_is}
 use Rattle.gate_state.proofs.SceneProofsRespects.{leaf_within, look_passes, slot_page}
 use Rattle.gate_state.proofs.SceneProofsStores.{stores_hold}
-use Rattle.gate_state.proofs.SceneProofsWalks.{frames_within, laid_by_walk, view_walks, walk_respects}
+use Rattle.gate_state.proofs.SceneProofsWalks.{frames_within, laid_by_walk, walk_respects}
 
 -- what a result holds, where it holds something
 ok_from : (r : Result Leaf ℕ) (leaf : Leaf) → result_ok r ≡ Some leaf → r ≡ Ok leaf
@@ -58,9 +56,8 @@ module _ (laws : LowerLaws) (o : Opening) (ks : List Kind) (m : List ℕ) (contr
       → translation (entry_in m) (length m / 4096) control.root tlb page ≡ Some laid
   slot_translation tlb page laid pass low high is =
       translation_is (entry_in m) (length m / 4096) control.root tlb page laid (kept_is tlb page laid pass low high is)
-      (view_walks laws o ks scene.admitted scene.kinds_are m scene.memory control.root page scene.root
-      ∙ ok_from (walk (entry_in m) o.frames opening_root page) laid
-      (laid_by_walk laws o ks scene.admitted scene.kinds_are m scene.memory page low high ∙ is))
+      (ok_from (walk (entry_in m) (length m / 4096) control.root page) laid
+      (laid_by_walk laws o ks scene.admitted scene.kinds_are m scene.memory control.root scene.tables page low high ∙ is))
 
   pub reached_in_slot : (cpl : ℕ) (access : Access) (tlb : Translations) (va : ℕ) (laid : Leaf)
       → AllPass (respects o ks) tlb → va < 2 ^ 64
@@ -71,11 +68,10 @@ module _ (laws : LowerLaws) (o : Opening) (ks : List Kind) (m : List ℕ) (contr
       reached_there (view_of m control cpl) access tlb va laid
       (slot_translation tlb (page_of va) laid pass (omega arith) (omega arith) is) serves
 
-pub scene_laws : LowerLaws → (o : Opening) (ks : List Kind) → IsAdmitted o → ks ≡ kinds o.image o.frames
-    → SceneLaws o ks
+pub scene_laws : LowerLaws → (o : Opening) (ks : List Kind) → IsAdmitted o → AreKinds o ks → SceneLaws o ks
 scene_laws laws o ks admitted kinds_are = record {
   walked = λ m control cpl scene. walk_respects laws o ks scene.admitted scene.kinds_are m scene.memory control cpl
-      scene.root;
+      scene.tables;
   named = λ m control tlb scene pass. frames_within laws o ks scene.admitted scene.kinds_are m scene.memory tlb pass;
   slot_is = slot_is o ks;
   slot_reached = λ m control cpl access tlb va laid scene pass fits low is serves.
@@ -86,6 +82,7 @@ scene_laws laws o ks admitted kinds_are = record {
       (reached_in_slot laws o ks m control scene cpl access tlb va laid pass fits low is serves);
   accessed_pass = λ m control cpl access tlb va width scene pass fits some.
       laws.access.kept (view_of m control cpl) access (respects o ks) tlb va width
-      (walk_respects laws o ks scene.admitted scene.kinds_are m scene.memory control cpl scene.root) fits some pass;
+      (walk_respects laws o ks scene.admitted scene.kinds_are m scene.memory control cpl scene.tables) fits some pass;
   held_stored = λ m ws admitted kinds_are held are. stores_hold laws o ks m ws admitted kinds_are held are;
+  tables_stored = λ root m ws tables are. laws.table.sound_stays ks root m ws tables are.places;
 }

@@ -1,26 +1,26 @@
 -- Each kind of step keeps the invariant, and over it a state is safe.
-use Rattle.std.proofs.Common.{◌≡◌, ◌≢◌, ◌⊎◌, ℕ, ◌+◌, ◌-◌, ◌*◌, ◌/◌, ◌%◌, ◌^◌, ◌<◌, ◌≤◌, Bool, true, false, List, [], ◌∷◌, ◌++◌, length, All, refl, sym, ap, subst, ◌∙◌, arith, inl, inr}
-use Rattle.std.specs.Prelude.{IfSome, Option, None, Result, Ok, Err, not, ◌==◌, ◌&&◌, nat_lt, if◌then◌else◌}
-use Rattle.std.proofs.lemmas.Bool.{and_parts, cases_lt, false≢true, ltb-true}
+use Rattle.std.proofs.Common.{◌≡◌, ◌≢◌, ℕ, ◌+◌, ◌-◌, ◌*◌, ◌/◌, ◌%◌, ◌^◌, ◌<◌, Bool, true, false, List, [], ◌∷◌, ◌++◌, length, All, refl, sym, ap, subst, ◌∙◌, arith, inl, inr}
+use Rattle.std.specs.Prelude.{IfSome, Option, None, Result, Ok, Err, not, ◌==◌, ◌&&◌}
+use Rattle.std.proofs.lemmas.Bool.{and_parts, false≢true}
 use Rattle.std.proofs.lemmas.List.Elements.{All-drop, All-filter, All-push, All-weaker}
 use Rattle.nk_bits.specs.declared.kind.Kind.{Kind}
-use Rattle.nk_bits.specs.declared.kind.Kind.TheVariants.{Data, Code, Table, Fixed, Trap, Guarded, Hidden}
+use Rattle.nk_bits.specs.declared.kind.Kind.TheVariants.{Trap}
 use Rattle.nk_bits.specs.declared.leaf.Leaf.{Leaf}
 use Rattle.nk_bits.specs.Accesses.{smep_of, wp_of}
-use Rattle.nk_bits.specs.Kinds.{is_storable, kind_of, level_of}
+use Rattle.nk_bits.specs.Kinds.{is_storable, kind_of}
 use Rattle.nk_bits.specs.Paging.{is_canonical, page_of, walk}
 use Rattle.nk_bits.specs.Translations.{IsLive, Translations, capacity, dropped, fill_walked, filled}
-use Rattle.phys_mem.specs.Memory.{byte_at, entry_in, number_at, stored}
+use Rattle.phys_mem.specs.Memory.{byte_at, entry_in, stored}
 use Rattle.irq_plan.specs.declared.event.What.{What}
 use Rattle.irq_plan.specs.declared.event.What.TheVariants.{Irq, Drop, Fill}
 use Rattle.irq_plan.specs.PlannedEvents.{IsPlannable}
-use Rattle.boot_map.specs.OpeningKinds.{kinds}
-use Rattle.nk_body.specs.NestedRecord.{handler_in, nested_in, table_entries}
+use Rattle.page_desc.specs.PageTables.{HoldsSoundTables}
+use Rattle.nk_body.specs.NestedRecord.{AreBooks, Books, nested_in}
 use Rattle.cpu_step.specs.declared.stepped.Stepped.TheVariants as stepped
 use Rattle.cpu_step.specs.Processor.{IsSound}
 use Rattle.cpu_step.specs.Turns.{enters_body, is_at_body, turned}
 use Rattle.gate_state.specs.GateWindow.{IsGatePoint}
-use Rattle.gate_state.specs.GuardedStates.{IsAdmitted, IsGuarded, IsHeld}
+use Rattle.gate_state.specs.GuardedStates.{AreKinds, IsAdmitted, IsGuarded, IsHeld}
 use Rattle.gate_state.specs.MachineStates.{MachineState, Opening, nested_of}
 use Rattle.gate_state.specs.MachineSteps.{after_event, after_turn, turn_of}
 use Rattle.gate_state.specs.RespectedKinds.{respects}
@@ -28,7 +28,7 @@ use Rattle.gate_state.specs.SafeStates.{IsSafe, TakesTurn}
 use Rattle.gate_state.proofs.LowerLaws.{AllPass, LowerLaws}
 use Rattle.gate_state.proofs.Pending.{pending_changed}
 use Rattle.gate_state.proofs.Ready.{IsReady, Kept}
-use Rattle.gate_state.proofs.Scene.{AreStores, SceneLaws}
+use Rattle.gate_state.proofs.Scene.{SceneLaws}
 use Rattle.gate_state.proofs.SceneProofs.{scene_laws}
 use Rattle.gate_state.proofs.SceneProofsRespects.{look_passes}
 use Rattle.gate_state.proofs.SceneProofsWalks.{kind_is}
@@ -40,61 +40,16 @@ has_smep : (cr4 : ℕ) → cr4 ≡ 0x100020 → smep_of cr4 ≡ true
 unfolding smep_of
 has_smep cr4 is = ap (λ n. n / 2 ^ 20 % 2 == 1) is
 
--- stores that a kind refuses lie elsewhere
-elsewhere : (ks : List Kind) (ws : List (ℕ × ℕ)) (frame : ℕ) → AreStores ks ws → is_storable (kind_of ks frame) ≡ false → All (λ w. w.0 / 4096 ≢ frame) ws
-elsewhere ks ws frame are refused =
-    All-weaker (λ (w : ℕ × ℕ). is_storable (kind_of ks (w.0 / 4096)) ≡ true) (λ (w : ℕ × ℕ). w.0 / 4096 ≢ frame)
-    (λ w storable same. absurd (false≢true (sym refused ∙ ap (λ n. is_storable (kind_of ks n)) (sym same) ∙ storable))) ws are.places
-
--- a page table may not be stored to
-table_refused : (kind : Kind) → 0 < level_of kind → is_storable kind ≡ false
-table_refused Data level = absurd (omega arith)
-table_refused Code level = refl
-table_refused (Table n) level = refl
-table_refused Fixed level = refl
-table_refused Trap level = absurd (omega arith)
-table_refused Guarded level = refl
-table_refused Hidden level = refl
-
-choice_same : {A : Type 0} (b : Bool) (x y z : A) → (b ≡ true → x ≡ y) → (if b then x else z) ≡ (if b then y else z)
-choice_same true x y z same = same refl
-choice_same false x y z same = refl
-
--- stores leave the record, where the handler slot's frame may not be stored to
-pub nested_stays : (laws : LowerLaws) (ks : List Kind) (root : ℕ) (m : List ℕ) (ws : List (ℕ × ℕ)) → AreStores ks ws → is_storable (kind_of ks 2) ≡ false
-    → nested_in ks root (stored m ws) ≡ nested_in ks root m
-unfolding handler_in table_entries
-nested_stays laws ks root m ws are slot =
-    let trap : number_at (stored m ws) 8 0x2000 ≡ number_at m 8 0x2000 = laws.store.number_elsewhere m ws 8 0x2000
-    (All-weaker (λ (w : ℕ × ℕ). w.0 / 4096 ≢ 2) (λ (w : ℕ × ℕ). (w.0 < 0x2000) ⊎ (0x2000 + 8 ≤ w.0)) (λ w other. beside w.0 other) ws (elsewhere ks ws 2 are slot)) in
-    let entries : table_entries ks (stored m ws) ≡ table_entries ks m = λ i f k. same_entry f k i in
-    λ i. record { kinds = ks; entries = entries i; root = root; trap = trap i }
-  where
-    beside : (place : ℕ) → place / 4096 ≢ 2 → (place < 0x2000) ⊎ (0x2000 + 8 ≤ place)
-    beside place other = elim (cases_lt place 0x2000) [
-      | inl below ↦ inl below
-      | inr above ↦ inr (elim (cases_lt place 0x3000) [ inl within ↦ absurd (other (omega arith)) | inr past ↦ omega arith ])
-    ]
-
-    same_entry : (f i : ℕ) → table_entries ks (stored m ws) f i ≡ table_entries ks m f i
-    same_entry f i =
-        choice_same (nat_lt 0 (level_of (kind_of ks f)) && nat_lt i 512) _ _ 0
-        (λ is. let parts = and_parts (nat_lt 0 (level_of (kind_of ks f))) (nat_lt i 512) is in
-        laws.store.entry_elsewhere m ws f i (ltb-true i 512 parts.1) (elsewhere ks ws f are (table_refused (kind_of ks f) (ltb-true 0 (level_of (kind_of ks f)) parts.0))))
-
 module _ (laws : LowerLaws) (o : Opening) (admitted : IsAdmitted o) where
   abbrev Facts : List Kind → Type 0
   Facts ks = TurnFacts o ks
 
-  scenes_of : (ks : List Kind) → ks ≡ kinds o.image o.frames → SceneLaws o ks
+  scenes_of : (ks : List Kind) → AreKinds o ks → SceneLaws o ks
   scenes_of ks are = scene_laws laws o ks admitted are
 
-  -- the trap stack may be stored to, and the handler slot may not
-  pub stack_storable : (ks : List Kind) → ks ≡ kinds o.image o.frames → is_storable (kind_of ks 3) ≡ true
-  stack_storable ks are = ap is_storable (kind_is laws o ks admitted are 3 (omega (arith, admitted.layout.least)) ∙ laws.opening.trap o.image o.frames)
-
-  pub slot_unstorable : (ks : List Kind) → ks ≡ kinds o.image o.frames → is_storable (kind_of ks 2) ≡ false
-  slot_unstorable ks are = ap is_storable (kind_is laws o ks admitted are 2 (omega (arith, admitted.layout.least)) ∙ (laws.opening.fixed o.image o.frames).2)
+  -- the trap stack may be stored to
+  pub stack_storable : (ks : List Kind) → AreKinds o ks → is_storable (kind_of ks 3) ≡ true
+  stack_storable ks are = ap is_storable (kind_is laws o ks admitted are 3 Trap (omega (arith, admitted.layout.least)) (laws.opening.trap o.image o.frames) refl)
 
   pub ready : (s : MachineState) → IsGuarded o s → IsReady o s.kinds s.processor s.memory
   ready s guarded = record {
@@ -103,7 +58,7 @@ module _ (laws : LowerLaws) (o : Opening) (admitted : IsAdmitted o) where
       admitted = admitted;
       kinds_are = guarded.kinds;
       memory = guarded.memory;
-      root = guarded.root;
+      tables = guarded.tables;
       smep = has_smep s.processor.control.cr4 guarded.control.cr4;
     };
     pass = guarded.translations;
@@ -111,15 +66,17 @@ module _ (laws : LowerLaws) (o : Opening) (admitted : IsAdmitted o) where
 
   -- a turn
   module _ (s : MachineState) (guarded : IsGuarded o s) (facts : TurnFacts o s.kinds) (takes : TakesTurn s.processor) where
-    kept : Kept o s.kinds (wp_of s.processor.control.cr0) s.memory (turned s.processor s.memory)
+    kept : Kept o s.kinds (wp_of s.processor.control.cr0) s.processor.control.root s.memory (turned s.processor s.memory)
     kept = turn_kept laws o s.kinds (scenes_of s.kinds guarded.kinds) facts (stack_storable s.kinds guarded.kinds) s.processor s.memory (ready s guarded) takes.no_body takes.runs guarded.window
 
     pub turn_guarded : IsGuarded o (after_turn s)
     unfolding after_turn
     turn_guarded = record {
       control = kept.control;
-      root = kept.root;
       kinds = guarded.kinds;
+      tables =
+          let after : ((turn_of s).processor.control.root, (turn_of s).memory) ≡ (s.processor.control.root, stored s.memory kept.stores) = λ i. (kept.same_root i, kept.memory_is i) in
+          subst (λ (x : ℕ × List ℕ). HoldsSoundTables s.kinds x.0 x.1) (sym after) (laws.table.sound_stays s.kinds s.processor.control.root s.memory kept.stores guarded.tables kept.are.places);
       memory = subst (IsHeld o s.kinds) (sym kept.memory_is) ((scenes_of s.kinds guarded.kinds).held_stored s.memory kept.stores admitted guarded.kinds guarded.memory kept.are);
       translations = kept.pass;
       window = kept.window;
@@ -128,9 +85,16 @@ module _ (laws : LowerLaws) (o : Opening) (admitted : IsAdmitted o) where
     pub turn_stays : nested_of (after_turn s) ≡ nested_of s
     unfolding after_turn
     turn_stays =
-        ap (λ (root : ℕ). nested_in s.kinds root (turn_of s).memory) (kept.root ∙ sym guarded.root)
+        ap (λ (root : ℕ). nested_in s.kinds root (turn_of s).memory) kept.same_root
         ∙ ap (nested_in s.kinds s.processor.control.root) kept.memory_is
-        ∙ nested_stays laws s.kinds s.processor.control.root s.memory kept.stores kept.are (slot_unstorable s.kinds guarded.kinds)
+        ∙ laws.table.nested_stays s.kinds s.processor.control.root s.memory kept.stores guarded.tables.handler kept.are.places
+
+    pub turn_books : (books : Books) → books.frames.kinds ≡ s.kinds → AreBooks books s.memory → AreBooks books (after_turn s).memory
+    unfolding after_turn
+    turn_books books same are =
+        subst (AreBooks books) (sym kept.memory_is)
+        (laws.table.books_stay books s.memory kept.stores are
+        (subst (λ (ks : List Kind). All (λ w. is_storable (kind_of ks (w.0 / 4096)) ≡ true) kept.stores) (sym same) kept.are.places))
 
     pub turn_runs : (turn_of s).stepped ≢ stepped.Shutdown
     turn_runs = kept.runs
@@ -162,8 +126,8 @@ module _ (laws : LowerLaws) (o : Opening) (admitted : IsAdmitted o) where
       → IsGuarded o (record s { processor = record s.processor { pending = pending; tlb = tlb }; taken = s.taken + 1 })
   with_event s pending tlb guarded small pass = record {
     control = record { cr0 = guarded.control.cr0; cr4 = guarded.control.cr4; efer = guarded.control.efer; tables = guarded.control.tables; cpl = guarded.control.cpl; registers = guarded.control.registers; pending = small };
-    root = guarded.root;
     kinds = guarded.kinds;
+    tables = guarded.tables;
     memory = guarded.memory;
     translations = pass;
     window = λ clear. let at : IsGatePoint s.processor = guarded.window clear in
@@ -183,7 +147,9 @@ module _ (laws : LowerLaws) (o : Opening) (admitted : IsAdmitted o) where
   pub guarded_sound : (s : MachineState) → IsGuarded o s → IsSound (length s.memory) s.processor
   guarded_sound s guarded = record {
     cpl = guarded.control.cpl;
-    root = omega (arith, guarded.root, guarded.memory.size, admitted.layout.least);
+    root =
+        let inside : s.processor.control.root < length s.kinds = laws.kind.table_in_memory s.kinds s.processor.control.root (omega (arith, guarded.tables.root_level)) in
+        omega (arith, inside, guarded.tables.size);
     frames = (scenes_of s.kinds guarded.kinds).named s.memory s.processor.control s.processor.tlb (ready s guarded).scene guarded.translations;
   }
 

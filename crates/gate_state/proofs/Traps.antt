@@ -51,7 +51,7 @@ module _ (o : Opening) (ks : List Kind) (facts : TurnFacts o ks) (storable : is_
   -- a delivery; with WP clear, one that arrives at a gate point
   pub trap_kept : (wp : Bool) (p : Processor) (m : List ℕ) (vector : ℕ) (code : Option ℕ) → IsReady o ks p m → vector < 48
       → (wp_of p.control.cr0 ≡ false → IsGatePoint (record p { regs = at_handler p.regs (0xFFFFFF8000001040 + 8 * vector) (0xFFFFFF8000004000 - 8 * (5 + length (codes_of code))) }))
-      → Kept o ks wp m (trapped vector code p m)
+      → Kept o ks wp p.control.root m (trapped vector code p m)
   unfolding trapped
   trap_kept wp p m vector code ready few point =
       let it : IsDelivery o ks m p.regs vector code (delivered p.regs p.control p.tables vector code m p.tlb) = facts.delivers m p.control p.tables p.regs vector code p.tlb ready.scene ready.control.tables ready.pass few in
@@ -66,7 +66,7 @@ module _ (o : Opening) (ks : List Kind) (facts : TurnFacts o ks) (storable : is_
           registers = subst AreRegisters (sym it.regs_are) (handler_registers p.regs _ _ ready.control.registers (omega arith));
           pending = ready.control.pending;
         };
-        root = ready.scene.root;
+        same_root = refl;
         pass = it.pass;
         window = λ clear. moved_point p (record p { regs = made.regs; tlb = made.tlb }) _ (point clear) it.regs_are refl refl;
         runs = λ e. shown_made made.answer (delivery_of vector code p) it.made e;
@@ -92,7 +92,7 @@ module _ (o : Opening) (ks : List Kind) (facts : TurnFacts o ks) (storable : is_
       admitted = ready.scene.admitted;
       kinds_are = ready.scene.kinds_are;
       memory = ready.scene.memory;
-      root = ready.scene.root;
+      tables = ready.scene.tables;
       smep = ready.scene.smep;
     };
     pass = ready.pass;
@@ -102,7 +102,7 @@ module _ (o : Opening) (ks : List Kind) (facts : TurnFacts o ks) (storable : is_
   set_never b set clear = absurd (false≢true (sym clear ∙ set))
 
   -- a fault with WP set
-  pub raise_kept : (wp : Bool) (p : Processor) (m : List ℕ) (it : Fault) → IsReady o ks p m → wp_of p.control.cr0 ≡ true → Kept o ks wp m (raised it p m)
+  pub raise_kept : (wp : Bool) (p : Processor) (m : List ℕ) (it : Fault) → IsReady o ks p m → wp_of p.control.cr0 ≡ true → Kept o ks wp p.control.root m (raised it p m)
   raise_kept wp p m fault.Divide ready set = trap_kept wp p m 0 None ready (omega arith) (set_never (wp_of p.control.cr0) set)
   raise_kept wp p m fault.Opcode ready set = trap_kept wp p m 6 None ready (omega arith) (set_never (wp_of p.control.cr0) set)
   raise_kept wp p m fault.Stack ready set = trap_kept wp p m 12 (Some 0) ready (omega arith) (set_never (wp_of p.control.cr0) set)

@@ -1,5 +1,5 @@
 -- The whole machine after each kind of step, from what the parts say.
-use Rattle.std.proofs.Common.{◌≡◌, ℕ, ◌+◌, false, List, length, refl, sym, ap, subst, ◌∙◌}
+use Rattle.std.proofs.Common.{◌≡◌, ℕ, ◌+◌, false, List, refl, sym, ap, subst, ◌∙◌}
 use Rattle.std.specs.Prelude.{not, ◌==◌, ◌&&◌}
 use Rattle.std.proofs.lemmas.Bool.{and_right}
 use Rattle.nk_bits.specs.declared.call.Answer.{Answer}
@@ -8,7 +8,7 @@ use Rattle.nk_bits.specs.Accesses.{wp_of}
 use Rattle.irq_plan.specs.declared.event.Event.{Event}
 use Rattle.irq_plan.specs.declared.event.What.{What}
 use Rattle.irq_plan.specs.declared.event.What.TheVariants.{Irq, Drop, Fill}
-use Rattle.nk_body.specs.NestedRecord.{AreBooks, Books, Nested, handler_in, nested_by, nested_in}
+use Rattle.nk_body.specs.NestedRecord.{AreBooks, Books, Nested, nested_by, nested_in}
 use Rattle.nk_body.specs.CallRules.{after_call, answer_to, memory_after_call}
 use Rattle.cpu_step.specs.declared.stepped.Stepped.{Stepped}
 use Rattle.cpu_step.specs.EventsTaken.{event_taken}
@@ -43,47 +43,41 @@ pub turn_is : (s : MachineState) (p : Processor) (m : List ℕ) (stepped : Stepp
 unfolding after_turn
 turn_is s p m stepped is = ap (λ (t : Turned). record s { processor = t.processor; memory = t.memory; turns = s.turns + 1 }) is
 
--- books that stood for a record stand for it where memory does still
-books_stay : (books : Books) (m after : List ℕ) → AreBooks books m → length after ≡ length m → handler_in after ≡ handler_in m → AreBooks books after
-books_stay books m after are same trap = record { frames = same ∙ are.frames; least = are.least; slot = are.slot; trap = are.trap ∙ sym trap }
-
 pub turn_whole : (o : Opening) (s : MachineState) (books : Books) (p : Processor) (m : List ℕ) (stepped : Stepped) → IsWhole o s books → IsGuarded o (after_turn s)
-    → nested_of (after_turn s) ≡ nested_of s → length m ≡ length s.memory → record { processor = p; memory = m; stepped = stepped } ≡ turned s.processor s.memory
+    → nested_of (after_turn s) ≡ nested_of s → AreBooks books (after_turn s).memory → record { processor = p; memory = m; stepped = stepped } ≡ turned s.processor s.memory
     → IsWhole o (record s { processor = p; memory = m; turns = s.turns + 1 }) books
-turn_whole o s books p m stepped whole guarded stays same is =
+turn_whole o s books p m stepped whole guarded stays kept is =
     let now : MachineState = record s { processor = p; memory = m; turns = s.turns + 1 } in
     let equal : now ≡ after_turn s = turn_is s p m stepped is in
-    let g : IsGuarded o now = subst (IsGuarded o) (sym equal) guarded in
-    let n : nested_of now ≡ nested_of s = ap nested_of equal ∙ stays in
     record {
       admitted = whole.admitted;
-      guarded = g;
-      kept = books_stay books s.memory m whole.kept same (ap (λ (nk : Nested). nk.trap) n);
-      root = whole.root ∙ whole.guarded.root ∙ sym g.root;
+      guarded = subst (IsGuarded o) (sym equal) guarded;
+      kept = subst (λ (t : MachineState). AreBooks books t.memory) (sym equal) kept;
+      root = whole.root ∙ sym (ap (λ (nk : Nested). nk.tables.root) (ap nested_of equal ∙ stays));
     }
 
 -- the state after the body
 module _ (s : MachineState) (books after : Books) (m : List ℕ) (call : CallWords) (answer : Answer) (root : ℕ) (p : Processor)
-    (kinds_are : books.kinds ≡ s.kinds) (root_is : books.root ≡ s.processor.control.root) (call_is : call ≡ call_in s.processor.regs)
+    (kinds_are : books.frames.kinds ≡ s.kinds) (root_is : books.root ≡ s.processor.control.root) (call_is : call ≡ call_in s.processor.regs)
     (answer_is : answer ≡ answer_to (nested_by books s.memory) call) (record_is : nested_by after m ≡ after_call (nested_by books s.memory) call)
     (memory_is : m ≡ memory_after_call (nested_by books s.memory) call s.memory) (root_after : root ≡ after.root) (processor_is : p ≡ answered_with answer root s.processor) where
   before : nested_by books s.memory ≡ nested_of s
   before = λ i. nested_in (kinds_are i) (root_is i) s.memory
 
-  pub served_is : record s { processor = p; memory = m; kinds = after.kinds; turns = s.turns + 1 } ≡ served s
+  pub served_is : record s { processor = p; memory = m; kinds = after.frames.kinds; turns = s.turns + 1 } ≡ served s
   unfolding served
   served_is =
       let record_now : nested_by after m ≡ after_call (nested_of s) (call_in s.processor.regs) = record_is ∙ (λ i. after_call (before i) (call_is i)) in
       let memory_now : m ≡ memory_after_call (nested_of s) (call_in s.processor.regs) s.memory = memory_is ∙ (λ i. memory_after_call (before i) (call_is i) s.memory) in
       let answer_now : answer ≡ answer_to (nested_of s) (call_in s.processor.regs) = answer_is ∙ (λ i. answer_to (before i) (call_is i)) in
-      let root_now : root ≡ (after_call (nested_of s) (call_in s.processor.regs)).root = root_after ∙ ap (λ (nk : Nested). nk.root) record_now in
-      let kinds_now : after.kinds ≡ (after_call (nested_of s) (call_in s.processor.regs)).kinds = ap (λ (nk : Nested). nk.kinds) record_now in
-      let processor_now : p ≡ answered_with (answer_to (nested_of s) (call_in s.processor.regs)) (after_call (nested_of s) (call_in s.processor.regs)).root s.processor =
+      let root_now : root ≡ (after_call (nested_of s) (call_in s.processor.regs)).tables.root = root_after ∙ ap (λ (nk : Nested). nk.tables.root) record_now in
+      let kinds_now : after.frames.kinds ≡ (after_call (nested_of s) (call_in s.processor.regs)).tables.kinds = ap (λ (nk : Nested). nk.tables.kinds) record_now in
+      let processor_now : p ≡ answered_with (answer_to (nested_of s) (call_in s.processor.regs)) (after_call (nested_of s) (call_in s.processor.regs)).tables.root s.processor =
       processor_is ∙ (λ i. answered_with (answer_now i) (root_now i) s.processor) in
       λ i. record s { processor = processor_now i; memory = memory_now i; kinds = kinds_now i; turns = s.turns + 1 }
 
   pub served_whole_is : (o : Opening) → IsWhole o s books → IsGuarded o (served s) → AreBooks after m
-      → IsWhole o (record s { processor = p; memory = m; kinds = after.kinds; turns = s.turns + 1 }) after
+      → IsWhole o (record s { processor = p; memory = m; kinds = after.frames.kinds; turns = s.turns + 1 }) after
   served_whole_is o whole guarded are = record {
     admitted = whole.admitted;
     guarded = subst (IsGuarded o) (sym served_is) guarded;
@@ -102,4 +96,4 @@ served_clear s clear = clear
 
 pub served_behind : (s : MachineState) → enters_body (served s).processor ≡ false
 unfolding served
-served_behind s = behind_body (answer_to (nested_of s) (call_in s.processor.regs)) (after_call (nested_of s) (call_in s.processor.regs)).root s.processor
+served_behind s = behind_body (answer_to (nested_of s) (call_in s.processor.regs)) (after_call (nested_of s) (call_in s.processor.regs)).tables.root s.processor

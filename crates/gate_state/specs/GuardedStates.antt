@@ -1,17 +1,18 @@
 -- The invariant of the machine: what holds in every state of every run, of which safety follows.
-use Rattle.std.specs.Prelude.{◌≡◌, ◌⊎◌, ℕ, ◌*◌, ◌/◌, ◌^◌, ◌<◌, ◌≤◌, Bool, true, false, List, length, slice_index, All}
+use Rattle.std.specs.Prelude.{◌≡◌, ◌⊎◌, ℕ, ◌*◌, ◌/◌, ◌^◌, ◌<◌, ◌≤◌, true, false, List, length, slice_index, All, IfSome}
 use Rattle.nk_bits.specs.declared.kind.Kind.{Kind}
-use Rattle.nk_bits.specs.declared.kind.Kind.TheVariants.{Data, Code, Table, Fixed, Trap, Guarded, Hidden}
 use Rattle.nk_bits.specs.Accesses.{wp_of}
-use Rattle.nk_bits.specs.Kinds.{kind_of}
+use Rattle.nk_bits.specs.Kinds.{is_storable, kind_of}
 use Rattle.phys_mem.specs.Memory.{IsBytes, byte_at, entry_in}
 use Rattle.elf_image.specs.Pages.{IsPageList, pages_of}
 use Rattle.byte_scanner.specs.ImageCode.{code_at}
 use Rattle.byte_scanner.specs.LeastPlace.{IsNowhere}
 use Rattle.boot_map.specs.Division.{IsLayout, division_of}
-use Rattle.boot_map.specs.KernelSlot.{HoldsTables}
+use Rattle.boot_map.specs.KernelSlot.{HoldsSlot, slot_leaf, slot_start}
 use Rattle.boot_map.specs.Opening.{byte_in}
 use Rattle.boot_map.specs.OpeningKinds.{kinds}
+use Rattle.page_desc.specs.PageTables.{HoldsSoundTables, is_kept}
+use Rattle.nk_body.specs.KindsKept.{is_settled}
 use Rattle.cpu_step.specs.Processor.{Processor}
 use Rattle.x86_regs.specs.EffectsKept.{AreRegisters}
 use Rattle.gate_state.specs.GateWindow.{IsGatePoint}
@@ -43,29 +44,28 @@ pub record IsControlled (p : Processor) : Type 0 where
   pub registers : AreRegisters p.regs
   pub pending : p.pending < 2 ^ 16
 
--- frames of these kinds keep the opening's bytes
-abbrev pub is_kept : Kind → Bool
-is_kept Data = false
-is_kept Code = true
-is_kept (Table level) = false
-is_kept Fixed = true
-is_kept Trap = false
-is_kept Guarded = false
-is_kept Hidden = false
+-- the kinds of frames, as calls may have changed them: those that no call changes are the opening's, and what a writable leaf
+-- of the kernel slot names may be stored to
+pub record AreKinds (o : Opening) (ks : List Kind) : Type 0 where
+  pub count : length ks ≡ o.frames
+  pub settled : (f : ℕ) → is_settled (kind_of (kinds o.image o.frames) f) ≡ true
+      → kind_of ks f ≡ kind_of (kinds o.image o.frames) f
+  pub writable : (page : ℕ) → slot_start ≤ page → page < 2 ^ 52 → IfSome (slot_leaf o.image o.frames page)
+      (λ leaf. leaf.rights.can_write ≡ true → is_storable (kind_of ks leaf.frame) ≡ true)
 
--- memory keeps the opening's bytes in frames that are fixed or code, but for the eight bytes of the handler slot, and the
--- opening's entries in its page tables
-pub record IsHeld (o : Opening) (kinds : List Kind) (m : List ℕ) : Type 0 where
+-- memory keeps the opening's bytes in frames that are fixed or code, but for the eight bytes of the handler slot, and with
+-- them the kernel slot's own tables
+pub record IsHeld (o : Opening) (ks : List Kind) (m : List ℕ) : Type 0 where
   pub size : length m ≡ 4096 * o.frames
   pub are_bytes : IsBytes m
-  pub bytes : (place : ℕ) → is_kept (kind_of kinds (place / 4096)) ≡ true → (place < 0x2000) ⊎ (0x2008 ≤ place)
+  pub bytes : (place : ℕ) → is_kept (kind_of ks (place / 4096)) ≡ true → (place < 0x2000) ⊎ (0x2008 ≤ place)
       → byte_at m place ≡ byte_in o.image o.frames place
-  pub tables : HoldsTables o.image o.frames (entry_in m)
+  pub slot : HoldsSlot o.image o.frames (entry_in m)
 
 pub record IsGuarded (o : Opening) (s : MachineState) : Type 0 where
   pub control : IsControlled s.processor
-  pub root : s.processor.control.root ≡ 5
-  pub kinds : s.kinds ≡ kinds o.image o.frames
+  pub kinds : AreKinds o s.kinds
+  pub tables : HoldsSoundTables s.kinds s.processor.control.root s.memory
   pub memory : IsHeld o s.kinds s.memory
   pub translations : All (λ pair. respects o s.kinds pair ≡ true) s.processor.tlb
   pub window : wp_of s.processor.control.cr0 ≡ false → IsGatePoint s.processor

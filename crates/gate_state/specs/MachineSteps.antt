@@ -70,9 +70,9 @@ served s =
     let call : CallWords = call_in s.processor.regs in
     let after : Nested = after_call nk call in
     record s {
-      processor = answered_with (answer_to nk call) after.root s.processor;
+      processor = answered_with (answer_to nk call) after.tables.root s.processor;
       memory = memory_after_call nk call s.memory;
-      kinds = after.kinds;
+      kinds = after.tables.kinds;
       turns = s.turns + 1;
     }
 

@@ -1,6 +1,6 @@
 //! The machine in the gates: WP is clear, and the supervisor stands at a gate point that isn't the body's place.
 
-ghost use Rattle.std.specs.Prelude.{◌≡◌, ◌<◌, false};
+ghost use Rattle.std.specs.Prelude.{◌≡◌, ◌<◌, false, length, ◌*◌};
 ghost use Rattle.nk_body.specs.NestedRecord.{AreBooks};
 ghost use Rattle.cpu_step.specs.Turns.{enters_body};
 ghost use Rattle.gate_state.specs.MachineOf.{whole_of};
@@ -65,7 +65,8 @@ impl<'i> GateMachine<'i> {
     /// Memory and books, at the end of a run.
     pub fn finish(self) -> Finished
         ensures memory { result.mem ≡ self.entry.state.memory }
-        ensures kinds { result.kernel.kinds ≡ self.entry.state.kinds }
+        ensures size { length result.mem ≡ 4096 * self.entry.opening.frames }
+        ensures kinds { result.kernel.frames.kinds ≡ self.entry.state.kinds }
         ensures root { result.kernel.root ≡ self.entry.state.processor.control.root }
         ensures books { AreBooks result.kernel result.mem }
         ensures safe { IsSafe self.entry.opening self.entry.state }

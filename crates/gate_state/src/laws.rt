@@ -7,6 +7,7 @@ ghost use Rattle.irq_plan.specs.PlannedEvents.{IsPlan, IsPlannable};
 ghost use Rattle.cpu_step.specs.Processor.{IsSound};
 ghost use Rattle.cpu_step.specs.Turns.{enters_body};
 ghost use Rattle.nk_body.specs.CallRules.{after_call};
+ghost use Rattle.nk_body.specs.NestedRecord.{AreBooks, Books};
 ghost use Rattle.gate_state.specs.GateCalls.{IsCalledThrough, IsCalling};
 ghost use Rattle.gate_state.specs.GuardedStates.{IsAdmitted, IsGuarded};
 ghost use Rattle.gate_state.specs.MachineOpening.{opening_state};
@@ -16,20 +17,21 @@ ghost use Rattle.gate_state.specs.SafeStates.{IsSafe, TakesTurn};
 ghost use Rattle.gate_state.specs.StepsTaken.{Counts};
 
 use boot_map::{
-    held_law, opening_bytes_law, opening_kinds_law, opening_respects_law, slot_law, slot_leaf_law,
+    opening_bytes_law, opening_entries_law, opening_kinds_law, slot_law, slot_leaf_law,
 };
 use decode_fields::{longer_law, prefixes_law};
 use elf_image::entry_law;
 use gate_text::listing_law;
-use nk_bits::{access_law, kind_law, span_law};
-use nk_body::call_law;
-use page_walk::places_law;
+use nk_bits::{access_law, kind_law};
+use nk_body::{call_law, call_leaves_law, opening_sound_law, stores_law};
+use page_desc::{count_law, sound_law};
 use phys_mem::{frame_law, memory_law};
 use x86_alu::flag_law;
 use x86_decode::{decoding_law, spelling_law};
 use x86_regs::{effect_law, grant_law};
 
-/// Each kind of step keeps the invariant, over which a state is safe and the processor sound.
+/// Each kind of step keeps the invariant, over which a state is safe and the processor sound; books stay those of memory
+/// over a turn.
 pub(crate) fn steps_law()
     ensures opening { (o : Opening) (input : List ℕ) → IsAdmitted o → IsGuarded o (opening_state o input) }
     ensures event { (o : Opening) (s : MachineState) (what : What) → IsAdmitted o → IsPlannable what
@@ -40,6 +42,8 @@ pub(crate) fn steps_law()
         → IsGuarded o s → IsGuarded o (served s) }
     ensures stays { (o : Opening) (s : MachineState) → IsAdmitted o → TakesTurn s.processor
         → IsGuarded o s → nested_of (after_turn s) ≡ nested_of s }
+    ensures books { (o : Opening) (s : MachineState) (books : Books) → IsAdmitted o → TakesTurn s.processor
+        → IsGuarded o s → books.frames.kinds ≡ s.kinds → AreBooks books s.memory → AreBooks books (after_turn s).memory }
     ensures serves { (o : Opening) (s : MachineState) → IsAdmitted o → IsGuarded o s
         → nested_of (served s) ≡ after_call (nested_of s) (call_in s.processor.regs) }
     ensures safe { (o : Opening) (s : MachineState) → IsAdmitted o → IsGuarded o s → IsSafe o s }
@@ -49,17 +53,17 @@ pub(crate) fn steps_law()
         → IsSound (length s.memory) s.processor }
 {
     access_law();
-    span_law();
     kind_law();
     memory_law();
     frame_law();
-    places_law();
     slot_law();
     slot_leaf_law();
     opening_kinds_law();
     opening_bytes_law();
-    opening_respects_law();
-    held_law();
+    opening_entries_law();
+    opening_sound_law();
+    count_law();
+    sound_law();
     decoding_law();
     spelling_law();
     longer_law();
@@ -70,6 +74,8 @@ pub(crate) fn steps_law()
     grant_law();
     entry_law();
     call_law();
+    call_leaves_law();
+    stores_law();
 }
 
 /// Every state of every run is guarded, and so safe: in the opening, and after each step under any plan. What the nested

@@ -1,6 +1,6 @@
 //! The machine in one of its three states.
 
-ghost use Rattle.std.specs.Prelude.{◌≡◌, ◌<◌, false};
+ghost use Rattle.std.specs.Prelude.{◌≡◌, ◌<◌, false, length, ◌*◌};
 ghost use Rattle.cpu_step.specs.Turns.{enters_body};
 ghost use Rattle.nk_body.specs.NestedRecord.{AreBooks};
 ghost use Rattle.gate_state.specs.MachineOf.{whole_of};
@@ -49,7 +49,8 @@ impl<'i> Machine<'i> {
     /// Memory and books, at the end of a run.
     pub fn finish(self) -> Finished
         ensures memory { result.mem ≡ (whole_of self.entry).state.memory }
-        ensures kinds { result.kernel.kinds ≡ (whole_of self.entry).state.kinds }
+        ensures size { length result.mem ≡ 4096 * (whole_of self.entry).opening.frames }
+        ensures kinds { result.kernel.frames.kinds ≡ (whole_of self.entry).state.kinds }
         ensures root { result.kernel.root ≡ (whole_of self.entry).state.processor.control.root }
         ensures books { AreBooks result.kernel result.mem }
         ensures safe { IsSafe (whole_of self.entry).opening (whole_of self.entry).state }

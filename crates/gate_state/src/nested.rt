@@ -1,6 +1,6 @@
 //! The machine at the nested kernel's body: WP is clear.
 
-ghost use Rattle.std.specs.Prelude.{◌≡◌, ◌<◌, true};
+ghost use Rattle.std.specs.Prelude.{◌≡◌, ◌<◌, true, length, ◌*◌};
 ghost use Rattle.nk_body.specs.NestedRecord.{AreBooks};
 ghost use Rattle.cpu_step.specs.Turns.{enters_body};
 ghost use Rattle.gate_state.specs.MachineSteps.{called_in, move_of};
@@ -63,7 +63,8 @@ impl<'i> NestedMachine<'i> {
     /// Memory and books, at the end of a run.
     pub fn finish(self) -> Finished
         ensures memory { result.mem ≡ self.entry.state.memory }
-        ensures kinds { result.kernel.kinds ≡ self.entry.state.kinds }
+        ensures size { length result.mem ≡ 4096 * self.entry.opening.frames }
+        ensures kinds { result.kernel.frames.kinds ≡ self.entry.state.kinds }
         ensures root { result.kernel.root ≡ self.entry.state.processor.control.root }
         ensures books { AreBooks result.kernel result.mem }
         ensures safe { IsSafe self.entry.opening self.entry.state }

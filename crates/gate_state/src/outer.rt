@@ -1,6 +1,6 @@
 //! The outer kernel's machine: WP is set.
 
-ghost use Rattle.std.specs.Prelude.{◌≡◌, ◌<◌, true, false, IfOk, None};
+ghost use Rattle.std.specs.Prelude.{◌≡◌, ◌<◌, true, false, IfOk, None, length, ◌*◌};
 ghost use Rattle.boot_map.specs.Division.{IsLayout};
 ghost use Rattle.boot_map.specs.Opening.{IsOpening};
 ghost use Rattle.boot_map.specs.OpeningKinds.{kinds};
@@ -59,7 +59,7 @@ impl<'i> OuterMachine<'i> {
     ) -> Result<OuterMachine<'i>, NoMemory>
         requires layout { IsLayout image.now layout.now }
         requires opening { IsOpening image.now layout.now.frames mem }
-        requires kinds { kernel.kinds ≡ kinds image.now layout.now.frames }
+        requires kinds { kernel.frames.kinds ≡ kinds image.now layout.now.frames }
         requires root { kernel.root ≡ 5 }
         requires books { AreBooks kernel mem }
         requires clean { first_found image.now ≡ None }
@@ -117,7 +117,8 @@ impl<'i> OuterMachine<'i> {
     /// Memory and books, at the end of a run.
     pub fn finish(self) -> Finished
         ensures memory { result.mem ≡ self.entry.state.memory }
-        ensures kinds { result.kernel.kinds ≡ self.entry.state.kinds }
+        ensures size { length result.mem ≡ 4096 * self.entry.opening.frames }
+        ensures kinds { result.kernel.frames.kinds ≡ self.entry.state.kinds }
         ensures root { result.kernel.root ≡ self.entry.state.processor.control.root }
         ensures books { AreBooks result.kernel result.mem }
         ensures safe { IsSafe self.entry.opening self.entry.state }

@@ -197,7 +197,7 @@ struct Opened {
 fn open(alloc: Global, image: &Image, layout: &Layout) -> Option<Opened>
     requires { IsLayout image.now layout.now }
     ensures opening { IfSome result (λ it. IsOpening image.now layout.now.frames it.mem) }
-    ensures kinds { IfSome result (λ it. it.kernel.kinds ≡ kinds image.now layout.now.frames) }
+    ensures kinds { IfSome result (λ it. it.kernel.frames.kinds ≡ kinds image.now layout.now.frames) }
     ensures root { IfSome result (λ it. it.kernel.root ≡ 5) }
     ensures books { IfSome result (λ it. AreBooks it.kernel it.mem) }
 {

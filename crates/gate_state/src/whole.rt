@@ -1,6 +1,6 @@
 //! What the three states share: the machine with the opening of its run.
 
-ghost use Rattle.std.specs.Prelude.{◌≡◌, ℕ, ◌+◌, ◌<◌, ◌^◌, true, false, slice_get, Some, None};
+ghost use Rattle.std.specs.Prelude.{◌≡◌, ℕ, ◌+◌, ◌<◌, ◌^◌, true, false, slice_get, Some, None, length, ◌*◌};
 ghost use Rattle.irq_plan.specs.PlannedEvents.{IsPlannable};
 ghost use Rattle.nk_bits.specs.Accesses.{wp_of};
 ghost use Rattle.cpu_step.specs.Turns.{enters_body};
@@ -44,14 +44,14 @@ impl<'i> Model for Whole<'i> {
       state = record {
         processor = w.cpu;
         memory = w.mem;
-        kinds = w.kernel.kinds;
+        kinds = w.kernel.frames.kinds;
         turns = w.turns;
         taken = w.taken;
       };
     } };
 
     ghost invariant = { λ w. IsWhole (record { image = w.image.now; frames = w.layout.now.frames })
-        (record { processor = w.cpu; memory = w.mem; kinds = w.kernel.kinds; turns = w.turns; taken = w.taken })
+        (record { processor = w.cpu; memory = w.mem; kinds = w.kernel.frames.kinds; turns = w.turns; taken = w.taken })
         w.kernel };
 }
 
@@ -169,7 +169,8 @@ impl<'i> Whole<'i> {
     /// Memory and books.
     pub fn finish(self) -> Finished
         ensures memory { result.mem ≡ self.entry.state.memory }
-        ensures kinds { result.kernel.kinds ≡ self.entry.state.kinds }
+        ensures size { length result.mem ≡ 4096 * self.entry.opening.frames }
+        ensures kinds { result.kernel.frames.kinds ≡ self.entry.state.kinds }
         ensures root { result.kernel.root ≡ self.entry.state.processor.control.root }
         ensures books { AreBooks result.kernel result.mem }
     {

@@ -86,14 +86,19 @@ fn answered(number: u64, a: u64, value: u64, handler: u64, turns: u64) -> Trappe
     }
 }
 
-/// Number and address of a call, its answer, and the handler behind it. Rule 1 is that of a number that is no call, rule 27
-/// that of an address that isn't canonical.
-const CALLS: [(u64, u64, u64, u64); 6] = [
+/// Number and first argument of a call, its answer, and the handler behind it. Rule 1 is that of a number that is no call,
+/// rule 2 that of a frame outside memory, 3 that of a level that no table has, 12 that of the root, which isn't removed, 14
+/// that of a frame that isn't a table of level 4, and 27 that of an address that isn't canonical.
+const CALLS: [(u64, u64, u64, u64); 10] = [
     (1, BEHIND, 0, BEHIND),
     (1, HALTS, 0, HALTS),
     (1, 0x8000_0000_0000, 27, HALTS),
     (0, BEHIND, 1, HALTS),
-    (2, BEHIND, 1, HALTS),
+    (2, BEHIND, 3, HALTS),
+    (3, BEHIND, 2, HALTS),
+    (4, 5, 12, HALTS),
+    (5, 3, 14, HALTS),
+    (6, BEHIND, 1, HALTS),
     (0x8000_0000_0000_0001, BEHIND, 1, HALTS),
 ];
 

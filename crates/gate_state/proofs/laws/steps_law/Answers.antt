@@ -1,4 +1,3 @@
-use Rattle.std.proofs.Common.{◌∙◌, arith}
 use Rattle.gate_state.specs.GuardedStates.{IsAdmitted, IsGuarded}
 use Rattle.gate_state.specs.MachineStates.{MachineState, Opening}
 use Rattle.gate_state.proofs.Assembly.{turn_facts}
@@ -7,8 +6,7 @@ use Rattle.gate_state.proofs.CallThrough.{called_through}
 use Rattle.gate_state.proofs.LowerLaws.{LowerLaws}
 use Rattle.gate_state.proofs.OpeningGuarded.{opening_guarded}
 use Rattle.gate_state.proofs.SceneProofs.{scene_laws}
-use Rattle.gate_state.proofs.SceneProofsWalks.{kind_is}
-use Rattle.gate_state.proofs.StatesKept.{event_guarded, guarded_safe, guarded_sound, turn_guarded, turn_stays}
+use Rattle.gate_state.proofs.StatesKept.{event_guarded, guarded_safe, guarded_sound, turn_books, turn_guarded, turn_stays}
 use Rattle.gate_state.proofs.TurnFacts.{TurnFacts}
 use Rattle.gate_state.proofs.laws.steps_law.Goals as goal
 
@@ -16,29 +14,23 @@ pub returns : goal.returns
 returns c =
     let laws : LowerLaws = record {
       access = record {
-        first = c.span_law.ensures.first;
         kept = c.access_law.ensures.kept;
         served = c.access_law.ensures.served;
-        reached_kept = c.access_law.ensures.reached_kept;
-        reached_served = c.access_law.ensures.reached_served;
       };
       kind = record {
         storable = c.kind_law.ensures.storable;
         not_fetched = c.kind_law.ensures.not_fetched;
         allowed_in_memory = c.kind_law.ensures.allowed_in_memory;
-        storable_in_memory = c.kind_law.ensures.storable_in_memory;
+        table_in_memory = c.kind_law.ensures.table_in_memory;
       };
       store = record {
         length = c.memory_law.ensures.length;
         append = c.memory_law.ensures.append;
         byte_elsewhere = c.memory_law.ensures.byte_elsewhere;
-        number_elsewhere = c.memory_law.ensures.number_elsewhere;
         entry_elsewhere = c.frame_law.ensures.entry_elsewhere;
         within_frame = c.frame_law.ensures.within_frame;
         bytes = c.memory_law.ensures.bytes;
-        within = c.memory_law.ensures.places;
         values = c.memory_law.ensures.values;
-        places = c.places_law.ensures;
       };
       opening = record {
         slot_walk = c.slot_law.ensures.any;
@@ -46,19 +38,38 @@ returns c =
         executable = c.slot_leaf_law.ensures.executable;
         code = c.slot_leaf_law.ensures.code;
         writable = c.slot_leaf_law.ensures.writable;
+        written = c.opening_entries_law.ensures.written;
         fixed = c.opening_kinds_law.ensures.fixed;
         trap = c.opening_kinds_law.ensures.trap;
-        root_kind = c.opening_kinds_law.ensures.root;
         count = c.opening_kinds_law.ensures.count;
         each = c.opening_kinds_law.ensures.each;
         gates = c.opening_bytes_law.ensures.gates;
         image = c.opening_bytes_law.ensures.image;
-        respected = c.opening_respects_law.ensures;
-        held = c.held_law.ensures.opening;
-        held_slot = c.held_law.ensures.slot;
-        held_root = c.held_law.ensures.root;
-        held_walk = c.held_law.ensures.walk;
-        table_kept = c.held_law.ensures.kept;
+        held = c.slot_law.ensures.held;
+        sound = c.opening_sound_law.ensures;
+      };
+      table = record {
+        walk = c.sound_law.ensures.walk;
+        slot = c.sound_law.ensures.slot;
+        no_loose_leaf = c.count_law.ensures.no_loose_leaf;
+        nested_stays = c.stores_law.ensures.nested;
+        sound_stays = c.stores_law.ensures.sound;
+        books_stay = c.stores_law.ensures.books;
+      };
+      call = record {
+        nested = c.call_law.ensures.nested;
+        sound = c.call_law.ensures.sound;
+        count = c.call_leaves_law.ensures.count;
+        settled = c.call_leaves_law.ensures.settled;
+        reserved = c.call_leaves_law.ensures.reserved;
+        loose = c.call_leaves_law.ensures.loose;
+        bytes = c.call_leaves_law.ensures.bytes;
+        entries = c.call_leaves_law.ensures.entries;
+        length_is = c.call_leaves_law.ensures.length;
+        are_bytes = c.call_leaves_law.ensures.are_bytes;
+        same = c.call_leaves_law.ensures.same;
+        value = c.call_leaves_law.ensures.value;
+        place = c.call_leaves_law.ensures.place;
       };
       code = record {
         right = c.decoding_law.ensures.right;
@@ -74,7 +85,6 @@ returns c =
       flag = record { same = c.flag_law.ensures.same; others = c.flag_law.ensures.others };
       effect = record {
         privilege = c.effect_law.ensures.privilege;
-        moved = c.effect_law.ensures.moved;
         registers = c.grant_law.ensures.registers;
         calm = c.grant_law.ensures.calm;
         supervisor = c.grant_law.ensures.supervisor;
@@ -88,13 +98,12 @@ returns c =
       opening = λ o input admitted. opening_guarded laws o admitted (c.entry_law.ensures o.image admitted.bytes) input;
       event = λ o s what admitted plannable guarded. event_guarded laws o admitted s what plannable guarded;
       turn = λ o s admitted takes guarded. turn_guarded laws o admitted s guarded (facts o s admitted guarded) takes;
-      body = λ o s admitted at guarded. body_guarded laws o s at guarded;
+      body = λ o s admitted at guarded. body_guarded laws o admitted s at guarded;
       stays = λ o s admitted takes guarded. turn_stays laws o admitted s guarded (facts o s admitted guarded) takes;
-      serves = λ o s admitted guarded. body_serves c.call_law.ensures o s guarded
-          (kind_is laws o s.kinds admitted guarded.kinds 2 (omega (arith, admitted.layout.least)) ∙ (laws.opening.fixed o.image o.frames).2)
-          (omega (arith, guarded.memory.size, admitted.layout.least));
+      books = λ o s books admitted takes guarded same are. turn_books laws o admitted s guarded (facts o s admitted guarded) takes books same are;
+      serves = λ o s admitted guarded. body_serves laws o s guarded;
       safe = λ o s admitted guarded. guarded_safe laws o admitted s guarded (facts o s admitted guarded);
       called = λ o s plan k admitted in_form guarded calling.
-          called_through laws o admitted (λ ks are. turn_facts laws o ks (scene_laws laws o ks admitted are)) (body_guarded laws o) plan s k in_form guarded calling;
+          called_through laws o admitted (λ ks are. turn_facts laws o ks (scene_laws laws o ks admitted are)) (body_guarded laws o admitted) plan s k in_form guarded calling;
       sound = λ o s admitted guarded. guarded_sound laws o admitted s guarded;
     }

@@ -12,7 +12,7 @@ invariant_of-self c =
     let s : MachineState = record {
       processor = c.self.inside.cpu;
       memory = c.self.inside.mem;
-      kinds = c.self.inside.kernel.kinds;
+      kinds = c.self.inside.kernel.frames.kinds;
       turns = c.self.inside.turns;
       taken = c.self.inside.taken;
     } in
@@ -27,7 +27,7 @@ returns-clause-served c =
     let s : MachineState = record {
       processor = c.self.inside.cpu;
       memory = c.self.inside.mem;
-      kinds = c.self.inside.kernel.kinds;
+      kinds = c.self.inside.kernel.frames.kinds;
       turns = c.self.inside.turns;
       taken = c.self.inside.taken;
     } in

@@ -11,7 +11,7 @@ invariant_of-self c =
     let s : MachineState = record {
       processor = c.self.inside.cpu;
       memory = c.self.inside.mem;
-      kinds = c.self.inside.kernel.kinds;
+      kinds = c.self.inside.kernel.frames.kinds;
       turns = c.self.inside.turns;
       taken = c.self.inside.taken;
     } in

@@ -1,4 +1,4 @@
-use Rattle.std.proofs.Common.{sym, ap, subst, ◌∙◌}
+use Rattle.std.proofs.Common.{refl, sym, ap, subst, ◌∙◌}
 use Rattle.gate_state.specs.MachineStates.{MachineState, Opening}
 use Rattle.gate_state.specs.MachineSteps.{after_turn}
 use Rattle.gate_state.specs.SafeStates.{TakesTurn}
@@ -15,7 +15,7 @@ invariant_of-self c =
     let s : MachineState = record {
       processor = c.self.inside.cpu;
       memory = c.self.inside.mem;
-      kinds = c.self.inside.kernel.kinds;
+      kinds = c.self.inside.kernel.frames.kinds;
       turns = c.self.inside.turns;
       taken = c.self.inside.taken;
     } in
@@ -23,7 +23,8 @@ invariant_of-self c =
     turn_whole o s c.self.inside.kernel c.step-stepped.new.self c.step-stepped.new.mem c.step-stepped.result c.self.invariant
     (c.steps_law.ensures.turn o s c.self.invariant.admitted takes c.self.invariant.guarded)
     (c.steps_law.ensures.stays o s c.self.invariant.admitted takes c.self.invariant.guarded)
-    c.step-stepped.ensures.length c.step-stepped.ensures.turned
+    (c.steps_law.ensures.books o s c.self.inside.kernel c.self.invariant.admitted takes c.self.invariant.guarded refl c.self.invariant.kept)
+    c.step-stepped.ensures.turned
 
 pub returns-clause-turned : goal.returns-clause-turned
 returns-clause-turned c =
@@ -31,7 +32,7 @@ returns-clause-turned c =
     let s : MachineState = record {
       processor = c.self.inside.cpu;
       memory = c.self.inside.mem;
-      kinds = c.self.inside.kernel.kinds;
+      kinds = c.self.inside.kernel.frames.kinds;
       turns = c.self.inside.turns;
       taken = c.self.inside.taken;
     } in
