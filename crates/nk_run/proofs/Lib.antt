@@ -11,3 +11,4 @@ pub mod Runs
 pub mod SafeRuns
 pub mod Moves
 pub mod Texts
+pub mod ListedLines

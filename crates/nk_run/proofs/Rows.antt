@@ -15,6 +15,7 @@ use Rattle.nk_run.specs.CommandLine.{IsAsked, command_of, is_same, name_in, role
 use Rattle.nk_run.specs.Witness.{Change, Files, ShelfState}
 use Rattle.nk_run.specs.Outcome.{Answer, Check, DoesPass, IsReached, IsReachedAfter, Verdict, checks_of, decided, ends, events_in, file_in, first_verdict, outcome, outcome_of, passes, image_checks, input_checks, opening_in, roomy, run_checks, test, text_of, unheld, unless_ended}
 use Rattle.gate_state.specs.MachineOpening.{opening_state}
+use Rattle.gate_state.specs.MachineStates.{Opening}
 use Rattle.nk_run.specs.RunStates.{run_text}
 use Rattle.nk_run.specs.Replies.{CommandSays, IsOwn, RefusesBy, StopsIn}
 use Rattle.nk_run.proofs.Checks.{first_verdict-append}
@@ -135,15 +136,21 @@ module _ (words : List (List ℕ)) (steps frames : ℕ) (asked : command_of word
       ap (λ (o : Option Command). outcome_of o words files) asked
       ∙ ap (λ (v : Verdict). decided v (run_answer files)) (first_verdict-append (run_checks files words) (test (room files) ∷ []))
 
+  -- the text of a run, from an opening
+  text_from : Opening → List Event → List ℕ → List ℕ
+  text_from o plan input = run_text o steps plan (opening_state o input)
+
   -- the text of the run, of what the files are
   text_is : {image input : List ℕ} {plan : List Event} (files : Files) → plan_of (file_in files words Plan) ≡ Ok plan
       → image ≡ file_in files words Image → input ≡ file_in files words Input
-      → Some (run_answer files) ≡ Some (record { status = 0; text = run_text steps plan (opening_state (record { image = image; frames = frames }) input) })
-  unfolding run_answer
+      → let o : Opening = record { image = image; frames = frames } in
+      Some (run_answer files) ≡ Some (record { status = 0; text = run_text o steps plan (opening_state o input) })
+  unfolding run_answer text_from
   text_is {image = image} {plan = plan} files plan_is image_is input_is =
-      ap (λ (r : Result (List Event) ℕ). Some (record { status = 0; text = run_text steps (events_in r) (opening_state (opening_in files words frames) (file_in files words Input)) })) plan_is
-      ∙ ap (λ (b : List ℕ). Some (record { status = 0; text = run_text steps plan (opening_state (record { image = b; frames = frames }) (file_in files words Input)) })) (sym image_is)
-      ∙ ap (λ (b : List ℕ). Some (record { status = 0; text = run_text steps plan (opening_state (record { image = image; frames = frames }) b) })) (sym input_is)
+      let says : List ℕ → Option Answer = λ l. Some (record { status = 0; text = l }) in
+      ap (λ (r : Result (List Event) ℕ). says (text_from (opening_in files words frames) (events_in r) (file_in files words Input))) plan_is
+      ∙ ap (λ (b : List ℕ). says (text_from (record { image = b; frames = frames }) plan (file_in files words Input))) (sym image_is)
+      ∙ ap (λ (b : List ℕ). says (text_from (record { image = image; frames = frames }) plan b)) (sym input_is)
 
   -- a check of the row ended it
   row_ended : (files : Files) (answer : Answer) → first_verdict (run_checks files words) ≡ ends answer → outcome words files ≡ Some answer
@@ -207,7 +214,8 @@ module _ (words : List (List ℕ)) (steps frames : ℕ) (asked : command_of word
     -- the row and the room pass, and the text is that of the run
     pub ready_says : roomy (need image frames) frames ≡ passes → IfTold told (λ files. outcome words files ≡ Some (record {
       status = 0;
-      text = run_text steps plan (opening_state (record { image = image; frames = frames }) input);
+      text = run_text (record { image = image; frames = frames }) steps plan
+          (opening_state (record { image = image; frames = frames }) input);
     }))
     ready_says fits =
         if_told told _ (λ files e.

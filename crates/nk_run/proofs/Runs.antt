@@ -9,15 +9,17 @@ use Rattle.nk_host.specs.Taken.{AppendsPrefix}
 use Rattle.irq_plan.specs.declared.event.Event.{Event}
 use Rattle.gate_state.specs.declared.moves.Move.{Move}
 use Rattle.gate_state.specs.declared.moves.Move.TheVariants as move
+use Rattle.gate_state.specs.MachineOpening.{opening_state}
 use Rattle.gate_state.specs.MachineStates.{MachineState, Opening, nested_of}
 use Rattle.gate_state.specs.MachineSteps.{move_of, next, state}
 use Rattle.gate_state.specs.StepsTaken.{Counts}
-use Rattle.gate_state.specs.WholeMachine.{WholeState, is_rest}
+use Rattle.gate_state.specs.WholeMachine.{WholeState, is_rest, next_whole}
 use Rattle.nk_run.specs.declared.ending.Ending.{Ending}
 use Rattle.nk_run.specs.declared.ending.Ending.TheVariants as ending
+use Rattle.nk_run.specs.ClosingSection.{section}
 use Rattle.nk_run.specs.Lines.{ending_line, turns_line}
 use Rattle.nk_run.specs.Replies.{IsWritten}
-use Rattle.nk_run.specs.RunStates.{closing, ended, ending_at, lines, one_unless, run_length, run_text, section, shown_by, steps_within}
+use Rattle.nk_run.specs.RunStates.{closing, ended, ending_at, lines, one_unless, run_length, run_text, shown_by, steps_within}
 use Rattle.nk_run.specs.Witness.{sink_change}
 use Rattle.nk_run.proofs.Texts.{prefix_behind, prefix_of_both, rose_before, went_on}
 
@@ -74,44 +76,55 @@ length_going steps plan s e less =
     ∙ ap (λ (o : Option Ending). one_unless o (steps_within most steps plan (next plan s))) e
 
 -- a step's text, and then the text from the state after it
-text_going : (steps : ℕ) (plan : List Event) (s : MachineState) → ending_at steps plan s ≡ None
+text_going : (o : Opening) (steps : ℕ) (plan : List Event) (s : MachineState) → ending_at steps plan s ≡ None
     → left steps plan s ≡ suc (left steps plan (next plan s))
-    → run_text steps plan s ≡ shown_by (move_of plan s) s ++ run_text steps plan (next plan s)
+    → run_text o steps plan s ≡ shown_by (move_of plan s) s ++ run_text o steps plan (next plan s)
 unfolding run_text lines state
-text_going steps plan s e less =
+text_going o steps plan s e less =
     let n = run_length steps plan (next plan s) in
-    ap (λ n. lines n plan s ++ closing steps plan (state plan s n)) (length_going steps plan s e less)
-    ∙ append_assoc (shown_by (move_of plan s) s) (lines n plan (next plan s)) (closing steps plan (state plan (next plan s) n))
+    ap (λ n. lines n plan s ++ closing o steps plan (state plan s n)) (length_going steps plan s e less)
+    ∙ append_assoc (shown_by (move_of plan s) s) (lines n plan (next plan s)) (closing o steps plan (state plan (next plan s) n))
 
 ends_within : (most steps : ℕ) (plan : List Event) (s : MachineState) (reason : Ending) → ending_at steps plan s ≡ Some reason → steps_within most steps plan s ≡ 0
 unfolding steps_within
 ends_within zero steps plan s reason e = refl
 ends_within (suc most) steps plan s reason e = ap (λ (o : Option Ending). one_unless o (steps_within most steps plan (next plan s))) e
 
-text_ended : (steps : ℕ) (plan : List Event) (s : MachineState) (reason : Ending) → ending_at steps plan s ≡ Some reason
-    → run_text steps plan s ≡ ending_line reason ++ (turns_line s.turns ++ section (nested_of s))
+text_ended : (o : Opening) (steps : ℕ) (plan : List Event) (s : MachineState) (reason : Ending) → ending_at steps plan s ≡ Some reason
+    → run_text o steps plan s ≡ ending_line reason ++ (turns_line s.turns ++ section o (nested_of s))
 unfolding run_text lines state run_length closing
-text_ended steps plan s reason e =
-    ap (λ n. lines n plan s ++ closing steps plan (state plan s n)) (ends_within (left steps plan s) steps plan s reason e)
-    ∙ ap (λ (o : Option Ending). ended o ++ (turns_line s.turns ++ section (nested_of s))) e
+text_ended o steps plan s reason e =
+    ap (λ n. lines n plan s ++ closing o steps plan (state plan s n)) (ends_within (left steps plan s) steps plan s reason e)
+    ∙ ap (λ (why : Option Ending). ended why ++ (turns_line s.turns ++ section o (nested_of s))) e
+
+-- the text from the opening on, of a memory of so many frames
+pub text_begun : (steps : ℕ) (plan : List Event) (image input : List ℕ) (n frames : ℕ) (s : MachineState)
+    → s ≡ opening_state (record { image = image; frames = n }) input → n ≡ frames
+    → let o : Opening = record { image = image; frames = frames } in
+    run_text (record { image = image; frames = n }) steps plan s ≡ run_text o steps plan (opening_state o input)
+text_begun steps plan image input n frames s begun same =
+    let text : ℕ → List ℕ = λ f. run_text (record { image = image; frames = f }) steps plan (opening_state (record { image = image; frames = f }) input) in
+    ap (run_text (record { image = image; frames = n }) steps plan) begun ∙ ap text same
 
 -- What the loop keeps.
 
--- some of the text went out, and the rest is the text from this state on
-pub record IsGoing {O : Type 0} (taken : O → Option (List ℕ)) (faults : O → ℕ) (first now : O) (whole : List ℕ) (steps : ℕ) (plan : List Event)
-    (s : MachineState) : Type 0 where
+-- some of the text went out, and the rest is the text from this state on, of the machine's opening
+pub record IsGoing {O : Type 0} (taken : O → Option (List ℕ)) (faults : O → ℕ) (first now : O) (whole : List ℕ) (o : Opening) (steps : ℕ)
+    (plan : List Event) (w : WholeState) : Type 0 where
+  pub opening : w.opening ≡ o
   pub done : List ℕ
-  pub split : whole ≡ done ++ run_text steps plan s
+  pub split : whole ≡ done ++ run_text o steps plan w.state
   pub appended : Appends (taken first) (taken now) done
   pub never_fell : faults first ≤ faults now
-  pub turns_within : s.turns ≤ steps
-  pub taken_within : s.taken ≤ length plan
+  pub turns_within : w.state.turns ≤ steps
+  pub taken_within : w.state.taken ≤ length plan
 
-module _ {O : Type 0} (taken : O → Option (List ℕ)) (faults : O → ℕ) (first now : O) (steps : ℕ) (plan : List Event) where
+module _ {O : Type 0} (taken : O → Option (List ℕ)) (faults : O → ℕ) (first now : O) (o : Opening) (steps : ℕ) (plan : List Event) where
   -- at first nothing went out
-  pub begins : (s : MachineState) → s.turns ≤ steps → s.taken ≤ length plan
-      → IsGoing taken faults first first (run_text steps plan s) steps plan s
-  begins s turns_within taken_within = record {
+  pub begins : (w : WholeState) → w.opening ≡ o → w.state.turns ≤ steps → w.state.taken ≤ length plan
+      → IsGoing taken faults first first (run_text o steps plan w.state) o steps plan w
+  begins w opening turns_within taken_within = record {
+    opening = opening;
     done = [];
     split = refl;
     appended = Appends-nil (taken first);
@@ -120,30 +133,33 @@ module _ {O : Type 0} (taken : O → Option (List ℕ)) (faults : O → ℕ) (fi
     taken_within = taken_within;
   }
 
-  module _ (whole : List ℕ) (s : MachineState) (going : IsGoing taken faults first now whole steps plan s) where
-    step_is : ending_at steps plan s ≡ None → Counts plan (move_of plan s) s (next plan s) → IsStep steps plan s (next plan s)
+  module _ (whole : List ℕ) (w : WholeState) (going : IsGoing taken faults first now whole o steps plan w) where
+    step_is : ending_at steps plan w.state ≡ None → Counts plan (move_of plan w.state) w.state (next plan w.state)
+        → IsStep steps plan w.state (next plan w.state)
     step_is e counts =
-        counted steps plan s (next plan s) (move_of plan s) (turn_left steps plan s going.turns_within e) going.taken_within (not_resting steps plan s e) counts
+        counted steps plan w.state (next plan w.state) (move_of plan w.state) (turn_left steps plan w.state going.turns_within e) going.taken_within
+        (not_resting steps plan w.state e) counts
 
     -- fewer steps are left then
-    pub goes_less : ending_at steps plan s ≡ None → Counts plan (move_of plan s) s (next plan s) → (after : WholeState)
-        → {opening : Opening} → after ≡ record { opening = opening; state = next plan s } → left steps plan after.state < left steps plan s
+    pub goes_less : ending_at steps plan w.state ≡ None → Counts plan (move_of plan w.state) w.state (next plan w.state) → (after : WholeState)
+        → after ≡ next_whole plan w → left steps plan after.state < left steps plan w.state
     goes_less e counts after is =
         let it = step_is e counts in
-        let same = ap (λ (w : WholeState). left steps plan w.state) is in
+        let same = ap (λ (v : WholeState). left steps plan v.state) is in
         omega (arith, it.less, same)
 
     -- a step was taken, and what it shows went out
-    pub goes_on : (later : O) → ending_at steps plan s ≡ None → Counts plan (move_of plan s) s (next plan s)
-        → Appends (taken now) (taken later) (shown_by (move_of plan s) s) → faults now ≤ faults later
-        → IsGoing taken faults first later whole steps plan (next plan s)
+    pub goes_on : (later : O) → ending_at steps plan w.state ≡ None → Counts plan (move_of plan w.state) w.state (next plan w.state)
+        → Appends (taken now) (taken later) (shown_by (move_of plan w.state) w.state) → faults now ≤ faults later
+        → IsGoing taken faults first later whole o steps plan (next_whole plan w)
     goes_on later e counts put low =
         let it = step_is e counts in
-        let bytes = shown_by (move_of plan s) s in
+        let bytes = shown_by (move_of plan w.state) w.state in
         record {
+          opening = going.opening;
           done = going.done ++ bytes;
-          split = going.split ∙ ap (λ l. going.done ++ l) (text_going steps plan s e it.less)
-              ∙ sym (append_assoc going.done bytes (run_text steps plan (next plan s)));
+          split = going.split ∙ ap (λ l. going.done ++ l) (text_going o steps plan w.state e it.less)
+              ∙ sym (append_assoc going.done bytes (run_text o steps plan (next plan w.state)));
           appended = Appends-trans (taken first) (taken now) (taken later) going.done bytes going.appended put;
           never_fell = omega (arith, going.never_fell, low);
           turns_within = it.turns;
@@ -151,13 +167,13 @@ module _ {O : Type 0} (taken : O → Option (List ℕ)) (faults : O → ℕ) (fi
         }
 
     -- a step was taken, and a fault cut what it shows
-    pub was_cut : (later : O) → ending_at steps plan s ≡ None → Counts plan (move_of plan s) s (next plan s)
-        → RoseTo (faults now) (faults later) → AppendsPrefix (taken now) (taken later) (shown_by (move_of plan s) s)
+    pub was_cut : (later : O) → ending_at steps plan w.state ≡ None → Counts plan (move_of plan w.state) w.state (next plan w.state)
+        → RoseTo (faults now) (faults later) → AppendsPrefix (taken now) (taken later) (shown_by (move_of plan w.state) w.state)
         → IsWritten (sink_change taken faults first later) 0 whole 4
     was_cut later e counts rose cut =
-        let bytes = shown_by (move_of plan s) s in
-        let rest = run_text steps plan (next plan s) in
-        let text = text_going steps plan s e (step_is e counts).less in
+        let bytes = shown_by (move_of plan w.state) w.state in
+        let rest = run_text o steps plan (next plan w.state) in
+        let text = text_going o steps plan w.state e (step_is e counts).less in
         inr (
           refl,
           rose_before (faults first) (faults now) (faults later) going.never_fell rose,
@@ -167,10 +183,10 @@ module _ {O : Type 0} (taken : O → Option (List ℕ)) (faults : O → ℕ) (fi
         )
 
     -- the run ended, and the rest was written or cut
-    pub closes : (later : O) (reason : Ending) (result : ℕ) → ending_at steps plan s ≡ Some reason
-        → IsWritten (sink_change taken faults now later) 0 (ending_line reason ++ (turns_line s.turns ++ section (nested_of s))) result
+    pub closes : (later : O) (reason : Ending) (result : ℕ) → ending_at steps plan w.state ≡ Some reason
+        → IsWritten (sink_change taken faults now later) 0 (ending_line reason ++ (turns_line w.state.turns ++ section o (nested_of w.state))) result
         → IsWritten (sink_change taken faults first later) 0 whole result
     closes later reason result e written =
-        let text = going.split ∙ ap (λ l. going.done ++ l) (text_ended steps plan s reason e) in
+        let text = going.split ∙ ap (λ l. going.done ++ l) (text_ended o steps plan w.state reason e) in
         subst (λ l. IsWritten (sink_change taken faults first later) 0 l result) (sym text)
         (went_on taken faults first now later going.done going.done _ 0 result refl going.never_fell going.appended written)

@@ -17,3 +17,12 @@ on_err {A = A} {E = E} {P = P} is h = let Q : Result A E → Type 0 = λ r. OnEr
 
 pub on_ok : {A E : Type 0} {r : Result A E} {a : A} {P : Type 0} → r ≡ Ok a → OnOk r P → P
 on_ok {A = A} {E = E} {P = P} is h = let Q : Result A E → Type 0 = λ r. OnOk r P in subst Q is h
+
+-- what holds where a result is none, or an error, and what follows from it
+pub ok_then : {A E : Type 0} (r : Result A E) {P Q : Type 0} → (P → Q) → OnOk r P → OnOk r Q
+ok_then (Ok a) f h = f h
+ok_then (Err e) f h = tt
+
+pub err_then : {A E : Type 0} (r : Result A E) {P Q : Type 0} → (P → Q) → OnErr r P → OnErr r Q
+err_then (Ok a) f h = tt
+err_then (Err e) f h = f h

@@ -3,6 +3,7 @@ pub mod NumberWords
 pub mod CommandLine
 pub mod Lines
 pub mod Witness
+pub mod ClosingSection
 pub mod RunStates
 pub mod Outcome
 pub mod Clauses

@@ -3,6 +3,8 @@ use Rattle.std.specs.Prelude.{ℕ, ◌++◌, ◌-◌, ◌^◌, if◌then◌else�
 use Rattle.std.specs.Fmt.{decimal, digits, padded_integral, format_spec}
 use Rattle.hex.specs.Hex.{encode_lower}
 use Rattle.nk_bits.specs.declared.call.Delivery.{Delivery}
+use Rattle.nk_bits.specs.declared.kind.Kind.{Kind}
+use Rattle.nk_bits.specs.declared.kind.Kind.TheVariants as kind
 use Rattle.nk_bits.specs.declared.leaf.Leaf.{Leaf}
 use Rattle.nk_bits.specs.declared.leaf.Rights.{Rights}
 use Rattle.gate_state.specs.declared.seen.Called.{Called}
@@ -130,3 +132,21 @@ root_line frame = codes "root " ++ (decimal frame ++ codes "\n")
 
 unfoldable pub trap_line : ℕ → List ℕ
 trap_line address = codes "trap " ++ (hex_16 address ++ codes "\n")
+
+-- a kind's word
+abbrev pub kind_word : Kind → List ℕ
+kind_word kind.Data = codes "data"
+kind_word kind.Code = codes "code"
+kind_word (kind.Table level) = codes "table" ++ decimal level
+kind_word kind.Fixed = codes "fixed"
+kind_word kind.Trap = codes "trap"
+kind_word kind.Guarded = codes "guarded"
+kind_word kind.Hidden = codes "hidden"
+
+-- a frame whose kind changed, and an entry of a page table that changed
+unfoldable pub kind_line : ℕ → Kind → List ℕ
+kind_line frame kind = codes "f " ++ (decimal frame ++ (codes " " ++ (kind_word kind ++ codes "\n")))
+
+unfoldable pub entry_line : ℕ → ℕ → ℕ → List ℕ
+entry_line frame index value =
+    codes "t " ++ (decimal frame ++ (codes " " ++ (decimal index ++ (codes " " ++ (hex_16 value ++ codes "\n")))))

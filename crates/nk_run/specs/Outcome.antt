@@ -142,7 +142,7 @@ text_of Scan files words =
     let image = file_in files words Image in admitted_line (entry_of image) (executable_page_count image)
 text_of (Map frames va) files words = walk_line (translation_of (file_in files words Image) frames va)
 text_of (Run steps frames) files words =
-    run_text steps (events_in (plan_of (file_in files words Plan)))
+    run_text (opening_in files words frames) steps (events_in (plan_of (file_in files words Plan)))
     (opening_state (opening_in files words frames) (file_in files words Input))
 
 -- the outcome of the words, of which the command is what they spell

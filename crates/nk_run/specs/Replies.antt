@@ -134,5 +134,6 @@ pub record IsReady (words : List (List ℕ)) (told : Option Files) (steps frames
   pub clean : first_found image ≡ None
   pub outcome_is : IfTold told (λ files. outcome words files ≡ Some (record {
     status = 0;
-    text = run_text steps plan (opening_state (record { image = image; frames = frames }) input);
+    text = run_text (record { image = image; frames = frames }) steps plan
+        (opening_state (record { image = image; frames = frames }) input);
   }))

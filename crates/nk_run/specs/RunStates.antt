@@ -1,17 +1,17 @@
 -- A run: why it ends, how many steps it takes, and its text. Its states are those of the machine.
 use Rattle.std.specs.Prelude.{ℕ, zero, suc, ◌+◌, ◌-◌, ◌==◌, if◌then◌else◌, List, [], ◌++◌, length, Option, None, Some}
 use Rattle.irq_plan.specs.declared.event.Event.{Event}
-use Rattle.nk_body.specs.NestedRecord.{Nested}
 use Rattle.gate_state.specs.declared.moves.Move.{Move}
 use Rattle.gate_state.specs.declared.moves.Move.TheVariants as move
 use Rattle.gate_state.specs.declared.seen.Seen.{Seen}
 use Rattle.gate_state.specs.declared.seen.Seen.TheVariants as seen
-use Rattle.gate_state.specs.MachineStates.{MachineState, nested_of}
+use Rattle.gate_state.specs.MachineStates.{MachineState, Opening, nested_of}
 use Rattle.gate_state.specs.MachineSteps.{called_in, move_of, next, seen_by, state}
 use Rattle.gate_state.specs.WholeMachine.{is_rest}
 use Rattle.nk_run.specs.declared.ending.Ending.{Ending}
 use Rattle.nk_run.specs.declared.ending.Ending.TheVariants as ending
-use Rattle.nk_run.specs.Lines.{call_line, console_line, delivery_line, ending_line, root_line, trap_line, turns_line}
+use Rattle.nk_run.specs.ClosingSection.{section}
+use Rattle.nk_run.specs.Lines.{call_line, console_line, delivery_line, ending_line, turns_line}
 
 -- why the run ends at a state, where it does: as many turns were taken as it may have, or the machine rests for good
 unfoldable pub ending_at : ℕ → List Event → MachineState → Option Ending
@@ -51,19 +51,15 @@ unfoldable pub lines : ℕ → List Event → MachineState → List ℕ
 lines zero plan s = []
 lines (suc n) plan s = shown_by (move_of plan s) s ++ lines n plan (next plan s)
 
--- the closing section: the root of the page tables, and the trap handler
-abbrev pub section : Nested → List ℕ
-section nk = root_line nk.root ++ trap_line nk.trap
-
 abbrev pub ended : Option Ending → List ℕ
 ended (Some reason) = ending_line reason
 ended None = []
 
 -- what is written at the state at which the run ends
-unfoldable pub closing : ℕ → List Event → MachineState → List ℕ
-closing steps plan s = ended (ending_at steps plan s) ++ (turns_line s.turns ++ section (nested_of s))
+unfoldable pub closing : Opening → ℕ → List Event → MachineState → List ℕ
+closing o steps plan s = ended (ending_at steps plan s) ++ (turns_line s.turns ++ section o (nested_of s))
 
--- the text of a run from a state on
-unfoldable pub run_text : ℕ → List Event → MachineState → List ℕ
-run_text steps plan s =
-    let n = run_length steps plan s in lines n plan s ++ closing steps plan (state plan s n)
+-- the text of a run from a state on, by the opening that it began from
+unfoldable pub run_text : Opening → ℕ → List Event → MachineState → List ℕ
+run_text o steps plan s =
+    let n = run_length steps plan s in lines n plan s ++ closing o steps plan (state plan s n)

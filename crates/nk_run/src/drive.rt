@@ -1,41 +1,55 @@
 //! The loop of a run: step after step of the machine, with the text as it comes.
-ghost use Rattle.std.specs.Prelude.{◌≡◌, ◌<◌, ◌≤◌, ◌++◌, false, OnErr, OnOk};
+ghost use Rattle.std.specs.Prelude.{◌≡◌, ◌<◌, ◌≤◌, ◌*◌, ◌++◌, false, length, OnErr, OnOk};
 ghost use Rattle.std.specs.Io.KnownBytes.{Appends};
 ghost use Rattle.nk_host.specs.FaultCounts.{RoseTo};
 ghost use Rattle.nk_host.specs.Taken.{AppendsPrefix};
+ghost use Rattle.boot_map.specs.Division.{IsLayout};
+ghost use Rattle.nk_body.specs.NestedRecord.{AreBooks, nested_by};
 ghost use Rattle.gate_state.specs.MachineOf.{whole_of};
 ghost use Rattle.gate_state.specs.MachineStates.{nested_of};
 ghost use Rattle.gate_state.specs.MachineSteps.{move_of};
 ghost use Rattle.gate_state.specs.WholeMachine.{is_rest, next_whole};
-ghost use Rattle.nk_run.specs.Lines.{call_line, ending_line, root_line, trap_line, turns_line};
+ghost use Rattle.nk_run.specs.ClosingSection.{section};
+ghost use Rattle.nk_run.specs.Lines.{call_line, ending_line, turns_line};
 ghost use Rattle.nk_run.specs.Replies.{IsWritten};
-ghost use Rattle.nk_run.specs.RunStates.{ending_at, run_text, section, shown, shown_by};
+ghost use Rattle.nk_run.specs.RunStates.{ending_at, run_text, shown, shown_by};
 ghost use Rattle.nk_run.specs.Witness.{sink_change};
 
 use crate::ending::Ending;
 use crate::run_lines::{
-    CALL, DELIVERY, NUMBERED, call_line, console_line, delivery_line, ending_line, root_line,
-    trap_line, turns_line,
+    CALL, DELIVERY, NUMBERED, call_line, console_line, delivery_line, ending_line, turns_line,
 };
-use gate_state::{Called, Machine, Seen, moves_law};
+use crate::section::put_section;
+use boot_map::Layout;
+use elf_image::Image;
+use gate_state::{Called, Finished, Machine, Seen, moves_law};
 use irq_plan::Plan;
-use nk_body::Kernel;
 use nk_host::{Sink, SinkFault, put_all};
 
 /// Takes the steps of a run, and writes its text; gives 0, or 4 after a fault of the sink.
-pub(crate) fn drive<'i, O: Sink>(machine: Machine<'i>, plan: &Plan, steps: u64, sink: &mut O) -> u8
+pub(crate) fn drive<'i, O: Sink>(
+    machine: Machine<'i>,
+    image: &Image,
+    layout: &Layout,
+    plan: &Plan,
+    steps: u64,
+    sink: &mut O,
+) -> u8
+    requires opening { (whole_of machine).opening ≡ record { image = image.now; frames = layout.now.frames } }
+    requires layout { IsLayout image.now layout.now }
     requires steps { steps ≤ 4294967296 }
     requires turns { (whole_of machine).state.turns ≡ 0 }
     requires taken { (whole_of machine).state.taken ≡ 0 }
     ensures never_falls { O.faults sink.old ≤ O.faults sink.new }
     ensures written { IsWritten (sink_change O.taken O.faults sink.old sink.new) 0
-        (run_text steps plan.now (whole_of machine.entry).state) result }
+        (run_text (record { image = image.now; frames = layout.now.frames }) steps plan.now
+        (whole_of machine.entry).state) result }
 {
     moves_law();
     let mut machine = machine;
     loop {
         if let Some(ending) = ending_at(&machine, plan, steps) {
-            return end(machine, ending, sink);
+            return end(machine, image, layout, ending, sink);
         }
         let (next, shown) = advance(machine, plan, sink);
         machine = next;
@@ -117,61 +131,81 @@ fn show_call<O: Sink>(called: &Called, sink: &mut O) -> Result<(), SinkFault>
 }
 
 /// Ends the run of a machine, and writes why, how many turns it took, and the closing section.
-fn end<'i, O: Sink>(machine: Machine<'i>, ending: Ending, sink: &mut O) -> u8
+fn end<'i, O: Sink>(
+    machine: Machine<'i>,
+    image: &Image,
+    layout: &Layout,
+    ending: Ending,
+    sink: &mut O,
+) -> u8
+    requires opening { (whole_of machine).opening ≡ record { image = image.now; frames = layout.now.frames } }
+    requires layout { IsLayout image.now layout.now }
     ensures never_falls { O.faults sink.old ≤ O.faults sink.new }
     ensures written { IsWritten (sink_change O.taken O.faults sink.old sink.new) 0
         (ending_line ending ++ (turns_line (whole_of machine.entry).state.turns
-        ++ section (nested_of (whole_of machine.entry).state))) result }
+        ++ section (record { image = image.now; frames = layout.now.frames }) (nested_of (whole_of machine.entry).state))) result }
 {
     let turns = machine.turns();
     let finished = machine.finish();
-    close(&finished.kernel, turns, ending, sink)
+    close(&finished, image, layout, turns, ending, sink)
 }
 
 /// Writes why the run ended, how many turns it took, and the closing section.
-fn close<O: Sink>(kernel: &Kernel, turns: u64, ending: Ending, sink: &mut O) -> u8
+fn close<O: Sink>(
+    finished: &Finished,
+    image: &Image,
+    layout: &Layout,
+    turns: u64,
+    ending: Ending,
+    sink: &mut O,
+) -> u8
+    requires layout { IsLayout image.now layout.now }
+    requires books { AreBooks finished.now.kernel finished.now.mem }
+    requires size { length finished.now.mem ≡ 4096 * layout.now.frames }
     ensures never_falls { O.faults sink.old ≤ O.faults sink.new }
     ensures written { IsWritten (sink_change O.taken O.faults sink.old sink.new) 0
-        (ending_line ending ++ (turns_line turns
-        ++ (root_line kernel.now.root ++ trap_line kernel.now.trap))) result }
+        (ending_line ending ++ (turns_line turns ++ section (record { image = image.now; frames = layout.now.frames })
+        (nested_by finished.now.kernel finished.now.mem))) result }
 {
     match put_all(sink, ending_line(ending).as_bytes()) {
-        Ok(()) => put_turns(kernel, turns, sink),
+        Ok(()) => put_turns(finished, image, layout, turns, sink),
         Err(_) => 4,
     }
 }
 
 /// Writes how many turns were taken, and the closing section.
-fn put_turns<O: Sink>(kernel: &Kernel, turns: u64, sink: &mut O) -> u8
+fn put_turns<O: Sink>(
+    finished: &Finished,
+    image: &Image,
+    layout: &Layout,
+    turns: u64,
+    sink: &mut O,
+) -> u8
+    requires layout { IsLayout image.now layout.now }
+    requires books { AreBooks finished.now.kernel finished.now.mem }
+    requires size { length finished.now.mem ≡ 4096 * layout.now.frames }
     ensures never_falls { O.faults sink.old ≤ O.faults sink.new }
     ensures written { IsWritten (sink_change O.taken O.faults sink.old sink.new) 0
-        (turns_line turns ++ (root_line kernel.now.root ++ trap_line kernel.now.trap)) result }
+        (turns_line turns ++ section (record { image = image.now; frames = layout.now.frames })
+        (nested_by finished.now.kernel finished.now.mem)) result }
 {
     match put_all(sink, turns_line(&mut [0; NUMBERED], turns)) {
-        Ok(()) => put_section(kernel, sink),
+        Ok(()) => finish(finished, image, layout, sink),
         Err(_) => 4,
     }
 }
 
 /// Writes the closing section.
-fn put_section<O: Sink>(kernel: &Kernel, sink: &mut O) -> u8
+fn finish<O: Sink>(finished: &Finished, image: &Image, layout: &Layout, sink: &mut O) -> u8
+    requires layout { IsLayout image.now layout.now }
+    requires books { AreBooks finished.now.kernel finished.now.mem }
+    requires size { length finished.now.mem ≡ 4096 * layout.now.frames }
     ensures never_falls { O.faults sink.old ≤ O.faults sink.new }
     ensures written { IsWritten (sink_change O.taken O.faults sink.old sink.new) 0
-        (root_line kernel.now.root ++ trap_line kernel.now.trap) result }
+        (section (record { image = image.now; frames = layout.now.frames })
+        (nested_by finished.now.kernel finished.now.mem)) result }
 {
-    match put_all(sink, root_line(&mut [0; NUMBERED], kernel.root())) {
-        Ok(()) => put_trap(kernel, sink),
-        Err(_) => 4,
-    }
-}
-
-/// Writes the address of the trap handler.
-fn put_trap<O: Sink>(kernel: &Kernel, sink: &mut O) -> u8
-    ensures never_falls { O.faults sink.old ≤ O.faults sink.new }
-    ensures written { IsWritten (sink_change O.taken O.faults sink.old sink.new) 0
-        (trap_line kernel.now.trap) result }
-{
-    match put_all(sink, &trap_line(kernel.trap())) {
+    match put_section(sink, image, layout, &finished.mem, &finished.kernel) {
         Ok(()) => 0,
         Err(_) => 4,
     }

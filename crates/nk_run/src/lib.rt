@@ -23,10 +23,11 @@ mod scan;
 mod inputs;
 mod run;
 
-// A run: its steps and why it ends, its lines, its loop.
+// A run: its steps and why it ends, its lines, its closing section, its loop.
 mod drive;
 mod ending;
 mod run_lines;
+mod section;
 
 // The whole.
 mod answer;

@@ -49,7 +49,8 @@ fn begin<'i>(
 ) -> Option<OuterMachine<'i>>
     requires layout { IsLayout image.now layout.now }
     requires clean { first_found image.now ≡ None }
-    ensures { IfSome result (λ machine. machine.state
+    ensures opening { IfSome result (λ machine. machine.opening ≡ record { image = image.now; frames = layout.now.frames }) }
+    ensures state { IfSome result (λ machine. machine.state
         ≡ opening_state (record { image = image.now; frames = layout.now.frames }) input.items) }
 {
     let memory = match prepare(alloc, image, layout) {
@@ -165,7 +166,7 @@ pub(crate) fn run<S: Shelf, O: Sink>(
     } = ready;
     let Outside { input, plan } = outside;
     match begin(alloc, &image, &layout, input) {
-        Some(machine) => drive(Machine::Outer(machine), &plan, steps, sink),
+        Some(machine) => drive(Machine::Outer(machine), &image, &layout, &plan, steps, sink),
         None => want().write(sink),
     }
 }

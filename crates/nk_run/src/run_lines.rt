@@ -2,11 +2,11 @@
 //! its bytes, so that its encoding never fails.
 ghost use Rattle.std.specs.Prelude.{◌≡◌, ◌+◌, ◌<◌, ◌≤◌, ◌++◌, false, drop, length, codes, decimal};
 ghost use Rattle.std.specs.Fmt.{digit_glyph, digits};
-ghost use Rattle.nk_run.specs.Lines.{call_line, console_line, delivery_line, ending_line, hex_16, hex_16_word, hex_word, root_line, source_word, trap_line, turns_line};
+ghost use Rattle.nk_run.specs.Lines.{call_line, console_line, delivery_line, ending_line, entry_line, hex_16, hex_16_word, hex_word, kind_line, kind_word, root_line, source_word, trap_line, turns_line};
 
 use crate::ending::Ending;
 use gate_state::{Called, Took};
-use nk_bits::{CallWords, Delivery};
+use nk_bits::{CallWords, Delivery, Kind};
 
 /// The most bytes of a line that ends with a number: a word of eight, twenty digits, and the line's end.
 pub(crate) const NUMBERED: usize = 29;
@@ -137,6 +137,69 @@ fn put_arguments(room: &mut [u8], end: usize, call: &CallWords) -> usize
     let b = put_least(room, b_end, call.b);
     let a_end = put(room, b, b" ");
     put_least(room, a_end, call.a)
+}
+
+/// The most bytes of the line of a frame's kind: `f`, ten digits and a word of eight, each behind a space, and the line's
+/// end.
+pub(crate) const KIND: usize = 22;
+
+/// A frame whose kind changed, at the end of the room.
+pub(crate) fn kind_line(room: &mut [u8; KIND], frame: u32, kind: Kind) -> &[u8]
+    ensures { result.now ≡ kind_line frame kind }
+{
+    room[KIND - 1] = b'\n';
+    let word = put_kind(room, KIND - 1, kind);
+    let frame_end = put(room, word, b" ");
+    let digits = itoa::write_digits(u64::from(frame), room, frame_end);
+    let start = put(room, digits, b"f ");
+    room.split_at(start).1
+}
+
+/// The most bytes of the line of an entry: `t`, two numbers of ten digits and a word of sixteen, each behind a space, and
+/// the line's end.
+pub(crate) const ENTRY: usize = 41;
+
+/// An entry of a page table that changed, at the end of the room.
+pub(crate) fn entry_line(room: &mut [u8; ENTRY], frame: u32, index: u32, value: u64) -> &[u8]
+    ensures { result.now ≡ entry_line frame index value }
+{
+    room[ENTRY - 1] = b'\n';
+    let word = put_16(room, ENTRY - 1, value);
+    let index_end = put(room, word, b" ");
+    let index_digits = itoa::write_digits(u64::from(index), room, index_end);
+    let frame_end = put(room, index_digits, b" ");
+    let digits = itoa::write_digits(u64::from(frame), room, frame_end);
+    let start = put(room, digits, b"t ");
+    room.split_at(start).1
+}
+
+/// Puts a kind's word.
+fn put_kind(room: &mut [u8], end: usize, kind: Kind) -> usize
+    requires room { 8 ≤ end }
+    requires end { end ≤ length room.old }
+    ensures start { (result ≤ end) × (end ≤ result + 8) }
+    ensures written { drop result room.new ≡ kind_word kind ++ drop end room.old }
+{
+    match kind {
+        Kind::Data => put(room, end, b"data"),
+        Kind::Code => put(room, end, b"code"),
+        Kind::Table(level) => put_table(room, end, level),
+        Kind::Fixed => put(room, end, b"fixed"),
+        Kind::Trap => put(room, end, b"trap"),
+        Kind::Guarded => put(room, end, b"guarded"),
+        Kind::Hidden => put(room, end, b"hidden"),
+    }
+}
+
+/// Puts the word of a page table of a level.
+fn put_table(room: &mut [u8], end: usize, level: u8) -> usize
+    requires room { 8 ≤ end }
+    requires end { end ≤ length room.old }
+    ensures start { (result ≤ end) × (end ≤ result + 8) }
+    ensures written { drop result room.new ≡ kind_word (Kind.Table level) ++ drop end room.old }
+{
+    let digits = itoa::write_digits(u64::from(level), room, end);
+    put(room, digits, b"table")
 }
 
 /// Puts a text before a place of the room, and gives the place where it starts.

@@ -3,6 +3,7 @@ mod calls;
 mod compiled;
 mod deliveries;
 mod run;
+mod tables;
 
 use crate::{Command, nk_main};
 use nk_host::{FetchFault, MemShelf, MemSink, Shelf};

@@ -1,5 +1,6 @@
 use Rattle.std.proofs.Common.{◌∙◌, arith, sym, subst}
 use Rattle.gate_state.specs.MachineOf.{whole_of}
+use Rattle.gate_state.specs.MachineStates.{Opening}
 use Rattle.gate_state.specs.WholeMachine.{WholeState}
 use Rattle.nk_run.specs.RunStates.{run_text}
 use Rattle.nk_run.proofs.Told.{on_err, on_ok}
@@ -8,8 +9,11 @@ use Rattle.nk_run.proofs.drive.drive.Goals as goal
 
 pub loop-ending-init : goal.loop-ending-init
 loop-ending-init g c =
-    begins g.O.Sink.taken g.O.Sink.faults c.args.sink.now c.args.sink.now c.args.steps c.args.plan.now (whole_of c.args.machine).state
-    (omega (arith, c.requires.turns)) (omega (arith, c.requires.taken))
+    begins g.O.Sink.taken g.O.Sink.faults c.args.sink.now c.args.sink.now _ c.args.steps c.args.plan.now (whole_of c.args.machine)
+    c.requires.opening (omega (arith, c.requires.turns)) (omega (arith, c.requires.taken))
+
+pub end-requires-clause-opening : goal.end-requires-clause-opening
+end-requires-clause-opening g c = c.loop-ending.invariant.opening
 
 pub returns-in-Some-clause-never_falls : goal.returns-in-Some-clause-never_falls
 returns-in-Some-clause-never_falls g c =
@@ -17,8 +21,9 @@ returns-in-Some-clause-never_falls g c =
 
 pub returns-in-Some-clause-written : goal.returns-in-Some-clause-written
 returns-in-Some-clause-written g c =
-    closes g.O.Sink.taken g.O.Sink.faults c.args.sink.now c.loop-ending.sink c.args.steps c.args.plan.now
-    (run_text c.args.steps c.args.plan.now (whole_of c.args.machine).state) (whole_of c.loop-ending.machine).state c.loop-ending.invariant
+    let o : Opening = record { image = c.args.image.now; frames = c.args.layout.now.frames } in
+    closes g.O.Sink.taken g.O.Sink.faults c.args.sink.now c.loop-ending.sink o c.args.steps c.args.plan.now
+    (run_text o c.args.steps c.args.plan.now (whole_of c.args.machine).state) (whole_of c.loop-ending.machine) c.loop-ending.invariant
     c.end.new.sink c.in-Some.ending c.end.result (sym c.ending_at.ensures ∙ c.in-Some.is) c.end.ensures.written
 
 pub advance-next-requires-clause-left : goal.advance-next-requires-clause-left
@@ -37,26 +42,29 @@ returns-in-Err-clause-never_falls g c =
 
 pub returns-in-Err-clause-written : goal.returns-in-Err-clause-written
 returns-in-Err-clause-written g c =
-    let s = (whole_of c.loop-ending.machine).state in
-    was_cut g.O.Sink.taken g.O.Sink.faults c.args.sink.now c.loop-ending.sink c.args.steps c.args.plan.now
-    (run_text c.args.steps c.args.plan.now (whole_of c.args.machine).state) s c.loop-ending.invariant
-    c.advance-next.new.sink (sym c.ending_at.ensures ∙ c.in_default.is) (c.moves_law.ensures c.args.plan.now s)
+    let o : Opening = record { image = c.args.image.now; frames = c.args.layout.now.frames } in
+    let w = whole_of c.loop-ending.machine in
+    was_cut g.O.Sink.taken g.O.Sink.faults c.args.sink.now c.loop-ending.sink o c.args.steps c.args.plan.now
+    (run_text o c.args.steps c.args.plan.now (whole_of c.args.machine).state) w c.loop-ending.invariant
+    c.advance-next.new.sink (sym c.ending_at.ensures ∙ c.in_default.is) (c.moves_law.ensures c.args.plan.now w.state)
     (on_err c.in-Err.is c.advance-next.ensures.failed) (on_err c.in-Err.is c.advance-next.ensures.some)
 
 pub loop-ending-smaller : goal.loop-ending-smaller
 loop-ending-smaller g c =
-    let s = (whole_of c.loop-ending.machine).state in
-    let less = goes_less g.O.Sink.taken g.O.Sink.faults c.args.sink.now c.loop-ending.sink c.args.steps c.args.plan.now
-    (run_text c.args.steps c.args.plan.now (whole_of c.args.machine).state) s c.loop-ending.invariant
-    (sym c.ending_at.ensures ∙ c.in_default.is) (c.moves_law.ensures c.args.plan.now s) (whole_of c.advance-next.result.0) c.advance-next.ensures.next in
+    let o : Opening = record { image = c.args.image.now; frames = c.args.layout.now.frames } in
+    let w = whole_of c.loop-ending.machine in
+    let less = goes_less g.O.Sink.taken g.O.Sink.faults c.args.sink.now c.loop-ending.sink o c.args.steps c.args.plan.now
+    (run_text o c.args.steps c.args.plan.now (whole_of c.args.machine).state) w c.loop-ending.invariant
+    (sym c.ending_at.ensures ∙ c.in_default.is) (c.moves_law.ensures c.args.plan.now w.state) (whole_of c.advance-next.result.0) c.advance-next.ensures.next in
     omega (arith, less)
 
 pub loop-ending-preserved : goal.loop-ending-preserved
 loop-ending-preserved g c =
-    let s = (whole_of c.loop-ending.machine).state in
-    subst (λ (w : WholeState). IsGoing g.O.Sink.taken g.O.Sink.faults c.args.sink.now c.advance-next.new.sink
-    (run_text c.args.steps c.args.plan.now (whole_of c.args.machine).state) c.args.steps c.args.plan.now w.state) (sym c.advance-next.ensures.next)
-    (goes_on g.O.Sink.taken g.O.Sink.faults c.args.sink.now c.loop-ending.sink c.args.steps c.args.plan.now
-    (run_text c.args.steps c.args.plan.now (whole_of c.args.machine).state) s c.loop-ending.invariant
-    c.advance-next.new.sink (sym c.ending_at.ensures ∙ c.in_default.is) (c.moves_law.ensures c.args.plan.now s)
+    let o : Opening = record { image = c.args.image.now; frames = c.args.layout.now.frames } in
+    let w = whole_of c.loop-ending.machine in
+    subst (λ (v : WholeState). IsGoing g.O.Sink.taken g.O.Sink.faults c.args.sink.now c.advance-next.new.sink
+    (run_text o c.args.steps c.args.plan.now (whole_of c.args.machine).state) o c.args.steps c.args.plan.now v) (sym c.advance-next.ensures.next)
+    (goes_on g.O.Sink.taken g.O.Sink.faults c.args.sink.now c.loop-ending.sink o c.args.steps c.args.plan.now
+    (run_text o c.args.steps c.args.plan.now (whole_of c.args.machine).state) w c.loop-ending.invariant
+    c.advance-next.new.sink (sym c.ending_at.ensures ∙ c.in_default.is) (c.moves_law.ensures c.args.plan.now w.state)
     (on_ok c.in_default-shown.is c.advance-next.ensures.all) c.advance-next.ensures.never_falls)

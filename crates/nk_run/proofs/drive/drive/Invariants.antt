@@ -1,12 +1,14 @@
 use Rattle.gate_state.specs.MachineOf.{whole_of}
+use Rattle.gate_state.specs.MachineStates.{Opening}
 use Rattle.nk_run.specs.RunStates.{run_text}
 use Rattle.nk_run.proofs.Runs.{IsGoing, left}
 use Rattle.nk_run.proofs.drive.drive.Given as goal
 
 abbrev pub invariant-loop-ending : goal.invariant-loop-ending
 invariant-loop-ending g l =
+    let o : Opening = record { image = l.image; frames = l.layout.frames } in
     IsGoing g.O.Sink.taken g.O.Sink.faults l.initial.sink l.sink
-    (run_text l.steps l.plan (whole_of l.initial.machine).state) l.steps l.plan (whole_of l.machine).state
+    (run_text o l.steps l.plan (whole_of l.initial.machine).state) o l.steps l.plan (whole_of l.machine)
 
 abbrev pub decreases-loop-ending : goal.decreases-loop-ending
 decreases-loop-ending g l = left l.steps l.plan (whole_of l.machine).state

@@ -1,0 +1,58 @@
+-- The closing section of a run: the root of the page tables and the trap handler, and then each frame whose kind differs
+-- from the opening's, and each entry of a page table that does.
+use Rattle.std.specs.Prelude.{ℕ, zero, suc, ◌+◌, Bool, true, false, not, ◌==◌, if◌then◌else◌, List, [], ◌++◌}
+use Rattle.nk_bits.specs.declared.kind.Kind.{Kind}
+use Rattle.nk_bits.specs.declared.kind.Kind.TheVariants.{Data, Code, Table, Fixed, Trap, Guarded, Hidden}
+use Rattle.nk_bits.specs.Kinds.{kind_of}
+use Rattle.boot_map.specs.OpeningEntries.{opening_entry}
+use Rattle.boot_map.specs.OpeningKinds.{kind_at}
+use Rattle.page_desc.specs.PageTables.{is_table}
+use Rattle.nk_body.specs.NestedRecord.{Nested}
+use Rattle.gate_state.specs.MachineStates.{Opening}
+use Rattle.nk_run.specs.Lines.{entry_line, kind_line, root_line, trap_line}
+
+-- two kinds are one
+abbrev pub is_same_kind : Kind → Kind → Bool
+is_same_kind Data Data = true
+is_same_kind Code Code = true
+is_same_kind (Table one) (Table other) = one == other
+is_same_kind Fixed Fixed = true
+is_same_kind Trap Trap = true
+is_same_kind Guarded Guarded = true
+is_same_kind Hidden Hidden = true
+is_same_kind _ _ = false
+
+-- what g gives for n numbers from a place on, one after the other
+unfoldable pub lines_of : (ℕ → List ℕ) → ℕ → ℕ → List ℕ
+lines_of g zero place = []
+lines_of g (suc n) place = g place ++ lines_of g n (place + 1)
+
+-- the line of a frame whose kind isn't what it was
+abbrev pub line_of_kind : Kind → Kind → ℕ → List ℕ
+line_of_kind before now frame = if is_same_kind before now then [] else kind_line frame now
+
+-- the line of an entry whose value isn't what it was
+abbrev pub line_of_entry : ℕ → ℕ → ℕ → ℕ → List ℕ
+line_of_entry before now frame index = if before == now then [] else entry_line frame index now
+
+-- entry i of frame f at the opening; 0 where the frame was no page table
+abbrev pub table_value : Opening → ℕ → ℕ → ℕ
+table_value o f i = if is_table (kind_at o.image o.frames f) then opening_entry o.image o.frames f i else 0
+
+-- the frames whose kind changed, ascending
+unfoldable pub kind_lines : Opening → Nested → List ℕ
+kind_lines o nk =
+    lines_of (λ f. line_of_kind (kind_at o.image o.frames f) (kind_of nk.tables.kinds f) f) o.frames 0
+
+-- the entries that changed of one page table, by index, and of all of them, by frame
+unfoldable pub lines_of_table : Opening → Nested → ℕ → List ℕ
+lines_of_table o nk f =
+    if is_table (kind_of nk.tables.kinds f)
+    then lines_of (λ i. line_of_entry (table_value o f i) (nk.tables.entries f i) f i) 512 0
+    else []
+
+unfoldable pub entry_lines : Opening → Nested → List ℕ
+entry_lines o nk = lines_of (lines_of_table o nk) o.frames 0
+
+abbrev pub section : Opening → Nested → List ℕ
+section o nk = root_line nk.tables.root ++ (trap_line nk.trap ++ (kind_lines o nk ++ entry_lines o nk))
