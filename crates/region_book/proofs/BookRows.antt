@@ -1,0 +1,70 @@
+-- The regions of a book by its rows: the one of an identifier, and which of its bytes were written.
+use Rattle.std.proofs.Common.{◌≡◌, ℕ, ◌+◌, ◌<◌, ◌≤◌, Bool, true, false, ◌==◌, nat_le, List, [], ◌∷◌, map, arith, refl, sym, ap, ◌∙◌, subst, slice_index_or}
+use Rattle.std.specs.Prelude.{Option, Some, None, IfNone, IsSome, cond, option_map}
+use Rattle.std.specs.List.{find, list_any, range_with_len}
+use Rattle.std.proofs.lemmas.Bool.{and_parts, leb-true}
+use Rattle.std.proofs.lemmas.List.FromFn.{get_or-map-range_with_len}
+use Rattle.region_book.specs.declared.row.Row.{Row}
+use Rattle.region_book.specs.RegionCalls.{fits_region}
+use Rattle.region_book.specs.RegionRecords.{Book, Region, is_written_in, region_of}
+use Rattle.region_book.specs.RegionRows.{bit_in, bits_from, book_of, first_bit, region_at, row_of}
+use Rattle.region_book.proofs.BitTests.{same_in_runs}
+
+find_mapped : {X Y : Type 0} (p : Y → Bool) (f : X → Y) (xs : List X) →
+    find p (map f xs) ≡ option_map f (find (λ x. p (f x)) xs)
+find_mapped p f [] = refl
+find_mapped p f (x ∷ xs) = go (p (f x)) (find_mapped p f xs)
+  where
+    go : (here : Bool) → find p (map f xs) ≡ option_map f (find (λ x. p (f x)) xs) →
+        cond here (Some (f x)) (find p (map f xs)) ≡ option_map f (cond here (Some x) (find (λ x. p (f x)) xs))
+    go true later = refl
+    go false later = later
+
+module _ (rows : List Row) (bits : List ℕ) (next declared : ℕ) (now : Book) (id : ℕ)
+    (view : book_of rows bits next declared ≡ now) where
+  region_by_row : region_of now id ≡ option_map (region_at bits) (row_of rows id)
+  region_by_row = ap (λ book. region_of book id) (sym view) ∙ find_mapped (λ r. r.id == id) (region_at bits) rows
+
+  pub region_found : (row : Row) → row_of rows id ≡ Some row → region_of now id ≡ Some (region_at bits row)
+  region_found row found = region_by_row ∙ ap (option_map (region_at bits)) found
+
+  pub region_missing : row_of rows id ≡ None → region_of now id ≡ None
+  region_missing none = region_by_row ∙ ap (option_map (region_at bits)) none
+
+-- a look-up finds a row where the region is live
+pub is_located : (o : Option ℕ) (none : Type 0) → IfNone o none → (none → ⊥) → IsSome o
+is_located None none is live = absurd (live is)
+is_located (Some i) none is live = refl
+
+pub fits_not_none : (o : Option Region) (offset count : ℕ) → fits_region o offset count ≡ true → o ≡ None → ⊥
+fits_not_none o offset count fits none =
+    let no : false ≡ true = ap (λ o. fits_region o offset count) (sym none) ∙ fits in cc
+
+pub live_not_none : (o : Option Region) → IsSome o → o ≡ None → ⊥
+live_not_none o live none =
+    let no : IsSome {T = Region} None = subst IsSome none live in cc
+
+-- the range lies in the region that was found
+pub fits_within : (o : Option Region) (r : Region) (offset count : ℕ) → fits_region o offset count ≡ true → o ≡ Some r →
+    (1 ≤ count) × (offset + count ≤ r.size)
+fits_within o r offset count fits is =
+    let parts = and_parts (nat_le 1 count) (nat_le (offset + count) r.size)
+    (ap (λ o. fits_region o offset count) (sym is) ∙ fits) in
+    (leb-true 1 count parts.0, leb-true (offset + count) r.size parts.1)
+
+-- which bytes were written
+pub written_at : (bits : List ℕ) (first count k : ℕ) → k < count →
+    slice_index_or (bits_from bits first count) k false ≡ bit_in bits (first + k)
+unfolding bits_from
+written_at bits first count k within =
+    get_or-map-range_with_len (λ k. bit_in bits (first + k)) 0 count k k false within (omega arith)
+
+pub written_by_bits : (bits : List ℕ) (row : Row) (offset count : ℕ) → offset + count ≤ row.size →
+    is_written_in (region_at bits row) offset count ≡ list_any (bit_in bits)
+    (range_with_len (first_bit row + offset) count)
+written_by_bits bits row offset count fits =
+    same_in_runs (λ k. slice_index_or (bits_from bits (first_bit row) row.size) k false) (bit_in bits) offset
+    (first_bit row + offset) count
+    (λ i below.
+    let place : first_bit row + (offset + i) ≡ first_bit row + offset + i = omega arith in
+    written_at bits (first_bit row) row.size (offset + i) (omega arith) ∙ ap (bit_in bits) place)

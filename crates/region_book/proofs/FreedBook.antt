@@ -1,0 +1,32 @@
+-- The book after a region was let go, by its rows and bits.
+use Rattle.std.proofs.Common.{◌≡◌, ℕ, Bool, true, false, not, ◌==◌, List, refl, sym, ap, ◌∙◌, subst}
+use Rattle.std.specs.Prelude.{Option, Some, None, filter}
+use Rattle.nk_bits.specs.declared.rule.Rule.TheVariants.{BadRegion, NotAllocated}
+use Rattle.region_book.specs.declared.row.Row.{Row}
+use Rattle.region_book.specs.RegionCalls.{else_rule, free_rule, free_rule_of, freed}
+use Rattle.region_book.specs.RegionRecords.{Book, IsBook, Region, region_of}
+use Rattle.region_book.specs.RegionRows.{book_of, region_at}
+use Rattle.region_book.proofs.ListEdits.{map_filter}
+use Rattle.region_book.proofs.SoundBooks.{removed_sound}
+
+-- where no rule is broken, the region is live and of the pool
+free_rule_none : (o : Option Region) → free_rule_of o ≡ None → (r : Region) × (o ≡ Some r) × (r.pooled ≡ true)
+free_rule_none None none = let no : Some BadRegion ≡ None = none in cc
+free_rule_none (Some r) none = (r, refl, go r.pooled none)
+  where
+    go : (b : Bool) → else_rule (not b) NotAllocated None ≡ None → b ≡ true
+    go true none = refl
+    go false none = cc
+
+module _ (rows : List Row) (bits : List ℕ) (next declared : ℕ) (now : Book) (id : ℕ)
+    (view : book_of rows bits next declared ≡ now) where
+  pub freed_is : book_of (filter (λ row. not (row.id == id)) rows) bits next declared ≡ freed now id
+  freed_is =
+      ap (λ rs. record (book_of rows bits next declared) { regions = rs })
+      (map_filter (λ r. not (r.id == id)) (region_at bits) rows) ∙ ap (λ book. freed book id) view
+
+  pub freed_book : IsBook now → free_rule now id ≡ None →
+      IsBook (book_of (filter (λ row. not (row.id == id)) rows) bits next declared)
+  freed_book sound none =
+      let live = free_rule_none (region_of now id) none in
+      subst IsBook (sym freed_is) (removed_sound now sound id live.0 live.1 live.2)

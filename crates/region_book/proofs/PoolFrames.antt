@@ -1,0 +1,41 @@
+-- The frames of a sound region of the pool are in a memory that has all of the pool's.
+use Rattle.std.proofs.Common.{◌≡◌, ℕ, ◌+◌, ◌-◌, ◌*◌, ◌/◌, ◌%◌, ◌<◌, ◌≤◌, true, arith, refl, sym, ap, ◌∙◌, subst}
+use Rattle.std.specs.Prelude.{All, IfSome, Option, Some, None, option_map}
+use Rattle.std.specs.List.{range_with_len}
+use Rattle.std.proofs.lemmas.List.FromFn.{get_or-range_with_len, length-range_with_len}
+use Rattle.std.proofs.lemmas.Option.{same_Some}
+use Rattle.region_book.specs.declared.regions.Region.{Region as ShownRegion}
+use Rattle.region_book.specs.RegionRecords.{Book, IsBook, IsRegion, Region, pool_start, region_of, shown}
+use Rattle.region_book.proofs.Found.{for_some}
+use Rattle.region_book.proofs.RegionReads.{region_sound}
+
+-- so many frames from the one of a place of the pool on
+run_within : (p size count memory : ℕ) → p + size ≤ 65536 → count ≡ (p % 4096 + size + 4095) / 4096 →
+    4096 * 26 ≤ memory →
+    All (λ f. 4096 * f + 4096 ≤ memory) (range_with_len (10 + p / 4096) count)
+run_within p size count memory fits count_is most k d below =
+    let short : k < count = omega (arith, below, length-range_with_len (10 + p / 4096) count) in
+    omega (arith, get_or-range_with_len (10 + p / 4096) count k d short, short, fits, count_is, most)
+
+pub pool_frames : (next memory : ℕ) (r : Region) → IsRegion next r → r.pooled ≡ true → 4096 * 26 ≤ memory →
+    All (λ f. 4096 * f + 4096 ≤ memory) r.frames
+pool_frames next memory r is pooled most =
+    let place = is.pooled pooled in
+    subst (All (λ f. 4096 * f + 4096 ≤ memory)) (sym place.3)
+    (run_within (r.first - pool_start) r.size ((r.place + r.size + 4095) / 4096) memory
+    (omega (arith, place.0, place.1)) (ap (λ q. (q + r.size + 4095) / 4096) place.2) most)
+
+-- the region that is shown
+region_shown : (o : Option Region) (s : ShownRegion) → option_map shown o ≡ Some s →
+    (r : Region) × (o ≡ Some r) × (shown r ≡ s)
+region_shown None s is = let no : None ≡ Some s = is in cc
+region_shown (Some r) s is = (r, refl, same_Some (shown r) s is)
+
+pub shown_frames : (now : Book) (id memory : ℕ) (s : ShownRegion) → IsBook now →
+    option_map shown (region_of now id) ≡ Some s → s.pooled ≡ true → 4096 * 26 ≤ memory →
+    IfSome (region_of now id) (λ r. All (λ f. 4096 * f + 4096 ≤ memory) r.frames)
+shown_frames now id memory s book found pooled most =
+    let live = region_shown (region_of now id) s found in
+    for_some (region_of now id) live.0 (λ r. All (λ f. 4096 * f + 4096 ≤ memory) r.frames) live.1
+    (pool_frames now.next memory live.0 (region_sound now id live.0 book live.1)
+    (ap (λ (s : ShownRegion). s.pooled) live.2 ∙ pooled) most)

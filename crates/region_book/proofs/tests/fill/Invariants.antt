@@ -1,0 +1,5 @@
+use Rattle.region_book.specs.RegionRecords.{IsBook}
+use Rattle.region_book.proofs.tests.fill.Given as goal
+
+abbrev pub invariant-loop-i : goal.invariant-loop-i
+invariant-loop-i l = IsBook l.regions

@@ -1,0 +1,96 @@
+-- Protected regions, as plain data: what each is, where its bytes stand, and what a sound book of them is.
+use Rattle.std.specs.Prelude.{◌≡◌, ◌⊎◌, ◌<◌, ◌≤◌, ℕ, ◌+◌, ◌-◌, ◌*◌, ◌/◌, ◌%◌, Bool, true, false, ◌&&◌, ◌||◌, ◌==◌, nat_le, nat_lt, if◌then◌else◌, List, [], ◌∷◌, length, map, slice_index, slice_index_or, Option, All, AllPairs}
+use Rattle.std.specs.List.{find, list_any, range_with_len, sum_by}
+use Rattle.region_book.specs.declared.regions.Region.{Region as ShownRegion}
+
+-- a region: its identifier; its policy, 1 to 4; whether it lies in the pool; its first linear address; its size in bytes;
+-- the frames that hold it, in order, and the place of its first byte in the first of them; which of its bytes were written,
+-- by offset; and its tail, behind the last byte that was appended
+pub record Region : Type 0 where
+  pub id : ℕ
+  pub policy : ℕ
+  pub pooled : Bool
+  pub first : ℕ
+  pub size : ℕ
+  pub frames : List ℕ
+  pub place : ℕ
+  pub written : List Bool
+  pub tail : ℕ
+
+-- a region, as others see it
+abbrev pub shown : Region → ShownRegion
+shown r = record { id = r.id; policy = r.policy; place = r.first; size = r.size; tail = r.tail; pooled = r.pooled }
+
+-- the live regions by identifier, the next identifier, and how many pages were declared
+pub record Book : Type 0 where
+  pub regions : List Region
+  pub next : ℕ
+  pub declared : ℕ
+
+-- the pool: 65,536 bytes from this linear address on, in the frames from 10 on
+abbrev pub pool_start : ℕ
+pool_start = 0xFFFFFF8000010000
+
+abbrev pub pool_frame : ℕ
+pool_frame = 10
+
+-- the live region that has an identifier
+abbrev pub region_of : Book → ℕ → Option Region
+region_of book id = find (λ r. r.id == id) book.regions
+
+-- the place in memory of the byte at an offset
+abbrev pub byte_place : Region → ℕ → ℕ
+byte_place r offset = 4096 * slice_index r.frames ((r.place + offset) / 4096) + (r.place + offset) % 4096
+
+-- the stores that put bytes in a region from an offset on
+unfoldable pub region_stores : Region → ℕ → List ℕ → List (ℕ × ℕ)
+region_stores r offset [] = []
+region_stores r offset (b ∷ bs) = (byte_place r offset, b) ∷ region_stores r (offset + 1) bs
+
+-- a byte of the range was written before
+abbrev pub is_written_in : Region → ℕ → ℕ → Bool
+is_written_in r offset count = list_any (λ k. slice_index_or r.written k false) (range_with_len offset count)
+
+-- the region once a range was written: its bytes count as written, and an append-only region's tail stands behind them
+abbrev pub marked : Region → ℕ → ℕ → Region
+marked r offset count = record r {
+  written = map (λ k. slice_index_or r.written k false || (nat_le offset k && nat_lt k (offset + count))) (range_with_len 0 r.size);
+  tail = if r.policy == 2 then offset + count else r.tail;
+}
+
+-- the book with another region in place of the one that has its identifier
+abbrev pub with_region : Book → Region → Book
+with_region book r = record book { regions = map (λ other. if other.id == r.id then r else other) book.regions }
+
+-- what holds of each region below a next identifier: whole frames in the pool's or in its own; written bytes and tail within
+pub record IsRegion (next : ℕ) (r : Region) : Type 0 where
+  pub least : 256 ≤ r.id
+  pub below : r.id < next
+  pub policy : (1 ≤ r.policy) × (r.policy ≤ 4)
+  pub size : (1 ≤ r.size) × (r.size ≤ 65536)
+  pub written : length r.written ≡ r.size
+  pub tail : r.tail ≤ r.size
+  pub held : r.place + r.size ≤ 4096 * length r.frames
+  pub pooled : r.pooled ≡ true → (pool_start ≤ r.first) × (r.first + r.size ≤ pool_start + 65536)
+      × (r.place ≡ (r.first - pool_start) % 4096)
+      × (r.frames ≡ range_with_len (pool_frame + (r.first - pool_start) / 4096) ((r.place + r.size + 4095) / 4096))
+  pub declared : r.pooled ≡ false → (r.place ≡ 0) × (r.size ≡ 4096 * length r.frames)
+
+-- two regions of the pool don't meet
+abbrev pub IsApart : Region → Region → Type 0
+IsApart one other = one.pooled ≡ true → other.pooled ≡ true → (one.first + one.size ≤ other.first) ⊎ (other.first + other.size ≤ one.first)
+
+-- the pages of a region that was declared
+abbrev pub pages_of_region : Region → ℕ
+pages_of_region r = if r.pooled then 0 else length r.frames
+
+-- a sound book: identifiers from 256 on rise and are below the next one, at most 256 regions live, regions of the pool lie
+-- apart, and the pages that were declared are those of the regions, at most 128
+pub record IsBook (book : Book) : Type 0 where
+  pub next : 256 ≤ book.next
+  pub count : length book.regions ≤ 256
+  pub each : All (IsRegion book.next) book.regions
+  pub rising : AllPairs (λ one other. one.id < other.id) book.regions
+  pub apart : AllPairs IsApart book.regions
+  pub pages : book.declared ≡ sum_by pages_of_region book.regions
+  pub most : book.declared ≤ 128

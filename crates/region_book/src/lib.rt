@@ -1,0 +1,23 @@
+//! Protected regions: the book of those that live, their written bytes, and the calls that declare pages, allocate from the
+//! pool and free again, by the rules of `specs/RegionCalls.antt`. Its room is made at the start, and no later call takes
+//! memory. Which writes a policy admits, others say. Floor: nested kernel.
+#![tactic(auto)]
+
+// What is kept of a region, and the bits of its written bytes.
+mod bits;
+mod row;
+
+// The frames of a range of pages.
+mod pages;
+
+// The places of the pool, and the bytes of a region in memory.
+mod pool;
+mod stores;
+
+// The book, and the calls on it.
+mod regions;
+
+pub use regions::{Granted, NoMemory, Region, Regions};
+
+#[cfg(test)]
+mod tests;
