@@ -1,0 +1,3 @@
+mod FoundRegions
+mod PoolFrames
+mod Writes
