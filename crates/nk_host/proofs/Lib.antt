@@ -1,3 +1,4 @@
 pub mod Passed
+pub mod MovedOut
 pub mod Places
 pub mod InReads

@@ -3,6 +3,7 @@ pub mod FaultCounts
 pub mod Told
 pub mod Files
 pub mod Taken
+pub mod PiecesOut
 pub mod CountedStream
 pub mod Attempts
 pub mod ShelfInMemory

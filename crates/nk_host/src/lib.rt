@@ -11,7 +11,7 @@ mod fault;
 mod shelf;
 mod sink;
 
-// A text of any length, put in pieces.
+// A text of any length, put in pieces; its bytes may come one by one.
 mod pieces;
 
 // Readers and writers, with their faults counted.
@@ -33,7 +33,7 @@ pub use fault::{FetchFault, NoMemory, SinkFault};
 pub use file_shelf::FileShelf;
 pub use mem_shelf::MemShelf;
 pub use mem_sink::MemSink;
-pub use pieces::{PIECE, put_all};
+pub use pieces::{PIECE, Pieces, pieces_law, put_all};
 pub use shelf::Shelf;
 pub use sink::Sink;
 pub use std_sink::StdSink;

@@ -2,7 +2,8 @@
 use crate::counted::Counted;
 use crate::whole::{read_whole, write_whole};
 use crate::{
-    FetchFault, FileShelf, MemShelf, MemSink, PIECE, Shelf, Sink, SinkFault, StdSink, put_all,
+    FetchFault, FileShelf, MemShelf, MemSink, PIECE, Pieces, Shelf, Sink, SinkFault, StdSink,
+    put_all,
 };
 use std::alloc::Global;
 use std::fmt::Display;
@@ -113,6 +114,79 @@ fn texts_go_out_in_pieces(rt: HostRuntime) -> Result<(), Fail> {
     assert_eq!(rt; taken_of(alloc, 4097, 3)?, (true, 4097));
     assert_eq!(rt; taken_of(alloc, 8192, 2)?, (false, 4096));
     assert_eq!(rt; taken_of(alloc, 8192, 3)?, (true, 8192));
+    Ok(())
+}
+
+fn push_line<O: Sink>(
+    pieces: &mut Pieces,
+    out: &mut O,
+    text: &[u8],
+    byte: u8,
+) -> Result<(), SinkFault> {
+    pieces.push_all(out, text)?;
+    pieces.push_hex(out, byte)?;
+    pieces.push(out, b'\n')?;
+    pieces.finish(out)
+}
+
+// What a sink took of a line of so many bytes `a`, two digits and a line's end, where the put of one
+// number fails and takes at most `cut` bytes.
+fn line_taken(
+    alloc: Global,
+    len: usize,
+    byte: u8,
+    failing: u64,
+    cut: usize,
+) -> Result<(bool, Vec<u8>), Fail> {
+    let mut out = sink(alloc, 3 * PIECE, &[failing], cut)?;
+    let text = vec![in alloc; b'a'; len]?;
+    let all = push_line(&mut Pieces::new(), &mut out, &text, byte).is_ok();
+    Ok((all, out.taken().to_vec(alloc)?))
+}
+
+// Whether all went out, and how many bytes.
+fn line_size(alloc: Global, len: usize, failing: u64, cut: usize) -> Result<(bool, usize), Fail> {
+    let (all, taken) = line_taken(alloc, len, 0, failing, cut)?;
+    Ok((all, taken.len()))
+}
+
+#[test]
+fn lines_go_out_in_pieces(rt: HostRuntime) -> Result<(), Fail> {
+    let alloc = rt.alloc();
+    assert_eq!(rt; line_size(alloc, 4093, 1, 0)?, (false, 0));
+    assert_eq!(rt; line_size(alloc, 4093, 2, 0)?, (true, 4096));
+    assert_eq!(rt; line_size(alloc, 4094, 2, 0)?, (false, 4096));
+    assert_eq!(rt; line_size(alloc, 4094, 3, 0)?, (true, 4097));
+    assert_eq!(rt; line_size(alloc, 8189, 2, 0)?, (false, 4096));
+    assert_eq!(rt; line_size(alloc, 8189, 3, 0)?, (true, 8192));
+    Ok(())
+}
+
+#[test]
+fn a_byte_is_two_digits(rt: HostRuntime) -> Result<(), Fail> {
+    let alloc = rt.alloc();
+    for (byte, line) in [
+        (0x00, b"a00\n"),
+        (0x09, b"a09\n"),
+        (0xa0, b"aa0\n"),
+        (0xff, b"aff\n"),
+    ] {
+        let taken = line_taken(alloc, 1, byte, 2, 0)?.1;
+        assert_eq!(rt; taken.as_slice(), line.as_slice());
+    }
+    Ok(())
+}
+
+#[test]
+fn a_cut_line_leaves_a_prefix(rt: HostRuntime) -> Result<(), Fail> {
+    let alloc = rt.alloc();
+    let (all, first) = line_taken(alloc, 2, 0x1e, 1, 3)?;
+    assert_eq!(rt; all, false);
+    assert_eq!(rt; first.as_slice(), b"aa1".as_slice());
+    let (all, second) = line_taken(alloc, 4095, 0x1e, 2, 1)?;
+    assert_eq!(rt; all, false);
+    assert_eq!(rt; second.len(), 4097);
+    assert_eq!(rt; &second[4094..], b"a1e".as_slice());
     Ok(())
 }
 
