@@ -9,6 +9,7 @@ pub mod PlaceLaws
 pub mod SlotEntries
 pub mod SlotLaws
 pub mod SlotLeaves
+pub mod SlotNames
 pub mod SlotTables
 pub mod WalkLaws
 pub mod WalkSchema

@@ -114,8 +114,8 @@ pub fn opening_respects_law()
 
 /// Tables that hold the opening's: no table is of a level above 4; a present entry at level 1 names a frame whose kind allows
 /// its rights, one above it a table of the next lower level, with every right, and entry 511 of the root is the kernel
-/// slot's. Tables that hold the kernel slot: its table for the image names fixed frames other than the handler's, and a
-/// writable leaf of the slot stands in one of its tables of level 1.
+/// slot's. Tables that hold the kernel slot: its tables lead to each other alone, that for the image to fixed frames other
+/// than the handler's; and a writable leaf of the slot stands in one of its tables of level 1.
 pub fn opening_entries_law()
     ensures levels { (b : List ℕ) (frames f : ℕ) → level_of (kind_of (kinds b frames) f) ≤ 4 }
     ensures leaf { (b : List ℕ) (frames f i : ℕ) (t : ℕ → ℕ → ℕ) → IsLayout b (division_of b frames)
@@ -133,6 +133,12 @@ pub fn opening_entries_law()
         → HoldsSlot b frames t → i < 512 → is_present (t image_directory i) ≡ true
         → (kind_of (kinds b frames) (frame_of (t image_directory i)) ≡ Fixed)
         × (frame_of (t image_directory i) ≢ handler_slot) }
+    ensures slot_names { (b : List ℕ) (frames i : ℕ) (t : ℕ → ℕ → ℕ) → IsLayout b (division_of b frames)
+        → HoldsSlot b frames t → i < 512 → is_present (t slot_table i) ≡ true
+        → (frame_of (t slot_table i) ≡ area_directory) ⊎ (frame_of (t slot_table i) ≡ image_directory) }
+    ensures area_names { (b : List ℕ) (frames i : ℕ) (t : ℕ → ℕ → ℕ) → IsLayout b (division_of b frames)
+        → HoldsSlot b frames t → i < 512 → is_present (t area_directory i) ≡ true
+        → frame_of (t area_directory i) ≡ area_table }
     ensures written { (b : List ℕ) (frames page : ℕ) (t : ℕ → ℕ → ℕ) → IsLayout b (division_of b frames)
         → IsPageList b (pages_of b) → HoldsSlot b frames t → slot_start ≤ page → page < 2 ^ 52
         → IfSome (slot_leaf b frames page) (λ leaf. leaf.rights.can_write ≡ true → IsWrittenInSlot frames t leaf.frame) }

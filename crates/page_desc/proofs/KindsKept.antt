@@ -43,7 +43,7 @@ unfolding holds_links
 link_holds kinds f least most = and_from _ _ (le-leb 2 _ least) (le-leb _ 4 most)
 
 -- tables are in memory
-abbrev TablesInMemory : List Kind → Type 0
+abbrev pub TablesInMemory : List Kind → Type 0
 TablesInMemory kinds = (f : ℕ) → 1 ≤ level_of (kind_of kinds f) → f < length kinds
 
 module _ (kinds : List Kind) (t : ℕ → ℕ → ℕ) (a : ℕ) (tables : AreTables kinds t) (inside : a < length kinds)

@@ -4,6 +4,7 @@ pub mod CountingSteps
 pub mod Counts
 pub mod CountsWhere
 pub mod DescriptorLaws
+pub mod GuardedFrames
 pub mod KindChanges
 pub mod KindsKept
 pub mod LawfulForms
@@ -11,6 +12,7 @@ pub mod MemoryTables
 pub mod NewTables
 pub mod PageTableStores
 pub mod PageTableValues
+pub mod RecordWalk
 pub mod SlotLeafTables
 pub mod SoundWalk
 pub mod Sums

@@ -1,6 +1,6 @@
 -- Stores outside page tables and outside the bytes that never change leave what memory's tables stand for, and keep the
 -- tables sound and described.
-use Rattle.std.proofs.Common.{◌≡◌, ◌≢◌, ℕ, ◌+◌, ◌*◌, ◌/◌, ◌%◌, ◌<◌, Bool, true, false, not, ◌&&◌, ◌||◌, ◌==◌, List, length, All, arith, refl, sym, ap, ◌∙◌, inl, inr}
+use Rattle.std.proofs.Common.{◌≡◌, ◌≢◌, ◌⊎◌, ℕ, ◌+◌, ◌*◌, ◌/◌, ◌%◌, ◌<◌, Bool, true, false, not, ◌&&◌, ◌||◌, ◌==◌, List, length, All, arith, refl, sym, ap, subst, ◌∙◌, inl, inr}
 use Rattle.std.specs.Prelude.{nat_lt, if◌then◌else◌}
 use Rattle.std.proofs.lemmas.Bool.{and_parts, eqb-true, false≢true, ltb-true, or_cases}
 use Rattle.std.proofs.lemmas.List.Elements.{All-weaker}
@@ -79,6 +79,10 @@ module _ (laws : StoreLaws) (kinds : List Kind) (m : List ℕ) (ws : List (ℕ �
       laws.entry_elsewhere m ws f i small
       (All-weaker (λ (w : ℕ × ℕ). is_unguarded kinds w.0 ≡ true) (λ (w : ℕ × ℕ). w.0 / 4096 ≢ f) (λ w. apart w.0) ws free)
 
+  -- as it does outside a fixed frame but 2
+  fixed_stays : (f i : ℕ) → i < 512 → kind_of kinds f ≡ Fixed → f ≢ 2 → entry_in (stored m ws) f i ≡ entry_in m f i
+  fixed_stays f i small fixed apart = frame_stays f i small (λ place is. unguarded_fixed kinds place f is fixed apart)
+
   table_stays : (f i : ℕ) → i < 512 → is_table (kind_of kinds f) ≡ true → entry_in (stored m ws) f i ≡ entry_in m f i
   table_stays f i small table = frame_stays f i small (λ place is. unguarded_apart kinds place f is table)
 
@@ -106,9 +110,13 @@ module _ (laws : StoreLaws) (kinds : List Kind) (m : List ℕ) (ws : List (ℕ �
 
   module _ (root : ℕ) (sound : HoldsSoundTables kinds root m) where
     directory_stays : (i : ℕ) → i < 512 → entry_in (stored m ws) 9 i ≡ entry_in m 9 i
-    directory_stays i small =
-        frame_stays 9 i small
-        (λ place is. unguarded_fixed kinds place 9 is sound.slot.directory (λ two. absurd (omega (arith, two))))
+    directory_stays i small = fixed_stays 9 i small sound.slot.directory (λ two. absurd (omega (arith, two)))
+
+    slot_stays : (i : ℕ) → i < 512 → entry_in (stored m ws) 6 i ≡ entry_in m 6 i
+    slot_stays i small = fixed_stays 6 i small sound.slot_root (λ two. absurd (omega (arith, two)))
+
+    area_stays : (i : ℕ) → i < 512 → entry_in (stored m ws) 7 i ≡ entry_in m 7 i
+    area_stays i small = fixed_stays 7 i small sound.area_root (λ two. absurd (omega (arith, two)))
 
     pub sound_stays : HoldsSoundTables kinds root (stored m ws)
     sound_stays = record {
@@ -123,6 +131,14 @@ module _ (laws : StoreLaws) (kinds : List Kind) (m : List ℕ) (ws : List (ℕ �
       apart = λ i small present two.
           sound.apart i small (sym (ap is_present (directory_stays i small)) ∙ present)
           (sym (ap frame_of (directory_stays i small)) ∙ two);
+      slot_root = sound.slot_root;
+      area_root = sound.area_root;
+      slot_names = λ i small present.
+          subst (λ e. (frame_of e ≡ 7) ⊎ (frame_of e ≡ 9)) (sym (slot_stays i small))
+          (sound.slot_names i small (sym (ap is_present (slot_stays i small)) ∙ present));
+      area_names = λ i small present.
+          ap frame_of (area_stays i small)
+          ∙ sound.area_names i small (sym (ap is_present (area_stays i small)) ∙ present);
     }
 
     loose_stays : (frame : ℕ) → loose_in kinds (entry_in (stored m ws)) frame ≡ loose_in kinds (entry_in m) frame

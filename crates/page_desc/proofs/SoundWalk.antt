@@ -44,7 +44,7 @@ grants_common e grants =
     let first = and_parts (is_writable e) (is_user e) parts.0 in
     λ j. record { can_write = first.0 j; user = first.1 j; exec = parts.1 j }
 
-present_found : (frames level e : ℕ) → is_missing frames level e ≡ false → is_present e ≡ true
+pub present_found : (frames level e : ℕ) → is_missing frames level e ≡ false → is_present e ≡ true
 unfolding is_missing
 present_found frames level e there = not-false (is_present e) (or_parts _ _ (or_parts _ _ there).0).0
 

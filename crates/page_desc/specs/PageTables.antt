@@ -1,6 +1,6 @@
 -- What the nested kernel guards of paging, as plain data: kinds, the entries of page tables, the bytes that never change,
 -- and the root; and how memory holds it.
-use Rattle.std.specs.Prelude.{◌≡◌, ◌≢◌, ◌<◌, ◌≤◌, ℕ, zero, suc, ◌+◌, ◌*◌, ◌/◌, ◌%◌, Bool, true, false, not, ◌&&◌, ◌||◌, ◌==◌, nat_lt, if◌then◌else◌, List, length}
+use Rattle.std.specs.Prelude.{◌≡◌, ◌≢◌, ◌⊎◌, ◌<◌, ◌≤◌, ℕ, zero, suc, ◌+◌, ◌*◌, ◌/◌, ◌%◌, Bool, true, false, not, ◌&&◌, ◌||◌, ◌==◌, nat_lt, if◌then◌else◌, List, length}
 use Rattle.phys_mem.specs.Memory.{byte_at, entry_in}
 use Rattle.nk_bits.specs.declared.kind.Kind.{Kind}
 use Rattle.nk_bits.specs.declared.kind.Kind.TheVariants.{Data, Code, Table, Fixed, Trap, Guarded, Hidden}
@@ -80,7 +80,7 @@ is_unguarded kinds place =
 
 -- memory holds sound tables under this root: there is a kind for each frame, no table is of a level above 4, every entry
 -- of every table is lawful, linked or not, the root is of level 4, and the frames of the kernel slot's own tables and of
--- the handler slot are fixed, which is none of these tables
+-- the handler slot are fixed, which is none of these tables; frame 6 leads to frames 7 and 9, and frame 7 to frame 8
 pub record HoldsSoundTables (kinds : List Kind) (root : ℕ) (m : List ℕ) : Type 0 where
   pub size : length m ≡ 4096 * length kinds
   pub levels : (f : ℕ) → level_of (kind_of kinds f) ≤ 4
@@ -89,6 +89,11 @@ pub record HoldsSoundTables (kinds : List Kind) (root : ℕ) (m : List ℕ) : Ty
   pub slot : IsSlotFixed kinds (entry_in m)
   pub handler : kind_of kinds 2 ≡ Fixed
   pub apart : (i : ℕ) → i < 512 → is_present (entry_in m 9 i) ≡ true → frame_of (entry_in m 9 i) ≢ 2
+  pub slot_root : kind_of kinds 6 ≡ Fixed
+  pub area_root : kind_of kinds 7 ≡ Fixed
+  pub slot_names : (i : ℕ) → i < 512 → is_present (entry_in m 6 i) ≡ true
+      → (frame_of (entry_in m 6 i) ≡ 7) ⊎ (frame_of (entry_in m 6 i) ≡ 9)
+  pub area_names : (i : ℕ) → i < 512 → is_present (entry_in m 7 i) ≡ true → frame_of (entry_in m 7 i) ≡ 8
 
 -- the descriptors are those of memory's tables: these are sound, and the counts that are carried are counted anew
 pub record AreDescribed (d : Descriptors) (root : ℕ) (m : List ℕ) : Type 0 where

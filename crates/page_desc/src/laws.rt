@@ -174,3 +174,24 @@ pub fn page_tables_law()
     memory_law();
     frame_law();
 }
+
+/// The walk over what sound tables stand for is the walk over memory, of every page.
+pub fn record_walk_law()
+    ensures { (kinds : List Kind) (root page : ℕ) (m : List ℕ) → HoldsSoundTables kinds root m
+        → walk (value_in (tables_in kinds root m)) (length kinds) root page ≡ walk (entry_in m) (length kinds) root page }
+{}
+
+/// A frame of data that has no loose leaf becomes guarded: tables stay sound, descriptors stay theirs, and but for the kinds
+/// the tables stay.
+pub fn guarded_law()
+    ensures sound { (kinds : List Kind) (root f : ℕ) (m : List ℕ) → HoldsSoundTables kinds root m
+        → kind_of kinds f ≡ Data → loose_in kinds (entry_in m) f ≡ 0 → HoldsSoundTables (slice_set kinds f Guarded) root m }
+    ensures tables { (kinds : List Kind) (root f : ℕ) (m : List ℕ) → HoldsSoundTables kinds root m → kind_of kinds f ≡ Data
+        → tables_in (slice_set kinds f Guarded) root m ≡ record (tables_in kinds root m) { kinds = slice_set kinds f Guarded } }
+    ensures loose { (kinds : List Kind) (root f frame : ℕ) (m : List ℕ) → HoldsSoundTables kinds root m → kind_of kinds f ≡ Data
+        → loose_in (slice_set kinds f Guarded) (entry_in m) frame ≡ loose_in kinds (entry_in m) frame }
+    ensures described { (d : Descriptors) (root f : ℕ) (m : List ℕ) → AreDescribed d root m → kind_of d.kinds f ≡ Data
+        → loose_in d.kinds (entry_in m) f ≡ 0 → AreDescribed (record d { kinds = slice_set d.kinds f Guarded }) root m }
+{
+    kind_law();
+}

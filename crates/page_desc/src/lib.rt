@@ -17,4 +17,7 @@ mod laws;
 mod tests;
 
 pub use frames::{Frames, NoMemory};
-pub use laws::{count_law, descriptor_law, memory_tables_law, page_tables_law, sound_law};
+pub use laws::{
+    count_law, descriptor_law, guarded_law, memory_tables_law, page_tables_law, record_walk_law,
+    sound_law,
+};

@@ -1,5 +1,5 @@
 -- One frame changes, its kind, its bytes, or both: what memory then stands for, and when its tables stay sound.
-use Rattle.std.proofs.Common.{◌≡◌, ◌≢◌, ℕ, ◌+◌, ◌*◌, ◌/◌, ◌<◌, ◌≤◌, true, false, not, ◌&&◌, List, length, arith, sym, ap, subst, ◌∙◌, inl, inr}
+use Rattle.std.proofs.Common.{◌≡◌, ◌≢◌, ◌⊎◌, ℕ, ◌+◌, ◌*◌, ◌/◌, ◌<◌, ◌≤◌, true, false, not, ◌&&◌, List, length, arith, sym, ap, subst, ◌∙◌, inl, inr}
 use Rattle.std.specs.Prelude.{if◌then◌else◌, nat_lt}
 use Rattle.std.proofs.lemmas.Bool.{and_left, and_right, cases_eq, cases_lt, cond-false, false≢true, le-ltb, lt-ltb}
 use Rattle.nk_bits.specs.declared.kind.Kind.{Kind}
@@ -108,6 +108,12 @@ module _ (kinds after : List Kind) (root : ℕ) (m n : List ℕ) (a : ℕ) (chan
   directory_same : (i : ℕ) → i < 512 → entry_in n 9 i ≡ entry_in m 9 i
   directory_same i small = change.entry 9 i (not_fixed 9 holds.slot.directory) small
 
+  slot_same : (i : ℕ) → i < 512 → entry_in n 6 i ≡ entry_in m 6 i
+  slot_same i small = change.entry 6 i (not_fixed 6 holds.slot_root) small
+
+  area_same : (i : ℕ) → i < 512 → entry_in n 7 i ≡ entry_in m 7 i
+  area_same i small = change.entry 7 i (not_fixed 7 holds.area_root) small
+
   pub slot_changed : IsSlotFixed after (entry_in n)
   slot_changed = record {
     table = stays_fixed 8 holds.slot.table;
@@ -130,4 +136,10 @@ module _ (kinds after : List Kind) (root : ℕ) (m n : List ℕ) (a : ℕ) (chan
     handler = stays_fixed 2 holds.handler;
     apart = λ i small present names. holds.apart i small (ap is_present (sym (directory_same i small)) ∙ present)
         (ap frame_of (sym (directory_same i small)) ∙ names);
+    slot_root = stays_fixed 6 holds.slot_root;
+    area_root = stays_fixed 7 holds.area_root;
+    slot_names = λ i small present. subst (λ e. (frame_of e ≡ 7) ⊎ (frame_of e ≡ 9)) (sym (slot_same i small))
+        (holds.slot_names i small (ap is_present (sym (slot_same i small)) ∙ present));
+    area_names = λ i small present. ap frame_of (area_same i small)
+        ∙ holds.area_names i small (ap is_present (sym (area_same i small)) ∙ present);
   }

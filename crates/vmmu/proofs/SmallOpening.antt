@@ -50,6 +50,9 @@ pub record IsSmall (m : List ℕ) : Type 0 where
   pub root_rest : (i : ℕ) → i < 511 → entry_in m 5 i ≡ 0
   pub directory : entry_in m 9 0 ≡ 40999
   pub directory_rest : (i : ℕ) → 1 ≤ i → i < 512 → entry_in m 9 i ≡ 0
+  pub slot : entry_in m 6 0 ≡ 28711
+  pub slot_rest : (i : ℕ) → 1 ≤ i → i < 512 → entry_in m 6 i ≡ 0
+  pub area : (i : ℕ) → i < 512 → entry_in m 7 i ≡ 0
 
 lawful_last : is_lawful small_kinds 4 511 24615 ≡ true
 unfolding is_lawful slot_value
@@ -67,6 +70,10 @@ names_ten : frame_of 40999 ≡ 10
 unfolding frame_of
 names_ten = refl
 
+names_seven : frame_of 28711 ≡ 7
+unfolding frame_of
+names_seven = refl
+
 module _ (m : List ℕ) (small : IsSmall m) where
   root_lawful : (i : ℕ) → i < 512 → is_lawful small_kinds 4 i (entry_in m 5 i) ≡ true
   root_lawful i inside =
@@ -81,6 +88,14 @@ module _ (m : List ℕ) (small : IsSmall m) where
       elim (cases_eq i 0) [
         | inl is ↦ ap (λ k. frame_of (entry_in m 9 k)) is ∙ ap frame_of small.directory ∙ names_ten
         | inr apart ↦ absurd (both_ways _ (ap is_present (small.directory_rest i (omega (arith, apart)) inside) ∙ absent) present)
+      ]
+
+  -- that of frame 6 names frame 7, which has none
+  slot_names : (i : ℕ) → i < 512 → is_present (entry_in m 6 i) ≡ true → frame_of (entry_in m 6 i) ≡ 7
+  slot_names i inside present =
+      elim (cases_eq i 0) [
+        | inl is ↦ ap (λ k. frame_of (entry_in m 6 k)) is ∙ ap frame_of small.slot ∙ names_seven
+        | inr apart ↦ absurd (both_ways _ (ap is_present (small.slot_rest i (omega (arith, apart)) inside) ∙ absent) present)
       ]
 
   pub small_holds : HoldsSoundTables small_kinds 5 m
@@ -104,6 +119,10 @@ module _ (m : List ℕ) (small : IsSmall m) where
     };
     handler = refl;
     apart = λ i inside present is. absurd (omega (arith, directory_names i inside present, is));
+    slot_root = refl;
+    area_root = refl;
+    slot_names = λ i inside present. inl (slot_names i inside present);
+    area_names = λ i inside present. absurd (both_ways _ (ap is_present (small.area i inside) ∙ absent) present);
   }
 
 pub small_described : (d : Descriptors) (m : List ℕ) → d.kinds ≡ small_kinds → IsSmall m → AreCounted d (entry_in m)

@@ -39,7 +39,7 @@ fn set(mem: &mut PhysMem, frame: u32, index: u32, value: u64)
     mem.store64(4096 * u64::from(frame) + 8 * u64::from(index), value);
 }
 
-/// The entries of the root and of frame 9, and others that no rule asks of.
+/// The entries of the root and of frames 6, 7 and 9, and others that no rule asks of.
 fn fill(mem: &mut PhysMem)
     requires length { length mem.old ≡ 65536 }
     requires zeroed { (f i : ℕ) → entry_in mem.old f i ≡ 0 }
@@ -48,6 +48,9 @@ fn fill(mem: &mut PhysMem)
     ensures root_rest { (i : ℕ) → i < 511 → entry_in mem.new 5 i ≡ 0 }
     ensures directory { entry_in mem.new 9 0 ≡ 40999 }
     ensures directory_rest { (i : ℕ) → 1 ≤ i → i < 512 → entry_in mem.new 9 i ≡ 0 }
+    ensures slot { entry_in mem.new 6 0 ≡ 28711 }
+    ensures slot_rest { (i : ℕ) → 1 ≤ i → i < 512 → entry_in mem.new 6 i ≡ 0 }
+    ensures area { (i : ℕ) → i < 512 → entry_in mem.new 7 i ≡ 0 }
 {
     set(mem, 6, 0, 0x7027);
     set(mem, 8, 3, 0x8000_0000_0000_3063);

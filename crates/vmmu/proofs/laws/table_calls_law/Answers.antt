@@ -53,6 +53,10 @@ returns c =
           slot = holds.slot;
           handler = holds.handler;
           apart = holds.apart;
+          slot_root = holds.slot_root;
+          area_root = holds.area_root;
+          slot_names = holds.slot_names;
+          area_names = holds.area_names;
         },
       );
     }

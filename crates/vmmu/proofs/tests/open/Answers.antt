@@ -14,4 +14,7 @@ returns c =
       root_rest = c.fill.ensures.root_rest;
       directory = c.fill.ensures.directory;
       directory_rest = c.fill.ensures.directory_rest;
+      slot = c.fill.ensures.slot;
+      slot_rest = c.fill.ensures.slot_rest;
+      area = c.fill.ensures.area;
     }) c.in_ok-frames.ensures.counted
