@@ -1,57 +1,94 @@
--- Memory after a call stands for the record that the call makes, whose tables are sound.
-use Rattle.std.proofs.Common.{◌≡◌, ◌≢◌, ◌⊎◌, ℕ, ◌+◌, ◌*◌, ◌^◌, ◌<◌, ◌≤◌, List, length, arith, refl, sym, ap, subst, ◌∙◌, inl, inr}
-use Rattle.std.specs.Prelude.{Option, None, Some}
+-- Memory after a call stands for the record that the call makes, whose tables are sound and whose regions lie in guarded
+-- frames.
+use Rattle.std.proofs.Common.{◌≡◌, ◌≢◌, ◌⊎◌, ℕ, ◌+◌, ◌*◌, ◌/◌, ◌^◌, ◌<◌, ◌≤◌, Bool, true, false, List, length, arith, refl, sym, ap, subst, ◌∙◌, inl, inr}
+use Rattle.std.specs.Prelude.{All, Option, None, Some, ◌&&◌, ◌==◌, nat_lt, if◌then◌else◌}
 use Rattle.std.proofs.lemmas.Bool.{cases_lt, false≢true}
-use Rattle.std.proofs.lemmas.List.{get_or_past}
 use Rattle.std.proofs.lemmas.List.Elements.{All-weaker}
 use Rattle.std.proofs.Math.Nat.{mod-eq_of_lt}
 use Rattle.nk_bits.specs.declared.call.CallWords.{CallWords}
 use Rattle.nk_bits.specs.declared.kind.Kind.{Kind}
-use Rattle.nk_bits.specs.declared.kind.Kind.TheVariants.{Data, Fixed, Hidden}
+use Rattle.nk_bits.specs.declared.kind.Kind.TheVariants.{Data, Fixed, Guarded, Hidden, Table}
 use Rattle.nk_bits.specs.declared.rule.Rule.{Rule}
-use Rattle.nk_bits.specs.Kinds.{is_data, is_hidden, kind_of, level_of}
-use Rattle.phys_mem.specs.Memory.{frame_zeroed, number_at, stored, stores}
-use Rattle.page_desc.specs.PageTables.{HoldsSoundTables, Tables}
+use Rattle.nk_bits.specs.Kinds.{is_data, is_guarded, kind_of, level_of}
+use Rattle.phys_mem.specs.Memory.{byte_at, entry_in, frame_zeroed, number_at, stored, stores}
+use Rattle.page_desc.specs.PageTables.{HoldsSoundTables, Tables, loose_of}
+use Rattle.policy_book.specs.PolicyRules.{book_written, log_written, stores_written}
+use Rattle.region_book.specs.RegionCalls.{guarded, room}
+use Rattle.region_book.specs.RegionRecords.{region_of}
 use Rattle.vmmu.specs.AcceptedCalls.{IsDeclarable, IsRemovable, IsWritable}
-use Rattle.vmmu.specs.TableCalls.{declare_rule, declared, entry_rule, entry_written, memory_declared, memory_removed, memory_written, remove_rule, removed}
-use Rattle.nk_body.specs.NestedRecord.{Nested, handler_in, nested_in}
-use Rattle.nk_body.specs.CallRules.{after_call, made, made_unless, memory_after_call, verdict, written, written_unless}
-use Rattle.nk_body.proofs.CallChanges.{number_same}
-use Rattle.nk_body.proofs.CallNumbers.{accepted_by, made_is, number_1, number_2, number_3, number_4, number_5, written_1, written_2, written_3, written_4, written_5}
+use Rattle.vmmu.specs.TableCalls.{declare_rule, declared, entry_rule, entry_written, memory_declared, memory_removed, memory_written, remove_rule, removed, root_loaded, root_rule}
+use Rattle.nk_body.specs.CallLeft.{IsCalled, left_in, memory_left}
+use Rattle.nk_body.specs.CallRules.{Sourced, bytes_read, bytes_standing, frames_of_call, made, made_unless, mapped_by, puts, stand_of, verdict, with_free, with_pages, with_pool, with_write, written, written_unless, zeros_of}
+use Rattle.nk_body.specs.NestedRecord.{IsKept, Ledger, Nested, handler_in, held_bytes, nested_in}
+use Rattle.nk_body.proofs.CallChanges.{free_inside}
+use Rattle.nk_body.proofs.CallFacts.{pool_stores, write_facts, write_guarded}
+use Rattle.nk_body.proofs.CallNumbers.{accepted_by, declaring_rule, made_is, number_1, number_2, number_3, number_4, number_5, number_6, number_7, number_8, number_9, written_1, written_2, written_3, written_4, written_5, written_6, written_7, written_8, written_9}
+use Rattle.nk_body.proofs.GuardedFrames.{among, frames_count, guarded_sound, kind_guarded}
 use Rattle.nk_body.proofs.HandlerStores.{handler_stores}
+use Rattle.nk_body.proofs.HeldBytes.{held_stored}
+use Rattle.nk_body.proofs.KeptLedgers.{kept_free, kept_pages, kept_pool, kept_written}
 use Rattle.nk_body.proofs.LowerLaws.{LowerLaws, Stands}
+use Rattle.nk_body.proofs.NumbersLeft.{number_same}
+use Rattle.nk_body.proofs.RegionFrames.{InGuarded, handler_aside, in_memory, unguarded}
+use Rattle.nk_body.proofs.RegionRules.{alloc_facts, declare_facts, free_facts}
+use Rattle.nk_body.proofs.TableChanges.{IsTablesLeft, declared_left, handler_left, held_left, kept_left, nothing_left, removed_left, written_left}
 
 fixed_data : Fixed ≡ Data → ⊥
 fixed_data same = absurd (false≢true (ap is_data same))
 
--- a frame of a kind that isn't Hidden lies in memory
-kind_in_memory : (kinds : List Kind) (f : ℕ) → kind_of kinds f ≡ Fixed → f < length kinds
-kind_in_memory kinds f is = elim (cases_lt f (length kinds)) [
-  | inl inside ↦ inside
-  | inr past ↦ absurd (false≢true (sym (ap is_hidden is) ∙ ap is_hidden (get_or_past kinds f Hidden past)))
-]
+-- the bytes of guarded frames, where more frames become guarded
+held_guarded : (kinds : List Kind) (m : List ℕ) (fs : List ℕ) (stand : ℕ → ℕ → ℕ) → All (λ f. f < length kinds) fs
+    → ((f o : ℕ) → stand f o ≡ (if among f fs && nat_lt o 4096 then byte_at m (4096 * f + o) else 0))
+    → held_bytes (guarded kinds fs) m ≡ (λ f o. if among f fs then stand f o else held_bytes kinds m f o)
+unfolding held_bytes
+held_guarded kinds m fs stand inside stands = λ i f o. at f o i
+  where
+    by_bool : (b l : Bool) (k : Kind) (x : ℕ) → (if is_guarded (if b then Guarded else k) && l then x else 0)
+        ≡ (if b then (if b && l then x else 0) else (if is_guarded k && l then x else 0))
+    by_bool true l k x = refl
+    by_bool false l k x = refl
 
-module _ (laws : LowerLaws) (kinds : List Kind) (root : ℕ) (m : List ℕ) (sound : HoldsSoundTables kinds root m) (call : CallWords)
-    (a : call.a < 2 ^ 64) (c : call.c < 2 ^ 64) where
+    at : (f o : ℕ) → (if is_guarded (kind_of (guarded kinds fs) f) && nat_lt o 4096 then byte_at m (4096 * f + o) else 0)
+        ≡ (if among f fs then stand f o else (if is_guarded (kind_of kinds f) && nat_lt o 4096 then byte_at m (4096 * f + o) else 0))
+    at f o =
+        ap (λ k. if is_guarded k && nat_lt o 4096 then byte_at m (4096 * f + o) else 0) (kind_guarded fs kinds f inside)
+        ∙ by_bool (among f fs) (nat_lt o 4096) (kind_of kinds f) (byte_at m (4096 * f + o))
+        ∙ ap (λ s. if among f fs then s else (if is_guarded (kind_of kinds f) && nat_lt o 4096 then byte_at m (4096 * f + o) else 0)) (sym (stands f o))
+
+stand_is : (nk : Nested) (call : CallWords) (m : List ℕ) (fs : List ℕ) → call.number ≡ 6 → frames_of_call nk call ≡ Some fs
+    → (f o : ℕ) → stand_of nk call m f o ≡ (if among f fs && nat_lt o 4096 then byte_at m (4096 * f + o) else 0)
+unfolding stand_of
+stand_is nk call m fs number found f o = λ i. if number i == 6 then bytes_standing m (found i) f o else 0
+
+module _ (laws : LowerLaws) (kinds : List Kind) (root : ℕ) (ledger : Ledger) (m : List ℕ) (call : CallWords) (source : Sourced)
+    (is_called : IsCalled kinds root ledger m call source) where
   abbrev nk : Nested
-  nk = nested_in kinds root m
+  nk = nested_in kinds root ledger m
 
-  -- the record, and sound tables, of kinds, root and memory
+  abbrev stand : ℕ → ℕ → ℕ
+  stand = stand_of nk call m
+
+  sound : HoldsSoundTables kinds root m
+  sound = is_called.sound
+
+  -- the record, sound tables and a sound ledger, of kinds, root, ledger and memory
   pub record IsMet (after : Nested) (later : List ℕ) : Type 0 where
-    pub nested : nested_in after.tables.kinds after.tables.root later ≡ after
+    pub nested : nested_in after.tables.kinds after.tables.root after.ledger later ≡ after
     pub holds : HoldsSoundTables after.tables.kinds after.tables.root later
+    pub keeps : IsKept after.tables.kinds after.ledger
 
-  both : (after : Nested) (later : List ℕ) → made nk call ≡ after → written call m ≡ later → IsMet after later
-      → IsMet (made nk call) (written call m)
+  both : (after : Nested) (later : List ℕ) → made nk call source stand ≡ after → written nk call source m ≡ later → IsMet after later
+      → IsMet (made nk call source stand) (written nk call source m)
   both after later makes writes is =
       subst (λ (it : Nested × List ℕ). IsMet it.0 it.1) (λ i. (sym makes i, sym writes i)) is
 
   -- tables that stand, and the handler's address as it was
-  tables_met : (after : Tables) (later : List ℕ) → Stands after later → handler_in later ≡ handler_in m
+  tables_met : (after : Tables) (later : List ℕ) → Stands after later → handler_in later ≡ handler_in m → IsTablesLeft kinds after.kinds m later
       → IsMet (record nk { tables = after }) later
-  tables_met after later stands handler = record {
-    nested = λ i. record { tables = stands.0 i; trap = handler i };
+  tables_met after later stands handler left = record {
+    nested = λ i. record { tables = stands.0 i; trap = handler i; held = held_left kinds after.kinds m later left sound.handler i; ledger = ledger };
     holds = stands.1;
+    keeps = kept_left kinds after.kinds m later left ledger is_called.keeps;
   }
 
   -- the bytes of the handler slot are no table's
@@ -89,16 +126,19 @@ module _ (laws : LowerLaws) (kinds : List Kind) (root : ℕ) (m : List ℕ) (sou
   trap_met =
       let ws : List (ℕ × ℕ) = stores 8 0x2000 call.a in
       let unguarded = handler_stores kinds call.a laws.byte.places sound.handler in
-      let long : 0x2000 + 8 ≤ length m = omega (arith, sound.size, in_memory) in
+      let held : held_bytes kinds (stored m ws) ≡ held_bytes kinds m =
+      held_left kinds kinds m (stored m ws) (handler_left laws kinds root m sound call.a) sound.handler in
+      let long : 0x2000 + 8 ≤ length m = omega (arith, sound.size, second) in
       let trap : number_at (stored m ws) 8 0x2000 ≡ call.a =
-      laws.byte.number_stored m 8 0x2000 call.a long ∙ mod-eq_of_lt a in
+      laws.byte.number_stored m 8 0x2000 call.a long ∙ mod-eq_of_lt is_called.first in
       record {
-        nested = λ i. record { tables = laws.store.stays kinds root m ws unguarded i; trap = trap i };
+        nested = λ i. record { tables = laws.store.stays kinds root m ws unguarded i; trap = trap i; held = held i; ledger = ledger };
         holds = laws.store.sound kinds root m ws sound unguarded;
+        keeps = is_called.keeps;
       }
     where
-      in_memory : 2 < length kinds
-      in_memory = kind_in_memory kinds 2 sound.handler
+      second : 2 < length kinds
+      second = in_memory kinds 2 Fixed refl sound.handler
 
   declared_met : (level frame : ℕ) → declare_rule nk.tables level frame ≡ None
       → IsMet (record nk { tables = declared nk.tables level frame }) (memory_declared m level frame)
@@ -107,7 +147,7 @@ module _ (laws : LowerLaws) (kinds : List Kind) (root : ℕ) (m : List ℕ) (sou
       let apart : frame ≢ 2 = λ same. fixed_data (sym sound.handler ∙ ap (kind_of kinds) (sym same) ∙ is.free) in
       tables_met _ _ (laws.table.declared kinds root level frame m sound rule)
       (handler_same frame (4096 * frame + 8 * 511) _ (frame_zeroed m frame) apart (omega arith) (omega arith)
-      ∙ handler_zeroed frame is.inside apart)
+      ∙ handler_zeroed frame is.inside apart) (declared_left laws kinds root m sound level frame is)
 
   written_met : (frame index value : ℕ) → value < 2 ^ 64 → entry_rule nk.tables frame index value ≡ None
       → IsMet (record nk { tables = entry_written nk.tables frame index value }) (memory_written m frame index value)
@@ -115,30 +155,87 @@ module _ (laws : LowerLaws) (kinds : List Kind) (root : ℕ) (m : List ℕ) (sou
       let is : IsWritable nk.tables frame index value = laws.accepted.written nk.tables frame index value rule in
       tables_met _ _ (laws.table.written kinds root frame index value m sound small rule)
       (handler_same frame (4096 * frame + 8 * index) value m (table_apart frame is.table) (omega arith) (omega (arith, is.small)))
+      (written_left laws kinds root m sound frame index value is)
 
   removed_met : (frame : ℕ) → remove_rule nk.tables frame ≡ None
       → IsMet (record nk { tables = removed nk.tables frame }) (memory_removed m frame)
   removed_met frame rule =
       let is : IsRemovable nk.tables frame = laws.accepted.removed nk.tables frame rule in
       tables_met _ _ (laws.table.removed kinds root frame m sound rule)
-      (handler_zeroed frame is.inside (table_apart frame is.table))
+      (handler_zeroed frame is.inside (table_apart frame is.table)) (removed_left laws kinds root m sound frame is)
 
-  made_met : verdict nk call ≡ None → IsMet (made nk call) (written call m)
+  loaded_met : (frame : ℕ) → root_rule nk.tables frame ≡ None → IsMet (record nk { tables = root_loaded nk.tables frame }) m
+  loaded_met frame rule =
+      tables_met _ m (laws.table.loaded kinds root frame m sound rule) refl (nothing_left laws kinds root m sound)
+
+  -- stores in guarded frames
+  stores_met : (l : Ledger) (ws : List (ℕ × ℕ)) → InGuarded kinds ws → IsKept kinds l
+      → IsMet (record nk { held = puts nk.held ws; ledger = l }) (stored m ws)
+  stores_met l ws are kept = record {
+    nested = λ i. record {
+      tables = laws.store.stays kinds root m ws (unguarded kinds ws are) i;
+      trap = handler_aside kinds ws are laws m sound.handler i;
+      held = held_stored kinds ws m sound.size are i;
+      ledger = l;
+    };
+    holds = laws.store.sound kinds root m ws sound (unguarded kinds ws are);
+    keeps = kept;
+  }
+
+  pages_met : call.number ≡ 6 → declaring_rule nk call ≡ None
+      → IsMet (made nk call source stand) (written nk call source m)
+  pages_met number rule =
+      let facts = declare_facts ledger.book kinds (loose_of nk.tables) (mapped_by nk) call.a call.b call.c rule in
+      let fs : List ℕ = facts.0 in
+      let inside : All (λ f. f < length kinds) fs = free_inside kinds fs facts.2.free in
+      let guards = guarded_sound laws.guard root m fs kinds sound facts.2.distinct
+      (λ k d below. (facts.2.free k d below, sym (laws.store.loose kinds root m _ sound) ∙ facts.2.none k d below)) in
+      both (with_pages nk call stand (Some fs)) m
+      (made_is nk call source stand ∙ number_6 call.number _ _ _ _ _ _ _ _ _ _ number ∙ ap (with_pages nk call stand) facts.1)
+      (written_6 nk call source m number)
+      (record {
+        nested = λ i. record {
+          tables = guards.1 i;
+          trap = handler_in m;
+          held = held_guarded kinds m fs stand inside (stand_is nk call m fs number facts.1) i;
+          ledger = (with_pages nk call stand (Some fs)).ledger;
+        };
+        holds = guards.0;
+        keeps = kept_pages kinds ledger is_called.keeps (loose_of nk.tables) call.a call.b call.c fs facts.2
+            (frames_count (mapped_by nk) (call.b / 4096) (call.a / 4096) fs facts.1);
+      })
+
+  made_met : verdict nk call source ≡ None → IsMet (made nk call source stand) (written nk call source m)
   made_met none =
       let n : ℕ = call.number in
-      accepted_by (IsMet (made nk call) (written call m)) nk call none
-      (λ is. both _ _ (made_is nk call ∙ number_1 n _ _ _ _ _ _ is) (written_1 call m is) (trap_met))
-      (λ is rule. both _ _ (made_is nk call ∙ number_2 n _ _ _ _ _ _ is) (written_2 call m is)
+      accepted_by (IsMet (made nk call source stand) (written nk call source m)) nk call source none
+      (λ is. both _ _ (made_is nk call source stand ∙ number_1 n _ _ _ _ _ _ _ _ _ _ is) (written_1 nk call source m is) trap_met)
+      (λ is rule. both _ _ (made_is nk call source stand ∙ number_2 n _ _ _ _ _ _ _ _ _ _ is) (written_2 nk call source m is)
       (declared_met call.a call.b rule))
-      (λ is rule. both _ _ (made_is nk call ∙ number_3 n _ _ _ _ _ _ is) (written_3 call m is)
-      (written_met call.a call.b call.c c rule))
-      (λ is rule. both _ _ (made_is nk call ∙ number_4 n _ _ _ _ _ _ is) (written_4 call m is) (removed_met call.a rule))
-      (λ is rule. both _ _ (made_is nk call ∙ number_5 n _ _ _ _ _ _ is) (written_5 call m is)
-      (tables_met _ m (laws.table.loaded kinds root call.a m sound rule) refl))
+      (λ is rule. both _ _ (made_is nk call source stand ∙ number_3 n _ _ _ _ _ _ _ _ _ _ is) (written_3 nk call source m is)
+      (written_met call.a call.b call.c is_called.third rule))
+      (λ is rule. both _ _ (made_is nk call source stand ∙ number_4 n _ _ _ _ _ _ _ _ _ _ is) (written_4 nk call source m is) (removed_met call.a rule))
+      (λ is rule. both _ _ (made_is nk call source stand ∙ number_5 n _ _ _ _ _ _ _ _ _ _ is) (written_5 nk call source m is) (loaded_met call.a rule))
+      pages_met
+      (λ is rule. let facts = alloc_facts ledger.book call.a call.b rule in
+      let p : ℕ = facts.place.0 in
+      both (with_pool nk call (Some p)) (stored m (zeros_of nk call (Some p)))
+      (made_is nk call source stand ∙ number_7 n _ _ _ _ _ _ _ _ _ _ is ∙ ap (with_pool nk call) facts.place.1)
+      (written_7 nk call source m is ∙ ap (λ (o : Option ℕ). stored m (zeros_of nk call o)) facts.place.1)
+      (stores_met _ (zeros_of nk call (Some p)) (pool_stores kinds ledger is_called.keeps call p facts facts.place.1 nk refl)
+      (kept_pool kinds ledger is_called.keeps call.a call.b p facts facts.place.1)))
+      (λ is rule. let facts = free_facts (region_of ledger.book call.a) rule in
+      both (with_free nk call) m (made_is nk call source stand ∙ number_8 n _ _ _ _ _ _ _ _ _ _ is) (written_8 nk call source m is)
+      (record { nested = refl; holds = sound; keeps = kept_free kinds ledger is_called.keeps call.a facts.0 facts.1 facts.2 }))
+      (λ is rule. let facts = write_facts nk call source is is_called.sourced rule in
+      both (with_write nk call (bytes_read source)) (stored m (stores_written ledger.book call.a call.b (bytes_read source)))
+      (made_is nk call source stand ∙ number_9 n _ _ _ _ _ _ _ _ _ _ is) (written_9 nk call source m is)
+      (stores_met _ (stores_written ledger.book call.a call.b (bytes_read source)) (write_guarded kinds ledger is_called.keeps call source facts)
+      (kept_written kinds ledger is_called.keeps call.a call.b (bytes_read source) facts.region facts.found facts.range facts.admitted)))
 
-  pub call_met : IsMet (after_call nk call) (memory_after_call nk call m)
-  call_met = by_verdict (verdict nk call) refl
+  pub call_met : IsMet (left_in kinds root ledger m call source) (memory_left kinds root ledger m call source)
+  call_met = by_verdict (verdict nk call source) refl
     where
-      by_verdict : (v : Option Rule) → verdict nk call ≡ v → IsMet (made_unless v nk call) (written_unless v call m)
+      by_verdict : (v : Option Rule) → verdict nk call source ≡ v → IsMet (made_unless v nk call source stand) (written_unless v nk call source m)
       by_verdict None none = made_met none
-      by_verdict (Some rule) is = record { nested = refl; holds = sound }
+      by_verdict (Some rule) is = record { nested = refl; holds = sound; keeps = is_called.keeps }

@@ -1,11 +1,15 @@
 -- What is used of the laws of the crates below.
 use Rattle.std.proofs.Common.{◌≡◌, ◌≢◌, ◌⊎◌, ℕ, ◌+◌, ◌*◌, ◌/◌, ◌%◌, ◌^◌, ◌<◌, ◌≤◌, true, List, length, All}
-use Rattle.std.specs.Prelude.{None}
+use Rattle.std.specs.Prelude.{slice_set, None, Ok}
 use Rattle.nk_bits.specs.declared.kind.Kind.{Kind}
+use Rattle.nk_bits.specs.declared.kind.Kind.TheVariants.{Data, Guarded}
+use Rattle.nk_bits.specs.declared.leaf.Leaf.{Leaf}
+use Rattle.nk_bits.specs.Kinds.{kind_of}
+use Rattle.nk_bits.specs.Paging.{walk}
 use Rattle.phys_mem.specs.Memory.{IsBytes, byte_at, entry_in, frame_zeroed, number_at, stored, stores}
 use Rattle.page_desc.specs.FrameCounts.{loose_in}
 use Rattle.page_desc.specs.FrameDescriptors.{Descriptors}
-use Rattle.page_desc.specs.PageTables.{AreDescribed, HoldsSoundTables, Tables, is_unguarded, loose_of, tables_in}
+use Rattle.page_desc.specs.PageTables.{AreDescribed, HoldsSoundTables, Tables, is_unguarded, loose_of, tables_in, value_in}
 use Rattle.vmmu.specs.AcceptedCalls.{IsDeclarable, IsRemovable, IsRoot, IsWritable}
 use Rattle.vmmu.specs.TableCalls.{declare_rule, declared, entry_rule, entry_written, memory_declared, memory_removed, memory_written, remove_rule, removed, root_loaded, root_rule}
 
@@ -35,7 +39,7 @@ pub record StoreLaws : Type 0 where
   pub described : (d : Descriptors) (root : ℕ) (m : List ℕ) (ws : List (ℕ × ℕ)) → AreDescribed d root m
       → All (λ w. is_unguarded d.kinds w.0 ≡ true) ws → AreDescribed d root (stored m ws)
 
--- what a call leaves, and what it is where it breaks no rule
+-- what a call on page tables leaves, and what it is where it breaks no rule
 abbrev pub Stands : Tables → List ℕ → Type 0
 Stands after m = (tables_in after.kinds after.root m ≡ after) × HoldsSoundTables after.kinds after.root m
 
@@ -58,8 +62,26 @@ pub record AcceptedLaws : Type 0 where
   pub removed : (t : Tables) (frame : ℕ) → remove_rule t frame ≡ None → IsRemovable t frame
   pub loaded : (t : Tables) (frame : ℕ) → root_rule t frame ≡ None → IsRoot t frame
 
+-- frames that become guarded, and the walk that finds them
+pub record GuardLaws : Type 0 where
+  pub sound : (kinds : List Kind) (root f : ℕ) (m : List ℕ) → HoldsSoundTables kinds root m
+      → kind_of kinds f ≡ Data → loose_in kinds (entry_in m) f ≡ 0 → HoldsSoundTables (slice_set kinds f Guarded) root m
+  pub tables : (kinds : List Kind) (root f : ℕ) (m : List ℕ) → HoldsSoundTables kinds root m → kind_of kinds f ≡ Data
+      → tables_in (slice_set kinds f Guarded) root m ≡ record (tables_in kinds root m) { kinds = slice_set kinds f Guarded }
+  pub loose : (kinds : List Kind) (root f frame : ℕ) (m : List ℕ) → HoldsSoundTables kinds root m → kind_of kinds f ≡ Data
+      → loose_in (slice_set kinds f Guarded) (entry_in m) frame ≡ loose_in kinds (entry_in m) frame
+  pub described : (d : Descriptors) (root f : ℕ) (m : List ℕ) → AreDescribed d root m → kind_of d.kinds f ≡ Data
+      → loose_in d.kinds (entry_in m) f ≡ 0 → AreDescribed (record d { kinds = slice_set d.kinds f Guarded }) root m
+
+pub record WalkLaws : Type 0 where
+  pub same : (kinds : List Kind) (root page : ℕ) (m : List ℕ) → HoldsSoundTables kinds root m
+      → walk (value_in (tables_in kinds root m)) (length kinds) root page ≡ walk (entry_in m) (length kinds) root page
+  pub in_memory : (t : ℕ → ℕ → ℕ) (frames root page : ℕ) (leaf : Leaf) → walk t frames root page ≡ Ok leaf → leaf.frame < frames
+
 pub record LowerLaws : Type 0 where
   pub byte : ByteLaws
   pub store : StoreLaws
   pub table : TableLaws
   pub accepted : AcceptedLaws
+  pub guard : GuardLaws
+  pub walks : WalkLaws

@@ -1,17 +1,22 @@
--- The opening's memory holds sound tables.
-use Rattle.std.proofs.Common.{◌≡◌, ◌≢◌, ℕ, ◌+◌, ◌*◌, ◌<◌, ◌≤◌, Bool, true, false, List, length, arith, refl, sym, ap, ◌∙◌, inl, inr}
-use Rattle.std.specs.Prelude.{not, ◌||◌, ◌==◌, if◌then◌else◌}
+-- The opening's memory holds sound tables, and its ledger is kept.
+use Rattle.std.proofs.Common.{◌≡◌, ◌≢◌, ◌⊎◌, ℕ, ◌+◌, ◌-◌, ◌*◌, ◌<◌, ◌≤◌, Bool, true, false, List, length, arith, refl, sym, ap, ◌∙◌, inl, inr}
+use Rattle.std.specs.Prelude.{All, [], not, ◌||◌, ◌==◌, if◌then◌else◌}
 use Rattle.std.proofs.lemmas.Bool.{and_from, and_parts, cases_Bool, eq-eqb, eqb-true}
 use Rattle.std.proofs.lemmas.Bool.Decides.{eqb_tells}
 use Rattle.nk_bits.specs.declared.kind.Kind.{Kind}
-use Rattle.nk_bits.specs.declared.kind.Kind.TheVariants.{Fixed, Table}
+use Rattle.nk_bits.specs.declared.kind.Kind.TheVariants.{Fixed, Guarded, Table}
 use Rattle.nk_bits.specs.Kinds.{allows, kind_of, level_of}
 use Rattle.nk_bits.specs.Paging.{frame_of, is_executable, is_present, is_slot_entry, is_user, is_writable, rights_of, slot_value}
 use Rattle.phys_mem.specs.Memory.{entry_in}
 use Rattle.boot_map.specs.Opening.{IsOpening}
 use Rattle.boot_map.specs.OpeningKinds.{kind_at, kinds}
+use Rattle.boot_map.specs.Parts.{part_at}
 use Rattle.page_desc.specs.PageTables.{HoldsSoundTables}
 use Rattle.page_desc.specs.SoundTables.{grants_all, is_lawful, is_lawful_leaf, is_lawful_link}
+use Rattle.write_log.specs.LogRecords.{log_size}
+use Rattle.nk_body.specs.NestedRecord.{IsKept}
+use Rattle.nk_body.specs.SourceWords.{opening_ledger}
+use borrow.Author.Count.{below_more, below_none}
 
 -- what is used of the laws of the opening and of sound tables
 pub record OpeningLaws (b m : List ℕ) (frames : ℕ) : Type 0 where
@@ -21,6 +26,8 @@ pub record OpeningLaws (b m : List ℕ) (frames : ℕ) : Type 0 where
   pub root : kind_at b frames 5 ≡ Table 4
   pub area : kind_at b frames 8 ≡ Fixed
   pub directory : kind_at b frames 9 ≡ Fixed
+  pub slot_root : kind_at b frames 6 ≡ Fixed
+  pub area_root : kind_at b frames 7 ≡ Fixed
   pub levels : (f : ℕ) → level_of (kind_of (kinds b frames) f) ≤ 4
   pub leaf : (f i : ℕ) → i < 512 → level_of (kind_of (kinds b frames) f) ≡ 1 → is_present (entry_in m f i) ≡ true
       → allows (kind_of (kinds b frames) (frame_of (entry_in m f i))) (rights_of (entry_in m f i)) ≡ true
@@ -31,6 +38,9 @@ pub record OpeningLaws (b m : List ℕ) (frames : ℕ) : Type 0 where
   pub slot : (f : ℕ) → level_of (kind_of (kinds b frames) f) ≡ 4 → entry_in m f 511 ≡ slot_value
   pub named : (i : ℕ) → i < 512 → is_present (entry_in m 9 i) ≡ true
       → (kind_of (kinds b frames) (frame_of (entry_in m 9 i)) ≡ Fixed) × (frame_of (entry_in m 9 i) ≢ 2)
+  pub slot_names : (i : ℕ) → i < 512 → is_present (entry_in m 6 i) ≡ true
+      → (frame_of (entry_in m 6 i) ≡ 7) ⊎ (frame_of (entry_in m 6 i) ≡ 9)
+  pub area_names : (i : ℕ) → i < 512 → is_present (entry_in m 7 i) ≡ true → frame_of (entry_in m 7 i) ≡ 8
   pub lawful_leaf : (ks : List Kind) (i e : ℕ)
       → (is_present e ≡ true → allows (kind_of ks (frame_of e)) (rights_of e) ≡ true) → is_lawful ks 1 i e ≡ true
   pub lawful_link : (ks : List Kind) (level i e : ℕ) → level ≢ 1 → is_slot_entry level i ≡ false
@@ -76,4 +86,37 @@ module _ (b m : List ℕ) (frames : ℕ) (laws : OpeningLaws b m frames) (least 
     };
     handler = laws.each 2 (omega (arith, least)) ∙ laws.handler;
     apart = λ i small present. (laws.named i small present).1;
+    slot_root = laws.each 6 (omega (arith, least)) ∙ laws.slot_root;
+    area_root = laws.each 7 (omega (arith, least)) ∙ laws.area_root;
+    slot_names = laws.slot_names;
+    area_names = laws.area_names;
   }
+
+-- the pool's frames are guarded
+pool_kind : (b : List ℕ) (frames : ℕ) (k : ℕ) → k < 16 → kind_at b frames (10 + k) ≡ Guarded
+unfolding kind_at part_at
+pool_kind b frames =
+    below_more P 15 (below_more P 14 (below_more P 13 (below_more P 12 (below_more P 11 (below_more P 10 (below_more P 9 (below_more P 8
+    (below_more P 7 (below_more P 6 (below_more P 5 (below_more P 4 (below_more P 3 (below_more P 2 (below_more P 1 (below_more P 0
+    (below_none P) refl) refl) refl) refl) refl) refl) refl) refl) refl) refl) refl) refl) refl) refl) refl) refl
+  where
+    P : ℕ → Type 0
+    P k = kind_at b frames (10 + k) ≡ Guarded
+
+pub opening_kept : (b : List ℕ) (frames : ℕ) → 512 ≤ frames
+    → ((f : ℕ) → f < frames → kind_of (kinds b frames) f ≡ kind_at b frames f) → IsKept (kinds b frames) opening_ledger
+unfolding log_size
+opening_kept b frames least each = record {
+  book = record {
+    next = omega arith;
+    count = omega arith;
+    each = λ k d below. absurd (omega (arith, below));
+    rising = λ i j d low below. absurd (omega (arith, below));
+    apart = λ i j d low below. absurd (omega (arith, below));
+    pages = refl;
+    most = omega arith;
+  };
+  frames = λ k d below. absurd (omega (arith, below));
+  pool = λ f low high. each f (omega (arith, least, high)) ∙ ap (kind_at b frames) (omega (arith, low)) ∙ pool_kind b frames (f - 10) (omega (arith, low, high));
+  log = omega arith;
+}

@@ -1,15 +1,22 @@
--- What a call leaves, by the rule that it breaks, if any.
+-- What a call leaves, by the rule that it breaks, if any; and the source of a call as the code hands it over.
 use Rattle.std.specs.Prelude.{◌≡◌, List, ℕ, Option}
 use Rattle.nk_bits.specs.declared.call.CallWords.{CallWords}
 use Rattle.nk_bits.specs.declared.rule.Rule.{Rule}
 use Rattle.page_desc.specs.PageTables.{AreDescribed}
-use Rattle.nk_body.specs.CallRules.{made_unless, verdict, written_unless}
-use Rattle.nk_body.specs.NestedRecord.{Books, nested_by}
+use Rattle.nk_body.specs.CallRules.{Sourced, made_unless, stand_of, verdict, written_unless}
+use Rattle.nk_body.specs.NestedRecord.{Books, IsKept, Nested, nested_by}
 
-pub record IsMade (books : Books) (m : List ℕ) (call : CallWords) (rule : Option Rule) (after : Books) (later : List ℕ) : Type 0 where
-  pub judged : rule ≡ verdict (nested_by books m) call
-  pub kinds : after.frames.kinds ≡ (made_unless rule (nested_by books m) call).tables.kinds
-  pub root : after.root ≡ (made_unless rule (nested_by books m) call).tables.root
-  pub trap : after.trap ≡ (made_unless rule (nested_by books m) call).trap
-  pub memory : later ≡ written_unless rule call m
+-- the record after a call, by the rule that it breaks
+abbrev pub left_by : Option Rule → Books → List ℕ → CallWords → Sourced → Nested
+left_by rule books m call source = made_unless rule (nested_by books m) call source (stand_of (nested_by books m) call m)
+
+pub record IsMade (books : Books) (m : List ℕ) (call : CallWords) (source : Sourced) (rule : Option Rule) (after : Books)
+    (later : List ℕ) : Type 0 where
+  pub judged : rule ≡ verdict (nested_by books m) call source
+  pub kinds : after.frames.kinds ≡ (left_by rule books m call source).tables.kinds
+  pub root : after.root ≡ (left_by rule books m call source).tables.root
+  pub trap : after.trap ≡ (left_by rule books m call source).trap
+  pub ledger : after.ledger ≡ (left_by rule books m call source).ledger
+  pub memory : later ≡ written_unless rule (nested_by books m) call source m
   pub described : AreDescribed after.frames after.root later
+  pub keeps : IsKept after.frames.kinds after.ledger

@@ -1,36 +1,67 @@
 -- What the nested kernel guards, as plain data, and how memory holds it.
-use Rattle.std.specs.Prelude.{◌≡◌, ◌≤◌, ℕ, List, length}
-use Rattle.phys_mem.specs.Memory.{number_at}
+use Rattle.std.specs.Prelude.{◌≡◌, ◌≤◌, ◌<◌, ℕ, ◌+◌, ◌*◌, ◌&&◌, nat_lt, if◌then◌else◌, List, length, All}
+use Rattle.phys_mem.specs.Memory.{byte_at, number_at}
 use Rattle.nk_bits.specs.declared.kind.Kind.{Kind}
+use Rattle.nk_bits.specs.declared.kind.Kind.TheVariants.{Guarded}
+use Rattle.nk_bits.specs.Kinds.{is_guarded, kind_of}
 use Rattle.page_desc.specs.FrameDescriptors.{Descriptors}
 use Rattle.page_desc.specs.PageTables.{AreDescribed, Tables, tables_in}
+use Rattle.region_book.specs.RegionRecords.{Book, IsBook}
+use Rattle.write_log.specs.LogRecords.{LogRecord, log_size}
 
--- kinds, page tables, fixed bytes and root, and the address of the outer kernel's trap handler
+-- the regions that live, and the log of writes
+pub record Ledger : Type 0 where
+  pub book : Book
+  pub log : List LogRecord
+
+-- kinds, page tables, fixed bytes and root; the address of the outer kernel's trap handler; by frame and offset the bytes of
+-- guarded frames; regions and log
 pub record Nested : Type 0 where
   pub tables : Tables
   pub trap : ℕ
+  pub held : ℕ → ℕ → ℕ
+  pub ledger : Ledger
 
 -- the address of the trap handler: the eight bytes of the handler slot, at the beginning of frame 2
 unfoldable pub handler_in : List ℕ → ℕ
 handler_in m = number_at m 8 0x2000
 
--- the record that kinds, root and memory stand for
-abbrev pub nested_in : List Kind → ℕ → List ℕ → Nested
-nested_in kinds root m = record { tables = tables_in kinds root m; trap = handler_in m }
+-- the bytes of the guarded frames; 0 for every other frame, and past a frame's 4,096 bytes
+unfoldable pub held_bytes : List Kind → List ℕ → ℕ → ℕ → ℕ
+held_bytes kinds m f offset =
+    if is_guarded (kind_of kinds f) && nat_lt offset 4096 then byte_at m (4096 * f + offset) else 0
+
+-- the record that kinds, root, ledger and memory stand for
+abbrev pub nested_in : List Kind → ℕ → Ledger → List ℕ → Nested
+nested_in kinds root ledger m = record {
+  tables = tables_in kinds root m;
+  trap = handler_in m;
+  held = held_bytes kinds m;
+  ledger = ledger;
+}
+
+-- the ledger is sound, and each region lies in guarded frames; so does the pool
+pub record IsKept (kinds : List Kind) (ledger : Ledger) : Type 0 where
+  pub book : IsBook ledger.book
+  pub frames : All (λ r. All (λ f. kind_of kinds f ≡ Guarded) r.frames) ledger.book.regions
+  pub pool : (f : ℕ) → 10 ≤ f → f < 26 → kind_of kinds f ≡ Guarded
+  pub log : log_size ledger.log ≤ 65536
 
 -- the books of the nested kernel: what it keeps beside memory
 pub record Books : Type 0 where
   pub frames : Descriptors
   pub root : ℕ
   pub trap : ℕ
+  pub ledger : Ledger
 
 -- the record that books and memory stand for
 abbrev pub nested_by : Books → List ℕ → Nested
-nested_by books m = nested_in books.frames.kinds books.root m
+nested_by books m = nested_in books.frames.kinds books.root books.ledger m
 
 -- books and memory stand for one record: the descriptors are those of memory's tables, which are sound, of at least 512
--- frames, and memory holds the handler's address
+-- frames; memory holds the handler's address; and the ledger is sound, its regions in guarded frames
 pub record AreBooks (books : Books) (m : List ℕ) : Type 0 where
   pub described : AreDescribed books.frames books.root m
   pub least : 512 ≤ length books.frames.kinds
   pub trap : books.trap ≡ handler_in m
+  pub kept : IsKept books.frames.kinds books.ledger

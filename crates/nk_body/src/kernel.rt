@@ -1,26 +1,33 @@
 //! The nested kernel's books, and the calls on them.
 
-ghost use Rattle.std.specs.Prelude.{◌≡◌, ◌≢◌, ◌<◌, ◌^◌, IfOk, None, Some};
+ghost use Rattle.std.specs.Prelude.{◌≡◌, ◌≢◌, ◌<◌, ◌^◌, false, length, IfOk, None, Some};
 ghost use Rattle.phys_mem.specs.Memory.{entry_in};
 ghost use Rattle.boot_map.specs.Division.{IsLayout};
 ghost use Rattle.boot_map.specs.Opening.{IsOpening};
 ghost use Rattle.boot_map.specs.OpeningKinds.{kinds};
 ghost use Rattle.page_desc.specs.FrameDescriptors.{AreCounted};
 ghost use Rattle.table_rules.specs.ValueRules.{rule_of};
+ghost use Rattle.nk_bits.specs.Rules.{number_of};
+ghost use Rattle.policy_book.specs.PolicyRules.{bounds_of};
+ghost use Rattle.region_book.specs.RegionCalls.{fits_in};
+ghost use Rattle.region_book.specs.RegionRecords.{region_of};
 ghost use Rattle.nk_body.specs.NestedRecord.{AreBooks, nested_by};
 ghost use Rattle.nk_body.specs.CallMade.{IsMade};
-ghost use Rattle.nk_body.specs.CallRules.{after_call, answer_by, answer_to, memory_after_call};
+ghost use Rattle.nk_body.specs.CallRules.{Bytes, IsSourceOf, Sourced, after_call, answer_to, flushes, memory_after_call, place_by, stand_of, value_by, wants};
+ghost use Rattle.nk_body.specs.SourceWords.{opening_ledger, sourced_of};
 
 use crate::laws::{call_law, call_leaves_law, opening_sound_law};
 use crate::source::Source;
 use boot_map::{Layout, OPENING_ROOT, opening_kinds_law};
 use elf_image::Image;
-use nk_bits::{Answer, CallWords, Kind, Rule, canonical};
-use page_desc::{Frames, page_tables_law};
+use nk_bits::{Answer, CallWords, Kind, Rule, canonical, walk_law};
+use page_desc::{Frames, guarded_law, page_tables_law, record_walk_law};
 use phys_mem::{PhysMem, memory_law};
+use region_book::Regions;
 use std::alloc::{AllocError, Global};
 use std::marker::Model;
-use vmmu::Tables4;
+use vmmu::{Tables4, accepted_law};
+use write_log::Log;
 
 /// The handler slot: the first eight bytes of frame 2.
 const HANDLER_SLOT: u64 = 0x2000;
@@ -36,6 +43,27 @@ const REMOVE_TABLE: u64 = 4;
 
 const LOAD_ROOT: u64 = 5;
 
+const DECLARE_PAGES: u64 = 6;
+
+const ALLOCATE: u64 = 7;
+
+const FREE: u64 = 8;
+
+const WRITE: u64 = 9;
+
+/// What a call that is accepted answers beside that: the identifier of a new region, else 0, and its place in the pool.
+#[derive(Clone, Copy, Debug, PartialEq, Eq)]
+struct Accepted {
+    value: u64,
+    place: Option<u64>,
+}
+
+/// Nothing beside that.
+const DONE: Accepted = Accepted {
+    value: 0,
+    place: None,
+};
+
 /// There is no room for the books.
 #[derive(Clone, Copy, Debug, PartialEq, Eq)]
 pub struct NoMemory;
@@ -45,6 +73,8 @@ pub struct NoMemory;
 pub struct Kernel {
     tables: Tables4,
     trap: u64,
+    regions: Regions,
+    log: Log,
 }
 
 impl Model for Kernel {
@@ -52,7 +82,12 @@ impl Model for Kernel {
 
     ghost Value = { Books };
 
-    ghost view = { λ k. record { frames = k.tables.frames; root = k.tables.root; trap = k.trap } };
+    ghost view = { λ k. record {
+      frames = k.tables.frames;
+      root = k.tables.root;
+      trap = k.trap;
+      ledger = record { book = k.regions; log = k.log };
+    } };
 }
 
 impl Kernel {
@@ -67,52 +102,80 @@ impl Kernel {
         requires opening { IsOpening image.now layout.now.frames mem.now }
         ensures kinds { IfOk result (λ kernel. kernel.frames.kinds ≡ kinds image.now layout.now.frames) }
         ensures root { IfOk result (λ kernel. kernel.root ≡ 5) }
+        ensures ledger { IfOk result (λ kernel. kernel.ledger ≡ opening_ledger) }
         ensures books { IfOk result (λ kernel. AreBooks kernel mem.now) }
     {
         opening_kinds_law();
         opening_sound_law();
         let _pages = image.pages();
-        match describe(alloc, mem, image, layout) {
-            Ok(frames) => Ok(Kernel {
-                tables: Tables4 {
-                    frames,
-                    root: OPENING_ROOT,
-                },
-                trap: mem.load64(HANDLER_SLOT),
-            }),
-            Err(fault) => Err(fault),
-        }
+        let frames = match describe(alloc, mem, image, layout) {
+            Ok(frames) => frames,
+            Err(fault) => return Err(fault),
+        };
+        let regions = match Regions::start(alloc) {
+            Ok(regions) => regions,
+            Err(_) => return Err(NoMemory),
+        };
+        let log = match Log::start(alloc) {
+            Ok(log) => log,
+            Err(_) => return Err(NoMemory),
+        };
+        let tables = Tables4 {
+            frames,
+            root: OPENING_ROOT,
+        };
+        Ok(Kernel {
+            tables,
+            trap: mem.load64(HANDLER_SLOT),
+            regions,
+            log,
+        })
     }
 
     /// How many bytes the call takes from memory; None where it takes none.
-    pub fn wants(&self, _call: &CallWords) -> Option<u64>
-        ensures { result ≡ None }
+    pub fn wants(&self, call: &CallWords) -> Option<u64>
+        ensures { result ≡ wants self.now.ledger.book call.now }
     {
-        None
+        if call.number == WRITE && self.regions.fits(call.a, call.b, call.d) {
+            Some(call.d)
+        } else {
+            None
+        }
     }
 
     /// Makes a call, for which these bytes were read.
     pub fn serve(&mut self, mem: &mut PhysMem, call: &CallWords, source: Source) -> Answer
         requires books { AreBooks self.old mem.old }
-        requires source { source ≡ Source.NotTaken }
-        ensures answer { result ≡ answer_to (nested_by self.old mem.old) call.now }
-        ensures nested { nested_by self.new mem.new ≡ after_call (nested_by self.old mem.old) call.now }
-        ensures memory { mem.new ≡ memory_after_call (nested_by self.old mem.old) call.now mem.old }
+        requires source { IsSourceOf (wants self.old.ledger.book call.now) (sourced_of source) }
+        requires next { self.old.ledger.book.next < 2 ^ 63 }
+        ensures answer { result ≡ answer_to (nested_by self.old mem.old) call.now (sourced_of source.entry) }
+        ensures nested { nested_by self.new mem.new ≡ after_call (nested_by self.old mem.old) call.now (sourced_of source.entry)
+            (stand_of (nested_by self.old mem.old) call.now mem.old) }
+        ensures memory { mem.new ≡ memory_after_call (nested_by self.old mem.old) call.now (sourced_of source.entry) mem.old }
         ensures books { AreBooks self.new mem.new }
     {
         call_law();
         call_leaves_law();
         are_words(call);
-        match self.make(mem, call) {
-            Ok(()) => accepted(call),
-            Err(rule) => refused(call, rule),
+        match self.make(mem, call, source) {
+            Ok(made) => answered(call, &made),
+            Err(rule) => refused(rule),
         }
     }
 
     /// Makes a call, or names the first rule that it breaks.
-    fn make(&mut self, mem: &mut PhysMem, call: &CallWords) -> Result<(), Rule>
+    fn make(
+        &mut self,
+        mem: &mut PhysMem,
+        call: &CallWords,
+        source: Source,
+    ) -> Result<Accepted, Rule>
         requires books { AreBooks self.old mem.old }
-        ensures { IsMade self.old mem.old call.now (rule_of result) self.new mem.new }
+        requires source { IsSourceOf (wants self.old.ledger.book call.now) (sourced_of source) }
+        requires next { self.old.ledger.book.next < 2 ^ 63 }
+        ensures made { IsMade self.old mem.old call.now (sourced_of source.entry) (rule_of result) self.new mem.new }
+        ensures shows { IfOk result (λ it. (it.value ≡ value_by (nested_by self.old mem.old) call.now)
+            × (it.place ≡ place_by (nested_by self.old mem.old) call.now)) }
     {
         match call.number {
             SET_TRAP => self.set_trap(mem, call),
@@ -120,26 +183,20 @@ impl Kernel {
             WRITE_ENTRY => self.write_entry(mem, call),
             REMOVE_TABLE => self.remove_table(mem, call),
             LOAD_ROOT => self.load_root(mem, call),
+            DECLARE_PAGES => self.declare_pages(mem, call),
+            ALLOCATE => self.allocate(mem, call),
+            FREE => self.free(mem, call),
+            WRITE => self.write(mem, call, source),
             _ => self.refuse_number(mem, call),
         }
     }
 
-    /// A call of a number that is none is refused, and changes nothing.
-    fn refuse_number(&self, mem: &PhysMem, call: &CallWords) -> Result<(), Rule>
-        requires books { AreBooks self.now mem.now }
-        requires number { (call.now.number ≢ 1) × (call.now.number ≢ 2) × (call.now.number ≢ 3) × (call.now.number ≢ 4) × (call.now.number ≢ 5) }
-        ensures { IsMade self.now mem.now call.now (rule_of result) self.now mem.now }
-    {
-        let _root = self.tables.root;
-        let _number = (mem.frames(), call.number);
-        Err(Rule::BadCall)
-    }
-
     /// The handler of traps stands at a canonical address from now on.
-    fn set_trap(&mut self, mem: &mut PhysMem, call: &CallWords) -> Result<(), Rule>
+    fn set_trap(&mut self, mem: &mut PhysMem, call: &CallWords) -> Result<Accepted, Rule>
         requires books { AreBooks self.old mem.old }
         requires number { call.now.number ≡ 1 }
-        ensures { IsMade self.old mem.old call.now (rule_of result) self.new mem.new }
+        ensures made { (source : Sourced) → IsMade self.old mem.old call.now source (rule_of result) self.new mem.new }
+        ensures shows { IfOk result (λ it. (it.value ≡ 0) × (it.place ≡ None)) }
     {
         page_tables_law();
         memory_law();
@@ -148,40 +205,179 @@ impl Kernel {
         }
         mem.store64(HANDLER_SLOT, call.a);
         self.trap = call.a;
-        Ok(())
+        Ok(DONE)
     }
 
-    fn declare_table(&mut self, mem: &mut PhysMem, call: &CallWords) -> Result<(), Rule>
+    fn declare_table(&mut self, mem: &mut PhysMem, call: &CallWords) -> Result<Accepted, Rule>
         requires books { AreBooks self.old mem.old }
         requires number { call.now.number ≡ 2 }
-        ensures { IsMade self.old mem.old call.now (rule_of result) self.new mem.new }
+        ensures made { (source : Sourced) → IsMade self.old mem.old call.now source (rule_of result) self.new mem.new }
+        ensures shows { IfOk result (λ it. (it.value ≡ 0) × (it.place ≡ None)) }
     {
-        self.tables.declare_table(mem, call.a, call.b)
+        accepted_law();
+        match self.tables.declare_table(mem, call.a, call.b) {
+            Ok(()) => Ok(DONE),
+            Err(rule) => Err(rule),
+        }
     }
 
-    fn write_entry(&mut self, mem: &mut PhysMem, call: &CallWords) -> Result<(), Rule>
+    fn write_entry(&mut self, mem: &mut PhysMem, call: &CallWords) -> Result<Accepted, Rule>
         requires books { AreBooks self.old mem.old }
         requires number { call.now.number ≡ 3 }
-        ensures { IsMade self.old mem.old call.now (rule_of result) self.new mem.new }
+        ensures made { (source : Sourced) → IsMade self.old mem.old call.now source (rule_of result) self.new mem.new }
+        ensures shows { IfOk result (λ it. (it.value ≡ 0) × (it.place ≡ None)) }
     {
-        self.tables.write_entry(mem, call.a, call.b, call.c)
+        match self.tables.write_entry(mem, call.a, call.b, call.c) {
+            Ok(()) => Ok(DONE),
+            Err(rule) => Err(rule),
+        }
     }
 
-    fn remove_table(&mut self, mem: &mut PhysMem, call: &CallWords) -> Result<(), Rule>
+    fn remove_table(&mut self, mem: &mut PhysMem, call: &CallWords) -> Result<Accepted, Rule>
         requires books { AreBooks self.old mem.old }
         requires number { call.now.number ≡ 4 }
-        ensures { IsMade self.old mem.old call.now (rule_of result) self.new mem.new }
+        ensures made { (source : Sourced) → IsMade self.old mem.old call.now source (rule_of result) self.new mem.new }
+        ensures shows { IfOk result (λ it. (it.value ≡ 0) × (it.place ≡ None)) }
     {
-        self.tables.remove_table(mem, call.a)
+        accepted_law();
+        match self.tables.remove_table(mem, call.a) {
+            Ok(()) => Ok(DONE),
+            Err(rule) => Err(rule),
+        }
     }
 
-    fn load_root(&mut self, mem: &mut PhysMem, call: &CallWords) -> Result<(), Rule>
+    fn load_root(&mut self, mem: &mut PhysMem, call: &CallWords) -> Result<Accepted, Rule>
         requires books { AreBooks self.old mem.old }
         requires number { call.now.number ≡ 5 }
-        ensures { IsMade self.old mem.old call.now (rule_of result) self.new mem.new }
+        ensures made { (source : Sourced) → IsMade self.old mem.old call.now source (rule_of result) self.new mem.new }
+        ensures shows { IfOk result (λ it. (it.value ≡ 0) × (it.place ≡ None)) }
     {
         let _frames = mem.frames();
-        self.tables.load_root(call.a)
+        match self.tables.load_root(call.a) {
+            Ok(()) => Ok(DONE),
+            Err(rule) => Err(rule),
+        }
+    }
+
+    /// Makes the frames of a range of pages a protected region.
+    fn declare_pages(&mut self, mem: &PhysMem, call: &CallWords) -> Result<Accepted, Rule>
+        requires books { AreBooks self.old mem.now }
+        requires number { call.now.number ≡ 6 }
+        requires next { self.old.ledger.book.next < 2 ^ 63 }
+        ensures made { (source : Sourced) → IsMade self.old mem.now call.now source (rule_of result) self.new mem.now }
+        ensures shows { IfOk result (λ it. (it.value ≡ self.old.ledger.book.next) × (it.place ≡ None)) }
+    {
+        page_tables_law();
+        record_walk_law();
+        guarded_law();
+        walk_law();
+        let root = self.tables.root;
+        let frames = &mut self.tables.frames;
+        match self
+            .regions
+            .declare(frames, mem, root, call.a, call.b, call.c)
+        {
+            Ok(value) => Ok(Accepted { value, place: None }),
+            Err(rule) => Err(rule),
+        }
+    }
+
+    /// Allocates a region of the pool.
+    fn allocate(&mut self, mem: &mut PhysMem, call: &CallWords) -> Result<Accepted, Rule>
+        requires books { AreBooks self.old mem.old }
+        requires number { call.now.number ≡ 7 }
+        requires next { self.old.ledger.book.next < 2 ^ 63 }
+        ensures made { (source : Sourced) → IsMade self.old mem.old call.now source (rule_of result) self.new mem.new }
+        ensures shows { IfOk result (λ it. (it.value ≡ self.old.ledger.book.next)
+            × (it.place ≡ place_by (nested_by self.old mem.old) call.now)) }
+    {
+        page_tables_law();
+        match self.regions.alloc(mem, call.a, call.b) {
+            Ok(granted) => Ok(Accepted {
+                value: granted.id,
+                place: Some(granted.place),
+            }),
+            Err(rule) => Err(rule),
+        }
+    }
+
+    /// Lets a region of the pool go.
+    fn free(&mut self, mem: &PhysMem, call: &CallWords) -> Result<Accepted, Rule>
+        requires books { AreBooks self.old mem.now }
+        requires number { call.now.number ≡ 8 }
+        ensures made { (source : Sourced) → IsMade self.old mem.now call.now source (rule_of result) self.new mem.now }
+        ensures shows { IfOk result (λ it. (it.value ≡ 0) × (it.place ≡ None)) }
+    {
+        let _frames = mem.frames();
+        match self.regions.free(call.a) {
+            Ok(()) => Ok(DONE),
+            Err(rule) => Err(rule),
+        }
+    }
+
+    /// Writes the source in a region.
+    fn write(
+        &mut self,
+        mem: &mut PhysMem,
+        call: &CallWords,
+        source: Source,
+    ) -> Result<Accepted, Rule>
+        requires books { AreBooks self.old mem.old }
+        requires number { call.now.number ≡ 9 }
+        requires source { IsSourceOf (wants self.old.ledger.book call.now) (sourced_of source) }
+        ensures made { IsMade self.old mem.old call.now (sourced_of source.entry) (rule_of result) self.new mem.new }
+        ensures shows { IfOk result (λ it. (it.value ≡ 0) × (it.place ≡ None)) }
+    {
+        match source {
+            // The range isn't one of a live region, or its region isn't: no bytes were read.
+            Source::NotTaken => Err(self.judge_bounds(call)),
+            Source::Unreadable => Err(Rule::BadSource),
+            Source::Bytes(bytes) => self.write_bytes(mem, call, bytes),
+        }
+    }
+
+    /// The rule that the range of a write breaks.
+    fn judge_bounds(&self, call: &CallWords) -> Rule
+        requires { fits_in self.now.ledger.book call.now.a call.now.b call.now.d ≡ false }
+        ensures { Some result ≡ bounds_of (region_of self.now.ledger.book call.now.a) call.now.b call.now.d }
+    {
+        match self.regions.find(call.a) {
+            Some(_) => Rule::OutOfBounds,
+            None => Rule::BadRegion,
+        }
+    }
+
+    /// Writes these bytes in a region.
+    fn write_bytes(
+        &mut self,
+        mem: &mut PhysMem,
+        call: &CallWords,
+        bytes: &[u8],
+    ) -> Result<Accepted, Rule>
+        requires books { AreBooks self.old mem.old }
+        requires number { call.now.number ≡ 9 }
+        requires count { length bytes.now ≡ call.now.d }
+        ensures made { IsMade self.old mem.old call.now (Bytes bytes.now) (rule_of result) self.new mem.new }
+        ensures shows { IfOk result (λ it. (it.value ≡ 0) × (it.place ≡ None)) }
+    {
+        page_tables_law();
+        match policy_book::write(&mut self.regions, &mut self.log, mem, call.a, call.b, bytes) {
+            Ok(()) => Ok(DONE),
+            Err(rule) => Err(rule),
+        }
+    }
+
+    /// A call of a number that is none is refused, and changes nothing.
+    fn refuse_number(&self, mem: &PhysMem, call: &CallWords) -> Result<Accepted, Rule>
+        requires books { AreBooks self.now mem.now }
+        requires number { (call.now.number ≢ 1) × (call.now.number ≢ 2) × (call.now.number ≢ 3) × (call.now.number ≢ 4) × (call.now.number ≢ 5)
+            × (call.now.number ≢ 6) × (call.now.number ≢ 7) × (call.now.number ≢ 8) × (call.now.number ≢ 9) }
+        ensures made { (source : Sourced) → IsMade self.now mem.now call.now source (rule_of result) self.now mem.now }
+        ensures shows { IfOk result (λ it. (it.value ≡ 0) × (it.place ≡ None)) }
+    {
+        let _root = self.tables.root;
+        let _number = (mem.frames(), call.number);
+        Err(Rule::BadCall)
     }
 
     /// The frame of the root of the page tables.
@@ -196,6 +392,20 @@ impl Kernel {
         ensures { result ≡ self.now.trap }
     {
         self.trap
+    }
+
+    /// The regions that live.
+    pub fn regions(&self) -> &Regions
+        ensures { result.now ≡ self.now.ledger.book }
+    {
+        &self.regions
+    }
+
+    /// The log of writes.
+    pub fn log(&self) -> &Log
+        ensures { result.now ≡ self.now.ledger.log }
+    {
+        &self.log
     }
 
     /// The descriptors of frames, and the root.
@@ -216,21 +426,23 @@ fn are_words(call: &CallWords)
 }
 
 /// The answer to a call that is accepted.
-fn accepted(call: &CallWords) -> Answer
-    ensures { result ≡ answer_by None call.now }
+fn answered(call: &CallWords, made: &Accepted) -> Answer
+    ensures { result ≡ record { value = made.now.value; place = made.now.place; flush = flushes call.now } }
 {
     Answer {
-        value: 0,
-        place: None,
-        flush: matches!(call.number, DECLARE_TABLE | REMOVE_TABLE | LOAD_ROOT),
+        value: made.value,
+        place: made.place,
+        flush: matches!(
+            call.number,
+            DECLARE_TABLE | REMOVE_TABLE | LOAD_ROOT | DECLARE_PAGES
+        ),
     }
 }
 
 /// The answer to a call that breaks a rule.
-fn refused(call: &CallWords, rule: Rule) -> Answer
-    ensures { result ≡ answer_by (Some rule) call.now }
+fn refused(rule: Rule) -> Answer
+    ensures { result ≡ record { value = number_of rule; place = None; flush = false } }
 {
-    let _number = call.number;
     Answer {
         value: rule.number(),
         place: None,

@@ -1,9 +1,11 @@
 //! Calls on the opening of an image of one byte, F4. In 512 frames its page is frame 67, the direct map's tables are 68, 69
 //! and 70, and frame 71 is the first free one, which entry 71 of frame 70 maps for writing. The handler stands in memory
-//! from 2000 on.
+//! from 2000 on, the pool from A000 on.
 
-ghost use Rattle.std.specs.Prelude.{◌≤◌, IfSome};
+ghost use Rattle.std.specs.Prelude.{◌≡◌, ◌≤◌, IfSome};
+ghost use Rattle.nk_body.specs.CallRules.{IsSourceOf};
 ghost use Rattle.nk_body.specs.NestedRecord.{AreBooks};
+ghost use Rattle.nk_body.specs.SourceWords.{sourced_of};
 
 use crate::{Kernel, Source};
 use boot_map::{Layout, prepare};
@@ -11,7 +13,9 @@ use elf_image::Image;
 use nk_bits::{Answer, CallWords, Kind};
 use page_desc::Frames;
 use phys_mem::PhysMem;
+use region_book::Region;
 use std::alloc::{AllocError, Global};
+use write_log::Noted;
 
 /// A file's one header loads the byte at offset 4,096 to FFFFFFFF80000000, the entry, readable and executable.
 #[rattlefmt::skip]
@@ -67,7 +71,8 @@ fn open(alloc: Global, frames: u32) -> Option<Opened>
     }
 }
 
-/// A call by its number and its first three arguments.
+/// A call by its number and its first three arguments; of call 9 the last is the number of bytes, and the source's address
+/// is 0; of call 7 it is the place that the region is to have.
 type Row = (u64, u64, u64, u64);
 
 fn words(call: &Row) -> CallWords {
@@ -75,38 +80,70 @@ fn words(call: &Row) -> CallWords {
         number: call.0,
         a: call.1,
         b: call.2,
-        c: call.3,
-        d: 4,
+        c: if call.0 == 9 { 0 } else { call.3 },
+        d: if call.0 == 9 { call.3 } else { 4 },
     }
 }
 
-fn serve(kernel: &mut Kernel, mem: &mut PhysMem, call: &Row) -> Answer
+/// What was read for a call that takes so many bytes.
+fn read<'s>(wanted: Option<u64>, data: &'s [u8], readable: bool) -> Source<'s>
+    ensures { IsSourceOf wanted (sourced_of result) }
+{
+    match wanted {
+        None => Source::NotTaken,
+        Some(count) => {
+            if readable && count <= data.len() as u64 {
+                Source::Bytes(&data[..count as usize])
+            } else {
+                Source::Unreadable
+            }
+        }
+    }
+}
+
+fn serve(
+    kernel: &mut Kernel,
+    mem: &mut PhysMem,
+    call: &Row,
+    data: &[u8],
+    readable: bool,
+) -> Option<Answer>
     requires { AreBooks kernel.old mem.old }
     ensures { AreBooks kernel.new mem.new }
 {
-    kernel.serve(mem, &words(call), Source::NotTaken)
+    if kernel.regions().next() >= 1 << 63 {
+        return None;
+    }
+    let call = words(call);
+    let source = read(kernel.wants(&call), data, readable);
+    Some(kernel.serve(mem, &call, source))
 }
 
-/// Every translation goes where one of these is accepted.
+/// Every translation goes where one of these is accepted; the number of a rule is at most 27.
 fn is_flushing(number: u64, value: u64) -> bool {
-    value == 0 && (number == 2 || number == 4 || number == 5)
+    (value == 0 && (number == 2 || number == 4 || number == 5)) || (value >= 256 && number == 6)
 }
 
-fn answered(number: u64, value: u64) -> Answer {
+fn answered(call: &Row, value: u64) -> Answer {
     Answer {
         value,
-        place: None,
-        flush: is_flushing(number, value),
+        place: if call.0 == 7 && value >= 256 {
+            Some(call.3)
+        } else {
+            None
+        },
+        flush: is_flushing(call.0, value),
     }
 }
 
-/// Makes the calls in turn, to the first that isn't answered by the number beside it; gives how many were.
-fn play(kernel: &mut Kernel, mem: &mut PhysMem, rows: &[(Row, u64)]) -> usize
+/// Makes the calls in turn, to the first that isn't answered by the number beside it; gives how many were. The source of a
+/// call can be read, but for one that is to be answered 22.
+fn play(kernel: &mut Kernel, mem: &mut PhysMem, data: &[u8], rows: &[(Row, u64)]) -> usize
     requires books { AreBooks kernel.old mem.old }
     ensures books { AreBooks kernel.new mem.new }
 {
     for (index, (call, value)) in rows.iter().enumerate() {
-        if serve(kernel, mem, call) != answered(call.0, *value) {
+        if serve(kernel, mem, call, data, *value != 22) != Some(answered(call, *value)) {
             return index;
         }
     }
@@ -123,7 +160,8 @@ fn load(mem: &PhysMem, at: u64) -> u64 {
 }
 
 /// What the calls leave: how many were answered as they should be, root, handler, the numbers in memory from 1FF8, 2000
-/// and 2008 on, entry 71 of frame 70, and the kind of frame 71.
+/// and 2008 on, entry 71 of frame 70, the kind of frame 71, the next identifier, how many regions live and how many writes
+/// are logged, and the first eight bytes of the pool.
 #[derive(Clone, Copy, Debug, PartialEq, Eq)]
 struct State {
     answered: usize,
@@ -132,26 +170,38 @@ struct State {
     slot: [u64; 3],
     leaf: u64,
     kind: Kind,
+    next: u64,
+    regions: usize,
+    records: u64,
+    pool: u64,
 }
 
-fn played(alloc: Global, rows: &[(Row, u64)]) -> Option<State> {
+/// What books and memory are.
+fn seen(kernel: &Kernel, mem: &PhysMem, answered: usize) -> State {
+    State {
+        answered,
+        root: kernel.root(),
+        trap: kernel.trap(),
+        slot: [load(mem, 0x1FF8), load(mem, 0x2000), load(mem, 0x2008)],
+        leaf: load(mem, 0x46238),
+        kind: kernel.tables().frames.kind(71),
+        next: kernel.regions().next(),
+        regions: kernel.regions().count(),
+        records: kernel.log().len(),
+        pool: load(mem, 0xA000),
+    }
+}
+
+fn played(alloc: Global, data: &[u8], rows: &[(Row, u64)]) -> Option<State> {
     let Some(mut it) = open(alloc, 512) else {
         return None;
     };
-    let answered = play(&mut it.kernel, &mut it.mem, rows);
-    Some(State {
-        answered,
-        root: it.kernel.root(),
-        trap: it.kernel.trap(),
-        slot: [
-            load(&it.mem, 0x1FF8),
-            load(&it.mem, 0x2000),
-            load(&it.mem, 0x2008),
-        ],
-        leaf: load(&it.mem, 0x46238),
-        kind: it.kernel.tables().frames.kind(71),
-    })
+    let answered = play(&mut it.kernel, &mut it.mem, data, rows);
+    Some(seen(&it.kernel, &it.mem, answered))
 }
+
+/// The bytes of the sources.
+const BYTES: [u8; 8] = [1, 2, 3, 4, 5, 6, 7, 8];
 
 /// The opening's leaf of frame 71: P, R/W, A, D and XD.
 const WRITABLE: u64 = 0x8000_0000_0004_7063;
@@ -168,6 +218,10 @@ fn expected(answered: usize, trap: u64, leaf: u64, kind: Kind) -> State {
         slot: [0xCCCC_CCCC_CCCC_CCCC, trap, 0],
         leaf,
         kind,
+        next: 256,
+        regions: 0,
+        records: 0,
+        pool: 0,
     }
 }
 
@@ -186,7 +240,7 @@ const HANDLERS: [(u64, u64, u64); 7] = [
 fn a_handler_of_the_opening(rt: HostRuntime) {
     for (a, value, trap) in HANDLERS {
         assert_eq!(rt;
-            played(rt.alloc(), &[((1, a, 2, 3), value)]),
+            played(rt.alloc(), &BYTES, &[((1, a, 2, 3), value)]),
             Some(expected(1, trap, WRITABLE, Kind::Data)),
             "{a:x}"
         );
@@ -198,19 +252,20 @@ fn a_refused_call_keeps_the_handler_that_was_set(rt: HostRuntime) {
     let rows = [
         ((1, 0x40_1000, 2, 3), 0),
         ((1, 0x8000_0000_0000_0000, 2, 3), 27),
-        ((6, 0x1000, 2, 3), 1),
+        ((10, 0x1000, 2, 3), 1),
     ];
     assert_eq!(rt;
-        played(rt.alloc(), &rows),
+        played(rt.alloc(), &BYTES, &rows),
         Some(expected(3, 0x40_1000, WRITABLE, Kind::Data))
     );
 }
 
-/// Each rule of the first calls broken on the opening, in which nothing changes.
-const REFUSED: [(Row, u64); 26] = [
+/// The page of frame 71 in the direct map.
+const PAGE: u64 = 0xFFFF_8000_0004_7000;
+
+/// Each rule broken on the opening, in which nothing changes; where a call breaks two, the first is the answer.
+const REFUSED: [(Row, u64); 42] = [
     ((0, 0x1000, 0, 0), 1),
-    ((6, 0x1000, 0, 0), 1),
-    ((9, 0x8000_0000_0000, 0, 0), 1),
     ((10, 0x1000, 0, 0), 1),
     ((0x8000_0000_0000_0001, 0x1000, 0, 0), 1),
     ((1, 0x8000_0000_0000, 0, 0), 27),
@@ -234,12 +289,30 @@ const REFUSED: [(Row, u64); 26] = [
     ((4, 5, 0, 0), 12),
     ((4, 70, 0, 0), 12),
     ((5, 71, 0, 0), 14),
+    ((6, 0x8000_0000_0000, 4096, 1), 15),
+    ((6, PAGE + 1, 4096, 1), 15),
+    ((6, PAGE, 0, 1), 15),
+    ((6, PAGE, 4095, 5), 15),
+    ((6, PAGE, 0x1_1000, 1), 15),
+    ((6, 0x1000, 4096, 5), 15),
+    ((6, PAGE, 4096, 0), 16),
+    ((6, PAGE, 4096, 5), 16),
+    ((6, PAGE - 4096, 4096, 1), 4),
+    ((6, PAGE - 4096, 8192, 1), 4),
+    ((6, PAGE, 4096, 1), 5),
+    ((7, 0, 5, 0), 15),
+    ((7, 0x1_0001, 1, 0), 15),
+    ((7, 16, 0, 0), 16),
+    ((7, 16, 5, 0), 16),
+    ((8, 256, 0, 0), 19),
+    ((9, 256, 0, 4), 19),
+    ((9, 0, 0, 0), 19),
 ];
 
 #[test]
 fn refused_calls_change_nothing(rt: HostRuntime) {
     assert_eq!(rt;
-        played(rt.alloc(), &REFUSED),
+        played(rt.alloc(), &BYTES, &REFUSED),
         Some(expected(REFUSED.len(), HALTS, WRITABLE, Kind::Data))
     );
 }
@@ -262,11 +335,11 @@ const TABLE: [(Row, u64); 11] = [
 #[test]
 fn a_table_is_declared_and_removed(rt: HostRuntime) {
     assert_eq!(rt;
-        played(rt.alloc(), &TABLE),
+        played(rt.alloc(), &BYTES, &TABLE),
         Some(expected(TABLE.len(), HALTS, READABLE, Kind::Data))
     );
     assert_eq!(rt;
-        played(rt.alloc(), &TABLE[..7]),
+        played(rt.alloc(), &BYTES, &TABLE[..7]),
         Some(expected(7, HALTS, READABLE, Kind::Table(1)))
     );
 }
@@ -294,7 +367,230 @@ fn another_root_is_loaded(rt: HostRuntime) {
         root: 71,
         ..expected(ROOTS.len(), HALTS, READABLE, Kind::Table(4))
     };
-    assert_eq!(rt; played(rt.alloc(), &ROOTS), Some(left));
+    assert_eq!(rt; played(rt.alloc(), &BYTES, &ROOTS), Some(left));
+}
+
+/// The pool's first linear address.
+const POOL: u64 = 0xFFFF_FF80_0001_0000;
+
+/// A write-once region, of which a byte is written once.
+const ONCE: [(Row, u64); 9] = [
+    ((7, 16, 1, POOL), 256),
+    ((9, 256, 0, 4), 0),
+    ((9, 256, 3, 2), 24),
+    ((9, 256, 4, 2), 0),
+    ((9, 256, 6, 1), 22),
+    ((9, 256, 6, 0), 21),
+    ((9, 300, 0, 1), 19),
+    ((7, 16, 5, 0), 16),
+    ((7, 0, 1, 0), 15),
+];
+
+/// An append-only region, which is written at its tail, and one that is never written.
+const TAIL: [(Row, u64); 9] = [
+    ((7, 8, 2, POOL), 256),
+    ((9, 256, 0, 5), 0),
+    ((9, 256, 5, 3), 0),
+    ((9, 256, 8, 1), 21),
+    ((9, 256, 5, 1), 25),
+    ((9, 256, 5, 1), 22),
+    ((7, 8, 3, POOL + 16), 257),
+    ((9, 257, 0, 1), 23),
+    ((9, 257, 0, 1), 22),
+];
+
+/// The pool is full, and a region is let go.
+const FULL: [(Row, u64); 5] = [
+    ((7, 0x1_0000, 4, POOL), 256),
+    ((7, 1, 1, 0), 18),
+    ((8, 256, 0, 0), 0),
+    ((7, 1, 1, POOL), 257),
+    ((8, 256, 0, 0), 19),
+];
+
+/// A page that only reading reaches becomes a region.
+const DECLARED: [(Row, u64); 12] = [
+    ((6, PAGE, 4095, 1), 15),
+    ((6, PAGE, 4096, 5), 16),
+    ((6, PAGE, 4096, 1), 5),
+    ((3, 70, 71, READABLE), 0),
+    ((3, 70, 72, READABLE), 0),
+    ((6, PAGE, 8192, 1), 15),
+    ((6, PAGE, 4096, 1), 256),
+    ((6, PAGE, 4096, 1), 4),
+    ((8, 256, 0, 0), 20),
+    ((8, 999, 0, 0), 19),
+    ((9, 256, 4092, 4), 0),
+    ((9, 256, 4095, 1), 24),
+];
+
+#[test]
+fn regions_of_the_pool(rt: HostRuntime) {
+    let once = State {
+        next: 257,
+        regions: 1,
+        pool: 0x0201_0403_0201,
+        ..expected(ONCE.len(), HALTS, WRITABLE, Kind::Data)
+    };
+    assert_eq!(rt; played(rt.alloc(), &BYTES, &ONCE), Some(once));
+    let tail = State {
+        next: 258,
+        regions: 2,
+        pool: 0x0302_0105_0403_0201,
+        ..expected(TAIL.len(), HALTS, WRITABLE, Kind::Data)
+    };
+    assert_eq!(rt; played(rt.alloc(), &BYTES, &TAIL), Some(tail));
+    let full = State {
+        next: 258,
+        regions: 1,
+        ..expected(FULL.len(), HALTS, WRITABLE, Kind::Data)
+    };
+    assert_eq!(rt; played(rt.alloc(), &BYTES, &FULL), Some(full));
+}
+
+#[test]
+fn a_page_is_declared(rt: HostRuntime) {
+    let left = State {
+        next: 257,
+        regions: 1,
+        ..expected(DECLARED.len(), HALTS, READABLE, Kind::Guarded)
+    };
+    assert_eq!(rt; played(rt.alloc(), &BYTES, &DECLARED), Some(left));
+}
+
+/// Regions of a byte each, to the first call that isn't answered by the next identifier, and then these calls.
+fn filled(alloc: Global, rows: &[(Row, u64)]) -> Option<(u64, State)> {
+    let Some(mut it) = open(alloc, 512) else {
+        return None;
+    };
+    let mut made = 0;
+    for k in 0..300u64 {
+        let row = ((7, 1, 1, POOL + 16 * k), 256 + k);
+        if play(&mut it.kernel, &mut it.mem, &BYTES, &[row]) == 1 {
+            made = k + 1;
+        }
+    }
+    let answered = play(&mut it.kernel, &mut it.mem, &BYTES, rows);
+    Some((made, seen(&it.kernel, &it.mem, answered)))
+}
+
+#[test]
+fn at_most_256_regions_live(rt: HostRuntime) {
+    let rows = [
+        ((7, 1, 1, 0), 17),
+        ((7, 1, 5, 0), 16),
+        ((6, PAGE, 4096, 1), 17),
+        ((6, PAGE, 4096, 5), 16),
+        ((8, 300, 0, 0), 0),
+        ((7, 17, 1, POOL + 4096), 512),
+        ((7, 1, 1, 0), 17),
+    ];
+    let left = State {
+        next: 513,
+        regions: 256,
+        ..expected(rows.len(), HALTS, WRITABLE, Kind::Data)
+    };
+    assert_eq!(rt; filled(rt.alloc(), &rows), Some((256, left)));
+}
+
+/// Frames 71 to 206 are mapped for reading, and declared by 16 pages; then these calls.
+fn pages_declared(alloc: Global, rows: &[(Row, u64)]) -> Option<(u64, State)> {
+    let Some(mut it) = open(alloc, 512) else {
+        return None;
+    };
+    let mut made = 0;
+    for frame in 71..207u64 {
+        let row = ((3, 70, frame, 0x8000_0000_0000_0021 + 4096 * frame), 0);
+        let _answered = play(&mut it.kernel, &mut it.mem, &BYTES, &[row]);
+    }
+    for k in 0..9u64 {
+        let row = ((6, PAGE + 0x1_0000 * k, 0x1_0000, 2), 256 + k);
+        if play(&mut it.kernel, &mut it.mem, &BYTES, &[row]) == 1 {
+            made = k + 1;
+        }
+    }
+    let answered = play(&mut it.kernel, &mut it.mem, &BYTES, rows);
+    Some((made, seen(&it.kernel, &it.mem, answered)))
+}
+
+#[test]
+fn at_most_128_pages_are_declared(rt: HostRuntime) {
+    let rows = [
+        ((6, PAGE + 0x8_0000, 4096, 1), 18),
+        ((6, PAGE, 4096, 1), 18),
+        ((6, PAGE, 4096, 0), 16),
+        ((7, 8, 4, POOL), 264),
+        ((9, 264, 0, 8), 0),
+        ((3, 70, 71, WRITABLE), 11),
+    ];
+    let left = State {
+        next: 265,
+        regions: 9,
+        records: 1,
+        pool: 0x0807_0605_0403_0201,
+        ..expected(rows.len(), HALTS, READABLE, Kind::Guarded)
+    };
+    assert_eq!(rt; pages_declared(rt.alloc(), &rows), Some((8, left)));
+}
+
+/// A logged region fills the log.
+const LOGGED: [(Row, u64); 4] = [
+    ((7, 32_745, 4, POOL), 256),
+    ((9, 256, 0, 32_743), 0),
+    ((9, 256, 0, 32_745), 0),
+    ((9, 256, 0, 1), 26),
+];
+
+/// What is told of the log: how many bytes are left, the records, and the region.
+type Told = (usize, u64, Option<Noted>, Option<Noted>, Option<Region>);
+
+fn record(kernel: &Kernel, i: u64) -> Option<Noted> {
+    if i < kernel.log().len() {
+        Some(kernel.log().entry(i))
+    } else {
+        None
+    }
+}
+
+fn log_filled(alloc: Global) -> Option<Told> {
+    let mut data = Vec::new(alloc);
+    let Ok(()) = data.resize(40_000, 0x5A) else {
+        return None;
+    };
+    let Some(mut it) = open(alloc, 512) else {
+        return None;
+    };
+    let answered = play(&mut it.kernel, &mut it.mem, &data, &LOGGED);
+    Some((
+        answered,
+        it.kernel.log().room(),
+        record(&it.kernel, 0),
+        record(&it.kernel, 1),
+        it.kernel.regions().find(256),
+    ))
+}
+
+#[test]
+fn the_log_is_full(rt: HostRuntime) {
+    let noted = |length| {
+        Some(Noted {
+            region: 256,
+            offset: 0,
+            length,
+        })
+    };
+    let region = Region {
+        id: 256,
+        policy: 4,
+        place: POOL,
+        size: 32_745,
+        tail: 0,
+        pooled: true,
+    };
+    assert_eq!(rt;
+        log_filled(rt.alloc()),
+        Some((LOGGED.len(), 0, noted(32_743), noted(32_745), Some(region)))
+    );
 }
 
 /// The kinds of all frames now.
@@ -330,7 +626,7 @@ fn counts_stay(alloc: Global, frames: u32, rows: &[(Row, u64)]) -> Option<(usize
     let Some(mut it) = open(alloc, frames) else {
         return None;
     };
-    let answered = play(&mut it.kernel, &mut it.mem, rows);
+    let answered = play(&mut it.kernel, &mut it.mem, &BYTES, rows);
     let Ok(kinds) = kinds(alloc, &it.kernel) else {
         return None;
     };
@@ -358,6 +654,7 @@ fn counts_are_those_made_anew(rt: HostRuntime) {
         &TABLE[..],
         &ROOTS[..],
         &REFUSED[..],
+        &DECLARED[..],
     ] {
         assert_eq!(rt;
             counts_stay(rt.alloc(), 512, rows),
@@ -370,13 +667,13 @@ fn counts_are_those_made_anew(rt: HostRuntime) {
     );
 }
 
-/// Root and handler of the opening, and what call 1 takes from memory.
+/// Root and handler of the opening, and what call 9 takes from memory where no region lives.
 fn begun(alloc: Global) -> Option<(u32, u64, Option<u64>)> {
     match open(alloc, 512) {
         Some(it) => Some((
             it.kernel.root(),
             it.kernel.trap(),
-            it.kernel.wants(&words(&(1, 0x1000, 2, 3))),
+            it.kernel.wants(&words(&(9, 256, 0, 1))),
         )),
         None => None,
     }

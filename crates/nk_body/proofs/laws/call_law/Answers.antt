@@ -36,9 +36,17 @@ returns c =
         removed = c.accepted_law.ensures.removed;
         loaded = c.accepted_law.ensures.loaded;
       };
+      guard = record {
+        sound = c.guarded_law.ensures.sound;
+        tables = c.guarded_law.ensures.tables;
+        loose = c.guarded_law.ensures.loose;
+        described = c.guarded_law.ensures.described;
+      };
+      walks = record { same = c.record_walk_law.ensures; in_memory = c.walk_law.ensures.in_memory };
     }
     in
     record {
-      nested = λ kinds root m call sound a b. (call_met lower kinds root m sound call a b).nested;
-      sound = λ kinds root m call sound a b. (call_met lower kinds root m sound call a b).holds;
+      nested = λ kinds root ledger m call source is. (call_met lower kinds root ledger m call source is).nested;
+      sound = λ kinds root ledger m call source is. (call_met lower kinds root ledger m call source is).holds;
+      kept = λ kinds root ledger m call source is. (call_met lower kinds root ledger m call source is).keeps;
     }

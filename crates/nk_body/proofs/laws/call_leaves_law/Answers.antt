@@ -1,5 +1,6 @@
+use Rattle.nk_body.specs.CallRules.{stand_of}
 use Rattle.nk_body.specs.NestedRecord.{nested_in}
-use Rattle.nk_body.proofs.CallAnswers.{no_place, same_count, same_kinds, value_small}
+use Rattle.nk_body.proofs.CallAnswers.{next_most, place_small, same_count, same_kinds, value_small}
 use Rattle.nk_body.proofs.CallChanges.{call_left, entries_left}
 use Rattle.nk_body.proofs.LowerLaws.{LowerLaws}
 use Rattle.nk_body.proofs.laws.call_leaves_law.Goals as goal
@@ -38,18 +39,30 @@ returns c =
         removed = c.accepted_law.ensures.removed;
         loaded = c.accepted_law.ensures.loaded;
       };
+      guard = record {
+        sound = c.guarded_law.ensures.sound;
+        tables = c.guarded_law.ensures.tables;
+        loose = c.guarded_law.ensures.loose;
+        described = c.guarded_law.ensures.described;
+      };
+      walks = record { same = c.record_walk_law.ensures; in_memory = c.walk_law.ensures.in_memory };
     }
     in
     record {
-      count = λ kinds root m call. same_count (nested_in kinds root m) call;
-      settled = λ kinds root f m call sound. (call_left lower kinds root m sound call).settled f;
-      reserved = λ kinds root f m call sound. (call_left lower kinds root m sound call).reserved f;
-      loose = λ kinds root f m call sound. (call_left lower kinds root m sound call).loose f;
-      bytes = λ kinds root place m call sound. (call_left lower kinds root m sound call).bytes place;
-      entries = λ kinds root f i m call sound. entries_left kinds _ m _ f i (call_left lower kinds root m sound call);
-      length = λ kinds root m call sound. (call_left lower kinds root m sound call).size;
-      are_bytes = λ kinds root m call sound. (call_left lower kinds root m sound call).are_bytes;
-      same = λ kinds root m call. same_kinds (nested_in kinds root m) call;
-      value = λ kinds root m call. value_small (nested_in kinds root m) call;
-      place = λ kinds root m call. no_place (nested_in kinds root m) call;
+      count = λ kinds root ledger m call source.
+          same_count (nested_in kinds root ledger m) call source (stand_of (nested_in kinds root ledger m) call m);
+      settled = λ kinds root f ledger m call source is. (call_left lower kinds root ledger m call source is).settled f;
+      reserved = λ kinds root f ledger m call source is. (call_left lower kinds root ledger m call source is).reserved f;
+      loose = λ kinds root f ledger m call source is. (call_left lower kinds root ledger m call source is).loose f;
+      bytes = λ kinds root place ledger m call source is. (call_left lower kinds root ledger m call source is).bytes place;
+      entries = λ kinds root f i ledger m call source is.
+          entries_left kinds _ m _ f i source (call_left lower kinds root ledger m call source is);
+      length = λ kinds root ledger m call source is. (call_left lower kinds root ledger m call source is).size;
+      are_bytes = λ kinds root ledger m call source is. (call_left lower kinds root ledger m call source is).are_bytes;
+      same = λ kinds root ledger m call source.
+          same_kinds (nested_in kinds root ledger m) call source (stand_of (nested_in kinds root ledger m) call m);
+      next = λ kinds root ledger m call source.
+          next_most (nested_in kinds root ledger m) call source (stand_of (nested_in kinds root ledger m) call m);
+      value = λ kinds root ledger m call source. value_small (nested_in kinds root ledger m) call source;
+      place = λ kinds root ledger m call source. place_small (nested_in kinds root ledger m) call source;
     }

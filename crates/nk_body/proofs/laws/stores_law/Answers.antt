@@ -1,45 +1,24 @@
-use Rattle.nk_body.proofs.LowerLaws.{LowerLaws}
-use Rattle.nk_body.proofs.StoresKept.{books_stay, nested_stays, sound_stays}
+use Rattle.nk_body.proofs.StoresKept.{StoringLaws, books_stay, nested_stays}
 use Rattle.nk_body.proofs.laws.stores_law.Goals as goal
 
-pub returns : goal.returns
-returns c =
-    let lower : LowerLaws =
+pub returns-clause-nested : goal.returns-clause-nested
+returns-clause-nested c kinds root ledger m ws fixed are =
+    let laws : StoringLaws =
     record {
-      byte = record {
-        size = c.memory_law.ensures.length;
-        byte_elsewhere = c.memory_law.ensures.byte_elsewhere;
-        number_elsewhere = c.memory_law.ensures.number_elsewhere;
-        number_stored = c.memory_law.ensures.number_stored;
-        bytes = c.memory_law.ensures.bytes;
-        places = c.memory_law.ensures.places;
-        values = c.memory_law.ensures.values;
-        byte_zeroed = c.frame_law.ensures.byte_zeroed;
-        byte_zeroed_elsewhere = c.frame_law.ensures.byte_zeroed_elsewhere;
-        size_zeroed = c.frame_law.ensures.length_zeroed;
-      };
-      store = record {
-        loose = c.page_tables_law.ensures.loose;
-        stays = c.page_tables_law.ensures.stays;
-        sound = c.page_tables_law.ensures.sound;
-        described = c.page_tables_law.ensures.described;
-      };
-      table = record {
-        declared = c.table_calls_law.ensures.declared;
-        written = c.table_calls_law.ensures.written;
-        removed = c.table_calls_law.ensures.removed;
-        loaded = c.table_calls_law.ensures.loaded;
-      };
-      accepted = record {
-        declared = c.accepted_law.ensures.declared;
-        written = c.accepted_law.ensures.written;
-        removed = c.accepted_law.ensures.removed;
-        loaded = c.accepted_law.ensures.loaded;
-      };
-    }
-    in
+      byte_elsewhere = c.memory_law.ensures.byte_elsewhere;
+      number_elsewhere = c.memory_law.ensures.number_elsewhere;
+      stays = c.page_tables_law.ensures.stays;
+      described = c.page_tables_law.ensures.described;
+    } in
+    nested_stays laws kinds ws are root ledger m fixed
+
+pub returns-clause-books : goal.returns-clause-books
+returns-clause-books c books m ws =
+    let laws : StoringLaws =
     record {
-      nested = λ kinds root m ws fixed are. nested_stays lower kinds ws are root m fixed;
-      sound = λ kinds root m ws sound are. sound_stays lower kinds ws are root m sound;
-      books = λ books m ws. books_stay lower books m ws;
-    }
+      byte_elsewhere = c.memory_law.ensures.byte_elsewhere;
+      number_elsewhere = c.memory_law.ensures.number_elsewhere;
+      stays = c.page_tables_law.ensures.stays;
+      described = c.page_tables_law.ensures.described;
+    } in
+    books_stay laws books m ws

@@ -1,16 +1,27 @@
-use Rattle.std.proofs.Common.{sym, ap, subst, ◌∙◌}
+use Rattle.std.proofs.Common.{◌≡◌, ℕ, refl, sym, ap, subst, ◌∙◌}
 use Rattle.table_rules.specs.ValueRules.{rule_of}
-use Rattle.nk_body.specs.CallMade.{IsMade}
-use Rattle.nk_body.specs.NestedRecord.{Books}
+use Rattle.nk_body.specs.NestedRecord.{AreBooks, Books}
+use Rattle.nk_body.proofs.GuardedStays.{removed_stays}
 use Rattle.nk_body.proofs.CallNumbers.{made_is, number_4, verdict_is, written_4}
-use Rattle.nk_body.proofs.CallsMade.{books_of, on_ok, tables_made}
+use Rattle.nk_body.proofs.CallsMade.{are_before, books_of, made_as, on_ok, tables_made}
+use Rattle.nk_body.proofs.kernel.Kernel.remove_table.Goals.{in-Err, in-Ok}
 use Rattle.nk_body.proofs.kernel.Kernel.remove_table.Goals as goal
 
-pub returns : goal.returns
-returns c =
-    subst (λ (books : Books). IsMade books c.args.mem.now c.args.call.now (rule_of c.remove_table.result) (books_of c.remove_table.new.self c.self.inside.trap) c.remove_table.new.mem) c.self.view_is
-    (tables_made c.self.inside.tables c.remove_table.new.self c.self.inside.trap c.args.mem.now c.remove_table.new.mem c.args.call.now _ _ c.remove_table.result
-    (made_is _ _ ∙ number_4 c.args.call.now.number _ _ _ _ _ _ c.requires.number) (written_4 _ _ c.requires.number)
-    (ap (λ (books : Books). books.trap) c.self.view_is ∙ c.requires.books.trap)
-    (c.remove_table.ensures.judged ∙ sym (verdict_is _ _ ∙ number_4 c.args.call.now.number _ _ _ _ _ _ c.requires.number))
-    c.remove_table.ensures.refused c.remove_table.ensures.kinds (on_ok c.remove_table.result c.remove_table.ensures.root) c.remove_table.ensures.memory c.remove_table.ensures.books)
+pub returns-clause-made : goal.returns-clause-made
+returns-clause-made c source =
+    let same : rule_of c.match-remove_table.result ≡ rule_of c.remove_table.result =
+    elim c.match-remove_table.branch [
+      | in-Ok w ↦ ap rule_of w.result-is ∙ sym (ap rule_of w.in-Ok.is)
+      | in-Err w ↦ ap rule_of w.result-is ∙ sym (ap rule_of w.in-Err.is)
+    ] in
+    let before : Books = books_of c.self.inside.tables c.self.inside.trap c.self.inside.regions c.self.inside.log in
+    let are : AreBooks before c.args.mem.now = are_before before c.args.self.now c.args.mem.now c.self.view_is c.requires.books in
+    made_as before c.args.self.now (rule_of c.remove_table.result) (rule_of c.match-remove_table.result) c.self.view_is same
+    (tables_made c.self.inside.tables c.remove_table.new.self c.self.inside.trap c.self.inside.regions c.self.inside.log
+    c.args.mem.now c.remove_table.new.mem c.args.call.now source _ _ c.remove_table.result
+    (made_is _ _ _ _ ∙ number_4 c.args.call.now.number _ _ _ _ _ _ _ _ _ _ c.requires.number) (written_4 _ _ _ _ c.requires.number) are
+    (c.remove_table.ensures.judged ∙ sym (verdict_is _ _ _ ∙ number_4 c.args.call.now.number _ _ _ _ _ _ _ _ _ _ c.requires.number))
+    c.remove_table.ensures.refused c.remove_table.ensures.kinds (on_ok c.remove_table.result c.remove_table.ensures.root)
+    c.remove_table.ensures.memory c.remove_table.ensures.books
+    (λ none. removed_stays c.accepted_law.ensures.removed _ c.args.call.now.a
+    (sym (verdict_is _ _ source ∙ number_4 c.args.call.now.number _ _ _ _ _ _ _ _ _ _ c.requires.number) ∙ none)))

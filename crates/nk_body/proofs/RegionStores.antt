@@ -1,0 +1,44 @@
+-- The stores of calls on regions lie in guarded frames.
+use Rattle.std.proofs.Common.{◌≡◌, ℕ, ◌+◌, ◌*◌, ◌/◌, ◌<◌, ◌≤◌, List, length, arith, refl, sym, ap, ◌∙◌, subst}
+use Rattle.std.specs.Prelude.{All, Option, Some, None, replicate}
+use Rattle.std.proofs.lemmas.List.{length-replicate}
+use Rattle.std.proofs.lemmas.List.Elements.{All-nil}
+use Rattle.nk_bits.specs.declared.call.CallWords.{CallWords}
+use Rattle.nk_bits.specs.declared.kind.Kind.{Kind}
+use Rattle.nk_bits.specs.declared.kind.Kind.TheVariants.{Guarded}
+use Rattle.nk_bits.specs.Kinds.{kind_of}
+use Rattle.policy_book.specs.PolicyRules.{stores_by, stores_written}
+use Rattle.region_book.specs.RegionCalls.{room}
+use Rattle.region_book.specs.RegionRecords.{IsRegion, Region, region_of, region_stores}
+use Rattle.nk_body.specs.CallRules.{new_region}
+use Rattle.nk_body.specs.NestedRecord.{IsKept, Ledger}
+use Rattle.nk_body.proofs.KeptLedgers.{AreGuarded, pool_guarded, pool_held}
+use Rattle.nk_body.proofs.RegionFrames.{InGuarded, found_holds, stores_bytes, stores_held}
+use Rattle.nk_body.proofs.RegionRules.{IsAllocable}
+
+module _ (kinds : List Kind) (ledger : Ledger) (kept : IsKept kinds ledger) where
+  -- the zeros of a new region
+  pub zeros_guarded : (call : CallWords) (p : ℕ) → IsAllocable ledger.book call.a call.b → room ledger.book.regions call.a ≡ Some p
+      → InGuarded kinds (region_stores (new_region ledger.book call p) 0 (replicate call.a 0))
+  zeros_guarded call p is found =
+      stores_held (λ f. kind_of kinds f ≡ Guarded) (new_region ledger.book call p) 0 (replicate call.a 0)
+      (pool_guarded kinds ledger kept call.a call.b p is found) (pool_held kinds ledger kept call.a call.b p is found)
+      (omega (arith, length-replicate {A = ℕ} call.a 0))
+
+  -- what is written in a live region
+  pub written_guarded : (id offset : ℕ) (bytes : List ℕ) (r : Region) → region_of ledger.book id ≡ Some r → offset + length bytes ≤ r.size
+      → InGuarded kinds (stores_written ledger.book id offset bytes)
+  written_guarded id offset bytes r found range =
+      subst (λ (o : Option Region). InGuarded kinds (stores_by o offset bytes)) (sym found)
+      (stores_held (λ f. kind_of kinds f ≡ Guarded) r offset bytes
+      (found_holds (AreGuarded kinds) ledger.book id r found kept.frames)
+      (found_holds (IsRegion ledger.book.next) ledger.book id r found kept.book.each).held range)
+
+-- its bytes are those that are given
+pub written_bytes : (P : ℕ → Type 0) (ledger : Ledger) (id offset : ℕ) (bytes : List ℕ) → All P bytes
+    → All (λ w. P w.1) (stores_written ledger.book id offset bytes)
+written_bytes P ledger id offset bytes all = by_region (region_of ledger.book id)
+  where
+    by_region : (o : Option Region) → All (λ w. P w.1) (stores_by o offset bytes)
+    by_region None = All-nil (λ (w : ℕ × ℕ). P w.1)
+    by_region (Some r) = stores_bytes P r offset bytes all

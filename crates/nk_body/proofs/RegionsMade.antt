@@ -1,0 +1,165 @@
+-- What each call on regions leaves, from what the part that makes it says.
+use Rattle.std.proofs.Common.{◌≡◌, ℕ, ◌+◌, ◌-◌, ◌*◌, ◌/◌, ◌<◌, ◌≤◌, List, length, true, false, arith, refl, sym, ap, subst, ◌∙◌}
+use Rattle.std.specs.Prelude.{Bool, not, ◌&&◌, ◌==◌, if◌then◌else◌, slice_index, All, IfOk, IfSome, OnErr, OnOk, Result, Ok, Err, Option, None, Some, replicate}
+use Rattle.std.proofs.lemmas.Bool.{false≢true}
+use Rattle.std.proofs.lemmas.List.Elements.{All-weaker}
+use Rattle.phys_mem.specs.Memory.{entry_in, stored}
+use Rattle.nk_bits.specs.declared.call.CallWords.{CallWords}
+use Rattle.nk_bits.specs.declared.kind.Kind.TheVariants.{Guarded}
+use Rattle.nk_bits.specs.declared.rule.Rule.{Rule}
+use Rattle.nk_bits.specs.declared.rule.Rule.TheVariants.{BadSource, OutOfBounds}
+use Rattle.nk_bits.specs.Kinds.{kind_of}
+use Rattle.page_desc.specs.FrameDescriptors.{Descriptors}
+use Rattle.page_desc.specs.PageTables.{AreDescribed, is_unguarded, loose_of}
+use Rattle.policy_book.specs.PolicyRules.{book_written, bounds_of, first_rule, log_written, policy_of, stores_written, write_rule}
+use Rattle.region_book.specs.declared.regions.Granted.{Granted}
+use Rattle.region_book.specs.RegionCalls.{added, alloc_rule, declare_rule, else_rule, fits_in, fits_region, free_rule, freed, frames_from, guarded, mapped, page_region, pool_region, room}
+use Rattle.region_book.specs.RegionRecords.{Book, Region, pool_start, region_of, region_stores}
+use Rattle.table_rules.specs.ValueRules.{rule_of}
+use Rattle.vmmu.specs.declared.tables.Tables4.{Tables4}
+use Rattle.write_log.specs.LogRecords.{LogRecord}
+use Rattle.nk_body.specs.CallMade.{IsMade}
+use Rattle.nk_body.specs.CallRules.{IsSourceOf, NotTaken, Sourced, Unreadable, bytes_read, source_rule, stand_of, verdict, wants, with_pages, with_pool, with_write, zeros_of}
+use Rattle.nk_body.specs.CallRules.{Bytes as BytesRead}
+use Rattle.nk_body.specs.NestedRecord.{AreBooks, Books, IsKept, Nested, nested_by}
+use Rattle.nk_body.proofs.CallNumbers.{made_is, number_7, number_8, number_9, verdict_is, written_7, written_8, written_9}
+use Rattle.nk_body.proofs.CallsMade.{accepted_made, books_of, refused_made}
+use Rattle.nk_body.proofs.KeptLedgers.{AreGuarded, kept_free, kept_pool, kept_written}
+use Rattle.nk_body.proofs.RegionFrames.{if_found, in_memory, unguarded}
+use Rattle.nk_body.proofs.RegionRules.{alloc_facts, bounds_facts, free_facts, writing_facts}
+use Rattle.nk_body.proofs.RegionStores.{written_guarded, zeros_guarded}
+
+-- the frames of a live region lie in memory
+pub frames_within : (books : Books) (m : List ℕ) (id : ℕ) → AreBooks books m
+    → IfSome (region_of books.ledger.book id) (λ r. All (λ f. 4096 * f + 4096 ≤ length m) r.frames)
+frames_within books m id are =
+    if_found (AreGuarded books.frames.kinds) (λ r. All (λ f. 4096 * f + 4096 ≤ length m) r.frames)
+    (λ r all. All-weaker (λ f. kind_of books.frames.kinds f ≡ Guarded) (λ f. 4096 * f + 4096 ≤ length m)
+    (λ f is. omega (arith, in_memory books.frames.kinds f Guarded refl is, are.described.sound.size)) r.frames all)
+    books.ledger.book id are.kept.frames
+
+-- descriptors after stores elsewhere
+abbrev pub DescribedLaw : Type 0
+DescribedLaw = (d : Descriptors) (root : ℕ) (m : List ℕ) (ws : List (ℕ × ℕ)) → AreDescribed d root m
+    → All (λ w. is_unguarded d.kinds w.0 ≡ true) ws → AreDescribed d root (stored m ws)
+
+module _ (t : Tables4) (trap : ℕ) (book after : Book) (log later_log : List LogRecord) (m later : List ℕ) (call : CallWords) (source : Sourced)
+    (are : AreBooks (books_of t trap book log) m) where
+  abbrev before : Books
+  before = books_of t trap book log
+
+  abbrev nk : Nested
+  nk = nested_by before m
+
+  refused : (rule : Rule) → Some rule ≡ verdict nk call source → after ≡ book → later_log ≡ log → later ≡ m
+      → IsMade before m call source (Some rule) (books_of t trap after later_log) later
+  refused rule judged books logs memory =
+      subst (λ (it : Book × List LogRecord × List ℕ). IsMade before m call source (Some rule) (books_of t trap it.0 it.1) it.2)
+      (λ i. (sym books i, sym logs i, sym memory i)) (refused_made before m call source rule are judged)
+
+  -- a region of the pool is allocated
+  pub pool_made : call.number ≡ 7 → DescribedLaw → later_log ≡ log → (r : Result Granted Rule) → rule_of r ≡ alloc_rule book call.a call.b
+      → OnErr r ((after ≡ book) × (later ≡ m))
+      → IfOk r (λ it. (it.id ≡ book.next) × (pool_start ≤ it.place) × (it.place < pool_start + 65536)
+      × (room book.regions call.a ≡ Some (it.place - pool_start)))
+      → IfOk r (λ it. after ≡ added book (pool_region book call.a call.b (it.place - pool_start)) 0)
+      → IfOk r (λ it. later ≡ stored m (region_stores (pool_region book call.a call.b (it.place - pool_start)) 0 (replicate call.a 0)))
+      → IsMade before m call source (rule_of r) (books_of t trap after later_log) later
+  pool_made number described logs (Err rule) judged err found allocated memory =
+      refused rule (judged ∙ sym (verdict_is nk call source ∙ number_7 call.number _ _ _ _ _ _ _ _ _ _ number)) err.0 logs err.1
+  pool_made number described logs (Ok it) judged err found allocated memory =
+      let p : ℕ = it.place - pool_start in
+      let is = alloc_facts book call.a call.b (sym judged) in
+      let ws : List (ℕ × ℕ) = region_stores (pool_region book call.a call.b p) 0 (replicate call.a 0) in
+      let kept : IsKept t.frames.kinds (record { book = book; log = log }) = are.kept in
+      accepted_made before m call source (books_of t trap after later_log) later (with_pool nk call (Some p)) (stored m ws)
+      (verdict_is nk call source ∙ number_7 call.number _ _ _ _ _ _ _ _ _ _ number ∙ sym judged)
+      (made_is nk call source _ ∙ number_7 call.number _ _ _ _ _ _ _ _ _ _ number ∙ ap (with_pool nk call) found.3)
+      (written_7 nk call source m number ∙ ap (λ (o : Option ℕ). stored m (zeros_of nk call o)) found.3)
+      refl refl are.trap (λ i. record { book = allocated i; log = logs i }) memory
+      (subst (AreDescribed t.frames t.root) (sym memory)
+      (described t.frames t.root m ws are.described (unguarded t.frames.kinds ws (zeros_guarded t.frames.kinds _ kept call p is found.3))))
+      (subst (IsKept t.frames.kinds) (λ i. record { book = sym allocated i; log = sym logs i })
+      (kept_pool t.frames.kinds _ kept call.a call.b p is found.3))
+
+  -- a region of the pool is let go
+  pub free_made : call.number ≡ 8 → later_log ≡ log → later ≡ m → {A : Type 0} (r : Result A Rule) → rule_of r ≡ free_rule book call.a
+      → OnErr r (after ≡ book) → OnOk r (after ≡ freed book call.a)
+      → IsMade before m call source (rule_of r) (books_of t trap after later_log) later
+  free_made number logs memory (Err rule) judged err out =
+      refused rule (judged ∙ sym (verdict_is nk call source ∙ number_8 call.number _ _ _ _ _ _ _ _ _ _ number)) err logs memory
+  free_made number logs memory (Ok it) judged err out =
+      let live = free_facts (region_of book call.a) (sym judged) in
+      accepted_made before m call source (books_of t trap after later_log) later _ m
+      (verdict_is nk call source ∙ number_8 call.number _ _ _ _ _ _ _ _ _ _ number ∙ sym judged)
+      (made_is nk call source _ ∙ number_8 call.number _ _ _ _ _ _ _ _ _ _ number) (written_8 nk call source m number)
+      refl refl are.trap (λ i. record { book = out i; log = logs i }) memory
+      (subst (AreDescribed t.frames t.root) (sym memory) are.described)
+      (subst (IsKept t.frames.kinds) (λ i. record { book = sym out i; log = sym logs i })
+      (kept_free t.frames.kinds _ are.kept call.a live.0 live.1 live.2))
+
+-- bytes are written in a region
+module _ (t : Tables4) (trap : ℕ) (book after : Book) (log later_log : List LogRecord) (m later : List ℕ) (call : CallWords) (bytes : List ℕ)
+    (are : AreBooks (books_of t trap book log) m) (number : call.number ≡ 9) (count : length bytes ≡ call.d) where
+  abbrev writing : Nested
+  writing = nested_by (books_of t trap book log) m
+
+  verdict_write : verdict writing call (BytesRead bytes) ≡ write_rule book log call.a call.b (length bytes)
+  verdict_write =
+      verdict_is writing call (BytesRead bytes) ∙ number_9 call.number _ _ _ _ _ _ _ _ _ _ number
+      ∙ ap (λ n. write_rule book log call.a call.b n) (sym count)
+
+  pub write_made : DescribedLaw → {A : Type 0} (r : Result A Rule) → rule_of r ≡ write_rule book log call.a call.b (length bytes)
+      → OnErr r ((after ≡ book) × (later_log ≡ log) × (later ≡ m)) → OnOk r (after ≡ book_written book call.a call.b (length bytes))
+      → OnOk r (later_log ≡ log_written book log call.a call.b bytes)
+      → OnOk r (later ≡ stored m (stores_written book call.a call.b bytes))
+      → IsMade (books_of t trap book log) m call (BytesRead bytes) (rule_of r) (books_of t trap after later_log) later
+  write_made described (Err rule) judged err book_is log_is memory =
+      refused t trap book after log later_log m later call (BytesRead bytes) are rule (judged ∙ sym verdict_write) err.0 err.1 err.2
+  write_made described (Ok it) judged err book_is log_is memory =
+      let facts = writing_facts (bounds_of (region_of book call.a) call.b (length bytes)) None
+      (policy_of log (region_of book call.a) call.b (length bytes)) (sym judged) in
+      let live = bounds_facts (region_of book call.a) call.b (length bytes) facts.0 in
+      let ws : List (ℕ × ℕ) = stores_written book call.a call.b bytes in
+      accepted_made (books_of t trap book log) m call (BytesRead bytes) (books_of t trap after later_log) later
+      (with_write writing call bytes) (stored m ws) (verdict_write ∙ sym judged)
+      (made_is writing call (BytesRead bytes) _ ∙ number_9 call.number _ _ _ _ _ _ _ _ _ _ number) (written_9 writing call (BytesRead bytes) m number)
+      refl refl are.trap (λ i. record { book = book_is i; log = log_is i }) memory
+      (subst (AreDescribed t.frames t.root) (sym memory)
+      (described t.frames t.root m ws are.described
+      (unguarded t.frames.kinds ws (written_guarded t.frames.kinds _ are.kept call.a call.b bytes live.0 live.1 live.3))))
+      (subst (IsKept t.frames.kinds) (λ i. record { book = sym book_is i; log = sym log_is i })
+      (kept_written t.frames.kinds _ are.kept call.a call.b bytes live.0 live.1 live.3
+      (sym (ap (λ o. policy_of log o call.b (length bytes)) live.1) ∙ facts.2)))
+
+-- a write for which no bytes were read
+module _ (books : Books) (m : List ℕ) (call : CallWords) (source : Sourced) (are : AreBooks books m) (number : call.number ≡ 9) where
+  abbrev bounds : Option Rule
+  bounds = bounds_of (region_of books.ledger.book call.a) call.b call.d
+
+  verdict_by : (o : Option Rule) → bounds ≡ o → verdict (nested_by books m) call source
+      ≡ first_rule o (first_rule (source_rule source) (policy_of books.ledger.log (region_of books.ledger.book call.a) call.b call.d))
+  verdict_by o is =
+      verdict_is (nested_by books m) call source ∙ number_9 call.number _ _ _ _ _ _ _ _ _ _ number
+      ∙ ap (λ b. first_rule b (first_rule (source_rule source) (policy_of books.ledger.log (region_of books.ledger.book call.a) call.b call.d))) is
+
+  pub bounds_refused : (rule : Rule) → Some rule ≡ bounds → IsMade books m call source (Some rule) books m
+  bounds_refused rule is = refused_made books m call source rule are (sym (verdict_by (Some rule) (sym is)))
+
+  fits_bounds : (o : Option Region) → fits_region o call.b call.d ≡ true → bounds_of o call.b call.d ≡ None
+  fits_bounds None fits = absurd (false≢true fits)
+  fits_bounds (Some r) fits = ap (λ b. else_rule (not b) OutOfBounds None) fits
+
+  pub source_refused : source ≡ Unreadable → IsSourceOf (wants books.ledger.book call) source
+      → IsMade books m call source (Some BadSource) books m
+  source_refused is sourced = by_fits (fits_in books.ledger.book call.a call.b call.d) refl
+    where
+      by_fits : (b : Bool) → fits_in books.ledger.book call.a call.b call.d ≡ b → IsMade books m call source (Some BadSource) books m
+      by_fits true fits =
+          refused_made books m call source BadSource are
+          (sym (verdict_by None (fits_bounds (region_of books.ledger.book call.a) fits)
+          ∙ ap (λ x. first_rule (source_rule x) (policy_of books.ledger.log (region_of books.ledger.book call.a) call.b call.d)) is))
+      by_fits false out =
+          let none : wants books.ledger.book call ≡ None = λ i. if number i == 9 && out i then Some call.d else None in
+          let clash : source ≡ NotTaken = subst (λ (o : Option ℕ). IsSourceOf o source) none sourced in
+          let no : Unreadable ≡ NotTaken = sym is ∙ clash in cc

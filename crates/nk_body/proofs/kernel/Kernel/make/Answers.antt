@@ -1,0 +1,26 @@
+use Rattle.nk_body.specs.SourceWords.{sourced_of}
+use Rattle.nk_body.proofs.kernel.Kernel.make.Goals as goal
+
+pub returns-in-1-clause-made : goal.returns-in-1-clause-made
+returns-in-1-clause-made c = c.set_trap.ensures.made (sourced_of c.args.source)
+
+pub returns-in-2-clause-made : goal.returns-in-2-clause-made
+returns-in-2-clause-made c = c.declare_table.ensures.made (sourced_of c.args.source)
+
+pub returns-in-3-clause-made : goal.returns-in-3-clause-made
+returns-in-3-clause-made c = c.write_entry.ensures.made (sourced_of c.args.source)
+
+pub returns-in-4-clause-made : goal.returns-in-4-clause-made
+returns-in-4-clause-made c = c.remove_table.ensures.made (sourced_of c.args.source)
+
+pub returns-in-5-clause-made : goal.returns-in-5-clause-made
+returns-in-5-clause-made c = c.load_root.ensures.made (sourced_of c.args.source)
+
+pub returns-in-6-clause-made : goal.returns-in-6-clause-made
+returns-in-6-clause-made c = c.declare_pages.ensures.made (sourced_of c.args.source)
+
+pub returns-in-7-clause-made : goal.returns-in-7-clause-made
+returns-in-7-clause-made c = c.allocate.ensures.made (sourced_of c.args.source)
+
+pub returns-in-8-clause-made : goal.returns-in-8-clause-made
+returns-in-8-clause-made c = c.free.ensures.made (sourced_of c.args.source)
