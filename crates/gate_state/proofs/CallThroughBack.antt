@@ -1,6 +1,6 @@
 -- The seven turns of a call behind the body: each leads from its stage to the next.
-use Rattle.std.proofs.Common.{◌≡◌, ℕ, ◌-◌, ◌%◌, ◌^◌, true, false, List, refl, ap, ◌∙◌, arith}
-use Rattle.std.specs.Prelude.{◌==◌, bit_and, bit_or}
+use Rattle.std.proofs.Common.{◌≡◌, ℕ, ◌-◌, ◌%◌, ◌^◌, true, false, List, refl, sym, ap, subst, ◌∙◌, arith}
+use Rattle.std.specs.Prelude.{◌==◌, IfSome, bit_and, bit_or, slice_index}
 use Rattle.decode_fields.specs.declared.place.Place.TheVariants.{Reg}
 use Rattle.nk_bits.specs.declared.kind.Kind.{Kind}
 use Rattle.nk_bits.specs.Accesses.{wp_of}
@@ -9,20 +9,20 @@ use Rattle.x86_alu.specs.Flags.{with_flag}
 use Rattle.x86_alu.specs.SignedNumbers.{bit, cut}
 use Rattle.x86_regs.specs.Combinations.{condition_stands}
 use Rattle.x86_regs.specs.OperandOutcomes.{is_cr0}
-use Rattle.x86_regs.specs.Operands.{next_of, with_register}
+use Rattle.x86_regs.specs.Operands.{next_of, rdx, with_register}
 use Rattle.x86_regs.specs.Registers.{held, written}
 use Rattle.cpu_step.specs.Processor.{Processor}
 use Rattle.cpu_step.specs.Turns.{kept_in_cr0}
 use Rattle.gate_state.specs.GuardedStates.{AreKinds, IsAdmitted}
 use Rattle.gate_state.specs.MachineStates.{MachineState, Opening}
-use Rattle.gate_state.specs.MachineSteps.{after_turn}
+use Rattle.gate_state.specs.MachineSteps.{after_turn, answer_in}
 use Rattle.gate_state.proofs.ControlWord.{IsRaised, raised_cr0}
 use Rattle.gate_state.proofs.LowerLaws.{LowerLaws}
 use Rattle.gate_state.proofs.TurnFacts.{TurnFacts}
 use Rattle.gate_state.proofs.CallThroughArrivals.{arrives, copied, next_rip}
 use Rattle.gate_state.proofs.CallThroughEffects.{copy_effect, jz_past}
 use Rattle.gate_state.proofs.CallThroughRows.{call_rows, copy}
-use Rattle.gate_state.proofs.CallThroughStages.{IsAt, Rereading, Raising, Setting, Testing, Jumping, Restoring, Answering, Returning}
+use Rattle.gate_state.proofs.CallThroughStages.{HasAnswer, IsAt, Rereading, Raising, Setting, Testing, Jumping, Restoring, Answering, Returning}
 use Rattle.gate_state.proofs.CallThroughTurn.{load_turn, quiet_turn}
 use Rattle.gate_state.proofs.CallThroughWords.{interrupt_stays, low_other, lowered_cr0, register_other, wp_tested, zero_is}
 use Rattle.gate_state.proofs.WindowEffects.{load_row, or_effect, read_effect, test_effect}
@@ -33,6 +33,15 @@ use Rattle.gate_state.proofs.WindowRows.{jz, mov_cr0_rax, mov_rax_cr0, or_eax, t
 zero_condition : (flags : ℕ) → bit flags 6 ≡ false → condition_stands 4 flags ≡ false
 unfolding condition_stands
 zero_condition flags clear = clear
+
+-- the answer in a register that holds what the one did, where RDX stays
+answer_stays : {s : MachineState} (from to : ℕ) (general later : List ℕ) → HasAnswer s from general
+    → slice_index later to ≡ slice_index general from → slice_index later rdx ≡ slice_index general rdx
+    → HasAnswer s to later
+answer_stays {s} from to general later has same second = record {
+  value = λ few. same ∙ has.value few;
+  place = subst (λ v. IfSome (answer_in s).place (λ place. v ≡ place)) (sym second) has.place;
+}
 
 module _ (laws : LowerLaws) (o : Opening) (admitted : IsAdmitted o)
     (facts : (ks : List Kind) → AreKinds o ks → TurnFacts o ks) (s t : MachineState) where
@@ -46,7 +55,9 @@ module _ (laws : LowerLaws) (o : Opening) (admitted : IsAdmitted o)
       general p.regs.flags (next_of p.regs 3)
       (λ tlb. read_effect 3 p.regs p.control t.memory tlb at.stands.supervisor))
       (next_rip p.regs 29 3 32 at.stands.rip refl) at.stands.uninterrupted refl (
-        register_other p.regs.general 0 p.control.cr0 9 (λ e. absurd (omega arith)) ∙ at.holds.0,
+        answer_stays 9 9 p.regs.general general at.holds.0
+            (register_other p.regs.general 0 p.control.cr0 9 (λ e. absurd (omega arith)))
+            (register_other p.regs.general 0 p.control.cr0 2 (λ e. absurd (omega arith))),
         register_other p.regs.general 0 p.control.cr0 10 (λ e. absurd (omega arith)) ∙ at.holds.1,
         register_same p.regs.general 0 p.control.cr0 at.guarded.control.registers.count (omega arith)
             ∙ (raised_cr0 p.control.cr0 at.guarded.control.cr0).whole,
@@ -68,7 +79,9 @@ module _ (laws : LowerLaws) (o : Opening) (admitted : IsAdmitted o)
       (λ tlb. or_effect 5 p.regs p.control t.memory tlb at.stands.supervisor))
       (next_rip p.regs 32 5 37 at.stands.rip refl)
       (interrupt_stays laws 32 result p.regs.flags ∙ at.stands.uninterrupted) refl (
-        low_other p.regs.general result 9 (λ e. absurd (omega arith)) ∙ at.holds.0,
+        answer_stays 9 9 p.regs.general general at.holds.0
+            (low_other p.regs.general result 9 (λ e. absurd (omega arith)))
+            (low_other p.regs.general result 2 (λ e. absurd (omega arith))),
         low_other p.regs.general result 10 (λ e. absurd (omega arith)) ∙ at.holds.1,
         low_same p.regs.general result at.guarded.control.registers.count ∙ raised,
       )
@@ -129,7 +142,9 @@ module _ (laws : LowerLaws) (o : Opening) (admitted : IsAdmitted o)
       general p.regs.flags (next_of p.regs 3)
       (λ tlb. copy_effect 3 p.regs p.control t.memory tlb at.stands.supervisor 4 10))
       (next_rip p.regs 47 3 50 at.stands.rip refl) at.stands.uninterrupted refl (
-        register_other p.regs.general 4 value 9 (λ e. absurd (omega arith)) ∙ at.holds.0,
+        answer_stays 9 9 p.regs.general general at.holds.0
+            (register_other p.regs.general 4 value 9 (λ e. absurd (omega arith)))
+            (register_other p.regs.general 4 value 2 (λ e. absurd (omega arith))),
         copied p.regs 4 10 at.guarded.control.registers (omega arith) ∙ at.holds.1,
         at.holds.2,
       )
@@ -145,7 +160,9 @@ module _ (laws : LowerLaws) (o : Opening) (admitted : IsAdmitted o)
       general p.regs.flags (next_of p.regs 3)
       (λ tlb. copy_effect 3 p.regs p.control t.memory tlb at.stands.supervisor 0 9))
       (next_rip p.regs 50 3 53 at.stands.rip refl) at.stands.uninterrupted refl (
-        copied p.regs 0 9 at.guarded.control.registers (omega arith) ∙ at.holds.0,
+        answer_stays 9 0 p.regs.general general at.holds.0
+            (copied p.regs 0 9 at.guarded.control.registers (omega arith))
+            (register_other p.regs.general 0 value 2 (λ e. absurd (omega arith))),
         register_other p.regs.general 0 value 4 (λ e. absurd (omega arith)) ∙ at.holds.1,
         at.holds.2,
       )

@@ -1,7 +1,8 @@
 -- The stages of a call that is made through the gates: where the supervisor stands after so many turns, and what holds
--- of its registers there. An event of the plan leaves a state at its stage.
-use Rattle.std.proofs.Common.{◌≡◌, ◌≢◌, ℕ, ◌+◌, true, false}
-use Rattle.std.specs.Prelude.{◌==◌, slice_index}
+-- of its registers there. Those up to the body speak of the state in which the call began, and those behind it of the one
+-- in which the body ran. An event of the plan leaves a state at its stage.
+use Rattle.std.proofs.Common.{◌≡◌, ◌≢◌, ℕ, ◌+◌, ◌^◌, ◌<◌, Bool, true, false, List}
+use Rattle.std.specs.Prelude.{◌==◌, IfSome, slice_index}
 use Rattle.nk_bits.specs.Accesses.{wp_of}
 use Rattle.nk_bits.specs.Translations.{Translations}
 use Rattle.irq_plan.specs.declared.event.What.{What}
@@ -10,12 +11,11 @@ use Rattle.irq_plan.specs.PlannedEvents.{IsPlannable}
 use Rattle.x86_alu.specs.Flags.{with_flag, zero_flag}
 use Rattle.x86_alu.specs.SignedNumbers.{bit}
 use Rattle.x86_regs.specs.declared.registers.Regs.{Regs}
-use Rattle.x86_regs.specs.Operands.{rax, rsp}
-use Rattle.nk_body.specs.CallRules.{answer_to}
+use Rattle.x86_regs.specs.Operands.{rax, rdx, rsp}
 use Rattle.nk_body.specs.NestedRecord.{Nested}
 use Rattle.gate_state.specs.GuardedStates.{IsAdmitted, IsGuarded}
 use Rattle.gate_state.specs.MachineStates.{MachineState, Opening, nested_of}
-use Rattle.gate_state.specs.MachineSteps.{after_event, call_in}
+use Rattle.gate_state.specs.MachineSteps.{after_event, answer_in}
 use Rattle.gate_state.proofs.LowerLaws.{LowerLaws}
 use Rattle.gate_state.proofs.StatesKept.{event_guarded}
 use Rattle.gate_state.proofs.CallThroughTurn.{IsStanding}
@@ -58,7 +58,19 @@ offset_of Restoring = 47
 offset_of Answering = 50
 offset_of Returning = 53
 
--- the turns that were taken since the call began
+-- behind the body
+abbrev pub is_behind : Stage → Bool
+is_behind Rereading = true
+is_behind Raising = true
+is_behind Setting = true
+is_behind Testing = true
+is_behind Jumping = true
+is_behind Restoring = true
+is_behind Answering = true
+is_behind Returning = true
+is_behind _ = false
+
+-- the turns that were taken since the call began, and behind the body since that ran
 abbrev pub turns_of : Stage → ℕ
 turns_of Keeping = 0
 turns_of Reading = 1
@@ -67,14 +79,14 @@ turns_of Clearing = 3
 turns_of Closing = 4
 turns_of Stacking = 5
 turns_of Serving = 6
-turns_of Rereading = 7
-turns_of Raising = 8
-turns_of Setting = 9
-turns_of Testing = 10
-turns_of Jumping = 11
-turns_of Restoring = 12
-turns_of Answering = 13
-turns_of Returning = 14
+turns_of Rereading = 1
+turns_of Raising = 2
+turns_of Setting = 3
+turns_of Testing = 4
+turns_of Jumping = 5
+turns_of Restoring = 6
+turns_of Answering = 7
+turns_of Returning = 8
 
 -- before the body: the record is what it was, and so are all registers but RAX, RSP and R10
 pub record IsGoing (s : MachineState) (regs : Regs) (nk : Nested) : Type 0 where
@@ -82,17 +94,17 @@ pub record IsGoing (s : MachineState) (regs : Regs) (nk : Nested) : Type 0 where
   pub others : (k : ℕ) → k ≢ rax → k ≢ rsp → k ≢ 10
       → slice_index regs.general k ≡ slice_index s.processor.regs.general k
 
--- the answer to the call that the registers held as it began
-abbrev pub answer_of : MachineState → ℕ
-answer_of s = (answer_to (nested_of s) (call_in s.processor.regs)).value
-
--- a register holds what RSP was
+-- a register holds what RSP was as the call began, and behind the body what R10 was
 abbrev pub HasStack : MachineState → ℕ → Regs → Type 0
 HasStack s register regs = slice_index regs.general register ≡ slice_index s.processor.regs.general rsp
 
--- a register holds the answer
-abbrev pub HasAnswer : MachineState → ℕ → Regs → Type 0
-HasAnswer s register regs = slice_index regs.general register ≡ answer_of s
+abbrev pub KeepsStack : MachineState → ℕ → Regs → Type 0
+KeepsStack s register regs = slice_index regs.general register ≡ slice_index s.processor.regs.general 10
+
+-- a register holds the answer of the body that ran in this state, and RDX the place of a region, where one was allocated
+pub record HasAnswer (s : MachineState) (register : ℕ) (general : List ℕ) : Type 0 where
+  pub value : s.ledger.book.next < 2 ^ 63 → slice_index general register ≡ (answer_in s).value
+  pub place : IfSome (answer_in s).place (λ place. slice_index general rdx ≡ place)
 
 -- what holds of registers, CR0 and the record at a stage
 abbrev pub HoldsAt : Stage → MachineState → Regs → ℕ → Nested → Type 0
@@ -104,20 +116,20 @@ HoldsAt Clearing s regs cr0 nk =
 HoldsAt Closing s regs cr0 nk = IsGoing s regs nk × HasStack s 10 regs × (wp_of cr0 ≡ false)
 HoldsAt Stacking s regs cr0 nk = IsGoing s regs nk × HasStack s 10 regs × (wp_of cr0 ≡ false)
 HoldsAt Serving s regs cr0 nk = IsGoing s regs nk × HasStack s 10 regs × (wp_of cr0 ≡ false)
-HoldsAt Rereading s regs cr0 nk = HasAnswer s 9 regs × HasStack s 10 regs
-HoldsAt Raising s regs cr0 nk = HasAnswer s 9 regs × HasStack s 10 regs × (slice_index regs.general rax ≡ cr0)
+HoldsAt Rereading s regs cr0 nk = HasAnswer s 9 regs.general × KeepsStack s 10 regs
+HoldsAt Raising s regs cr0 nk = HasAnswer s 9 regs.general × KeepsStack s 10 regs × (slice_index regs.general rax ≡ cr0)
 HoldsAt Setting s regs cr0 nk =
-    HasAnswer s 9 regs × HasStack s 10 regs × (slice_index regs.general rax ≡ with_flag 16 true cr0)
+    HasAnswer s 9 regs.general × KeepsStack s 10 regs × (slice_index regs.general rax ≡ with_flag 16 true cr0)
 HoldsAt Testing s regs cr0 nk =
-    HasAnswer s 9 regs × HasStack s 10 regs × (wp_of cr0 ≡ true)
+    HasAnswer s 9 regs.general × KeepsStack s 10 regs × (wp_of cr0 ≡ true)
     × ((wp_tested (slice_index regs.general rax) == 0) ≡ false)
 HoldsAt Jumping s regs cr0 nk =
-    HasAnswer s 9 regs × HasStack s 10 regs × (wp_of cr0 ≡ true) × (bit regs.flags zero_flag ≡ false)
-HoldsAt Restoring s regs cr0 nk = HasAnswer s 9 regs × HasStack s 10 regs × (wp_of cr0 ≡ true)
-HoldsAt Answering s regs cr0 nk = HasAnswer s 9 regs × HasStack s rsp regs × (wp_of cr0 ≡ true)
-HoldsAt Returning s regs cr0 nk = HasAnswer s rax regs × HasStack s rsp regs × (wp_of cr0 ≡ true)
+    HasAnswer s 9 regs.general × KeepsStack s 10 regs × (wp_of cr0 ≡ true) × (bit regs.flags zero_flag ≡ false)
+HoldsAt Restoring s regs cr0 nk = HasAnswer s 9 regs.general × KeepsStack s 10 regs × (wp_of cr0 ≡ true)
+HoldsAt Answering s regs cr0 nk = HasAnswer s 9 regs.general × KeepsStack s rsp regs × (wp_of cr0 ≡ true)
+HoldsAt Returning s regs cr0 nk = HasAnswer s rax regs.general × KeepsStack s rsp regs × (wp_of cr0 ≡ true)
 
--- a state at a stage of the call that began in s
+-- a state at a stage of the call that began in s, or whose body ran there
 pub record IsAt (o : Opening) (stage : Stage) (s t : MachineState) : Type 0 where
   pub guarded : IsGuarded o t
   pub stands : IsStanding (offset_of stage) t.processor

@@ -1,5 +1,8 @@
 pub mod LowerLaws
 pub mod Scene
+pub mod TranslationsKept
+pub mod SourceReads
+pub mod SourceWants
 pub mod SceneProofsRespects
 pub mod SceneProofsWalks
 pub mod SceneProofsStores

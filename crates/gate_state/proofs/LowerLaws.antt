@@ -22,7 +22,7 @@ use Rattle.nk_bits.specs.declared.leaf.Leaf.{Leaf}
 use Rattle.nk_bits.specs.declared.leaf.Rights.{Rights}
 use Rattle.nk_bits.specs.AccessRights.{may}
 use Rattle.nk_bits.specs.Accesses.{IsWalked, Serves, View, accessed, crosses, next_page}
-use Rattle.nk_bits.specs.Kinds.{allows, is_storable, kind_of, level_of}
+use Rattle.nk_bits.specs.Kinds.{allows, is_guarded, is_storable, kind_of, level_of}
 use Rattle.nk_bits.specs.Paging.{frame_of, is_canonical_page, is_present, is_slot_page, is_user, is_writable, slot_value, walk}
 use Rattle.nk_bits.specs.Translations.{NamesFramesIn, Translations}
 use Rattle.phys_mem.specs.Memory.{IsBytes, byte_at, entry_in, stored, stores}
@@ -37,9 +37,11 @@ use Rattle.boot_map.specs.OpeningKinds.{kind_at, kinds}
 use Rattle.page_desc.specs.FrameCounts.{holds_leaves, loose_in}
 use Rattle.page_desc.specs.PageTables.{HoldsSoundTables}
 use Rattle.page_desc.specs.SoundTables.{AreTables}
-use Rattle.nk_body.specs.CallRules.{after_call, answer_to, memory_after_call}
+use Rattle.nk_body.specs.CallLeft.{IsCalled, left_in, memory_left}
+use Rattle.nk_body.specs.CallRules.{Sourced, answer_to, bytes_read}
 use Rattle.nk_body.specs.KindsKept.{is_reserved, is_settled}
-use Rattle.nk_body.specs.NestedRecord.{AreBooks, Books, Nested, nested_in}
+use Rattle.nk_body.specs.NestedRecord.{AreBooks, Books, IsKept, Ledger, Nested, nested_in}
+use Rattle.nk_body.specs.SourceWords.{opening_ledger}
 use Rattle.page_walk.specs.MemoryAccess.{view_of}
 use Rattle.x86_regs.specs.declared.registers.Regs.{Regs}
 use Rattle.x86_regs.specs.Effects.{effect_of}
@@ -104,6 +106,7 @@ pub record OpeningLaws : Type 0 where
   pub held : (b m : List ℕ) (frames : ℕ) → IsOpening b frames m → IsLayout b (division_of b frames) → HoldsSlot b frames (entry_in m)
   pub sound : (b m : List ℕ) (frames : ℕ) → IsLayout b (division_of b frames) → IsPageList b (pages_of b) → IsOpening b frames m
       → HoldsSoundTables (kinds b frames) 5 m
+  pub kept : (b : List ℕ) (frames : ℕ) → IsLayout b (division_of b frames) → IsKept (kinds b frames) opening_ledger
 
 -- sound page tables: walks, entries and counts; and that stores in frames that may be stored to leave them
 pub record TableLaws : Type 0 where
@@ -114,8 +117,9 @@ pub record TableLaws : Type 0 where
   pub no_loose_leaf : (kinds : List Kind) (t : ℕ → ℕ → ℕ) (frame f i : ℕ) → loose_in kinds t frame ≡ 0
       → f < length kinds → i < 512 → holds_leaves kinds t f ≡ true → is_present (t f i) ≡ true → frame_of (t f i) ≡ frame
       → (is_writable (t f i) ≡ false) × (is_user (t f i) ≡ false)
-  pub nested_stays : (kinds : List Kind) (root : ℕ) (m : List ℕ) (ws : List (ℕ × ℕ)) → kind_of kinds 2 ≡ Fixed
-      → All (λ w. is_storable (kind_of kinds (w.0 / 4096)) ≡ true) ws → nested_in kinds root (stored m ws) ≡ nested_in kinds root m
+  pub nested_stays : (kinds : List Kind) (root : ℕ) (ledger : Ledger) (m : List ℕ) (ws : List (ℕ × ℕ)) → kind_of kinds 2 ≡ Fixed
+      → All (λ w. is_storable (kind_of kinds (w.0 / 4096)) ≡ true) ws
+      → nested_in kinds root ledger (stored m ws) ≡ nested_in kinds root ledger m
   pub sound_stays : (kinds : List Kind) (root : ℕ) (m : List ℕ) (ws : List (ℕ × ℕ)) → HoldsSoundTables kinds root m
       → All (λ w. is_storable (kind_of kinds (w.0 / 4096)) ≡ true) ws → HoldsSoundTables kinds root (stored m ws)
   pub books_stay : (books : Books) (m : List ℕ) (ws : List (ℕ × ℕ)) → AreBooks books m
@@ -123,36 +127,50 @@ pub record TableLaws : Type 0 where
 
 -- what a call leaves of the record and of memory
 pub record CallLaws : Type 0 where
-  pub nested : (kinds : List Kind) (root : ℕ) (m : List ℕ) (call : CallWords) → HoldsSoundTables kinds root m
-      → call.a < 2 ^ 64 → call.c < 2 ^ 64 → let after : Nested = after_call (nested_in kinds root m) call in
-      nested_in after.tables.kinds after.tables.root (memory_after_call (nested_in kinds root m) call m) ≡ after
-  pub sound : (kinds : List Kind) (root : ℕ) (m : List ℕ) (call : CallWords) → HoldsSoundTables kinds root m
-      → call.a < 2 ^ 64 → call.c < 2 ^ 64 → let after : Nested = after_call (nested_in kinds root m) call in
-      HoldsSoundTables after.tables.kinds after.tables.root (memory_after_call (nested_in kinds root m) call m)
-  pub count : (kinds : List Kind) (root : ℕ) (m : List ℕ) (call : CallWords)
-      → length (after_call (nested_in kinds root m) call).tables.kinds ≡ length kinds
-  pub settled : (kinds : List Kind) (root f : ℕ) (m : List ℕ) (call : CallWords) → HoldsSoundTables kinds root m
-      → is_settled (kind_of kinds f) ≡ true → kind_of (after_call (nested_in kinds root m) call).tables.kinds f ≡ kind_of kinds f
-  pub reserved : (kinds : List Kind) (root f : ℕ) (m : List ℕ) (call : CallWords) → HoldsSoundTables kinds root m
-      → is_reserved (kind_of (after_call (nested_in kinds root m) call).tables.kinds f) ≡ true
-      → kind_of (after_call (nested_in kinds root m) call).tables.kinds f ≡ kind_of kinds f
-  pub loose : (kinds : List Kind) (root f : ℕ) (m : List ℕ) (call : CallWords) → HoldsSoundTables kinds root m
+  pub nested : (kinds : List Kind) (root : ℕ) (ledger : Ledger) (m : List ℕ) (call : CallWords) (source : Sourced)
+      → IsCalled kinds root ledger m call source → let after : Nested = left_in kinds root ledger m call source in
+      nested_in after.tables.kinds after.tables.root after.ledger (memory_left kinds root ledger m call source) ≡ after
+  pub sound : (kinds : List Kind) (root : ℕ) (ledger : Ledger) (m : List ℕ) (call : CallWords) (source : Sourced)
+      → IsCalled kinds root ledger m call source → let after : Nested = left_in kinds root ledger m call source in
+      HoldsSoundTables after.tables.kinds after.tables.root (memory_left kinds root ledger m call source)
+  pub keeps : (kinds : List Kind) (root : ℕ) (ledger : Ledger) (m : List ℕ) (call : CallWords) (source : Sourced)
+      → IsCalled kinds root ledger m call source → let after : Nested = left_in kinds root ledger m call source in
+      IsKept after.tables.kinds after.ledger
+  pub count : (kinds : List Kind) (root : ℕ) (ledger : Ledger) (m : List ℕ) (call : CallWords) (source : Sourced)
+      → length (left_in kinds root ledger m call source).tables.kinds ≡ length kinds
+  pub settled : (kinds : List Kind) (root f : ℕ) (ledger : Ledger) (m : List ℕ) (call : CallWords) (source : Sourced)
+      → IsCalled kinds root ledger m call source → is_settled (kind_of kinds f) ≡ true
+      → kind_of (left_in kinds root ledger m call source).tables.kinds f ≡ kind_of kinds f
+  pub reserved : (kinds : List Kind) (root f : ℕ) (ledger : Ledger) (m : List ℕ) (call : CallWords) (source : Sourced)
+      → IsCalled kinds root ledger m call source
+      → is_reserved (kind_of (left_in kinds root ledger m call source).tables.kinds f) ≡ true
+      → kind_of (left_in kinds root ledger m call source).tables.kinds f ≡ kind_of kinds f
+  pub loose : (kinds : List Kind) (root f : ℕ) (ledger : Ledger) (m : List ℕ) (call : CallWords) (source : Sourced)
+      → IsCalled kinds root ledger m call source
       → 1 ≤ loose_in kinds (entry_in m) f → is_storable (kind_of kinds f) ≡ true
-      → is_storable (kind_of (after_call (nested_in kinds root m) call).tables.kinds f) ≡ true
-  pub bytes : (kinds : List Kind) (root place : ℕ) (m : List ℕ) (call : CallWords) → HoldsSoundTables kinds root m
-      → is_settled (kind_of kinds (place / 4096)) ≡ true → (place < 0x2000) ⊎ (0x2008 ≤ place)
-      → byte_at (memory_after_call (nested_in kinds root m) call m) place ≡ byte_at m place
-  pub entries : (kinds : List Kind) (root f i : ℕ) (m : List ℕ) (call : CallWords) → HoldsSoundTables kinds root m
-      → is_settled (kind_of kinds f) ≡ true → f ≢ 2 → i < 512
-      → entry_in (memory_after_call (nested_in kinds root m) call m) f i ≡ entry_in m f i
-  pub length_is : (kinds : List Kind) (root : ℕ) (m : List ℕ) (call : CallWords) → HoldsSoundTables kinds root m
-      → length (memory_after_call (nested_in kinds root m) call m) ≡ length m
-  pub are_bytes : (kinds : List Kind) (root : ℕ) (m : List ℕ) (call : CallWords) → HoldsSoundTables kinds root m
-      → IsBytes m → IsBytes (memory_after_call (nested_in kinds root m) call m)
-  pub same : (kinds : List Kind) (root : ℕ) (m : List ℕ) (call : CallWords) → (answer_to (nested_in kinds root m) call).flush ≡ false
-      → ((after_call (nested_in kinds root m) call).tables.kinds ≡ kinds) × ((after_call (nested_in kinds root m) call).tables.root ≡ root)
-  pub value : (kinds : List Kind) (root : ℕ) (m : List ℕ) (call : CallWords) → (answer_to (nested_in kinds root m) call).value < 2 ^ 64
-  pub place : (kinds : List Kind) (root : ℕ) (m : List ℕ) (call : CallWords) → (answer_to (nested_in kinds root m) call).place ≡ None
+      → is_storable (kind_of (left_in kinds root ledger m call source).tables.kinds f) ≡ true
+  pub bytes : (kinds : List Kind) (root place : ℕ) (ledger : Ledger) (m : List ℕ) (call : CallWords) (source : Sourced)
+      → IsCalled kinds root ledger m call source → is_settled (kind_of kinds (place / 4096)) ≡ true
+      → is_guarded (kind_of kinds (place / 4096)) ≡ false → (place < 0x2000) ⊎ (0x2008 ≤ place)
+      → byte_at (memory_left kinds root ledger m call source) place ≡ byte_at m place
+  pub entries : (kinds : List Kind) (root f i : ℕ) (ledger : Ledger) (m : List ℕ) (call : CallWords) (source : Sourced)
+      → IsCalled kinds root ledger m call source → is_settled (kind_of kinds f) ≡ true
+      → is_guarded (kind_of kinds f) ≡ false → f ≢ 2 → i < 512
+      → entry_in (memory_left kinds root ledger m call source) f i ≡ entry_in m f i
+  pub length_is : (kinds : List Kind) (root : ℕ) (ledger : Ledger) (m : List ℕ) (call : CallWords) (source : Sourced)
+      → IsCalled kinds root ledger m call source → length (memory_left kinds root ledger m call source) ≡ length m
+  pub are_bytes : (kinds : List Kind) (root : ℕ) (ledger : Ledger) (m : List ℕ) (call : CallWords) (source : Sourced)
+      → IsCalled kinds root ledger m call source → All (λ b. b < 256) (bytes_read source) → IsBytes m
+      → IsBytes (memory_left kinds root ledger m call source)
+  pub same : (kinds : List Kind) (root : ℕ) (ledger : Ledger) (m : List ℕ) (call : CallWords) (source : Sourced)
+      → (answer_to (nested_in kinds root ledger m) call source).flush ≡ false
+      → ((left_in kinds root ledger m call source).tables.kinds ≡ kinds) × ((left_in kinds root ledger m call source).tables.root ≡ root)
+  pub next : (kinds : List Kind) (root : ℕ) (ledger : Ledger) (m : List ℕ) (call : CallWords) (source : Sourced)
+      → (left_in kinds root ledger m call source).ledger.book.next ≤ ledger.book.next + 1
+  pub value : (kinds : List Kind) (root : ℕ) (ledger : Ledger) (m : List ℕ) (call : CallWords) (source : Sourced)
+      → ledger.book.next < 2 ^ 63 → (answer_to (nested_in kinds root ledger m) call source).value < 2 ^ 64
+  pub place : (kinds : List Kind) (root : ℕ) (ledger : Ledger) (m : List ℕ) (call : CallWords) (source : Sourced)
+      → IfSome (answer_to (nested_in kinds root ledger m) call source).place (λ place. place < 2 ^ 64)
 
 -- spellings, and the gates' text
 pub record CodeLaws : Type 0 where

@@ -87,6 +87,8 @@ module _ (laws : LowerLaws) (o : Opening) (admitted : IsAdmitted o) (entry : ent
     kinds = opening_kinds;
     tables = laws.opening.sound o.image (opening_memory o) o.frames admitted.layout admitted.pages (opening_is o);
     memory = held;
+    ledger = laws.opening.kept o.image o.frames admitted.layout;
+    next = omega arith;
     translations = All-nil (λ (pair : ℕ × Leaf). respects o (kinds o.image o.frames) pair ≡ true);
     window = λ clear. absurd (false≢true (sym clear ∙ wp_set));
   }

@@ -6,19 +6,18 @@ use Rattle.std.proofs.lemmas.Option.{slice_get_past}
 use Rattle.std.specs.List.{All}
 use Rattle.std.proofs.lemmas.List.Elements.{All-head, All-tail}
 use Rattle.irq_plan.specs.declared.event.What.TheVariants.{Irq, Drop, Fill}
-use Rattle.nk_bits.specs.declared.call.CallWords.{CallWords}
 use Rattle.nk_bits.specs.declared.rule.Rule.{Rule}
 use Rattle.irq_plan.specs.declared.event.Event.{Event}
 use Rattle.irq_plan.specs.declared.event.What.{What}
 use Rattle.irq_plan.specs.PlannedEvents.{IsEvent, IsPlan, IsPlannable}
 use Rattle.cpu_step.specs.Turns.{enters_body}
 use Rattle.nk_body.specs.NestedRecord.{Nested}
-use Rattle.nk_body.specs.CallRules.{after_call, made_unless, verdict}
+use Rattle.nk_body.specs.CallRules.{made_unless}
 use Rattle.gate_state.specs.declared.moves.Move.{Move}
 use Rattle.gate_state.specs.declared.moves.Move.TheVariants as move
 use Rattle.gate_state.specs.GuardedStates.{IsGuarded}
 use Rattle.gate_state.specs.MachineStates.{MachineState, Opening, nested_of}
-use Rattle.gate_state.specs.MachineSteps.{after_event, after_turn, call_in, called_by, calls, made_by_all, move_by, move_of, next, next_by, served, state, waits, with_call}
+use Rattle.gate_state.specs.MachineSteps.{Made, after_event, after_turn, called_by, calls, made_by_all, made_in, move_by, move_of, nested_after, next, next_by, served, state, verdict_in, waits, with_call}
 use Rattle.gate_state.specs.SafeStates.{TakesTurn}
 use Rattle.gate_state.specs.StepsTaken.{Counts}
 
@@ -84,7 +83,7 @@ pub record StepsKept (o : Opening) : Type 0 where
   pub turn : (s : MachineState) → TakesTurn s.processor → IsGuarded o s → IsGuarded o (after_turn s)
   pub body : (s : MachineState) → enters_body s.processor ≡ true → IsGuarded o s → IsGuarded o (served s)
   pub stays : (s : MachineState) → TakesTurn s.processor → IsGuarded o s → nested_of (after_turn s) ≡ nested_of s
-  pub serves : (s : MachineState) → IsGuarded o s → nested_of (served s) ≡ after_call (nested_of s) (call_in s.processor.regs)
+  pub serves : (s : MachineState) → IsGuarded o s → nested_of (served s) ≡ nested_after s
 
 module _ (o : Opening) (steps : StepsKept o) (plan : List Event) (in_form : IsPlan plan) where
   step_guarded : (s : MachineState) (m : Move) → IsMove plan s m → IsGuarded o s → IsGuarded o (next_by m s)
@@ -103,14 +102,15 @@ module _ (o : Opening) (steps : StepsKept o) (plan : List Event) (in_form : IsPl
   state_guarded s (suc k) guarded = state_guarded (next plan s) k (next_guarded s guarded)
 
   -- the record after a step is what the calls of that step make
-  call_made : (nk : Nested) (call : CallWords) (v : Option Rule) (later : List CallWords) → made_by_all nk (with_call v call later) ≡ made_by_all (made_unless v nk call) later
-  call_made nk call None later = refl
-  call_made nk call (Some rule) later = refl
+  call_made : (nk : Nested) (it : Made) (v : Option Rule) (later : List Made)
+      → made_by_all nk (with_call v it later) ≡ made_by_all (made_unless v nk it.call it.source it.stand) later
+  call_made nk it None later = refl
+  call_made nk it (Some rule) later = refl
 
-  step_made : (s : MachineState) (m : Move) (later : List CallWords) → IsMove plan s m → IsGuarded o s
+  step_made : (s : MachineState) (m : Move) (later : List Made) → IsMove plan s m → IsGuarded o s
       → made_by_all (nested_of s) (called_by m s later) ≡ made_by_all (nested_of (next_by m s)) later
   step_made s move.Serve later (serving at) guarded =
-      call_made (nested_of s) (call_in s.processor.regs) (verdict (nested_of s) (call_in s.processor.regs)) later
+      call_made (nested_of s) (made_in s) (verdict_in s) later
       ∙ ap (λ (nk : Nested). made_by_all nk later) (sym (steps.serves s guarded))
   step_made s (move.Take what) later (taking event outside is) guarded = ap (λ (nk : Nested). made_by_all nk later) (event_leaves event.what s)
     where

@@ -22,7 +22,7 @@ use Rattle.cpu_step.specs.Turns.{enters_body, is_at_body, turned}
 use Rattle.gate_state.specs.GateWindow.{IsGatePoint}
 use Rattle.gate_state.specs.GuardedStates.{AreKinds, IsAdmitted, IsGuarded, IsHeld}
 use Rattle.gate_state.specs.MachineStates.{MachineState, Opening, nested_of}
-use Rattle.gate_state.specs.MachineSteps.{after_event, after_turn, turn_of}
+use Rattle.gate_state.specs.MachineSteps.{after_event, after_reading, after_turn, call_in, turn_of, wanted}
 use Rattle.gate_state.specs.RespectedKinds.{respects}
 use Rattle.gate_state.specs.SafeStates.{IsSafe, TakesTurn}
 use Rattle.gate_state.proofs.LowerLaws.{AllPass, LowerLaws}
@@ -32,6 +32,8 @@ use Rattle.gate_state.proofs.Scene.{SceneLaws}
 use Rattle.gate_state.proofs.SceneProofs.{scene_laws}
 use Rattle.gate_state.proofs.SceneProofsRespects.{look_passes}
 use Rattle.gate_state.proofs.SceneProofsWalks.{kind_is}
+use Rattle.gate_state.proofs.SourceReads.{source_keeps}
+use Rattle.gate_state.proofs.TranslationsKept.{dropped_keep, walked_keep}
 use Rattle.gate_state.proofs.TurnFacts.{TurnFacts}
 use Rattle.gate_state.proofs.TurnKept.{gate_instruction, turn_kept}
 
@@ -78,6 +80,8 @@ module _ (laws : LowerLaws) (o : Opening) (admitted : IsAdmitted o) where
           let after : ((turn_of s).processor.control.root, (turn_of s).memory) ≡ (s.processor.control.root, stored s.memory kept.stores) = λ i. (kept.same_root i, kept.memory_is i) in
           subst (λ (x : ℕ × List ℕ). HoldsSoundTables s.kinds x.0 x.1) (sym after) (laws.table.sound_stays s.kinds s.processor.control.root s.memory kept.stores guarded.tables kept.are.places);
       memory = subst (IsHeld o s.kinds) (sym kept.memory_is) ((scenes_of s.kinds guarded.kinds).held_stored s.memory kept.stores admitted guarded.kinds guarded.memory kept.are);
+      ledger = guarded.ledger;
+      next = omega (arith, guarded.next);
       translations = kept.pass;
       window = kept.window;
     }
@@ -85,9 +89,9 @@ module _ (laws : LowerLaws) (o : Opening) (admitted : IsAdmitted o) where
     pub turn_stays : nested_of (after_turn s) ≡ nested_of s
     unfolding after_turn
     turn_stays =
-        ap (λ (root : ℕ). nested_in s.kinds root (turn_of s).memory) kept.same_root
-        ∙ ap (nested_in s.kinds s.processor.control.root) kept.memory_is
-        ∙ laws.table.nested_stays s.kinds s.processor.control.root s.memory kept.stores guarded.tables.handler kept.are.places
+        ap (λ (root : ℕ). nested_in s.kinds root s.ledger (turn_of s).memory) kept.same_root
+        ∙ ap (nested_in s.kinds s.processor.control.root s.ledger) kept.memory_is
+        ∙ laws.table.nested_stays s.kinds s.processor.control.root s.ledger s.memory kept.stores guarded.tables.handler kept.are.places
 
     pub turn_books : (books : Books) → books.frames.kinds ≡ s.kinds → AreBooks books s.memory → AreBooks books (after_turn s).memory
     unfolding after_turn
@@ -105,22 +109,6 @@ module _ (laws : LowerLaws) (o : Opening) (admitted : IsAdmitted o) where
         ∙ laws.store.byte_elsewhere s.memory kept.stores place
         (All-weaker (λ (w : ℕ × ℕ). w.0 / 4096 ≡ 3) (λ (w : ℕ × ℕ). w.0 ≢ place) (λ w at same. other (ap (λ n. n / 4096) (sym same) ∙ at)) kept.stores (kept.places clear))
 
-  -- the translations after an event
-  dropped_pass : (ks : List Kind) (tlb : Translations) (page : ℕ) → AllPass (respects o ks) tlb → AllPass (respects o ks) (dropped tlb page)
-  dropped_pass ks tlb page pass = All-filter (λ pair. not (pair.0 == page)) (λ (pair : ℕ × Leaf). respects o ks pair ≡ true) tlb pass
-
-  filled_pass : (ks : List Kind) (tlb : Translations) (page : ℕ) (leaf : Leaf) → AllPass (respects o ks) tlb → respects o ks (page, leaf) ≡ true → AllPass (respects o ks) (filled tlb page leaf)
-  unfolding filled
-  filled_pass ks tlb page leaf pass is =
-      let Is : ℕ × Leaf → Type 0 = λ pair. respects o ks pair ≡ true in
-      let all : Translations = dropped tlb page ++ (page, leaf) ∷ [] in
-      All-drop Is (length all - capacity) all (All-push Is (dropped tlb page) (page, leaf) (dropped_pass ks tlb page pass) is)
-
-  fill_pass : (ks : List Kind) (tlb : Translations) (page : ℕ) (found : Result Leaf ℕ) → AllPass (respects o ks) tlb → ((leaf : Leaf) → found ≡ Ok leaf → respects o ks (page, leaf) ≡ true)
-      → AllPass (respects o ks) (fill_walked tlb page None found)
-  fill_pass ks tlb page (Ok leaf) pass is = filled_pass ks tlb page leaf pass (is leaf refl)
-  fill_pass ks tlb page (Err level) pass is = pass
-
   -- another pending set, and other translations
   with_event : (s : MachineState) (pending : ℕ) (tlb : Translations) → IsGuarded o s → pending < 2 ^ 16 → AllPass (respects o s.kinds) tlb
       → IsGuarded o (record s { processor = record s.processor { pending = pending; tlb = tlb }; taken = s.taken + 1 })
@@ -129,6 +117,8 @@ module _ (laws : LowerLaws) (o : Opening) (admitted : IsAdmitted o) where
     kinds = guarded.kinds;
     tables = guarded.tables;
     memory = guarded.memory;
+    ledger = guarded.ledger;
+    next = guarded.next;
     translations = pass;
     window = λ clear. let at : IsGatePoint s.processor = guarded.window clear in
         record { offset = at.offset; stands = record { supervisor = at.stands.supervisor; runs = at.stands.runs; rip = at.stands.rip; point = at.stands.point; holds = at.stands.holds } };
@@ -136,12 +126,20 @@ module _ (laws : LowerLaws) (o : Opening) (admitted : IsAdmitted o) where
 
   pub event_guarded : (s : MachineState) (what : What) → IsPlannable what → IsGuarded o s → IsGuarded o (after_event what s)
   event_guarded s (Irq vector) plannable guarded = with_event s _ s.processor.tlb guarded (pending_changed s.processor.pending (vector - 32) true guarded.control.pending (omega (arith, plannable))) guarded.translations
-  event_guarded s (Drop page) plannable guarded = with_event s s.processor.pending _ guarded guarded.control.pending (dropped_pass s.kinds s.processor.tlb (page_of page) guarded.translations)
+  event_guarded s (Drop page) plannable guarded = with_event s s.processor.pending _ guarded guarded.control.pending (dropped_keep (λ (pair : ℕ × Leaf). respects o s.kinds pair ≡ true) s.processor.tlb (page_of page) guarded.translations)
   event_guarded s (Fill page) plannable guarded =
       let canonical : is_canonical page ≡ true = (and_parts (is_canonical page) (page % 4096 == 0) plannable).0 in
       let walked = (scenes_of s.kinds guarded.kinds).walked s.memory s.processor.control 0 (ready s guarded).scene in
       with_event s s.processor.pending _ guarded guarded.control.pending
-      (fill_pass s.kinds s.processor.tlb (page_of page) (walk (entry_in s.memory) (length s.memory / 4096) s.processor.control.root (page_of page)) guarded.translations (λ leaf found. walked page leaf canonical found))
+      (walked_keep (λ (pair : ℕ × Leaf). respects o s.kinds pair ≡ true) s.processor.tlb (page_of page) None
+      (walk (entry_in s.memory) (length s.memory / 4096) s.processor.control.root (page_of page)) guarded.translations (λ leaf found. walked page leaf canonical found))
+
+  -- other translations
+  pub reading_pass : (s : MachineState) → IsGuarded o s → AllPass (respects o s.kinds) (after_reading s).processor.tlb
+  reading_pass s guarded =
+      source_keeps (λ (pair : ℕ × Leaf). respects o s.kinds pair ≡ true) s.memory s.processor.control.root
+      ((scenes_of s.kinds guarded.kinds).walked s.memory s.processor.control 0 (ready s guarded).scene)
+      s.processor.tlb (call_in s.processor.regs).c (wanted s) guarded.translations
 
   -- the processor is sound
   pub guarded_sound : (s : MachineState) → IsGuarded o s → IsSound (length s.memory) s.processor

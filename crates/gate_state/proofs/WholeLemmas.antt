@@ -1,6 +1,6 @@
 -- The whole machine after each kind of step, from what the parts say.
 use Rattle.std.proofs.Common.{◌≡◌, ℕ, ◌+◌, false, List, refl, sym, ap, subst, ◌∙◌}
-use Rattle.std.specs.Prelude.{not, ◌==◌, ◌&&◌}
+use Rattle.std.specs.Prelude.{Option, not, ◌==◌, ◌&&◌}
 use Rattle.std.proofs.lemmas.Bool.{and_right}
 use Rattle.nk_bits.specs.declared.call.Answer.{Answer}
 use Rattle.nk_bits.specs.declared.call.CallWords.{CallWords}
@@ -9,7 +9,7 @@ use Rattle.irq_plan.specs.declared.event.Event.{Event}
 use Rattle.irq_plan.specs.declared.event.What.{What}
 use Rattle.irq_plan.specs.declared.event.What.TheVariants.{Irq, Drop, Fill}
 use Rattle.nk_body.specs.NestedRecord.{AreBooks, Books, Nested, nested_by, nested_in}
-use Rattle.nk_body.specs.CallRules.{after_call, answer_to, memory_after_call}
+use Rattle.nk_body.specs.CallRules.{Sourced, after_call, answer_to, memory_after_call, stand_of, wants}
 use Rattle.cpu_step.specs.declared.stepped.Stepped.{Stepped}
 use Rattle.cpu_step.specs.EventsTaken.{event_taken}
 use Rattle.cpu_step.specs.Processor.{Processor}
@@ -17,7 +17,9 @@ use Rattle.cpu_step.specs.Turns.{Turned, enters_body, turned}
 use Rattle.gate_state.specs.declared.moves.Move.{Move}
 use Rattle.gate_state.specs.GuardedStates.{IsGuarded}
 use Rattle.gate_state.specs.MachineStates.{MachineState, Opening, nested_of}
-use Rattle.gate_state.specs.MachineSteps.{after_event, after_turn, answered_with, call_in, move_of, next, next_by, served}
+use Rattle.gate_state.specs.MachineSteps.{after_event, after_reading, after_turn, answer_in, answered_with, call_in, move_of, nested_after, next, next_by, served, source_of}
+use Rattle.gate_state.specs.MachineSteps.{wanted as wanted_in}
+use Rattle.gate_state.specs.SourceBytes.{source_by, tlb_by}
 use Rattle.gate_state.specs.WholeMachine.{IsWhole}
 
 -- the step by the move
@@ -57,27 +59,50 @@ turn_whole o s books p m stepped whole guarded stays kept is =
     }
 
 -- the state after the body
-module _ (s : MachineState) (books after : Books) (m : List ℕ) (call : CallWords) (answer : Answer) (root : ℕ) (p : Processor)
-    (kinds_are : books.frames.kinds ≡ s.kinds) (root_is : books.root ≡ s.processor.control.root) (call_is : call ≡ call_in s.processor.regs)
-    (answer_is : answer ≡ answer_to (nested_by books s.memory) call) (record_is : nested_by after m ≡ after_call (nested_by books s.memory) call)
-    (memory_is : m ≡ memory_after_call (nested_by books s.memory) call s.memory) (root_after : root ≡ after.root) (processor_is : p ≡ answered_with answer root s.processor) where
+module _ (s : MachineState) (books after : Books) (m : List ℕ) (call : CallWords) (wanted : Option ℕ) (source : Sourced) (answer : Answer) (root : ℕ)
+    (read p : Processor)
+    (kinds_are : books.frames.kinds ≡ s.kinds) (root_is : books.root ≡ s.processor.control.root) (ledger_is : books.ledger ≡ s.ledger)
+    (call_is : call ≡ call_in s.processor.regs) (wanted_is : wanted ≡ wants books.ledger.book call)
+    (source_is : source ≡ source_by s.memory s.processor.control.root s.processor.tlb call.c wanted)
+    (read_is : read ≡ record s.processor { tlb = tlb_by s.memory s.processor.control.root s.processor.tlb call.c wanted })
+    (answer_is : answer ≡ answer_to (nested_by books s.memory) call source)
+    (record_is : nested_by after m ≡ after_call (nested_by books s.memory) call source (stand_of (nested_by books s.memory) call s.memory))
+    (memory_is : m ≡ memory_after_call (nested_by books s.memory) call source s.memory)
+    (root_after : root ≡ after.root) (processor_is : p ≡ answered_with answer root read) where
   before : nested_by books s.memory ≡ nested_of s
-  before = λ i. nested_in (kinds_are i) (root_is i) s.memory
+  before = λ i. nested_in (kinds_are i) (root_is i) (ledger_is i) s.memory
 
-  pub served_is : record s { processor = p; memory = m; kinds = after.frames.kinds; turns = s.turns + 1 } ≡ served s
+  wanted_now : wanted ≡ wanted_in s
+  wanted_now = wanted_is ∙ (λ i. wants (ledger_is i).book (call_is i))
+
+  pub source_now : source ≡ source_of s
+  source_now = source_is ∙ (λ i. source_by s.memory s.processor.control.root s.processor.tlb (call_is i).c (wanted_now i))
+
+  read_now : read ≡ (after_reading s).processor
+  read_now =
+      read_is
+      ∙ (λ i. record s.processor { tlb = tlb_by s.memory s.processor.control.root s.processor.tlb (call_is i).c (wanted_now i) })
+
+  pub answer_now : answer ≡ answer_in s
+  answer_now = answer_is ∙ (λ i. answer_to (before i) (call_is i) (source_now i))
+
+  record_now : nested_by after m ≡ nested_after s
+  record_now = record_is ∙ (λ i. after_call (before i) (call_is i) (source_now i) (stand_of (before i) (call_is i) s.memory))
+
+  pub served_is : record s { processor = p; memory = m; kinds = after.frames.kinds; ledger = after.ledger; turns = s.turns + 1 } ≡ served s
   unfolding served
   served_is =
-      let record_now : nested_by after m ≡ after_call (nested_of s) (call_in s.processor.regs) = record_is ∙ (λ i. after_call (before i) (call_is i)) in
-      let memory_now : m ≡ memory_after_call (nested_of s) (call_in s.processor.regs) s.memory = memory_is ∙ (λ i. memory_after_call (before i) (call_is i) s.memory) in
-      let answer_now : answer ≡ answer_to (nested_of s) (call_in s.processor.regs) = answer_is ∙ (λ i. answer_to (before i) (call_is i)) in
-      let root_now : root ≡ (after_call (nested_of s) (call_in s.processor.regs)).tables.root = root_after ∙ ap (λ (nk : Nested). nk.tables.root) record_now in
-      let kinds_now : after.frames.kinds ≡ (after_call (nested_of s) (call_in s.processor.regs)).tables.kinds = ap (λ (nk : Nested). nk.tables.kinds) record_now in
-      let processor_now : p ≡ answered_with (answer_to (nested_of s) (call_in s.processor.regs)) (after_call (nested_of s) (call_in s.processor.regs)).tables.root s.processor =
-      processor_is ∙ (λ i. answered_with (answer_now i) (root_now i) s.processor) in
-      λ i. record s { processor = processor_now i; memory = memory_now i; kinds = kinds_now i; turns = s.turns + 1 }
+      let memory_now : m ≡ memory_after_call (nested_of s) (call_in s.processor.regs) (source_of s) s.memory =
+      memory_is ∙ (λ i. memory_after_call (before i) (call_is i) (source_now i) s.memory) in
+      let root_now : root ≡ (nested_after s).tables.root = root_after ∙ ap (λ (nk : Nested). nk.tables.root) record_now in
+      let kinds_now : after.frames.kinds ≡ (nested_after s).tables.kinds = ap (λ (nk : Nested). nk.tables.kinds) record_now in
+      let ledger_now : after.ledger ≡ (nested_after s).ledger = ap (λ (nk : Nested). nk.ledger) record_now in
+      let processor_now : p ≡ answered_with (answer_in s) (nested_after s).tables.root (after_reading s).processor =
+      processor_is ∙ (λ i. answered_with (answer_now i) (root_now i) (read_now i)) in
+      λ i. record s { processor = processor_now i; memory = memory_now i; kinds = kinds_now i; ledger = ledger_now i; turns = s.turns + 1 }
 
   pub served_whole_is : (o : Opening) → IsWhole o s books → IsGuarded o (served s) → AreBooks after m
-      → IsWhole o (record s { processor = p; memory = m; kinds = after.frames.kinds; turns = s.turns + 1 }) after
+      → IsWhole o (record s { processor = p; memory = m; kinds = after.frames.kinds; ledger = after.ledger; turns = s.turns + 1 }) after
   served_whole_is o whole guarded are = record {
     admitted = whole.admitted;
     guarded = subst (IsGuarded o) (sym served_is) guarded;
@@ -96,4 +121,4 @@ served_clear s clear = clear
 
 pub served_behind : (s : MachineState) → enters_body (served s).processor ≡ false
 unfolding served
-served_behind s = behind_body (answer_to (nested_of s) (call_in s.processor.regs)) (after_call (nested_of s) (call_in s.processor.regs)).tables.root s.processor
+served_behind s = behind_body (answer_in s) (nested_after s).tables.root (after_reading s).processor

@@ -1,5 +1,5 @@
 -- The invariant of the machine: what holds in every state of every run, of which safety follows.
-use Rattle.std.specs.Prelude.{◌≡◌, ◌⊎◌, ℕ, ◌*◌, ◌/◌, ◌^◌, ◌<◌, ◌≤◌, true, false, List, length, slice_index, All, IfSome}
+use Rattle.std.specs.Prelude.{◌≡◌, ◌⊎◌, ℕ, ◌+◌, ◌*◌, ◌/◌, ◌^◌, ◌<◌, ◌≤◌, true, false, List, length, slice_index, All, IfSome}
 use Rattle.nk_bits.specs.declared.kind.Kind.{Kind}
 use Rattle.nk_bits.specs.Accesses.{wp_of}
 use Rattle.nk_bits.specs.Kinds.{is_storable, kind_of}
@@ -13,6 +13,7 @@ use Rattle.boot_map.specs.Opening.{byte_in}
 use Rattle.boot_map.specs.OpeningKinds.{kinds}
 use Rattle.page_desc.specs.PageTables.{HoldsSoundTables, is_kept}
 use Rattle.nk_body.specs.KindsKept.{is_settled}
+use Rattle.nk_body.specs.NestedRecord.{IsKept}
 use Rattle.cpu_step.specs.Processor.{Processor}
 use Rattle.x86_regs.specs.EffectsKept.{AreRegisters}
 use Rattle.gate_state.specs.GateWindow.{IsGatePoint}
@@ -67,5 +68,7 @@ pub record IsGuarded (o : Opening) (s : MachineState) : Type 0 where
   pub kinds : AreKinds o s.kinds
   pub tables : HoldsSoundTables s.kinds s.processor.control.root s.memory
   pub memory : IsHeld o s.kinds s.memory
+  pub ledger : IsKept s.kinds s.ledger
+  pub next : s.ledger.book.next ≤ 256 + s.turns
   pub translations : All (λ pair. respects o s.kinds pair ≡ true) s.processor.tlb
   pub window : wp_of s.processor.control.cr0 ≡ false → IsGatePoint s.processor

@@ -1,6 +1,7 @@
 -- What a reader must believe.
 pub mod MachineStates
 pub mod MachineOpening
+pub mod SourceBytes
 pub mod MachineSteps
 pub mod GateWindow
 pub mod RespectedKinds

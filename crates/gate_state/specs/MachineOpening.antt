@@ -9,6 +9,7 @@ use Rattle.boot_map.specs.Division.{need}
 use Rattle.boot_map.specs.Opening.{byte_in}
 use Rattle.boot_map.specs.OpeningKinds.{kinds}
 use Rattle.cpu_step.specs.Processor.{started}
+use Rattle.nk_body.specs.SourceWords.{opening_ledger}
 use Rattle.gate_state.specs.MachineStates.{MachineState, Opening}
 
 -- the opening's memory as a list
@@ -40,6 +41,7 @@ opening_state o input = record {
   processor = started (opening_regs o) opening_control opening_tables input;
   memory = opening_memory o;
   kinds = kinds o.image o.frames;
+  ledger = opening_ledger;
   turns = 0;
   taken = 0;
 }

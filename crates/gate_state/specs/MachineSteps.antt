@@ -14,14 +14,16 @@ use Rattle.cpu_step.specs.EventsTaken.{event_taken}
 use Rattle.cpu_step.specs.Processor.{Processor, deliverable}
 use Rattle.cpu_step.specs.Turns.{Turned, enters_body, turned}
 use Rattle.nk_body.specs.NestedRecord.{Nested}
-use Rattle.nk_body.specs.CallRules.{after_call, answer_to, made, memory_after_call, verdict}
+use Rattle.nk_body.specs.CallRules.{Bytes, NotTaken, Sourced, Unreadable, after_call, answer_to, made, memory_after_call, stand_of, verdict, wants}
 use Rattle.gate_state.specs.declared.moves.Move.{Move}
 use Rattle.gate_state.specs.declared.moves.Move.TheVariants as move
 use Rattle.gate_state.specs.declared.seen.Seen.{Seen}
 use Rattle.gate_state.specs.declared.seen.Seen.TheVariants as seen
 use Rattle.gate_state.specs.declared.seen.Called.{Called}
+use Rattle.gate_state.specs.declared.seen.Took.{Took}
 use Rattle.gate_state.specs.declared.seen.Took.TheVariants as took
 use Rattle.gate_state.specs.MachineStates.{MachineState, nested_of}
+use Rattle.gate_state.specs.SourceBytes.{source_by, tlb_by}
 
 -- the processor is halted, and no pending vector wakes it
 abbrev pub waits : Processor → Bool
@@ -63,18 +65,53 @@ answered_with answer root p = record p {
   tlb = if answer.flush then flushed else p.tlb;
 }
 
+-- how many bytes the call of a state takes, its source, and the translations once it was read
+abbrev pub wanted : MachineState → Option ℕ
+wanted s = wants s.ledger.book (call_in s.processor.regs)
+
+abbrev pub source_of : MachineState → Sourced
+source_of s = source_by s.memory s.processor.control.root s.processor.tlb (call_in s.processor.regs).c (wanted s)
+
+abbrev pub after_reading : MachineState → MachineState
+after_reading s = record s {
+  processor = record s.processor {
+    tlb = tlb_by s.memory s.processor.control.root s.processor.tlb (call_in s.processor.regs).c (wanted s);
+  };
+}
+
+-- what a call that is accepted carries beside its words: its source, and the bytes of the frames that it declares
+pub record Made : Type 0 where
+  pub call : CallWords
+  pub source : Sourced
+  pub stand : ℕ → ℕ → ℕ
+
+-- the call of a state, read from registers and memory
+abbrev pub made_in : MachineState → Made
+made_in s = record {
+  call = call_in s.processor.regs;
+  source = source_of s;
+  stand = stand_of (nested_of s) (call_in s.processor.regs) s.memory;
+}
+
+abbrev pub verdict_in : MachineState → Option Rule
+verdict_in s = verdict (nested_of s) (call_in s.processor.regs) (source_of s)
+
+abbrev pub answer_in : MachineState → Answer
+answer_in s = answer_to (nested_of s) (call_in s.processor.regs) (source_of s)
+
+-- the record once the call of a state is made
+abbrev pub nested_after : MachineState → Nested
+nested_after s = after_call (nested_of s) (made_in s).call (made_in s).source (made_in s).stand
+
 -- the state after the body: one turn
 unfoldable pub served : MachineState → MachineState
-served s =
-    let nk : Nested = nested_of s in
-    let call : CallWords = call_in s.processor.regs in
-    let after : Nested = after_call nk call in
-    record s {
-      processor = answered_with (answer_to nk call) after.tables.root s.processor;
-      memory = memory_after_call nk call s.memory;
-      kinds = after.tables.kinds;
-      turns = s.turns + 1;
-    }
+served s = record s {
+  processor = answered_with (answer_in s) (nested_after s).tables.root (after_reading s).processor;
+  memory = memory_after_call (nested_of s) (call_in s.processor.regs) (source_of s) s.memory;
+  kinds = (nested_after s).tables.kinds;
+  ledger = (nested_after s).ledger;
+  turns = s.turns + 1;
+}
 
 -- the state after a turn of the processor, and after an event
 abbrev pub turn_of : MachineState → Turned
@@ -114,28 +151,34 @@ seen_by move.Turn s = shown_by_turn (turn_of s).stepped
 seen_by _ s = seen.Quiet
 
 -- a call that breaks no rule, before the later ones
-abbrev pub with_call : Option Rule → CallWords → List CallWords → List CallWords
-with_call None call later = call ∷ later
-with_call (Some rule) call later = later
+abbrev pub with_call : Option Rule → Made → List Made → List Made
+with_call None it later = it ∷ later
+with_call (Some rule) it later = later
 
-abbrev pub called_by : Move → MachineState → List CallWords → List CallWords
-called_by move.Serve s later = with_call (verdict (nested_of s) (call_in s.processor.regs)) (call_in s.processor.regs) later
+abbrev pub called_by : Move → MachineState → List Made → List Made
+called_by move.Serve s later = with_call (verdict_in s) (made_in s) later
 called_by _ s later = later
 
 -- the calls that were accepted among the first k steps
-unfoldable pub calls : List Event → MachineState → ℕ → List CallWords
+unfoldable pub calls : List Event → MachineState → ℕ → List Made
 calls plan s zero = []
 calls plan s (suc k) = called_by (move_of plan s) s (calls plan (next plan s) k)
 
 -- what accepted calls make of a record, one after the other
-abbrev pub made_by_all : Nested → List CallWords → Nested
+abbrev pub made_by_all : Nested → List Made → Nested
 made_by_all nk [] = nk
-made_by_all nk (call ∷ later) = made_by_all (made nk call) later
+made_by_all nk (it ∷ later) = made_by_all (made nk it.call it.source it.stand) later
 
--- the call of a state at the body's place, and its answer; no call takes bytes from memory
+-- whether a source was read
+abbrev pub took_by : Sourced → Took
+took_by NotTaken = took.NotTaken
+took_by Unreadable = took.Unreadable
+took_by (Bytes bytes) = took.Taken
+
+-- the call of a state at the body's place, and its answer; the bytes that it takes are shown apart
 abbrev pub called_in : MachineState → Called
 called_in s = record {
   call = call_in s.processor.regs;
-  source = took.NotTaken;
-  answer = answer_to (nested_of s) (call_in s.processor.regs);
+  source = took_by (source_of s);
+  answer = answer_in s;
 }

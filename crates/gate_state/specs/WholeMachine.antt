@@ -1,16 +1,19 @@
 -- The machine with the opening that its run began from, as the three states own it.
-use Rattle.std.specs.Prelude.{◌≡◌, Bool, true, false, List}
+use Rattle.std.specs.Prelude.{◌≡◌, ℕ, Bool, true, false, List}
 use Rattle.nk_body.specs.NestedRecord.{AreBooks, Books}
 use Rattle.irq_plan.specs.declared.event.Event.{Event}
 use Rattle.gate_state.specs.declared.moves.Move.{Move}
 use Rattle.gate_state.specs.declared.moves.Move.TheVariants as move
 use Rattle.gate_state.specs.MachineStates.{MachineState, Opening}
-use Rattle.gate_state.specs.MachineSteps.{next, served}
+use Rattle.nk_body.specs.CallRules.{bytes_read}
+use Rattle.gate_state.specs.MachineSteps.{next, served, source_of}
 use Rattle.gate_state.specs.GuardedStates.{IsAdmitted, IsGuarded}
 
+-- with the bytes that were read last for a call
 pub record WholeState : Type 0 where
   pub opening : Opening
   pub state : MachineState
+  pub source : List ℕ
 
 -- what holds of opening, state and books at each moment
 pub record IsWhole (opening : Opening) (state : MachineState) (books : Books) : Type 0 where
@@ -24,7 +27,7 @@ abbrev pub next_whole : List Event → WholeState → WholeState
 next_whole plan w = record w { state = next plan w.state }
 
 abbrev pub served_whole : WholeState → WholeState
-served_whole w = record w { state = served w.state }
+served_whole w = record w { state = served w.state; source = bytes_read (source_of w.state) }
 
 -- no step is left
 abbrev pub is_rest : Move → Bool

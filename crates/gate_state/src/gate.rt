@@ -62,12 +62,20 @@ impl<'i> GateMachine<'i> {
         self.whole.turns
     }
 
+    /// The bytes that were read last for a call.
+    pub fn source(&self) -> &[u8]
+        ensures { result.now ≡ self.now.source }
+    {
+        &self.whole.source
+    }
+
     /// Memory and books, at the end of a run.
     pub fn finish(self) -> Finished
         ensures memory { result.mem ≡ self.entry.state.memory }
         ensures size { length result.mem ≡ 4096 * self.entry.opening.frames }
         ensures kinds { result.kernel.frames.kinds ≡ self.entry.state.kinds }
         ensures root { result.kernel.root ≡ self.entry.state.processor.control.root }
+        ensures ledger { result.kernel.ledger ≡ self.entry.state.ledger }
         ensures books { AreBooks result.kernel result.mem }
         ensures safe { IsSafe self.entry.opening self.entry.state }
     {

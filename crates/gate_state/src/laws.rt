@@ -6,13 +6,12 @@ ghost use Rattle.irq_plan.specs.declared.event.What.{What};
 ghost use Rattle.irq_plan.specs.PlannedEvents.{IsPlan, IsPlannable};
 ghost use Rattle.cpu_step.specs.Processor.{IsSound};
 ghost use Rattle.cpu_step.specs.Turns.{enters_body};
-ghost use Rattle.nk_body.specs.CallRules.{after_call};
 ghost use Rattle.nk_body.specs.NestedRecord.{AreBooks, Books};
 ghost use Rattle.gate_state.specs.GateCalls.{IsCalledThrough, IsCalling};
 ghost use Rattle.gate_state.specs.GuardedStates.{IsAdmitted, IsGuarded};
 ghost use Rattle.gate_state.specs.MachineOpening.{opening_state};
 ghost use Rattle.gate_state.specs.MachineStates.{MachineState, Opening, nested_of};
-ghost use Rattle.gate_state.specs.MachineSteps.{after_event, after_turn, call_in, calls, made_by_all, move_of, next, served, state};
+ghost use Rattle.gate_state.specs.MachineSteps.{after_event, after_turn, calls, made_by_all, move_of, nested_after, next, served, state};
 ghost use Rattle.gate_state.specs.SafeStates.{IsSafe, TakesTurn};
 ghost use Rattle.gate_state.specs.StepsTaken.{Counts};
 
@@ -45,7 +44,7 @@ pub(crate) fn steps_law()
     ensures books { (o : Opening) (s : MachineState) (books : Books) → IsAdmitted o → TakesTurn s.processor
         → IsGuarded o s → books.frames.kinds ≡ s.kinds → AreBooks books s.memory → AreBooks books (after_turn s).memory }
     ensures serves { (o : Opening) (s : MachineState) → IsAdmitted o → IsGuarded o s
-        → nested_of (served s) ≡ after_call (nested_of s) (call_in s.processor.regs) }
+        → nested_of (served s) ≡ nested_after s }
     ensures safe { (o : Opening) (s : MachineState) → IsAdmitted o → IsGuarded o s → IsSafe o s }
     ensures called { (o : Opening) (s : MachineState) (plan : List Event) (k : ℕ) → IsAdmitted o → IsPlan plan
         → IsGuarded o s → IsCalling s.processor → IsCalledThrough plan s k }

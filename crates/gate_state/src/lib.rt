@@ -11,6 +11,7 @@ mod seen;
 
 // The machine as a run begins, and what its three states share.
 mod opening;
+mod source;
 mod whole;
 
 // The three states.

@@ -52,6 +52,7 @@ impl<'i> Machine<'i> {
         ensures size { length result.mem ≡ 4096 * (whole_of self.entry).opening.frames }
         ensures kinds { result.kernel.frames.kinds ≡ (whole_of self.entry).state.kinds }
         ensures root { result.kernel.root ≡ (whole_of self.entry).state.processor.control.root }
+        ensures ledger { result.kernel.ledger ≡ (whole_of self.entry).state.ledger }
         ensures books { AreBooks result.kernel result.mem }
         ensures safe { IsSafe (whole_of self.entry).opening (whole_of self.entry).state }
     {

@@ -66,6 +66,7 @@ impl<'i> NestedMachine<'i> {
         ensures size { length result.mem ≡ 4096 * self.entry.opening.frames }
         ensures kinds { result.kernel.frames.kinds ≡ self.entry.state.kinds }
         ensures root { result.kernel.root ≡ self.entry.state.processor.control.root }
+        ensures ledger { result.kernel.ledger ≡ self.entry.state.ledger }
         ensures books { AreBooks result.kernel result.mem }
         ensures safe { IsSafe self.entry.opening self.entry.state }
     {

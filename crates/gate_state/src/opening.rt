@@ -12,7 +12,7 @@ use nk_bits::Control;
 use std::alloc::Global;
 use x86_regs::{Regs, Tables};
 
-/// There is no room for the processor's translations.
+/// There is no room for the processor's translations, or for the bytes that are read for a call.
 #[derive(Clone, Copy, Debug, PartialEq, Eq)]
 pub struct NoMemory;
 

@@ -1,11 +1,12 @@
 //! The outer kernel's machine: WP is set.
 
-ghost use Rattle.std.specs.Prelude.{◌≡◌, ◌<◌, true, false, IfOk, None, length, ◌*◌};
+ghost use Rattle.std.specs.Prelude.{◌≡◌, ◌<◌, true, false, IfOk, None, [], length, ◌*◌};
 ghost use Rattle.boot_map.specs.Division.{IsLayout};
 ghost use Rattle.boot_map.specs.Opening.{IsOpening};
 ghost use Rattle.boot_map.specs.OpeningKinds.{kinds};
 ghost use Rattle.byte_scanner.specs.FirstFound.{first_found};
 ghost use Rattle.nk_body.specs.NestedRecord.{AreBooks};
+ghost use Rattle.nk_body.specs.SourceWords.{opening_ledger};
 ghost use Rattle.cpu_step.specs.Turns.{enters_body};
 ghost use Rattle.gate_state.specs.MachineOf.{whole_of};
 ghost use Rattle.gate_state.specs.MachineOpening.{opening_state};
@@ -28,6 +29,9 @@ use phys_mem::PhysMem;
 use std::alloc::Global;
 use std::marker::Model;
 
+/// The most bytes that are read for a call: those of the greatest region.
+const MOST_READ: usize = 65_536;
+
 /// The machine with WP set: the outer kernel runs, or the gates do before they clear WP and after they set it.
 pub struct OuterMachine<'i> {
     pub(crate) whole: Whole<'i>,
@@ -48,7 +52,8 @@ impl<'i> Model for OuterMachine<'i> {
 impl<'i> OuterMachine<'i> {
     /// The machine as a run of the image begins, with the memory and the books of its opening.
     ///
-    /// Returns an error where there is no room for the processor's translations; memory, books and input are dropped.
+    /// Returns an error where there is no room for the processor's translations, or for the bytes that are read for a
+    /// call; memory, books and input are dropped.
     pub fn start(
         alloc: Global,
         mem: PhysMem,
@@ -61,11 +66,13 @@ impl<'i> OuterMachine<'i> {
         requires opening { IsOpening image.now layout.now.frames mem }
         requires kinds { kernel.frames.kinds ≡ kinds image.now layout.now.frames }
         requires root { kernel.root ≡ 5 }
+        requires ledger { kernel.ledger ≡ opening_ledger }
         requires books { AreBooks kernel mem }
         requires clean { first_found image.now ≡ None }
         ensures opening { IfOk result (λ machine. machine.opening ≡ record { image = image.now; frames = layout.now.frames }) }
         ensures state { IfOk result (λ machine. machine.state
             ≡ opening_state (record { image = image.now; frames = layout.now.frames }) input.items) }
+        ensures source { IfOk result (λ machine. machine.source ≡ []) }
     {
         safety_law();
         clean_image_law(image);
@@ -75,12 +82,16 @@ impl<'i> OuterMachine<'i> {
             Ok(cpu) => cpu,
             Err(fault) => return Err(fault),
         };
+        let Ok(source) = Vec::with_capacity(alloc, MOST_READ) else {
+            return Err(NoMemory);
+        };
         let whole = Whole {
             cpu,
             mem,
             kernel,
             turns: 0,
             taken: 0,
+            source,
             image,
             layout,
         };
@@ -120,6 +131,7 @@ impl<'i> OuterMachine<'i> {
         ensures size { length result.mem ≡ 4096 * self.entry.opening.frames }
         ensures kinds { result.kernel.frames.kinds ≡ self.entry.state.kinds }
         ensures root { result.kernel.root ≡ self.entry.state.processor.control.root }
+        ensures ledger { result.kernel.ledger ≡ self.entry.state.ledger }
         ensures books { AreBooks result.kernel result.mem }
         ensures safe { IsSafe self.entry.opening self.entry.state }
     {

@@ -4,6 +4,7 @@
 mod attacks;
 mod calls;
 mod jumps;
+mod regions;
 
 ghost use Rattle.std.specs.Prelude.{◌≡◌, IfSome, None};
 ghost use Rattle.boot_map.specs.Division.{IsLayout};
@@ -11,6 +12,7 @@ ghost use Rattle.boot_map.specs.Opening.{IsOpening};
 ghost use Rattle.boot_map.specs.OpeningKinds.{kinds};
 ghost use Rattle.byte_scanner.specs.FirstFound.{first_found};
 ghost use Rattle.nk_body.specs.NestedRecord.{AreBooks};
+ghost use Rattle.nk_body.specs.SourceWords.{opening_ledger};
 
 use crate::{Called, Finished, Machine, OuterMachine, Seen};
 use boot_map::{Layout, prepare};
@@ -55,8 +57,9 @@ fn file(alloc: Global, text: &[u8]) -> Result<Vec<u8>, AllocError> {
 struct Log {
     /// The first delivery, and the last one.
     delivered: [Option<Delivery>; 2],
-    /// The last call.
+    /// The last call, and the first bytes that were read for it.
     called: Option<Called>,
+    read: [u8; 4],
     /// The last byte that went to the console.
     console: Option<u8>,
     /// How many events were taken.
@@ -68,6 +71,7 @@ struct Log {
 const NOTHING: Log = Log {
     delivered: [None; 2],
     called: None,
+    read: [0; 4],
     console: None,
     events: 0,
     stood: true,
@@ -117,6 +121,14 @@ fn seen_in(machine: &Machine) -> (Regs, u64) {
     }
 }
 
+/// The first bytes of a source, where it has as many.
+fn first_bytes(source: &[u8]) -> [u8; 4] {
+    match source.first_chunk() {
+        Some(first) => *first,
+        None => [0; 4],
+    }
+}
+
 /// A step, where one is left and the turns are few.
 fn advanced<'i>(machine: Machine<'i>, plan: &Plan, log: &mut Log) -> Machine<'i> {
     log.stood = log.stood && stands(&machine);
@@ -143,6 +155,7 @@ fn advanced<'i>(machine: Machine<'i>, plan: &Plan, log: &mut Log) -> Machine<'i>
             }
             let (next, called) = nested.serve();
             log.called = Some(called);
+            log.read = first_bytes(next.source());
             Machine::Gate(next)
         }
     }
@@ -199,6 +212,7 @@ fn open(alloc: Global, image: &Image, layout: &Layout) -> Option<Opened>
     ensures opening { IfSome result (λ it. IsOpening image.now layout.now.frames it.mem) }
     ensures kinds { IfSome result (λ it. it.kernel.frames.kinds ≡ kinds image.now layout.now.frames) }
     ensures root { IfSome result (λ it. it.kernel.root ≡ 5) }
+    ensures ledger { IfSome result (λ it. it.kernel.ledger ≡ opening_ledger) }
     ensures books { IfSome result (λ it. AreBooks it.kernel it.mem) }
 {
     let Ok(mem) = prepare(alloc, image, layout) else {

@@ -12,13 +12,14 @@ ghost use Rattle.gate_state.specs.WholeMachine.{is_rest, next_whole, served_whol
 
 use crate::laws::steps_law;
 use crate::moves::Move;
-use crate::seen::{Called, Seen, Took};
+use crate::seen::{Called, Seen};
+use crate::source::{sourced, take_source};
 use boot_map::Layout;
 use cpu_step::{Cpu, Stepped};
 use elf_image::Image;
 use irq_plan::{Event, Plan, What};
 use nk_bits::{Answer, CallWords};
-use nk_body::{Kernel, Source};
+use nk_body::Kernel;
 use phys_mem::PhysMem;
 use std::marker::Model;
 use x86_regs::{Regs, bit};
@@ -30,11 +31,14 @@ pub(crate) struct Whole<'i> {
     pub kernel: Kernel,
     pub turns: u64,
     pub taken: usize,
+    /// The bytes that were read last for a call, with room for as many as a region has.
+    pub source: Vec<u8>,
     pub image: &'i Image,
     pub layout: &'i Layout,
 }
 
 impl<'i> Model for Whole<'i> {
+    ghost use Rattle.std.specs.Prelude.{◌≤◌, vec_capacity};
     ghost use Rattle.gate_state.specs.WholeMachine.{IsWhole, WholeState};
 
     ghost Value = { WholeState };
@@ -45,14 +49,22 @@ impl<'i> Model for Whole<'i> {
         processor = w.cpu;
         memory = w.mem;
         kinds = w.kernel.frames.kinds;
+        ledger = w.kernel.ledger;
         turns = w.turns;
         taken = w.taken;
       };
+      source = w.source.items;
     } };
 
     ghost invariant = { λ w. IsWhole (record { image = w.image.now; frames = w.layout.now.frames })
-        (record { processor = w.cpu; memory = w.mem; kinds = w.kernel.frames.kinds; turns = w.turns; taken = w.taken })
-        w.kernel };
+        (record {
+          processor = w.cpu;
+          memory = w.mem;
+          kinds = w.kernel.frames.kinds;
+          ledger = w.kernel.ledger;
+          turns = w.turns;
+          taken = w.taken;
+        }) w.kernel × (65536 ≤ vec_capacity w.source) };
 }
 
 impl<'i> Whole<'i> {
@@ -117,12 +129,15 @@ impl<'i> Whole<'i> {
     {
         steps_law();
         let call = call_in(self.cpu.regs());
-        let answer = self.kernel.serve(&mut self.mem, &call, Source::NotTaken);
+        let wanted = self.kernel.wants(&call);
+        let took = take_source(&mut self.cpu, &self.mem, call.c, wanted, &mut self.source);
+        let source = sourced(took, &self.source);
+        let answer = self.kernel.serve(&mut self.mem, &call, source);
         answer_with(&mut self.cpu, &answer, self.kernel.root());
         self.turns += 1;
         Called {
             call,
-            source: Took::NotTaken,
+            source: took,
             answer,
         }
     }
@@ -172,6 +187,7 @@ impl<'i> Whole<'i> {
         ensures size { length result.mem ≡ 4096 * self.entry.opening.frames }
         ensures kinds { result.kernel.frames.kinds ≡ self.entry.state.kinds }
         ensures root { result.kernel.root ≡ self.entry.state.processor.control.root }
+        ensures ledger { result.kernel.ledger ≡ self.entry.state.ledger }
         ensures books { AreBooks result.kernel result.mem }
     {
         let Whole {
@@ -180,6 +196,7 @@ impl<'i> Whole<'i> {
             kernel,
             turns: _,
             taken: _,
+            source: _,
             image: _,
             layout: _,
         } = self;

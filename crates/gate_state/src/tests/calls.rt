@@ -88,8 +88,9 @@ fn answered(number: u64, a: u64, value: u64, handler: u64, turns: u64) -> Trappe
 
 /// Number and first argument of a call, its answer, and the handler behind it. Rule 1 is that of a number that is no call,
 /// rule 2 that of a frame outside memory, 3 that of a level that no table has, 12 that of the root, which isn't removed, 14
-/// that of a frame that isn't a table of level 4, and 27 that of an address that isn't canonical.
-const CALLS: [(u64, u64, u64, u64); 10] = [
+/// that of a frame that isn't a table of level 4, 15 that of a range or a size that no region has, 19 that of a region that
+/// doesn't live, and 27 that of an address that isn't canonical.
+const CALLS: [(u64, u64, u64, u64); 14] = [
     (1, BEHIND, 0, BEHIND),
     (1, HALTS, 0, HALTS),
     (1, 0x8000_0000_0000, 27, HALTS),
@@ -98,7 +99,11 @@ const CALLS: [(u64, u64, u64, u64); 10] = [
     (3, BEHIND, 2, HALTS),
     (4, 5, 12, HALTS),
     (5, 3, 14, HALTS),
-    (6, BEHIND, 1, HALTS),
+    (6, BEHIND, 15, HALTS),
+    (7, BEHIND, 15, HALTS),
+    (8, BEHIND, 19, HALTS),
+    (9, BEHIND, 19, HALTS),
+    (10, BEHIND, 1, HALTS),
     (0x8000_0000_0000_0001, BEHIND, 1, HALTS),
 ];
 

@@ -46,7 +46,8 @@ returns c =
         gates = c.opening_bytes_law.ensures.gates;
         image = c.opening_bytes_law.ensures.image;
         held = c.slot_law.ensures.held;
-        sound = c.opening_sound_law.ensures;
+        sound = c.opening_sound_law.ensures.sound;
+        kept = c.opening_sound_law.ensures.kept;
       };
       table = record {
         walk = c.sound_law.ensures.walk;
@@ -59,6 +60,7 @@ returns c =
       call = record {
         nested = c.call_law.ensures.nested;
         sound = c.call_law.ensures.sound;
+        keeps = c.call_law.ensures.kept;
         count = c.call_leaves_law.ensures.count;
         settled = c.call_leaves_law.ensures.settled;
         reserved = c.call_leaves_law.ensures.reserved;
@@ -68,6 +70,7 @@ returns c =
         length_is = c.call_leaves_law.ensures.length;
         are_bytes = c.call_leaves_law.ensures.are_bytes;
         same = c.call_leaves_law.ensures.same;
+        next = c.call_leaves_law.ensures.next;
         value = c.call_leaves_law.ensures.value;
         place = c.call_leaves_law.ensures.place;
       };
@@ -101,9 +104,9 @@ returns c =
       body = λ o s admitted at guarded. body_guarded laws o admitted s at guarded;
       stays = λ o s admitted takes guarded. turn_stays laws o admitted s guarded (facts o s admitted guarded) takes;
       books = λ o s books admitted takes guarded same are. turn_books laws o admitted s guarded (facts o s admitted guarded) takes books same are;
-      serves = λ o s admitted guarded. body_serves laws o s guarded;
+      serves = λ o s admitted guarded. body_serves laws o s admitted guarded;
       safe = λ o s admitted guarded. guarded_safe laws o admitted s guarded (facts o s admitted guarded);
       called = λ o s plan k admitted in_form guarded calling.
-          called_through laws o admitted (λ ks are. turn_facts laws o ks (scene_laws laws o ks admitted are)) (body_guarded laws o admitted) plan s k in_form guarded calling;
+          called_through laws o admitted (λ ks are. turn_facts laws o ks (scene_laws laws o ks admitted are)) (body_guarded laws o admitted) plan s in_form k guarded calling;
       sound = λ o s admitted guarded. guarded_sound laws o admitted s guarded;
     }

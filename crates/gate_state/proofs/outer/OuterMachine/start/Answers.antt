@@ -1,4 +1,4 @@
-use Rattle.std.proofs.Common.{subst}
+use Rattle.std.proofs.Common.{subst, arith}
 use Rattle.boot_map.specs.Division.{IsLayout}
 use Rattle.gate_state.specs.MachineStates.{Opening}
 use Rattle.gate_state.proofs.OpeningWhole.{opening_whole, starts_at, starts_set}
@@ -6,13 +6,15 @@ use Rattle.gate_state.proofs.outer.OuterMachine.start.Goals as goal
 
 pub invariant_of-whole : goal.invariant_of-whole
 invariant_of-whole c =
-    let o : Opening = record { image = c.args.image.now; frames = c.args.layout.now.frames } in
-    opening_whole o c.args.input.items c.in-Ok.cpu c.args.mem c.args.kernel
-    (record { bytes = c.entry-entry.ensures.bytes; layout = subst (IsLayout c.args.image.now) c.requires.layout.division c.requires.layout; pages = c.pages-pages.ensures.list; clean = c.clean_image_law.ensures c.requires.clean })
-    c.safety_law.ensures.opening c.in-Ok.ensures c.requires.opening c.requires.kinds c.requires.root c.requires.books
+    let o : Opening = record { image = c.args.image.now; frames = c.args.layout.now.frames } in (
+      opening_whole o c.args.input.items c.in-Ok.cpu c.args.mem c.args.kernel
+          (record { bytes = c.entry-entry.ensures.bytes; layout = subst (IsLayout c.args.image.now) c.requires.layout.division c.requires.layout; pages = c.pages-pages.ensures.list; clean = c.clean_image_law.ensures c.requires.clean })
+          c.safety_law.ensures.opening c.in-Ok.ensures c.requires.opening c.requires.kinds c.requires.ledger c.requires.root c.requires.books,
+      omega (arith, c.in-Ok-with_capacity.ensures.exact),
+    )
 
 pub invariant_of-result : goal.invariant_of-result
 invariant_of-result c = starts_set (record { image = c.args.image.now; frames = c.args.layout.now.frames }) c.args.input.items c.in-Ok.cpu c.in-Ok.ensures
 
 pub returns-clause-state : goal.returns-clause-state
-returns-clause-state c = starts_at (record { image = c.args.image.now; frames = c.args.layout.now.frames }) c.args.input.items c.in-Ok.cpu c.args.mem c.args.kernel c.in-Ok.ensures c.requires.opening c.requires.kinds
+returns-clause-state c = starts_at (record { image = c.args.image.now; frames = c.args.layout.now.frames }) c.args.input.items c.in-Ok.cpu c.args.mem c.args.kernel c.in-Ok.ensures c.requires.opening c.requires.kinds c.requires.ledger

@@ -7,7 +7,7 @@ use Rattle.gate_state.proofs.WholeLemmas.{turn_is, turn_whole}
 use Rattle.gate_state.proofs.whole.Whole.turn.Goals as goal
 
 pub step-stepped-requires-clause-sound : goal.step-stepped-requires-clause-sound
-step-stepped-requires-clause-sound c = c.steps_law.ensures.sound _ _ c.self.invariant.admitted c.self.invariant.guarded
+step-stepped-requires-clause-sound c = c.steps_law.ensures.sound _ _ c.self.invariant.0.admitted c.self.invariant.0.guarded
 
 pub invariant_of-self : goal.invariant_of-self
 invariant_of-self c =
@@ -16,15 +16,18 @@ invariant_of-self c =
       processor = c.self.inside.cpu;
       memory = c.self.inside.mem;
       kinds = c.self.inside.kernel.frames.kinds;
+      ledger = c.self.inside.kernel.ledger;
       turns = c.self.inside.turns;
       taken = c.self.inside.taken;
     } in
-    let takes : TakesTurn s.processor = subst (λ (w : WholeState). TakesTurn w.state.processor) (sym c.self.view_is) c.requires.takes in
-    turn_whole o s c.self.inside.kernel c.step-stepped.new.self c.step-stepped.new.mem c.step-stepped.result c.self.invariant
-    (c.steps_law.ensures.turn o s c.self.invariant.admitted takes c.self.invariant.guarded)
-    (c.steps_law.ensures.stays o s c.self.invariant.admitted takes c.self.invariant.guarded)
-    (c.steps_law.ensures.books o s c.self.inside.kernel c.self.invariant.admitted takes c.self.invariant.guarded refl c.self.invariant.kept)
-    c.step-stepped.ensures.turned
+    let takes : TakesTurn s.processor = subst (λ (w : WholeState). TakesTurn w.state.processor) (sym c.self.view_is) c.requires.takes in (
+      turn_whole o s c.self.inside.kernel c.step-stepped.new.self c.step-stepped.new.mem c.step-stepped.result c.self.invariant.0
+          (c.steps_law.ensures.turn o s c.self.invariant.0.admitted takes c.self.invariant.0.guarded)
+          (c.steps_law.ensures.stays o s c.self.invariant.0.admitted takes c.self.invariant.0.guarded)
+          (c.steps_law.ensures.books o s c.self.inside.kernel c.self.invariant.0.admitted takes c.self.invariant.0.guarded refl c.self.invariant.0.kept)
+          c.step-stepped.ensures.turned,
+      c.self.invariant.1,
+    )
 
 pub returns-clause-turned : goal.returns-clause-turned
 returns-clause-turned c =
@@ -33,8 +36,9 @@ returns-clause-turned c =
       processor = c.self.inside.cpu;
       memory = c.self.inside.mem;
       kinds = c.self.inside.kernel.frames.kinds;
+      ledger = c.self.inside.kernel.ledger;
       turns = c.self.inside.turns;
       taken = c.self.inside.taken;
     } in
-    ap (λ (t : MachineState). record { opening = o; state = t }) (turn_is s c.step-stepped.new.self c.step-stepped.new.mem c.step-stepped.result c.step-stepped.ensures.turned)
-    ∙ ap (λ (w : WholeState). record { opening = w.opening; state = after_turn w.state }) c.self.view_is
+    ap (λ (t : MachineState). record { opening = o; state = t; source = c.self.inside.source.items }) (turn_is s c.step-stepped.new.self c.step-stepped.new.mem c.step-stepped.result c.step-stepped.ensures.turned)
+    ∙ ap (λ (w : WholeState). record { opening = w.opening; state = after_turn w.state; source = w.source }) c.self.view_is

@@ -1,0 +1,43 @@
+-- A call takes at most as many bytes as a region has, 65,536.
+use Rattle.std.proofs.Common.{◌≡◌, ℕ, ◌+◌, ◌<◌, ◌≤◌, Bool, true, false, List, [], ◌∷◌, All, refl, arith}
+use Rattle.std.specs.Prelude.{IfSome, Option, None, Some, ◌&&◌, ◌==◌, nat_le, if◌then◌else◌}
+use Rattle.std.specs.List.{find}
+use Rattle.std.proofs.lemmas.Bool.{and_parts, false≢true, leb-true}
+use Rattle.std.proofs.lemmas.List.Elements.{All-head, All-tail}
+use Rattle.nk_bits.specs.declared.call.CallWords.{CallWords}
+use Rattle.region_book.specs.RegionCalls.{fits_in, fits_region}
+use Rattle.region_book.specs.RegionRecords.{Book, IsBook, IsRegion, Region, region_of}
+use Rattle.nk_body.specs.CallRules.{wants}
+
+-- what holds of each region holds of the one that is found
+found_holds : (P : Region → Type 0) (test : Region → Bool) (rs : List Region) → All P rs → IfSome (find test rs) P
+found_holds P test [] all = tt
+found_holds P test (r ∷ rs) all =
+    choice (test r) (All-head P r rs all) (found_holds P test rs (All-tail P r rs all))
+  where
+    choice : (b : Bool) → P r → IfSome (find test rs) P → IfSome (if b then Some r else find test rs) P
+    choice true first rest = first
+    choice false first rest = rest
+
+-- a range that fits is no longer than that
+fits_most : (next offset count : ℕ) (found : Option Region) → IfSome found (IsRegion next)
+    → fits_region found offset count ≡ true → count ≤ 65536
+fits_most next offset count None is fits = absurd (false≢true fits)
+fits_most next offset count (Some r) is fits =
+    let within : offset + count ≤ r.size =
+    leb-true (offset + count) r.size (and_parts (nat_le 1 count) (nat_le (offset + count) r.size) fits).1 in
+    let most : r.size ≤ 65536 = is.size.1 in
+    omega arith
+
+pub wants_most : (book : Book) (call : CallWords) (room : ℕ) → IsBook book → 65536 ≤ room
+    → IfSome (wants book call) (λ count. count ≤ room)
+wants_most book call room is roomy = choice (call.number == 9 && fits_in book call.a call.b call.d) refl
+  where
+    choice : (b : Bool) → (call.number == 9 && fits_in book call.a call.b call.d) ≡ b
+        → IfSome (if b then Some call.d else None) (λ count. count ≤ room)
+    choice true fits =
+        let most : call.d ≤ 65536 = fits_most book.next call.b call.d (region_of book call.a)
+        (found_holds (IsRegion book.next) (λ r. r.id == call.a) book.regions is.each)
+        (and_parts (call.number == 9) (fits_in book call.a call.b call.d) fits).1 in
+        omega arith
+    choice false none = tt

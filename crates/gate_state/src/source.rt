@@ -1,0 +1,135 @@
+//! The source of a call: its bytes are read in ascending order, each by its page's translation, up to the first that
+//! can't be read.
+
+ghost use Rattle.std.specs.Prelude.{◌≡◌, ◌≤◌, ◌<◌, ◌+◌, ◌*◌, ◌/◌, if◌then◌else◌, IfSome, IsTrue, None, Some, [], length, vec_capacity};
+ghost use Rattle.phys_mem.specs.Memory.{entry_in};
+ghost use Rattle.nk_bits.specs.Paging.{is_canonical, page_of};
+ghost use Rattle.nk_bits.specs.Translations.{NamesFramesIn, tlb_after, translation};
+ghost use Rattle.cpu_step.specs.Processor.{IsSound};
+ghost use Rattle.nk_body.specs.CallRules.{Sourced, bytes_read};
+ghost use Rattle.nk_body.specs.SourceWords.{sourced_of};
+ghost use Rattle.gate_state.specs.MachineSteps.{took_by};
+ghost use Rattle.gate_state.specs.SourceBytes.{byte_by, source_by, source_byte, source_read, source_tlb, tlb_by};
+
+use crate::seen::Took;
+use cpu_step::Cpu;
+use nk_bits::{Leaf, canonical, translation_law};
+use nk_body::Source;
+use page_walk::walk;
+use phys_mem::PhysMem;
+use tlb_model::Tlb;
+
+/// Reads what a call takes from an address on, if it takes any; all else stays but translations.
+pub(crate) fn take_source(
+    cpu: &mut Cpu,
+    mem: &PhysMem,
+    va: u64,
+    wanted: Option<u64>,
+    into: &mut Vec<u8>,
+) -> Took
+    requires sound { IsSound (length mem.now) cpu.old }
+    requires room { IfSome wanted (λ count. count ≤ vec_capacity into.old) }
+    ensures took { result ≡ took_by (source_by mem.now cpu.old.control.root cpu.old.tlb va wanted) }
+    ensures bytes { into.new.items ≡ bytes_read (source_by mem.now cpu.old.control.root cpu.old.tlb va wanted) }
+    ensures cpu { cpu.new ≡ record cpu.old { tlb = tlb_by mem.now cpu.old.control.root cpu.old.tlb va wanted } }
+    ensures room { vec_capacity into.old ≤ vec_capacity into.new }
+{
+    into.clear();
+    let root = cpu.control().root;
+    let Some(count) = wanted else {
+        return Took::NotTaken;
+    };
+    if read_source(cpu.tlb_mut(), mem, root, va, count, into) {
+        Took::Taken
+    } else {
+        into.clear();
+        Took::Unreadable
+    }
+}
+
+/// What was read, as it is handed to the nested kernel.
+pub(crate) fn sourced<'s>(took: Took, bytes: &'s [u8]) -> Source<'s>
+    ensures { (source : Sourced) → took ≡ took_by source → bytes.now ≡ bytes_read source → sourced_of result ≡ source }
+{
+    match took {
+        Took::NotTaken => Source::NotTaken,
+        Took::Unreadable => Source::Unreadable,
+        Took::Taken => Source::Bytes(bytes),
+    }
+}
+
+/// Reads so many bytes behind those that are there, of which there are none; whether each could be read.
+fn read_source(
+    tlb: &mut Tlb,
+    mem: &PhysMem,
+    root: u32,
+    va: u64,
+    count: u64,
+    into: &mut Vec<u8>,
+) -> bool
+    requires root { 4096 * root < length mem.now }
+    requires frames { NamesFramesIn (length mem.now) tlb.old }
+    requires none { into.old.items ≡ [] }
+    requires room { count ≤ vec_capacity into.old }
+    ensures read { record { bytes = if result then Some into.new.items else None; tlb = tlb.new }
+        ≡ source_read mem.now root tlb.old va count }
+    ensures room { vec_capacity into.old ≤ vec_capacity into.new }
+{
+    for k in 0..count {
+        match read_byte(tlb, mem, root, va, k) {
+            Some(byte) => into.push(byte).unwrap(),
+            None => return false,
+        }
+    }
+    true
+}
+
+/// The byte that is so far behind an address, where that doesn't wrap, is canonical, and has a translation.
+fn read_byte(tlb: &mut Tlb, mem: &PhysMem, root: u32, va: u64, offset: u64) -> Option<u8>
+    requires root { 4096 * root < length mem.now }
+    requires frames { NamesFramesIn (length mem.now) tlb.old }
+    ensures byte { result ≡ source_byte mem.now root tlb.old (va + offset) }
+    ensures tlb { tlb.new ≡ source_tlb mem.now root tlb.old (va + offset) }
+    ensures frames { NamesFramesIn (length mem.now) tlb.new }
+{
+    match va.checked_add(offset) {
+        Some(at) if canonical(at) => byte_by(mem, at, translate(mem, tlb, root, at)),
+        _ => None,
+    }
+}
+
+/// The byte at an address by its page's translation.
+fn byte_by(mem: &PhysMem, va: u64, leaf: Option<Leaf>) -> Option<u8>
+    requires frame { IfSome leaf (λ leaf. 4096 * leaf.frame < length mem.now) }
+    ensures { result ≡ byte_by mem.now va leaf }
+{
+    // memory has whole frames
+    let _frames = mem.frames();
+    match leaf {
+        Some(leaf) => Some(mem.load8(4096 * u64::from(leaf.frame) + va % 4096)),
+        None => None,
+    }
+}
+
+/// The translation of a page: the one that is kept, or else the one that a walk finds, which is filled.
+fn translate(mem: &PhysMem, tlb: &mut Tlb, root: u32, va: u64) -> Option<Leaf>
+    requires root { 4096 * root < length mem.now }
+    requires frames { NamesFramesIn (length mem.now) tlb.old }
+    requires canonical { IsTrue (is_canonical va) }
+    ensures found { result ≡ translation (entry_in mem.now) (length mem.now / 4096) root tlb.old (page_of va) }
+    ensures tlb { tlb.new ≡ tlb_after (entry_in mem.now) (length mem.now / 4096) root tlb.old (page_of va) }
+    ensures frame { IfSome result (λ leaf. 4096 * leaf.frame < length mem.now) }
+    ensures frames { NamesFramesIn (length mem.now) tlb.new }
+{
+    translation_law();
+    if let Some(leaf) = tlb.look(va / 4096) {
+        return Some(leaf);
+    }
+    match walk(mem, root, va) {
+        Ok(leaf) => {
+            tlb.fill(va / 4096, leaf);
+            Some(leaf)
+        }
+        Err(_) => None,
+    }
+}
