@@ -12,3 +12,6 @@ pub mod SafeRuns
 pub mod Moves
 pub mod Texts
 pub mod ListedLines
+pub mod TakenUp
+pub mod LineParts
+pub mod LedgerLines

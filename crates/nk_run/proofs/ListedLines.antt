@@ -9,21 +9,21 @@ use Rattle.nk_bits.specs.declared.kind.Kind.{Kind}
 use Rattle.nk_bits.specs.Kinds.{kind_of}
 use Rattle.page_desc.specs.PageTables.{is_table, table_entries}
 use Rattle.nk_host.specs.Taken.{AppendsPrefix}
-use Rattle.nk_body.specs.NestedRecord.{AreBooks, Books, Nested, nested_by, nested_in}
+use Rattle.nk_body.specs.NestedRecord.{AreBooks, Books, Ledger, Nested, handler_in, nested_by, nested_in}
 use Rattle.gate_state.specs.MachineStates.{Opening}
-use Rattle.nk_run.specs.ClosingSection.{entry_lines, kind_lines, line_of_entry, lines_of, lines_of_table, section, table_value}
+use Rattle.nk_run.specs.ClosingSection.{entry_lines, kind_lines, line_of_entry, lines_of, lines_of_table, log_lines, region_lines, section, table_value}
 use Rattle.nk_run.specs.Lines.{root_line, trap_line}
 use Rattle.nk_run.proofs.Texts.{prefix_behind, prefix_of_both}
 
 -- the lines from a place on, where it isn't the last, and at the end
-lines_from : (g : ℕ → List ℕ) (total place : ℕ) → place < total
+pub lines_from : (g : ℕ → List ℕ) (total place : ℕ) → place < total
     → lines_of g (total - place) place ≡ g place ++ lines_of g (total - (place + 1)) (place + 1)
 unfolding lines_of
 lines_from g total place below =
     let left : total - place ≡ suc (total - (place + 1)) = omega (arith, below) in
     ap (λ n. lines_of g n place) left
 
-no_lines : (g : ℕ → List ℕ) (total place : ℕ) → total ≤ place → lines_of g (total - place) place ≡ []
+pub no_lines : (g : ℕ → List ℕ) (total place : ℕ) → total ≤ place → lines_of g (total - place) place ≡ []
 unfolding lines_of
 no_lines g total place past =
     let left : total - place ≡ 0 = omega (arith, past) in
@@ -77,7 +77,7 @@ module _ {O : Type 0} (taken : O → Option (List ℕ)) (faults : O → ℕ) (fi
         subst (Appends (taken first) (taken now)) (sym all) going.appended
 
 -- lines that are the same at each place
-lines_alike : (g h : ℕ → List ℕ) (n place : ℕ) → ((i : ℕ) → i < place + n → g i ≡ h i)
+pub lines_alike : (g h : ℕ → List ℕ) (n place : ℕ) → ((i : ℕ) → i < place + n → g i ≡ h i)
     → lines_of g n place ≡ lines_of h n place
 unfolding lines_of
 lines_alike g h zero place same = refl
@@ -94,29 +94,29 @@ entry_is kinds m f i table low =
     ∙ ap (λ (b : Bool). if b then entry_in m f i else 0) (lt-ltb i 512 low)
 
 -- the text of a page table's entries, and of no page table's
-pub table_lines : (o : Opening) (kinds : List Kind) (root : ℕ) (m : List ℕ) (f : ℕ) → is_table (kind_of kinds f) ≡ true
-    → lines_of (λ i. line_of_entry (table_value o f i) (entry_in m f i) f i) 512 0 ≡ lines_of_table o (nested_in kinds root m) f
+pub table_lines : (o : Opening) (kinds : List Kind) (root : ℕ) (ledger : Ledger) (m : List ℕ) (f : ℕ) → is_table (kind_of kinds f) ≡ true
+    → lines_of (λ i. line_of_entry (table_value o f i) (entry_in m f i) f i) 512 0 ≡ lines_of_table o (nested_in kinds root ledger m) f
 unfolding lines_of_table
-table_lines o kinds root m f table =
-    let nk : Nested = nested_in kinds root m in
+table_lines o kinds root ledger m f table =
+    let nk : Nested = nested_in kinds root ledger m in
     let now : ℕ → List ℕ = λ i. line_of_entry (table_value o f i) (nk.tables.entries f i) f i in
     lines_alike _ now 512 0 (λ i low.
     ap (λ value. line_of_entry (table_value o f i) value f i) (sym (entry_is kinds m f i table (omega (arith, low)))))
     ∙ ap (λ (b : Bool). if b then lines_of now 512 0 else []) (sym table)
 
-pub no_table_lines : (o : Opening) (kinds : List Kind) (root : ℕ) (m : List ℕ) (f : ℕ) → is_table (kind_of kinds f) ≡ false
-    → [] ≡ lines_of_table o (nested_in kinds root m) f
+pub no_table_lines : (o : Opening) (kinds : List Kind) (root : ℕ) (ledger : Ledger) (m : List ℕ) (f : ℕ) → is_table (kind_of kinds f) ≡ false
+    → [] ≡ lines_of_table o (nested_in kinds root ledger m) f
 unfolding lines_of_table
-no_table_lines o kinds root m f none =
-    let nk : Nested = nested_in kinds root m in
+no_table_lines o kinds root ledger m f none =
+    let nk : Nested = nested_in kinds root ledger m in
     let now : ℕ → List ℕ = λ i. line_of_entry (table_value o f i) (nk.tables.entries f i) f i in
     ap (λ (b : Bool). if b then lines_of now 512 0 else []) (sym none)
 
--- the closing section: what the books hold, and then what isn't the opening's
-pub section_is : (o : Opening) (books : Books) (m : List ℕ) → AreBooks books m → let nk : Nested = nested_by books m in
-    (root_line books.root ++ trap_line books.trap) ++ (kind_lines o nk ++ entry_lines o nk) ≡ section o nk
-section_is o books m are =
-    let nk : Nested = nested_by books m in
-    let changes = kind_lines o nk ++ entry_lines o nk in
-    append_assoc (root_line books.root) (trap_line books.trap) changes
-    ∙ ap (λ address. root_line books.root ++ (trap_line address ++ changes)) are.trap
+-- the closing section: what the books hold, what isn't the opening's, and the ledger
+pub section_is : (o : Opening) (books : Books) (m rest : List ℕ) → AreBooks books m → let nk : Nested = nested_by books m in
+    rest ≡ kind_lines o nk ++ (entry_lines o nk ++ (region_lines nk nk.ledger.book.regions ++ log_lines 0 nk.ledger.log))
+    → (root_line books.root ++ trap_line books.trap) ++ rest ≡ section o nk
+section_is o books m rest are e =
+    append_assoc (root_line books.root) (trap_line books.trap) rest
+    ∙ ap (λ address. root_line books.root ++ (trap_line address ++ rest)) are.trap
+    ∙ ap (λ l. root_line books.root ++ (trap_line (handler_in m) ++ l)) e

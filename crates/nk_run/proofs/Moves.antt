@@ -8,7 +8,7 @@ use Rattle.cpu_step.specs.Turns.{enters_body}
 use Rattle.gate_state.specs.declared.moves.Move.{Move}
 use Rattle.gate_state.specs.declared.moves.Move.TheVariants as move
 use Rattle.gate_state.specs.MachineStates.{MachineState}
-use Rattle.gate_state.specs.MachineSteps.{called_in, move_by, move_of, next, next_by, seen_by, served, waits}
+use Rattle.gate_state.specs.MachineSteps.{answer_in, call_in, move_by, move_of, next, next_by, seen_by, served, source_of, waits}
 use Rattle.nk_run.specs.Lines.{call_line}
 use Rattle.nk_run.specs.RunStates.{shown, shown_by}
 
@@ -20,7 +20,8 @@ pub next_served : (plan : List Event) (s : MachineState) → enters_body s.proce
 unfolding next
 next_served plan s e = ap (λ (m : Move). next_by m s) (serves plan s e)
 
-pub shows_call : (plan : List Event) (s : MachineState) → enters_body s.processor ≡ true → shown_by (move_of plan s) s ≡ call_line (called_in s)
+pub shows_call : (plan : List Event) (s : MachineState) → enters_body s.processor ≡ true → shown_by (move_of plan s) s
+    ≡ call_line (call_in s.processor.regs) (source_of s) (answer_in s)
 shows_call plan s e = ap (λ (m : Move). shown_by m s) (serves plan s e)
 
 -- elsewhere it shows what is seen

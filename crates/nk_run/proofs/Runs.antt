@@ -13,7 +13,7 @@ use Rattle.gate_state.specs.MachineOpening.{opening_state}
 use Rattle.gate_state.specs.MachineStates.{MachineState, Opening, nested_of}
 use Rattle.gate_state.specs.MachineSteps.{move_of, next, state}
 use Rattle.gate_state.specs.StepsTaken.{Counts}
-use Rattle.gate_state.specs.WholeMachine.{WholeState, is_rest, next_whole}
+use Rattle.gate_state.specs.WholeMachine.{WholeState, is_rest}
 use Rattle.nk_run.specs.declared.ending.Ending.{Ending}
 use Rattle.nk_run.specs.declared.ending.Ending.TheVariants as ending
 use Rattle.nk_run.specs.ClosingSection.{section}
@@ -141,29 +141,33 @@ module _ {O : Type 0} (taken : O → Option (List ℕ)) (faults : O → ℕ) (fi
         (not_resting steps plan w.state e) counts
 
     -- fewer steps are left then
-    pub goes_less : ending_at steps plan w.state ≡ None → Counts plan (move_of plan w.state) w.state (next plan w.state) → (after : WholeState)
-        → after ≡ next_whole plan w → left steps plan after.state < left steps plan w.state
+    pub goes_less : ending_at steps plan w.state ≡ None → Counts plan (move_of plan w.state) w.state (next plan w.state) → (after : MachineState)
+        → after ≡ next plan w.state → left steps plan after < left steps plan w.state
     goes_less e counts after is =
         let it = step_is e counts in
-        let same = ap (λ (v : WholeState). left steps plan v.state) is in
+        let same = ap (left steps plan) is in
         omega (arith, it.less, same)
 
     -- a step was taken, and what it shows went out
-    pub goes_on : (later : O) → ending_at steps plan w.state ≡ None → Counts plan (move_of plan w.state) w.state (next plan w.state)
+    pub goes_on : (later : O) (after : WholeState) → after.opening ≡ w.opening → after.state ≡ next plan w.state
+        → ending_at steps plan w.state ≡ None → Counts plan (move_of plan w.state) w.state (next plan w.state)
         → Appends (taken now) (taken later) (shown_by (move_of plan w.state) w.state) → faults now ≤ faults later
-        → IsGoing taken faults first later whole o steps plan (next_whole plan w)
-    goes_on later e counts put low =
+        → IsGoing taken faults first later whole o steps plan after
+    goes_on later after opening is e counts put low =
         let it = step_is e counts in
         let bytes = shown_by (move_of plan w.state) w.state in
+        let turns = ap (λ (s : MachineState). s.turns) is in
+        let events = ap (λ (s : MachineState). s.taken) is in
         record {
-          opening = going.opening;
+          opening = opening ∙ going.opening;
           done = going.done ++ bytes;
           split = going.split ∙ ap (λ l. going.done ++ l) (text_going o steps plan w.state e it.less)
-              ∙ sym (append_assoc going.done bytes (run_text o steps plan (next plan w.state)));
+              ∙ sym (append_assoc going.done bytes (run_text o steps plan (next plan w.state)))
+              ∙ ap (λ (s : MachineState). (going.done ++ bytes) ++ run_text o steps plan s) (sym is);
           appended = Appends-trans (taken first) (taken now) (taken later) going.done bytes going.appended put;
           never_fell = omega (arith, going.never_fell, low);
-          turns_within = it.turns;
-          taken_within = it.taken;
+          turns_within = omega (arith, turns, it.turns);
+          taken_within = omega (arith, events, it.taken);
         }
 
     -- a step was taken, and a fault cut what it shows

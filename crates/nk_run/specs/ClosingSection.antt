@@ -1,6 +1,7 @@
 -- The closing section of a run: the root of the page tables and the trap handler, and then each frame whose kind differs
--- from the opening's, and each entry of a page table that does.
-use Rattle.std.specs.Prelude.{ℕ, zero, suc, ◌+◌, Bool, true, false, not, ◌==◌, if◌then◌else◌, List, [], ◌++◌}
+-- from the opening's, each entry of a page table that does, each region that lives, and each record of the log.
+use Rattle.std.specs.Prelude.{ℕ, zero, suc, ◌+◌, ◌/◌, ◌%◌, Bool, true, false, ◌==◌, if◌then◌else◌, List, [], ◌∷◌, ◌++◌, map, slice_index}
+use Rattle.std.specs.List.{range_with_len}
 use Rattle.nk_bits.specs.declared.kind.Kind.{Kind}
 use Rattle.nk_bits.specs.declared.kind.Kind.TheVariants.{Data, Code, Table, Fixed, Trap, Guarded, Hidden}
 use Rattle.nk_bits.specs.Kinds.{kind_of}
@@ -8,8 +9,10 @@ use Rattle.boot_map.specs.OpeningEntries.{opening_entry}
 use Rattle.boot_map.specs.OpeningKinds.{kind_at}
 use Rattle.page_desc.specs.PageTables.{is_table}
 use Rattle.nk_body.specs.NestedRecord.{Nested}
+use Rattle.region_book.specs.RegionRecords.{Region}
+use Rattle.write_log.specs.LogRecords.{LogRecord}
 use Rattle.gate_state.specs.MachineStates.{Opening}
-use Rattle.nk_run.specs.Lines.{entry_line, kind_line, root_line, trap_line}
+use Rattle.nk_run.specs.Lines.{entry_line, kind_line, log_line, region_line, root_line, trap_line}
 
 -- two kinds are one
 abbrev pub is_same_kind : Kind → Kind → Bool
@@ -54,5 +57,21 @@ lines_of_table o nk f =
 unfoldable pub entry_lines : Opening → Nested → List ℕ
 entry_lines o nk = lines_of (lines_of_table o nk) o.frames 0
 
+-- the bytes of a region, as its frames hold them
+unfoldable pub bytes_of_region : Nested → Region → List ℕ
+bytes_of_region nk r =
+    map (λ o. nk.held (slice_index r.frames ((r.place + o) / 4096)) ((r.place + o) % 4096)) (range_with_len 0 r.size)
+
+-- the regions that live, by identifier, and the records of the log, in order
+unfoldable pub region_lines : Nested → List Region → List ℕ
+region_lines nk [] = []
+region_lines nk (r ∷ later) = region_line r (bytes_of_region nk r) ++ region_lines nk later
+
+unfoldable pub log_lines : ℕ → List LogRecord → List ℕ
+log_lines number [] = []
+log_lines number (it ∷ later) = log_line number it ++ log_lines (number + 1) later
+
 abbrev pub section : Opening → Nested → List ℕ
-section o nk = root_line nk.tables.root ++ (trap_line nk.trap ++ (kind_lines o nk ++ entry_lines o nk))
+section o nk =
+    root_line nk.tables.root ++ (trap_line nk.trap ++ (kind_lines o nk ++ (entry_lines o nk
+    ++ (region_lines nk nk.ledger.book.regions ++ log_lines 0 nk.ledger.log))))

@@ -7,9 +7,11 @@ use Rattle.nk_bits.specs.declared.kind.Kind.{Kind}
 use Rattle.nk_bits.specs.declared.kind.Kind.TheVariants as kind
 use Rattle.nk_bits.specs.declared.leaf.Leaf.{Leaf}
 use Rattle.nk_bits.specs.declared.leaf.Rights.{Rights}
-use Rattle.gate_state.specs.declared.seen.Called.{Called}
-use Rattle.gate_state.specs.declared.seen.Took.{Took}
-use Rattle.gate_state.specs.declared.seen.Took.TheVariants.{NotTaken, Unreadable, Taken}
+use Rattle.nk_bits.specs.declared.call.Answer.{Answer}
+use Rattle.nk_bits.specs.declared.call.CallWords.{CallWords}
+use Rattle.nk_body.specs.CallRules.{Bytes, NotTaken, Sourced, Unreadable}
+use Rattle.region_book.specs.RegionRecords.{Region}
+use Rattle.write_log.specs.LogRecords.{LogRecord}
 use Rattle.nk_run.specs.declared.ending.Ending.{Ending}
 use Rattle.nk_run.specs.declared.ending.Ending.TheVariants as ending
 use Rattle.nk_run.specs.declared.command_line.Role.{Role}
@@ -106,19 +108,19 @@ delivery_line it =
     codes "i " ++ (decimal it.vector ++ (codes " " ++ (hex_word it.code ++ (codes " " ++ (hex_16 it.rip ++ (codes " "
     ++ (hex_16_word it.cr2 ++ codes "\n")))))))
 
--- what a call took from memory: `-` where it takes nothing, `!` where a byte couldn't be read; no call takes bytes
-abbrev pub source_word : Took → List ℕ
+-- what a call took from memory: `-` where it takes nothing, `!` where a byte couldn't be read, else its bytes
+abbrev pub source_word : Sourced → List ℕ
 source_word NotTaken = codes "-"
 source_word Unreadable = codes "!"
-source_word Taken = []
+source_word (Bytes bytes) = encode_lower bytes
 
 -- a call: its number and its four arguments, what it took, the answer, and the place of a region
-unfoldable pub call_line : Called → List ℕ
-call_line it =
-    codes "k " ++ (digits 16 false it.call.number ++ (codes " " ++ (digits 16 false it.call.a ++ (codes " "
-    ++ (digits 16 false it.call.b ++ (codes " " ++ (digits 16 false it.call.c ++ (codes " "
-    ++ (digits 16 false it.call.d ++ (codes " " ++ (source_word it.source ++ (codes " "
-    ++ (decimal it.answer.value ++ (codes " " ++ (hex_16_word it.answer.place ++ codes "\n")))))))))))))))
+unfoldable pub call_line : CallWords → Sourced → Answer → List ℕ
+call_line call source answer =
+    codes "k " ++ (digits 16 false call.number ++ (codes " " ++ (digits 16 false call.a ++ (codes " "
+    ++ (digits 16 false call.b ++ (codes " " ++ (digits 16 false call.c ++ (codes " "
+    ++ (digits 16 false call.d ++ (codes " " ++ (source_word source ++ (codes " "
+    ++ (decimal answer.value ++ (codes " " ++ (hex_16_word answer.place ++ codes "\n")))))))))))))))
 
 unfoldable pub ending_line : Ending → List ℕ
 ending_line ending.Steps = codes "end steps\n"
@@ -150,3 +152,15 @@ kind_line frame kind = codes "f " ++ (decimal frame ++ (codes " " ++ (kind_word 
 unfoldable pub entry_line : ℕ → ℕ → ℕ → List ℕ
 entry_line frame index value =
     codes "t " ++ (decimal frame ++ (codes " " ++ (decimal index ++ (codes " " ++ (hex_16 value ++ codes "\n")))))
+
+-- a region that lives: its identifier, its policy, its first address, its size and its bytes
+unfoldable pub region_line : Region → List ℕ → List ℕ
+region_line r bytes =
+    codes "r " ++ (decimal r.id ++ (codes " " ++ (decimal r.policy ++ (codes " " ++ (hex_16 r.first ++ (codes " "
+    ++ (decimal r.size ++ (codes " " ++ (encode_lower bytes ++ codes "\n")))))))))
+
+-- a record of the log: its number, the region and offset that were written, and the bytes
+unfoldable pub log_line : ℕ → LogRecord → List ℕ
+log_line number it =
+    codes "l " ++ (decimal number ++ (codes " " ++ (decimal it.region ++ (codes " " ++ (decimal it.offset ++ (codes " "
+    ++ (encode_lower it.bytes ++ codes "\n")))))))

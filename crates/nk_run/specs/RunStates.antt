@@ -6,7 +6,7 @@ use Rattle.gate_state.specs.declared.moves.Move.TheVariants as move
 use Rattle.gate_state.specs.declared.seen.Seen.{Seen}
 use Rattle.gate_state.specs.declared.seen.Seen.TheVariants as seen
 use Rattle.gate_state.specs.MachineStates.{MachineState, Opening, nested_of}
-use Rattle.gate_state.specs.MachineSteps.{called_in, move_of, next, seen_by, state}
+use Rattle.gate_state.specs.MachineSteps.{answer_in, call_in, move_of, next, seen_by, source_of, state}
 use Rattle.gate_state.specs.WholeMachine.{is_rest}
 use Rattle.nk_run.specs.declared.ending.Ending.{Ending}
 use Rattle.nk_run.specs.declared.ending.Ending.TheVariants as ending
@@ -41,7 +41,7 @@ shown (seen.Delivered it) = delivery_line it
 shown _ = []
 
 abbrev pub shown_by : Move → MachineState → List ℕ
-shown_by move.Serve s = call_line (called_in s)
+shown_by move.Serve s = call_line (call_in s.processor.regs) (source_of s) (answer_in s)
 shown_by (move.Take what) s = shown (seen_by (move.Take what) s)
 shown_by move.Turn s = shown (seen_by move.Turn s)
 shown_by move.Rest s = []

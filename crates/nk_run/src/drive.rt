@@ -7,22 +7,21 @@ ghost use Rattle.boot_map.specs.Division.{IsLayout};
 ghost use Rattle.nk_body.specs.NestedRecord.{AreBooks, nested_by};
 ghost use Rattle.gate_state.specs.MachineOf.{whole_of};
 ghost use Rattle.gate_state.specs.MachineStates.{nested_of};
-ghost use Rattle.gate_state.specs.MachineSteps.{move_of};
-ghost use Rattle.gate_state.specs.WholeMachine.{is_rest, next_whole};
+ghost use Rattle.gate_state.specs.MachineSteps.{move_of, next};
+ghost use Rattle.gate_state.specs.WholeMachine.{is_rest};
 ghost use Rattle.nk_run.specs.ClosingSection.{section};
-ghost use Rattle.nk_run.specs.Lines.{call_line, ending_line, turns_line};
+ghost use Rattle.nk_run.specs.Lines.{ending_line, turns_line};
 ghost use Rattle.nk_run.specs.Replies.{IsWritten};
 ghost use Rattle.nk_run.specs.RunStates.{ending_at, run_text, shown, shown_by};
 ghost use Rattle.nk_run.specs.Witness.{sink_change};
 
+use crate::call_lines::{put_call, sourced};
 use crate::ending::Ending;
-use crate::run_lines::{
-    CALL, DELIVERY, NUMBERED, call_line, console_line, delivery_line, ending_line, turns_line,
-};
+use crate::run_lines::{DELIVERY, NUMBERED, console_line, delivery_line, ending_line, turns_line};
 use crate::section::put_section;
 use boot_map::Layout;
 use elf_image::Image;
-use gate_state::{Called, Finished, Machine, Seen, moves_law};
+use gate_state::{Finished, Machine, Seen, moves_law};
 use irq_plan::Plan;
 use nk_host::{Sink, SinkFault, put_all};
 
@@ -82,7 +81,8 @@ fn advance<'i, O: Sink>(
 ) -> (Machine<'i>, Result<(), SinkFault>)
     requires left { is_rest (move_of plan.now (whole_of machine).state) ≡ false }
     requires turns { (whole_of machine).state.turns < 4294967296 }
-    ensures next { whole_of result.0 ≡ next_whole plan.now (whole_of machine.entry) }
+    ensures opening { (whole_of result.0).opening ≡ (whole_of machine.entry).opening }
+    ensures next { (whole_of result.0).state ≡ next plan.now (whole_of machine.entry).state }
     ensures never_falls { O.faults sink.old ≤ O.faults sink.new }
     ensures failed { OnErr result.1 (RoseTo (O.faults sink.old) (O.faults sink.new)) }
     ensures all { let s = (whole_of machine.entry).state in
@@ -101,7 +101,9 @@ fn advance<'i, O: Sink>(
         }
         Machine::Nested(nested) => {
             let (next, called) = nested.serve();
-            (Machine::Gate(next), show_call(&called, sink))
+            let source = sourced(called.source, next.source());
+            let shown = put_call(sink, &called.call, source, &called.answer);
+            (Machine::Gate(next), shown)
         }
     }
 }
@@ -118,16 +120,6 @@ fn show<O: Sink>(seen: &Seen, sink: &mut O) -> Result<(), SinkFault>
         Seen::Delivered(it) => put_all(sink, delivery_line(&mut [0; DELIVERY], it)),
         Seen::Quiet | Seen::Event => Ok(()),
     }
-}
-
-/// Writes the line of a call.
-fn show_call<O: Sink>(called: &Called, sink: &mut O) -> Result<(), SinkFault>
-    ensures never_falls { O.faults sink.old ≤ O.faults sink.new }
-    ensures failed { OnErr result (RoseTo (O.faults sink.old) (O.faults sink.new)) }
-    ensures all { OnOk result (Appends (O.taken sink.old) (O.taken sink.new) (call_line called.now)) }
-    ensures some { OnErr result (AppendsPrefix (O.taken sink.old) (O.taken sink.new) (call_line called.now)) }
-{
-    put_all(sink, call_line(&mut [0; CALL], called))
 }
 
 /// Ends the run of a machine, and writes why, how many turns it took, and the closing section.

@@ -24,8 +24,10 @@ mod inputs;
 mod run;
 
 // A run: its steps and why it ends, its lines, its closing section, its loop.
+mod call_lines;
 mod drive;
 mod ending;
+mod ledger_lines;
 mod run_lines;
 mod section;
 

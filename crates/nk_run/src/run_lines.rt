@@ -2,10 +2,9 @@
 //! its bytes, so that its encoding never fails.
 ghost use Rattle.std.specs.Prelude.{◌≡◌, ◌+◌, ◌<◌, ◌≤◌, ◌++◌, false, drop, length, codes, decimal};
 ghost use Rattle.std.specs.Fmt.{digit_glyph, digits};
-ghost use Rattle.nk_run.specs.Lines.{call_line, console_line, delivery_line, ending_line, entry_line, hex_16, hex_16_word, hex_word, kind_line, kind_word, root_line, source_word, trap_line, turns_line};
+ghost use Rattle.nk_run.specs.Lines.{console_line, delivery_line, ending_line, entry_line, hex_16, hex_16_word, hex_word, kind_line, kind_word, root_line, trap_line, turns_line};
 
 use crate::ending::Ending;
-use gate_state::{Called, Took};
 use nk_bits::{CallWords, Delivery, Kind};
 
 /// The most bytes of a line that ends with a number: a word of eight, twenty digits, and the line's end.
@@ -88,42 +87,8 @@ pub(crate) fn delivery_line<'a>(room: &'a mut [u8; DELIVERY], it: &Delivery) -> 
     room.split_at(start).1
 }
 
-/// The most bytes of the line of a call: `k`, five words of sixteen, the source, twenty digits and a place of sixteen,
-/// each behind a space, and the line's end.
-pub(crate) const CALL: usize = 127;
-
-/// A call, at the end of the room. It is put there from its last word to its first.
-pub(crate) fn call_line<'a>(room: &'a mut [u8; CALL], it: &Called) -> &'a [u8]
-    ensures { result.now ≡ call_line it.now }
-{
-    room[CALL - 1] = b'\n';
-    let place = put_word_16(room, CALL - 1, it.answer.place);
-    let value_end = put(room, place, b" ");
-    let value = itoa::write_digits(it.answer.value, room, value_end);
-    let source_end = put(room, value, b" ");
-    let source = put(room, source_end, source_word(it.source));
-    let words_end = put(room, source, b" ");
-    let words = put_arguments(room, words_end, &it.call);
-    let number_end = put(room, words, b" ");
-    let number = put_least(room, number_end, it.call.number);
-    let start = put(room, number, b"k ");
-    room.split_at(start).1
-}
-
-/// What a call took from memory.
-#[tactic(auto, unfolding(crate::specs::Lines::source_word))]
-fn source_word(source: Took) -> &'static [u8]
-    ensures { result.now ≡ source_word source }
-{
-    match source {
-        Took::NotTaken => b"-",
-        Took::Unreadable => b"!",
-        Took::Taken => b"",
-    }
-}
-
 /// Puts the four arguments of a call.
-fn put_arguments(room: &mut [u8], end: usize, call: &CallWords) -> usize
+pub(crate) fn put_arguments(room: &mut [u8], end: usize, call: &CallWords) -> usize
     requires room { 67 ≤ end }
     requires end { end ≤ length room.old }
     ensures start { (result ≤ end) × (end ≤ result + 67) }
@@ -203,7 +168,7 @@ fn put_table(room: &mut [u8], end: usize, level: u8) -> usize
 }
 
 /// Puts a text before a place of the room, and gives the place where it starts.
-fn put(room: &mut [u8], end: usize, text: &[u8]) -> usize
+pub(crate) fn put(room: &mut [u8], end: usize, text: &[u8]) -> usize
     requires room { length text.now ≤ end }
     requires end { end ≤ length room.old }
     ensures start { result + length text.now ≡ end }
@@ -214,8 +179,18 @@ fn put(room: &mut [u8], end: usize, text: &[u8]) -> usize
     start
 }
 
+/// Puts a number's decimal digits.
+pub(crate) fn put_decimal(room: &mut [u8], end: usize, number: u64) -> usize
+    requires room { 20 ≤ end }
+    requires end { end ≤ length room.old }
+    ensures start { (result ≤ end) × (end ≤ result + 20) }
+    ensures written { drop result room.new ≡ decimal number ++ drop end room.old }
+{
+    itoa::write_digits(number, room, end)
+}
+
 /// Puts sixteen hexadecimal digits, or `-` where there is no number.
-fn put_word_16(room: &mut [u8], end: usize, number: Option<u64>) -> usize
+pub(crate) fn put_word_16(room: &mut [u8], end: usize, number: Option<u64>) -> usize
     requires room { 16 ≤ end }
     requires end { end ≤ length room.old }
     ensures start { (result ≤ end) × (end ≤ result + 16) }
@@ -241,7 +216,7 @@ fn put_word(room: &mut [u8], end: usize, number: Option<u64>) -> usize
 }
 
 /// Puts sixteen hexadecimal digits.
-fn put_16(room: &mut [u8], end: usize, number: u64) -> usize
+pub(crate) fn put_16(room: &mut [u8], end: usize, number: u64) -> usize
     requires room { 16 ≤ end }
     requires end { end ≤ length room.old }
     ensures start { result + 16 ≡ end }
@@ -253,7 +228,7 @@ fn put_16(room: &mut [u8], end: usize, number: u64) -> usize
 }
 
 /// Puts as few hexadecimal digits as there are, from the last to the first.
-fn put_least(room: &mut [u8], end: usize, number: u64) -> usize
+pub(crate) fn put_least(room: &mut [u8], end: usize, number: u64) -> usize
     requires room { 16 ≤ end }
     requires end { end ≤ length room.old }
     ensures start { (result ≤ end) × (end ≤ result + 16) }

@@ -1,4 +1,5 @@
-//! The closing section of a run: root and trap handler, and what of kinds and page tables differs from the opening's.
+//! The closing section of a run: root and trap handler, what of kinds and page tables differs from the opening's, and the
+//! ledger.
 ghost use Rattle.std.specs.Prelude.{◌≡◌, ◌+◌, ◌<◌, ◌≤◌, ◌*◌, ◌++◌, length, OnErr, OnOk};
 ghost use Rattle.std.specs.Io.KnownBytes.{Appends};
 ghost use Rattle.nk_host.specs.FaultCounts.{RoseTo};
@@ -10,9 +11,10 @@ ghost use Rattle.boot_map.specs.OpeningKinds.{kind_at};
 ghost use Rattle.page_desc.specs.PageTables.{is_table};
 ghost use Rattle.nk_body.specs.NestedRecord.{AreBooks, nested_by};
 ghost use Rattle.gate_state.specs.MachineStates.{Opening};
-ghost use Rattle.nk_run.specs.ClosingSection.{entry_lines, is_same_kind, kind_lines, line_of_entry, line_of_kind, lines_of, lines_of_table, section, table_value};
+ghost use Rattle.nk_run.specs.ClosingSection.{entry_lines, is_same_kind, kind_lines, line_of_entry, line_of_kind, lines_of, lines_of_table, log_lines, region_lines, section, table_value};
 ghost use Rattle.nk_run.specs.Lines.{root_line, trap_line};
 
+use crate::ledger_lines::put_ledger;
 use crate::run_lines::{ENTRY, KIND, NUMBERED, entry_line, kind_line, root_line, trap_line};
 use boot_map::Layout;
 use elf_image::Image;
@@ -63,7 +65,7 @@ fn put_books<O: Sink>(sink: &mut O, kernel: &Kernel) -> Result<(), SinkFault>
     }
 }
 
-/// Writes what of kinds and page tables isn't the opening's.
+/// Writes what of kinds and page tables isn't the opening's, and the ledger.
 fn put_changes<O: Sink>(
     sink: &mut O,
     image: &Image,
@@ -72,18 +74,49 @@ fn put_changes<O: Sink>(
     kernel: &Kernel,
 ) -> Result<(), SinkFault>
     requires layout { IsLayout image.now layout.now }
+    requires books { AreBooks kernel.now mem.now }
     requires size { length mem.now ≡ 4096 * layout.now.frames }
     ensures never_falls { O.faults sink.old ≤ O.faults sink.new }
     ensures failed { OnErr result (RoseTo (O.faults sink.old) (O.faults sink.new)) }
     ensures all { let o : Opening = record { image = image.now; frames = layout.now.frames } in
         let nk = nested_by kernel.now mem.now in
-        OnOk result (Appends (O.taken sink.old) (O.taken sink.new) (kind_lines o nk ++ entry_lines o nk)) }
+        OnOk result (Appends (O.taken sink.old) (O.taken sink.new) (kind_lines o nk ++ (entry_lines o nk
+        ++ (region_lines nk nk.ledger.book.regions ++ log_lines 0 nk.ledger.log)))) }
     ensures some { let o : Opening = record { image = image.now; frames = layout.now.frames } in
         let nk = nested_by kernel.now mem.now in
-        OnErr result (AppendsPrefix (O.taken sink.old) (O.taken sink.new) (kind_lines o nk ++ entry_lines o nk)) }
+        OnErr result (AppendsPrefix (O.taken sink.old) (O.taken sink.new) (kind_lines o nk ++ (entry_lines o nk
+        ++ (region_lines nk nk.ledger.book.regions ++ log_lines 0 nk.ledger.log)))) }
 {
     match put_kinds(sink, image, layout, kernel) {
-        Ok(()) => put_entries(sink, image, layout, mem, kernel),
+        Ok(()) => put_tables(sink, image, layout, mem, kernel),
+        Err(fault) => Err(fault),
+    }
+}
+
+/// Writes what of page tables isn't the opening's, and the ledger.
+fn put_tables<O: Sink>(
+    sink: &mut O,
+    image: &Image,
+    layout: &Layout,
+    mem: &PhysMem,
+    kernel: &Kernel,
+) -> Result<(), SinkFault>
+    requires layout { IsLayout image.now layout.now }
+    requires books { AreBooks kernel.now mem.now }
+    requires size { length mem.now ≡ 4096 * layout.now.frames }
+    ensures never_falls { O.faults sink.old ≤ O.faults sink.new }
+    ensures failed { OnErr result (RoseTo (O.faults sink.old) (O.faults sink.new)) }
+    ensures all { let o : Opening = record { image = image.now; frames = layout.now.frames } in
+        let nk = nested_by kernel.now mem.now in
+        OnOk result (Appends (O.taken sink.old) (O.taken sink.new)
+        (entry_lines o nk ++ (region_lines nk nk.ledger.book.regions ++ log_lines 0 nk.ledger.log))) }
+    ensures some { let o : Opening = record { image = image.now; frames = layout.now.frames } in
+        let nk = nested_by kernel.now mem.now in
+        OnErr result (AppendsPrefix (O.taken sink.old) (O.taken sink.new)
+        (entry_lines o nk ++ (region_lines nk nk.ledger.book.regions ++ log_lines 0 nk.ledger.log))) }
+{
+    match put_entries(sink, image, layout, mem, kernel) {
+        Ok(()) => put_ledger(sink, mem, kernel),
         Err(fault) => Err(fault),
     }
 }

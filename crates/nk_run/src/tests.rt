@@ -2,6 +2,7 @@
 mod calls;
 mod compiled;
 mod deliveries;
+mod regions;
 mod run;
 mod tables;
 

@@ -1,7 +1,6 @@
-use Rattle.std.proofs.Common.{◌∙◌, arith, sym, subst}
+use Rattle.std.proofs.Common.{◌∙◌, arith, sym}
 use Rattle.gate_state.specs.MachineOf.{whole_of}
 use Rattle.gate_state.specs.MachineStates.{Opening}
-use Rattle.gate_state.specs.WholeMachine.{WholeState}
 use Rattle.nk_run.specs.RunStates.{run_text}
 use Rattle.nk_run.proofs.Told.{on_err, on_ok}
 use Rattle.nk_run.proofs.Runs.{IsGoing, begins, closes, goes_less, goes_on, not_resting, turn_left, was_cut}
@@ -55,16 +54,15 @@ loop-ending-smaller g c =
     let w = whole_of c.loop-ending.machine in
     let less = goes_less g.O.Sink.taken g.O.Sink.faults c.args.sink.now c.loop-ending.sink o c.args.steps c.args.plan.now
     (run_text o c.args.steps c.args.plan.now (whole_of c.args.machine).state) w c.loop-ending.invariant
-    (sym c.ending_at.ensures ∙ c.in_default.is) (c.moves_law.ensures c.args.plan.now w.state) (whole_of c.advance-next.result.0) c.advance-next.ensures.next in
+    (sym c.ending_at.ensures ∙ c.in_default.is) (c.moves_law.ensures c.args.plan.now w.state) (whole_of c.advance-next.result.0).state c.advance-next.ensures.next in
     omega (arith, less)
 
 pub loop-ending-preserved : goal.loop-ending-preserved
 loop-ending-preserved g c =
     let o : Opening = record { image = c.args.image.now; frames = c.args.layout.now.frames } in
     let w = whole_of c.loop-ending.machine in
-    subst (λ (v : WholeState). IsGoing g.O.Sink.taken g.O.Sink.faults c.args.sink.now c.advance-next.new.sink
-    (run_text o c.args.steps c.args.plan.now (whole_of c.args.machine).state) o c.args.steps c.args.plan.now v) (sym c.advance-next.ensures.next)
-    (goes_on g.O.Sink.taken g.O.Sink.faults c.args.sink.now c.loop-ending.sink o c.args.steps c.args.plan.now
+    goes_on g.O.Sink.taken g.O.Sink.faults c.args.sink.now c.loop-ending.sink o c.args.steps c.args.plan.now
     (run_text o c.args.steps c.args.plan.now (whole_of c.args.machine).state) w c.loop-ending.invariant
-    c.advance-next.new.sink (sym c.ending_at.ensures ∙ c.in_default.is) (c.moves_law.ensures c.args.plan.now w.state)
-    (on_ok c.in_default-shown.is c.advance-next.ensures.all) c.advance-next.ensures.never_falls)
+    c.advance-next.new.sink (whole_of c.advance-next.result.0) c.advance-next.ensures.opening c.advance-next.ensures.next
+    (sym c.ending_at.ensures ∙ c.in_default.is) (c.moves_law.ensures c.args.plan.now w.state)
+    (on_ok c.in_default-shown.is c.advance-next.ensures.all) c.advance-next.ensures.never_falls

@@ -1,7 +1,7 @@
-use Rattle.std.proofs.Common.{refl}
+use Rattle.std.proofs.Common.{◌++◌, refl}
 use Rattle.nk_body.specs.NestedRecord.{Nested, nested_by}
 use Rattle.gate_state.specs.MachineStates.{Opening}
-use Rattle.nk_run.specs.ClosingSection.{entry_lines, kind_lines}
+use Rattle.nk_run.specs.ClosingSection.{entry_lines, kind_lines, log_lines, region_lines}
 use Rattle.nk_run.proofs.Texts.{cut_behind, prefix_of_both, put_behind}
 use Rattle.nk_run.proofs.section.put_changes.Goals as goal
 
@@ -10,18 +10,21 @@ unfolding kind_lines
 returns-in-Ok-clause-all g c =
     let o : Opening = record { image = c.args.image.now; frames = c.args.layout.now.frames } in
     let nk : Nested = nested_by c.args.kernel.now c.args.mem.now in
-    put_behind c.put_entries.result _ _ _ _ (kind_lines o nk) _ (entry_lines o nk) refl refl c.in-Ok.ensures.all c.put_entries.ensures.all
+    let rest = entry_lines o nk ++ (region_lines nk nk.ledger.book.regions ++ log_lines 0 nk.ledger.log) in
+    put_behind c.put_tables.result _ _ _ _ (kind_lines o nk) _ rest refl refl c.in-Ok.ensures.all c.put_tables.ensures.all
 
 pub returns-in-Ok-clause-some : goal.returns-in-Ok-clause-some
 unfolding kind_lines
 returns-in-Ok-clause-some g c =
     let o : Opening = record { image = c.args.image.now; frames = c.args.layout.now.frames } in
     let nk : Nested = nested_by c.args.kernel.now c.args.mem.now in
-    cut_behind c.put_entries.result _ _ _ _ (kind_lines o nk) _ (entry_lines o nk) refl refl c.in-Ok.ensures.all c.put_entries.ensures.some
+    let rest = entry_lines o nk ++ (region_lines nk nk.ledger.book.regions ++ log_lines 0 nk.ledger.log) in
+    cut_behind c.put_tables.result _ _ _ _ (kind_lines o nk) _ rest refl refl c.in-Ok.ensures.all c.put_tables.ensures.some
 
 pub returns-in-Err-clause-some : goal.returns-in-Err-clause-some
 unfolding kind_lines
 returns-in-Err-clause-some g c =
     let o : Opening = record { image = c.args.image.now; frames = c.args.layout.now.frames } in
     let nk : Nested = nested_by c.args.kernel.now c.args.mem.now in
-    prefix_of_both _ _ (kind_lines o nk) (entry_lines o nk) c.in-Err.ensures.some
+    let rest = entry_lines o nk ++ (region_lines nk nk.ledger.book.regions ++ log_lines 0 nk.ledger.log) in
+    prefix_of_both _ _ (kind_lines o nk) rest c.in-Err.ensures.some

@@ -11,7 +11,7 @@ returns-then-is_table_now-clause-all g c =
     let o : Opening = record { image = c.args.image.now; frames = c.args.layout.now.frames } in
     let books = c.args.kernel.now in
     subst (λ l. OnOk c.put_table.result (Appends (g.O.Sink.taken c.args.sink.now) (g.O.Sink.taken c.put_table.new.sink) l))
-    (table_lines o books.frames.kinds books.root c.args.mem.now c.args.frame (sym c.is_table_now.ensures ∙ c.if-is_table_now.true))
+    (table_lines o books.frames.kinds books.root books.ledger c.args.mem.now c.args.frame (sym c.is_table_now.ensures ∙ c.if-is_table_now.true))
     c.put_table.ensures.all
 
 pub returns-then-is_table_now-clause-some : goal.returns-then-is_table_now-clause-some
@@ -19,7 +19,7 @@ returns-then-is_table_now-clause-some g c =
     let o : Opening = record { image = c.args.image.now; frames = c.args.layout.now.frames } in
     let books = c.args.kernel.now in
     subst (λ l. OnErr c.put_table.result (AppendsPrefix (g.O.Sink.taken c.args.sink.now) (g.O.Sink.taken c.put_table.new.sink) l))
-    (table_lines o books.frames.kinds books.root c.args.mem.now c.args.frame (sym c.is_table_now.ensures ∙ c.if-is_table_now.true))
+    (table_lines o books.frames.kinds books.root books.ledger c.args.mem.now c.args.frame (sym c.is_table_now.ensures ∙ c.if-is_table_now.true))
     c.put_table.ensures.some
 
 pub returns-else-is_table_now-clause-all : goal.returns-else-is_table_now-clause-all
@@ -28,5 +28,5 @@ returns-else-is_table_now-clause-all g c =
     let books = c.args.kernel.now in
     let taken = g.O.Sink.taken c.args.sink.now in
     subst (Appends taken taken)
-    (no_table_lines o books.frames.kinds books.root c.args.mem.now c.args.frame (sym c.is_table_now.ensures ∙ c.if-is_table_now.false))
+    (no_table_lines o books.frames.kinds books.root books.ledger c.args.mem.now c.args.frame (sym c.is_table_now.ensures ∙ c.if-is_table_now.false))
     (Appends-nil taken)

@@ -1,0 +1,11 @@
+use Rattle.std.proofs.Common.{ap, refl}
+use Rattle.nk_body.specs.NestedRecord.{nested_by}
+use Rattle.nk_run.specs.ClosingSection.{log_lines, region_lines}
+use Rattle.nk_run.proofs.Texts.{cut_behind}
+use Rattle.nk_run.proofs.ledger_lines.put_ledger.Goals as goal
+
+pub returns-in-Ok-clause-some : goal.returns-in-Ok-clause-some
+returns-in-Ok-clause-some g c =
+    let books = c.args.kernel.now in
+    cut_behind c.put_log.result _ _ _ _ (region_lines (nested_by books c.args.mem.now) books.ledger.book.regions) _ (log_lines 0 books.ledger.log) refl
+    (ap (log_lines 0) c.log.ensures) c.in-Ok.ensures.all c.put_log.ensures.some
