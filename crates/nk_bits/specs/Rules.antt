@@ -1,5 +1,5 @@
--- The numbers of the rules, which are the answers to calls that break them.
-use Rattle.std.specs.Prelude.{ℕ}
+-- The rule that an answer names, and the numbers of the rules, which are the answers to calls that break them.
+use Rattle.std.specs.Prelude.{ℕ, Option, None, Some, Result, Ok, Err}
 use Rattle.nk_bits.specs.declared.rule.Rule.{Rule}
 use Rattle.nk_bits.specs.declared.rule.Rule.TheVariants.{BadCall, BadFrame, BadLevel, NotData, StillLoose, NotTable, BadIndex, KernelSlot, BadBits, BadTarget, TooFree, StillLinked, NotEmpty, NotRoot, BadRange, BadPolicy, TooManyRegions, NoRoom, BadRegion, NotAllocated, OutOfBounds, BadSource, NoWrite, WrittenOnce, NotAtEnd, LogFull, NotCanonical}
 
@@ -32,3 +32,8 @@ number_of WrittenOnce = 24
 number_of NotAtEnd = 25
 number_of LogFull = 26
 number_of NotCanonical = 27
+
+-- the rule that an answer names
+abbrev pub rule_of : {A : Type 0} → Result A Rule → Option Rule
+rule_of (Ok answer) = None
+rule_of (Err rule) = Some rule

@@ -13,7 +13,8 @@ use Rattle.nk_bits.specs.Paging.{is_canonical}
 use Rattle.page_desc.specs.PageTables.{AreDescribed, HoldsSoundTables, Tables}
 use Rattle.region_book.specs.RegionRecords.{Book, Region}
 use Rattle.write_log.specs.LogRecords.{LogRecord}
-use Rattle.table_rules.specs.ValueRules.{broken, rule_of}
+use Rattle.nk_bits.specs.Rules.{rule_of}
+use Rattle.table_rules.specs.ValueRules.{broken}
 use Rattle.vmmu.specs.declared.tables.Tables4.{Tables4}
 use Rattle.nk_body.specs.NestedRecord.{AreBooks, Books, IsKept, Ledger, Nested, handler_in, nested_by, nested_in}
 use Rattle.nk_body.specs.CallRules.{Sourced, made, stand_of, verdict, written}

@@ -10,7 +10,7 @@ use Rattle.page_desc.specs.FrameDescriptors.{Descriptors}
 use Rattle.page_desc.specs.PageTables.{AreDescribed, HoldsSoundTables, loose_of, tables_in}
 use Rattle.region_book.specs.RegionCalls.{added, declare_rule, frames_from, guarded, mapped, page_region}
 use Rattle.region_book.specs.RegionRecords.{Book}
-use Rattle.table_rules.specs.ValueRules.{rule_of}
+use Rattle.nk_bits.specs.Rules.{rule_of}
 use Rattle.vmmu.specs.declared.tables.Tables4.{Tables4}
 use Rattle.write_log.specs.LogRecords.{LogRecord}
 use Rattle.nk_body.specs.CallMade.{IsMade}

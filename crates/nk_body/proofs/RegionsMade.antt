@@ -15,7 +15,7 @@ use Rattle.policy_book.specs.PolicyRules.{book_written, bounds_of, first_rule, l
 use Rattle.region_book.specs.declared.regions.Granted.{Granted}
 use Rattle.region_book.specs.RegionCalls.{added, alloc_rule, declare_rule, else_rule, fits_in, fits_region, free_rule, freed, frames_from, guarded, mapped, page_region, pool_region, room}
 use Rattle.region_book.specs.RegionRecords.{Book, Region, pool_start, region_of, region_stores}
-use Rattle.table_rules.specs.ValueRules.{rule_of}
+use Rattle.nk_bits.specs.Rules.{rule_of}
 use Rattle.vmmu.specs.declared.tables.Tables4.{Tables4}
 use Rattle.write_log.specs.LogRecords.{LogRecord}
 use Rattle.nk_body.specs.CallMade.{IsMade}

@@ -3,7 +3,7 @@
 ghost use Rattle.std.specs.Prelude.{◌≡◌, ◌==◌, ◌+◌, ◌*◌, ◌<◌, ◌≤◌, All, IfSome, OnErr, OnOk, None, Some, length, true};
 ghost use Rattle.std.specs.Option.{option_map};
 ghost use Rattle.phys_mem.specs.Memory.{stored};
-ghost use Rattle.table_rules.specs.ValueRules.{rule_of};
+ghost use Rattle.nk_bits.specs.Rules.{rule_of};
 ghost use Rattle.policy_book.specs.PolicyRules.{book_written, log_written, policy_of, stores_written, write_rule};
 ghost use Rattle.region_book.specs.RegionCalls.{fits_in};
 ghost use Rattle.region_book.specs.RegionRecords.{IsBook, region_of, shown};

@@ -6,7 +6,7 @@ ghost use Rattle.phys_mem.specs.Memory.{entry_in};
 ghost use Rattle.nk_bits.specs.Kinds.{is_data, kind_of};
 ghost use Rattle.region_book.specs.RegionCalls.{declare_rule, frames_from, frames_rule, guarded, has_twice, is_bad_range, is_policy, mapped};
 ghost use Rattle.region_book.specs.RegionRecords.{Book};
-ghost use Rattle.table_rules.specs.ValueRules.{rule_of};
+ghost use Rattle.nk_bits.specs.Rules.{rule_of};
 
 use nk_bits::{Kind, Rule, canonical};
 use page_desc::Frames;

@@ -2,7 +2,7 @@
 
 ghost use Rattle.std.specs.Prelude.{◌≡◌, ◌<◌, ◌≤◌, ◌+◌, ◌-◌, ◌*◌, ◌/◌, ◌^◌, ◌==◌, ◌&&◌, ◌||◌, not, filter, nat_le, nat_lt, slice_index_or, slice_set, All, IfNone, IfOk, IfSome, IsSome, List, Bool, OnErr, OnOk, Some, None, [], length, option_map, replicate, slice_get, slice_index, false, true, vec_capacity, take};
 ghost use Rattle.phys_mem.specs.Memory.{byte_at, entry_in, stored};
-ghost use Rattle.table_rules.specs.ValueRules.{rule_of};
+ghost use Rattle.nk_bits.specs.Rules.{rule_of};
 ghost use Rattle.region_book.specs.RegionCalls.{added, alloc_rule, declare_rule, fits_in, frames_from, free_rule, freed, guarded, is_policy, is_taken, mapped, page_region, pool_region, room};
 ghost use Rattle.region_book.specs.RegionRecords.{IsBook, byte_place, is_written_in, marked, pool_start, region_of, region_stores, shown, with_region};
 ghost use Rattle.region_book.specs.declared.row.Row.{Row};

@@ -1,5 +1,5 @@
 -- Which rule a value breaks that is to stand in a page table: the first of a list.
-use Rattle.std.specs.Prelude.{ℕ, ◌+◌, Bool, not, ◌&&◌, ◌==◌, nat_lt, if◌then◌else◌, List, length, Option, None, Some, Result, Ok, Err}
+use Rattle.std.specs.Prelude.{ℕ, ◌+◌, Bool, not, ◌&&◌, ◌==◌, nat_lt, if◌then◌else◌, List, length, Option, None, Some}
 use Rattle.nk_bits.specs.declared.kind.Kind.{Kind}
 use Rattle.nk_bits.specs.declared.rule.Rule.{Rule}
 use Rattle.nk_bits.specs.declared.rule.Rule.TheVariants.{BadBits, BadTarget, TooFree}
@@ -10,11 +10,6 @@ use Rattle.nk_bits.specs.Paging.{frame_of, is_present, rights_of}
 -- the rule is the first that is broken, where this is so, and else one of the later rules, if any
 abbrev pub broken : Bool → Rule → Option Rule → Option Rule
 broken is_broken rule later = if is_broken then Some rule else later
-
--- the rule that an answer names
-abbrev pub rule_of : {A : Type 0} → Result A Rule → Option Rule
-rule_of (Ok answer) = None
-rule_of (Err rule) = Some rule
 
 -- the value names a frame in memory: at level 1 one that isn't hidden, above it a table of the next lower level
 abbrev pub is_target : List Kind → ℕ → ℕ → Bool

@@ -4,7 +4,8 @@ ghost use Rattle.std.specs.Prelude.{◌≡◌, ◌≤◌, ◌==◌, ◌/◌, ◌
 ghost use Rattle.nk_bits.specs.EntryForms.{has_form, has_leaf_form, has_table_form};
 ghost use Rattle.nk_bits.specs.Kinds.{allows, is_hidden, kind_of, level_of};
 ghost use Rattle.nk_bits.specs.Paging.{frame_of, is_present, rights_of};
-ghost use Rattle.table_rules.specs.ValueRules.{is_target, rule_of, value_rule};
+ghost use Rattle.nk_bits.specs.Rules.{rule_of};
+ghost use Rattle.table_rules.specs.ValueRules.{is_target, value_rule};
 
 use nk_bits::{Entry, Kind, Rights, Rule};
 use page_desc::Frames;

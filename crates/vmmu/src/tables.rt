@@ -4,7 +4,7 @@ ghost use Rattle.std.specs.Prelude.{◌≡◌, ◌<◌, ℕ, List, None, OnErr, 
 ghost use Rattle.nk_bits.specs.declared.kind.Kind.TheVariants.{Data, Table};
 ghost use Rattle.page_desc.specs.FrameDescriptors.{last_value};
 ghost use Rattle.page_desc.specs.PageTables.{AreDescribed, tables_in};
-ghost use Rattle.table_rules.specs.ValueRules.{rule_of};
+ghost use Rattle.nk_bits.specs.Rules.{rule_of};
 ghost use Rattle.vmmu.specs.TableCalls.{declare_rule, entry_rule, memory_declared, memory_removed, memory_written, remove_rule, root_rule};
 
 use crate::judges::{entry, judge_declare, judge_remove, judge_root, judge_write, level_at};

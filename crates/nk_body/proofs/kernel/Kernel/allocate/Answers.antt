@@ -1,5 +1,5 @@
 use Rattle.std.proofs.Common.{◌≡◌, refl, sym, ap, subst, ◌∙◌}
-use Rattle.table_rules.specs.ValueRules.{rule_of}
+use Rattle.nk_bits.specs.Rules.{rule_of}
 use Rattle.nk_body.specs.NestedRecord.{AreBooks, Books}
 use Rattle.nk_body.proofs.CallsMade.{are_before, books_of, made_as}
 use Rattle.nk_body.proofs.RegionsMade.{pool_made}

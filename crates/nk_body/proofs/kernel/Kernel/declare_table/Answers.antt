@@ -1,5 +1,5 @@
 use Rattle.std.proofs.Common.{◌≡◌, ℕ, refl, sym, ap, subst, ◌∙◌}
-use Rattle.table_rules.specs.ValueRules.{rule_of}
+use Rattle.nk_bits.specs.Rules.{rule_of}
 use Rattle.nk_body.specs.NestedRecord.{AreBooks, Books}
 use Rattle.nk_body.proofs.GuardedStays.{declared_stays}
 use Rattle.nk_body.proofs.CallNumbers.{made_is, number_2, verdict_is, written_2}

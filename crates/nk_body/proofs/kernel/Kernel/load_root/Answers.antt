@@ -1,5 +1,5 @@
 use Rattle.std.proofs.Common.{◌≡◌, ℕ, refl, sym, ap, subst, ◌∙◌}
-use Rattle.table_rules.specs.ValueRules.{rule_of}
+use Rattle.nk_bits.specs.Rules.{rule_of}
 use Rattle.nk_body.specs.NestedRecord.{AreBooks, Books}
 use Rattle.page_desc.specs.FrameDescriptors.{Descriptors}
 use Rattle.nk_body.proofs.CallNumbers.{made_is, number_5, verdict_is, written_5}
