@@ -1,3 +1,4 @@
+pub mod FetchFaults
 pub mod Fetches
 pub mod LongerCode
 pub mod PageFetches

@@ -11,9 +11,8 @@ use Rattle.x86_regs.specs.declared.effects.Effect.{Effect}
 use Rattle.x86_regs.specs.declared.faults.Fault.{Fault}
 use Rattle.x86_regs.specs.declared.registers.Regs.{Regs}
 use Rattle.x86_regs.specs.Effects.{IfDelivered, LeavesToDelivery, effect_with}
-use Rattle.cpu_step.specs.declared.stepped.Stepped.TheVariants as stepped
 use Rattle.cpu_step.specs.Processor.{IsSound, Processor, deliverable}
-use Rattle.cpu_step.specs.Turns.{acted, enters_body, instructed, instruction_made, is_at_body, memory_after, raised, refused_body, turned, turned_by, turned_to, turned_unless}
+use Rattle.cpu_step.specs.Turns.{acted, instructed, instruction_made, is_at_body, memory_after, raised, refused_body, turned, turned_by, turned_unless}
 
 -- the frames that translations name lie in memory still when one goes, and when one comes whose frame does
 pub within_dropped : (size : ℕ) (tlb : Translations) (page : ℕ) → NamesFramesIn size tlb → NamesFramesIn size (dropped tlb page)

@@ -23,7 +23,11 @@ mod events;
 mod processor;
 mod turn;
 
+// What follows from the definitions.
+mod laws;
+
 pub use fetch::Fetched;
+pub use laws::fetch_law;
 pub use processor::{Cpu, NoMemory};
 pub use stepped::Stepped;
 

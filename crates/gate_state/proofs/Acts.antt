@@ -1,7 +1,7 @@
 -- What an instruction asks of the processor keeps what a turn keeps: with WP set, where no control register and no table
 -- is loaded.
-use Rattle.std.proofs.Common.{◌≡◌, ◌⊎◌, ℕ, ◌+◌, ◌*◌, ◌<◌, Bool, true, false, List, refl, sym, subst, inl, inr}
-use Rattle.std.specs.Prelude.{Option, None, Some, Result, Ok, Err, not, ◌==◌, ◌&&◌, if◌then◌else◌}
+use Rattle.std.proofs.Common.{◌≡◌, ◌⊎◌, ℕ, ◌+◌, ◌*◌, ◌<◌, Bool, true, false, List, refl, sym, subst, arith, inl, inr}
+use Rattle.std.specs.Prelude.{IfSome, Option, None, Some, Result, Ok, Err, not, ◌==◌, ◌&&◌, if◌then◌else◌}
 use Rattle.std.proofs.lemmas.Bool.{and_parts}
 use Rattle.std.proofs.lemmas.List.Elements.{All-filter}
 use Rattle.nk_bits.specs.declared.kind.Kind.{Kind}
@@ -17,7 +17,7 @@ use Rattle.x86_regs.specs.declared.effects.Act.{Act}
 use Rattle.x86_regs.specs.declared.effects.Act.TheVariants as act
 use Rattle.x86_regs.specs.declared.faults.Fault.TheVariants as fault
 use Rattle.x86_regs.specs.declared.registers.Regs.{Regs}
-use Rattle.x86_regs.specs.EffectsKept.{AreRegisters, LoadsNothing}
+use Rattle.x86_regs.specs.EffectsKept.{AreRegisters, IsSmallAct, LoadsNothing}
 use Rattle.trap_unit.specs.declared.shutdown.Shut.{Shut}
 use Rattle.trap_unit.specs.TrapDelivery.{interrupt_allowed}
 use Rattle.trap_unit.specs.TrapReturn.{at_return, may_return, returned, selector}
@@ -38,6 +38,7 @@ pub with_registers : (o : Opening) (ks : List Kind) (p : Processor) (m : List �
 with_registers o ks p m regs ready are cpl = record {
   control = record {
     cr0 = ready.control.cr0;
+    cr2 = ready.control.cr2;
     cr4 = ready.control.cr4;
     efer = ready.control.efer;
     tables = ready.control.tables;
@@ -55,6 +56,7 @@ pub with_translations : (o : Opening) (ks : List Kind) (p : Processor) (m : List
 with_translations o ks p m tlb ready pass = record {
   control = record {
     cr0 = ready.control.cr0;
+    cr2 = ready.control.cr2;
     cr4 = ready.control.cr4;
     efer = ready.control.efer;
     tables = ready.control.tables;
@@ -66,6 +68,15 @@ with_translations o ks p m tlb ready pass = record {
   pass = pass;
 }
 
+-- the console takes a byte
+console_small : (port byte : ℕ) → byte < 256 → IfSome (console_byte port byte) (λ b. b < 256)
+unfolding console_byte
+console_small port byte small = choice (port == 0xE9)
+  where
+    choice : (b : Bool) → IfSome (if b then Some byte else None) (λ b. b < 256)
+    choice true = small
+    choice false = tt
+
 -- an entry of a choice
 pub chosen : {A : Type 0} (b : Bool) (x y z : A) → (if b then x else y) ≡ z → ((b ≡ true) × (x ≡ z)) ⊎ ((b ≡ false) × (y ≡ z))
 chosen true x y z e = inl (refl, e)
@@ -73,9 +84,11 @@ chosen false x y z e = inr (refl, e)
 
 module _ (o : Opening) (ks : List Kind) (facts : TurnFacts o ks) (storable : is_storable (kind_of ks 3) ≡ true) where
   -- a byte that goes to the console, or is lost
-  shown_kept : (wp : Bool) (byte : Option ℕ) (p : Processor) (m : List ℕ) → IsReady o ks p m → wp_of p.control.cr0 ≡ true → Kept o ks wp p.control.root m (shown byte p m)
-  shown_kept wp None p m ready set = ran_kept o ks wp p m ready (set_never o ks facts storable (wp_of p.control.cr0) set)
-  shown_kept wp (Some byte) p m ready set =
+  shown_kept : (wp : Bool) (byte : Option ℕ) (p : Processor) (m : List ℕ) → IfSome byte (λ b. b < 256)
+      → IsReady o ks p m → wp_of p.control.cr0 ≡ true → Kept o ks wp p.control.root m (shown byte p m)
+  shown_kept wp None p m small ready set =
+      ran_kept o ks wp p m ready (set_never o ks facts storable (wp_of p.control.cr0) set)
+  shown_kept wp (Some byte) p m small ready set =
       let kept : Kept o ks wp p.control.root m (ran p m) = ran_kept o ks wp p m ready (set_never o ks facts storable (wp_of p.control.cr0) set) in
       record {
         control = kept.control;
@@ -83,6 +96,7 @@ module _ (o : Opening) (ks : List Kind) (facts : TurnFacts o ks) (storable : is_
         pass = kept.pass;
         window = kept.window;
         runs = λ e. absurd (cc);
+        shows = small;
         stores = kept.stores;
         memory_is = kept.memory_is;
         are = kept.are;
@@ -91,14 +105,17 @@ module _ (o : Opening) (ks : List Kind) (facts : TurnFacts o ks) (storable : is_
 
   -- an interrupt by an instruction
   interrupted_kept : (wp : Bool) (allowed : Result Bool Shut) (vector : ℕ) (before : Regs) (p : Processor) (m : List ℕ)
-      → (allowed ≡ Ok false) ⊎ ((allowed ≡ Ok true) × (vector < 48)) → IsReady o ks p m → IsReady o ks (record p { regs = before }) m → wp_of p.control.cr0 ≡ true
+      → vector < 256 → (allowed ≡ Ok false) ⊎ ((allowed ≡ Ok true) × (vector < 48))
+      → IsReady o ks p m → IsReady o ks (record p { regs = before }) m → wp_of p.control.cr0 ≡ true
       → Kept o ks wp p.control.root m (interrupted_by allowed vector before p m)
-  interrupted_kept wp allowed vector before p m (inl refused) ready old set =
+  interrupted_kept wp allowed vector before p m few (inl refused) ready old set =
       subst (λ (a : Result Bool Shut). Kept o ks wp p.control.root m (interrupted_by a vector before p m)) (sym refused)
-      (raise_kept o ks facts storable wp (record p { regs = before }) m (fault.General (8 * vector + 2)) old set)
-  interrupted_kept wp allowed vector before p m (inr asked) ready old set =
+      (raise_kept o ks facts storable wp (record p { regs = before }) m (fault.General (8 * vector + 2))
+      (omega (arith, few)) old set)
+  interrupted_kept wp allowed vector before p m few (inr asked) ready old set =
       subst (λ (a : Result Bool Shut). Kept o ks wp p.control.root m (interrupted_by a vector before p m)) (sym asked.0)
-      (trap_kept o ks facts storable wp p m vector None ready asked.1 (set_never o ks facts storable (wp_of p.control.cr0) set))
+      (trap_kept o ks facts storable wp p m vector None ready asked.1 tt
+      (set_never o ks facts storable (wp_of p.control.cr0) set))
 
   -- a return: the CPL is 3, or 0
   returns_ok : (wp : Bool) (regs before : Regs) (frame : Frame) (p : Processor) (m : List ℕ) → IsReady o ks p m → IsReady o ks (record p { regs = before }) m
@@ -117,54 +134,86 @@ module _ (o : Opening) (ks : List Kind) (facts : TurnFacts o ks) (storable : is_
           → Kept o ks wp p.control.root m (returned_by (if b then Ok after else Err (fault.General 0)) before p m)
       return_choice wp true after before p m ready old set is =
           ran_kept o ks wp (record p { regs = after }) m (with_registers o ks p m after ready (is refl).0 (is refl).1) (set_never o ks facts storable (wp_of p.control.cr0) set)
-      return_choice wp false after before p m ready old set is = raise_kept o ks facts storable wp (record p { regs = before }) m (fault.General 0) old set
+      return_choice wp false after before p m ready old set is =
+          raise_kept o ks facts storable wp (record p { regs = before }) m (fault.General 0) (omega arith) old set
 
   -- the translation of a page that goes
   dropped_pass : (tlb : Translations) (page : ℕ) → AllPass (respects o ks) tlb → AllPass (respects o ks) (dropped tlb page)
   dropped_pass tlb page pass = All-filter (λ pair. not (pair.0 == page)) (λ (pair : ℕ × Leaf). respects o ks pair ≡ true) tlb pass
 
   -- any act that loads neither a control register nor a table
-  pub act_kept : (wp : Bool) (a : Act) (before : Regs) (p : Processor) (m : List ℕ) → LoadsNothing a → IsReady o ks p m → IsReady o ks (record p { regs = before }) m
+  pub act_kept : (wp : Bool) (a : Act) (before : Regs) (p : Processor) (m : List ℕ) → LoadsNothing a → IsSmallAct a
+      → IsReady o ks p m → IsReady o ks (record p { regs = before }) m
       → wp_of p.control.cr0 ≡ true → Kept o ks wp p.control.root m (acted a before p m)
-  act_kept wp act.Quiet before p m calm ready old set = ran_kept o ks wp p m ready (set_never o ks facts storable (wp_of p.control.cr0) set)
-  act_kept wp (act.Out byte port) before p m calm ready old set = shown_kept wp (console_byte port byte) p m ready set
-  act_kept wp (act.In port) before p m calm ready old set =
+  act_kept wp act.Quiet before p m calm small ready old set =
+      ran_kept o ks wp p m ready (set_never o ks facts storable (wp_of p.control.cr0) set)
+  act_kept wp (act.Out byte port) before p m calm small ready old set =
+      shown_kept wp (console_byte port byte) p m (console_small port byte small) ready set
+  act_kept wp (act.In port) before p m calm small ready old set =
       let q : Processor = record p { regs = with_al p.regs (byte_from p.input port); input = input_after p.input port } in
       let now : IsReady o ks (record p { regs = with_al p.regs (byte_from p.input port) }) m = with_registers o ks p m (with_al p.regs (byte_from p.input port)) ready (al_registers p.regs (byte_from p.input port) ready.control.registers) ready.control.cpl in
       ran_kept o ks wp q m
       (record {
-        control = record { cr0 = now.control.cr0; cr4 = now.control.cr4; efer = now.control.efer; tables = now.control.tables; cpl = now.control.cpl; registers = now.control.registers; pending = now.control.pending };
+        control = record {
+          cr0 = now.control.cr0;
+          cr2 = now.control.cr2;
+          cr4 = now.control.cr4;
+          efer = now.control.efer;
+          tables = now.control.tables;
+          cpl = now.control.cpl;
+          registers = now.control.registers;
+          pending = now.control.pending;
+        };
         scene = now.scene;
         pass = now.pass;
       })
       (set_never o ks facts storable (wp_of p.control.cr0) set)
-  act_kept wp act.Halt before p m calm ready old set =
+  act_kept wp act.Halt before p m calm small ready old set =
       ran_kept o ks wp (record p { halted = true }) m
       (record {
-        control = record { cr0 = ready.control.cr0; cr4 = ready.control.cr4; efer = ready.control.efer; tables = ready.control.tables; cpl = ready.control.cpl; registers = ready.control.registers; pending = ready.control.pending };
+        control = record {
+          cr0 = ready.control.cr0;
+          cr2 = ready.control.cr2;
+          cr4 = ready.control.cr4;
+          efer = ready.control.efer;
+          tables = ready.control.tables;
+          cpl = ready.control.cpl;
+          registers = ready.control.registers;
+          pending = ready.control.pending;
+        };
         scene = ready.scene;
         pass = ready.pass;
       })
       (set_never o ks facts storable (wp_of p.control.cr0) set)
-  act_kept wp act.Enable before p m calm ready old set =
+  act_kept wp act.Enable before p m calm small ready old set =
       ran_kept o ks wp (record p { shielded = true }) m
       (record {
-        control = record { cr0 = ready.control.cr0; cr4 = ready.control.cr4; efer = ready.control.efer; tables = ready.control.tables; cpl = ready.control.cpl; registers = ready.control.registers; pending = ready.control.pending };
+        control = record {
+          cr0 = ready.control.cr0;
+          cr2 = ready.control.cr2;
+          cr4 = ready.control.cr4;
+          efer = ready.control.efer;
+          tables = ready.control.tables;
+          cpl = ready.control.cpl;
+          registers = ready.control.registers;
+          pending = ready.control.pending;
+        };
         scene = ready.scene;
         pass = ready.pass;
       })
       (set_never o ks facts storable (wp_of p.control.cr0) set)
-  act_kept wp (act.Interrupt vector) before p m calm ready old set =
+  act_kept wp (act.Interrupt vector) before p m calm small ready old set =
       let allowed : Outcome Shut Bool = interrupt_allowed p.control p.tables p.regs.cpl vector m p.tlb in
       let asked : IsAsked o ks vector allowed = facts.asks m p.control p.tables p.regs.cpl vector p.tlb ready.scene ready.control.tables ready.pass in
-      interrupted_kept wp allowed.answer vector before (record p { tlb = allowed.tlb }) m asked.answered
+      interrupted_kept wp allowed.answer vector before (record p { tlb = allowed.tlb }) m small asked.answered
       (with_translations o ks p m allowed.tlb ready asked.pass) (with_translations o ks (record p { regs = before }) m allowed.tlb old asked.pass) set
-  act_kept wp (act.Return frame) before p m calm ready old set = returns_ok wp p.regs before frame p m ready old set ready.control.registers
-  act_kept wp (act.Cr0 value) before p m calm ready old set = absurd calm
-  act_kept wp (act.Cr2 value) before p m calm ready old set = absurd calm
-  act_kept wp (act.Cr3 value) before p m calm ready old set = absurd calm
-  act_kept wp (act.Cr4 value) before p m calm ready old set = absurd calm
-  act_kept wp (act.Idt base limit) before p m calm ready old set = absurd calm
-  act_kept wp (act.DropPage page) before p m calm ready old set =
+  act_kept wp (act.Return frame) before p m calm small ready old set =
+      returns_ok wp p.regs before frame p m ready old set ready.control.registers
+  act_kept wp (act.Cr0 value) before p m calm small ready old set = absurd calm
+  act_kept wp (act.Cr2 value) before p m calm small ready old set = absurd calm
+  act_kept wp (act.Cr3 value) before p m calm small ready old set = absurd calm
+  act_kept wp (act.Cr4 value) before p m calm small ready old set = absurd calm
+  act_kept wp (act.Idt base limit) before p m calm small ready old set = absurd calm
+  act_kept wp (act.DropPage page) before p m calm small ready old set =
       ran_kept o ks wp (record p { tlb = dropped p.tlb page }) m (with_translations o ks p m (dropped p.tlb page) ready (dropped_pass p.tlb page ready.pass))
       (set_never o ks facts storable (wp_of p.control.cr0) set)

@@ -1,6 +1,6 @@
 -- The body keeps the invariant: a call leaves what no call changes and keeps the tables sound, and the supervisor
 -- stands behind the body.
-use Rattle.std.proofs.Common.{◌≡◌, ◌≢◌, ℕ, ◌+◌, ◌/◌, ◌≤◌, Bool, true, false, List, refl, sym, ap, subst, ◌∙◌, arith}
+use Rattle.std.proofs.Common.{◌≡◌, ℕ, ◌+◌, ◌/◌, ◌≤◌, Bool, true, false, List, refl, sym, ap, subst, ◌∙◌, arith}
 use Rattle.std.specs.Prelude.{IfSome, Option, None, Some, not, ◌==◌, if◌then◌else◌}
 use Rattle.std.proofs.lemmas.Bool.{and_parts, eqb-true, false≢true}
 use Rattle.std.proofs.lemmas.List.Elements.{All-nil}
@@ -178,6 +178,7 @@ body_guarded laws o admitted s enters guarded =
     record {
       control = record {
         cr0 = guarded.control.cr0;
+        cr2 = guarded.control.cr2;
         cr4 = guarded.control.cr4;
         efer = guarded.control.efer;
         tables = guarded.control.tables;

@@ -3,7 +3,6 @@ use Rattle.std.proofs.Common.{◌≡◌, ◌≢◌, ℕ, ◌^◌, ◌<◌, true,
 use Rattle.std.specs.Prelude.{IfSome, Option, None, Some, not, ◌==◌, slice_index}
 use Rattle.std.proofs.lemmas.Bool.{and_from, eq-eqb}
 use Rattle.nk_bits.specs.declared.call.Answer.{Answer}
-use Rattle.nk_bits.specs.declared.call.CallWords.{CallWords}
 use Rattle.nk_bits.specs.Accesses.{wp_of}
 use Rattle.x86_regs.specs.declared.registers.Regs.{Regs}
 use Rattle.x86_regs.specs.Operands.{rdx, with_register}
@@ -11,7 +10,7 @@ use Rattle.nk_body.specs.NestedRecord.{Nested}
 use Rattle.cpu_step.specs.Processor.{Processor}
 use Rattle.cpu_step.specs.Turns.{enters_body, is_at_body}
 use Rattle.gate_state.specs.GuardedStates.{IsGuarded}
-use Rattle.gate_state.specs.MachineStates.{MachineState, Opening, nested_of}
+use Rattle.gate_state.specs.MachineStates.{MachineState, Opening}
 use Rattle.gate_state.specs.MachineSteps.{answer_in, call_in, served, source_of, with_place}
 use Rattle.gate_state.proofs.LowerLaws.{LowerLaws}
 use Rattle.gate_state.proofs.CallThroughStages.{IsAt, IsGoing, Rereading, Serving}

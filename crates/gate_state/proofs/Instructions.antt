@@ -20,7 +20,7 @@ use Rattle.x86_regs.specs.declared.effects.Effect.{Effect}
 use Rattle.x86_regs.specs.declared.effects.Write.{Write}
 use Rattle.x86_regs.specs.declared.registers.Regs.{Regs}
 use Rattle.x86_regs.specs.Effects.{effect_of}
-use Rattle.x86_regs.specs.EffectsKept.{AreRegisters, IsGranted, LoadsNothing}
+use Rattle.x86_regs.specs.EffectsKept.{AreRegisters, IsGranted, IsSmallAct, LoadsNothing}
 use Rattle.cpu_step.specs.declared.fetch.Fetched.{Fetched}
 use Rattle.cpu_step.specs.Processor.{Processor}
 use Rattle.cpu_step.specs.Turns.{acted, kept_in_cr0, memory_after}
@@ -70,7 +70,16 @@ module _ (laws : LowerLaws) (o : Opening) (ks : List Kind) (scenes : SceneLaws o
   -- a processor whose CR0 is another of the six values
   with_cr0 : (p : Processor) (m : List ℕ) (cr0 : ℕ) → IsReady o ks p m → IsCr0 cr0 → IsReady o ks (record p { control = record p.control { cr0 = cr0 } }) m
   with_cr0 p m cr0 ready is = record {
-    control = record { cr0 = is; cr4 = ready.control.cr4; efer = ready.control.efer; tables = ready.control.tables; cpl = ready.control.cpl; registers = ready.control.registers; pending = ready.control.pending };
+    control = record {
+      cr0 = is;
+      cr2 = ready.control.cr2;
+      cr4 = ready.control.cr4;
+      efer = ready.control.efer;
+      tables = ready.control.tables;
+      cpl = ready.control.cpl;
+      registers = ready.control.registers;
+      pending = ready.control.pending;
+    };
     scene = record { admitted = ready.scene.admitted; kinds_are = ready.scene.kinds_are; memory = ready.scene.memory; tables = ready.scene.tables; smep = ready.scene.smep };
     pass = ready.pass;
   }
@@ -111,7 +120,16 @@ module _ (laws : LowerLaws) (o : Opening) (ks : List Kind) (scenes : SceneLaws o
   behind p m tlb effect ready pass done are =
       let scene : IsScene o ks (memory_after effect.write m) p.control = subst (λ (x : List ℕ). IsScene o ks x p.control) (sym (memory_stored effect.write m)) (scene_stored o ks scenes m p.control (stores_of effect.write) ready.scene are) in
       record {
-        control = record { cr0 = ready.control.cr0; cr4 = ready.control.cr4; efer = ready.control.efer; tables = ready.control.tables; cpl = subst (λ (n : ℕ). (n ≡ 0) ⊎ (n ≡ 3)) (sym done.cpl) ready.control.cpl; registers = done.registers; pending = ready.control.pending };
+        control = record {
+          cr0 = ready.control.cr0;
+          cr2 = ready.control.cr2;
+          cr4 = ready.control.cr4;
+          efer = ready.control.efer;
+          tables = ready.control.tables;
+          cpl = subst (λ (n : ℕ). (n ≡ 0) ⊎ (n ≡ 3)) (sym done.cpl) ready.control.cpl;
+          registers = done.registers;
+          pending = ready.control.pending;
+        };
         scene = scene;
         pass = pass;
       }
@@ -159,7 +177,10 @@ module _ (laws : LowerLaws) (o : Opening) (ks : List Kind) (scenes : SceneLaws o
           → Kept o ks true p.control.root (memory_after effect.write m) (acted effect.act p.regs (record p { regs = effect.regs; tlb = after }) (memory_after effect.write m))
       by_op false calm now =
           act_kept o ks facts storable true effect.act p.regs (record p { regs = effect.regs; tlb = after }) (memory_after effect.write m)
-          (ok_at (λ (e : Effect). LoadsNothing e.act) _ effect is (laws.effect.calm it.instr it.size p.regs p.control m tlb calm)) now
+          (ok_at (λ (e : Effect). LoadsNothing e.act) _ effect is
+          (laws.effect.calm it.instr it.size p.regs p.control m tlb calm))
+          (ok_at (λ (e : Effect). IsSmallAct e.act) _ effect is
+          (laws.bound.act it.instr it.size p.regs p.control m tlb)) now
           (with_registers o ks (record p { regs = effect.regs; tlb = after }) (memory_after effect.write m) p.regs now ready.control.registers ready.control.cpl) set
       by_op true protected now =
           let supervisor : p.regs.cpl ≡ 0 = ok_at (λ (e : Effect). p.regs.cpl ≡ 0) _ effect is (laws.effect.supervisor it.instr it.size p.regs p.control m tlb protected) in

@@ -46,6 +46,7 @@ pub mod BodyKept
 pub mod OpeningBytes
 pub mod OpeningGuarded
 pub mod RunsSafe
+pub mod ShownStates
 pub mod MoveLemmas
 pub mod WholeLemmas
 pub mod OpeningWhole

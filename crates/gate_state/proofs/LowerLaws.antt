@@ -1,5 +1,5 @@
 -- What is used of the laws of the crates below, as one record a subject.
-use Rattle.std.specs.Prelude.{◌≡◌, ◌≢◌, ◌⊎◌, ℕ, ◌+◌, ◌*◌, ◌/◌, ◌%◌, ◌^◌, ◌<◌, ◌≤◌, ◌==◌, ◌++◌, Bool, true, false, List, length, slice_index, slice_get, drop, All, IfOk, IfSome, None, Ok}
+use Rattle.std.specs.Prelude.{◌≡◌, ◌≢◌, ◌⊎◌, ℕ, ◌+◌, ◌*◌, ◌/◌, ◌%◌, ◌^◌, ◌<◌, ◌≤◌, ◌==◌, ◌++◌, Bool, true, false, List, length, slice_index, slice_get, drop, All, IfErr, IfOk, IfSome, Ok}
 use Rattle.std.specs.List.{list_any, list_all}
 use Rattle.std.specs.Result.{result_ok}
 use Rattle.decode_fields.specs.Prefixes.{is_prefix, prefix_bytes}
@@ -45,7 +45,8 @@ use Rattle.nk_body.specs.SourceWords.{opening_ledger}
 use Rattle.page_walk.specs.MemoryAccess.{view_of}
 use Rattle.x86_regs.specs.declared.registers.Regs.{Regs}
 use Rattle.x86_regs.specs.Effects.{effect_of}
-use Rattle.x86_regs.specs.EffectsKept.{AreRegisters, IsGranted, LoadsNothing}
+use Rattle.x86_regs.specs.EffectsKept.{AreRegisters, IsGranted, IsSmallAct, IsSmallFault, LoadsNothing}
+use Rattle.cpu_step.specs.InstructionFetch.{instruction_at}
 
 -- a test holds of each translation kept
 abbrev pub AllPass : (ℕ × Leaf → Bool) → Translations → Type 0
@@ -211,6 +212,15 @@ pub record EffectLaws : Type 0 where
       → IfOk (effect_of i size regs control m tlb).answer (λ effect.
       IfSome effect.write (IsGranted (view_of m control regs.cpl) test (length m)))
 
+-- the numbers of faults, and of what an act puts out or asks for
+pub record BoundLaws : Type 0 where
+  pub fetch : (m : List ℕ) (view : View) (rip : ℕ) (tlb : Translations)
+      → IfErr (instruction_at m view rip tlb).answer IsSmallFault
+  pub fault : (i : Instr) (size : ℕ) (regs : Regs) (control : Control) (m : List ℕ) (tlb : Translations)
+      → IsWellFormed i → AreRegisters regs → IfErr (effect_of i size regs control m tlb).answer IsSmallFault
+  pub act : (i : Instr) (size : ℕ) (regs : Regs) (control : Control) (m : List ℕ) (tlb : Translations)
+      → IfOk (effect_of i size regs control m tlb).answer (λ effect. IsSmallAct effect.act)
+
 pub record LowerLaws : Type 0 where
   pub access : AccessLaws
   pub kind : KindLaws
@@ -221,3 +231,4 @@ pub record LowerLaws : Type 0 where
   pub code : CodeLaws
   pub flag : FlagLaws
   pub effect : EffectLaws
+  pub bound : BoundLaws

@@ -83,7 +83,16 @@ module _ (laws : LowerLaws) (o : Opening) (admitted : IsAdmitted o) (entry : ent
   pub opening_guarded : (input : List ℕ) → IsGuarded o (opening_state o input)
   unfolding wp_of
   opening_guarded input = record {
-    control = record { cr0 = inr (inl refl); cr4 = refl; efer = refl; tables = refl; cpl = inl refl; registers = registers; pending = omega arith };
+    control = record {
+      cr0 = inr (inl refl);
+      cr2 = omega arith;
+      cr4 = refl;
+      efer = refl;
+      tables = refl;
+      cpl = inl refl;
+      registers = registers;
+      pending = omega arith;
+    };
     kinds = opening_kinds;
     tables = laws.opening.sound o.image (opening_memory o) o.frames admitted.layout admitted.pages (opening_is o);
     memory = held;

@@ -11,7 +11,9 @@ use Rattle.cpu_step.specs.Turns.{Turned, ran}
 use Rattle.gate_state.specs.GateWindow.{IsGatePoint}
 use Rattle.gate_state.specs.GuardedStates.{IsControlled}
 use Rattle.gate_state.specs.MachineStates.{Opening}
+use Rattle.gate_state.specs.MachineSteps.{shown_by_turn}
 use Rattle.gate_state.specs.RespectedKinds.{respects}
+use Rattle.gate_state.specs.ShownSteps.{IsShown}
 use Rattle.gate_state.proofs.LowerLaws.{AllPass, StoreLaws}
 use Rattle.gate_state.proofs.Scene.{AreStores, IsScene}
 
@@ -27,6 +29,7 @@ pub record Kept (o : Opening) (ks : List Kind) (wp : Bool) (root : ℕ) (m : Lis
   pub pass : AllPass (respects o ks) t.processor.tlb
   pub window : wp_of t.processor.control.cr0 ≡ false → IsGatePoint t.processor
   pub runs : t.stepped ≢ stepped.Shutdown
+  pub shows : IsShown (shown_by_turn t.stepped)
   pub stores : List (ℕ × ℕ)
   pub memory_is : t.memory ≡ stored m stores
   pub are : AreStores ks stores
@@ -52,6 +55,7 @@ kept_behind o ks laws wp root m after ws t is are in_trap kept = record {
   pass = kept.pass;
   window = kept.window;
   runs = kept.runs;
+  shows = kept.shows;
   stores = ws ++ kept.stores;
   memory_is = kept.memory_is ∙ ap (λ (x : List ℕ). stored x kept.stores) is ∙ sym (laws.append m ws kept.stores);
   are = record {
@@ -70,6 +74,7 @@ ran_kept o ks wp p m ready point = record {
   pass = ready.pass;
   window = point;
   runs = λ e. absurd (cc);
+  shows = tt;
   stores = [];
   memory_is = sym (stored_none m);
   are = no_stores ks;

@@ -1,15 +1,14 @@
 -- The source of a call, as it is read: so many bytes or none, each a byte of memory; the translations that it leaves.
-use Rattle.std.proofs.Common.{◌≡◌, ℕ, zero, suc, ◌+◌, ◌/◌, ◌^◌, ◌<◌, ◌≤◌, Bool, true, false, List, [], ◌∷◌, ◌++◌, length, All, refl, sym, ap, subst, ◌∙◌, arith}
-use Rattle.std.specs.Prelude.{IfSome, Option, None, Some, Ok, if◌then◌else◌, ◌&&◌, ◌==◌, nat_le, nat_lt}
+use Rattle.std.proofs.Common.{◌≡◌, ℕ, zero, suc, ◌+◌, ◌/◌, ◌^◌, ◌<◌, Bool, true, false, List, [], ◌∷◌, ◌++◌, length, All, refl, sym, ap, ◌∙◌, arith}
+use Rattle.std.specs.Prelude.{IfSome, Option, None, Some, Ok, if◌then◌else◌, nat_lt}
 use Rattle.std.proofs.lemmas.Bool.{and_parts}
 use Rattle.std.proofs.lemmas.List.{append-nil, append_assoc}
 use Rattle.std.proofs.lemmas.List.Elements.{All-cons, All-nil}
-use Rattle.nk_bits.specs.declared.call.CallWords.{CallWords}
 use Rattle.nk_bits.specs.declared.leaf.Leaf.{Leaf}
 use Rattle.nk_bits.specs.Paging.{is_canonical, page_of, walk}
 use Rattle.nk_bits.specs.Translations.{Translations, look, tlb_after, translation}
-use Rattle.phys_mem.specs.Memory.{IsBytes, byte_at, entry_in}
-use Rattle.nk_body.specs.CallRules.{IsSourceOf, Sourced, bytes_read}
+use Rattle.phys_mem.specs.Memory.{IsBytes, entry_in}
+use Rattle.nk_body.specs.CallRules.{IsSourceOf, bytes_read}
 use Rattle.gate_state.specs.SourceBytes.{SourceRead, byte_by, in_front, is_readable, read_on, source_byte, source_by, source_read, source_tlb, source_with, tlb_by}
 use Rattle.gate_state.proofs.TranslationsKept.{walked_keep}
 

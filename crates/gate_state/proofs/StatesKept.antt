@@ -1,15 +1,15 @@
 -- Each kind of step keeps the invariant, and over it a state is safe.
-use Rattle.std.proofs.Common.{◌≡◌, ◌≢◌, ℕ, ◌+◌, ◌-◌, ◌*◌, ◌/◌, ◌%◌, ◌^◌, ◌<◌, Bool, true, false, List, [], ◌∷◌, ◌++◌, length, All, refl, sym, ap, subst, ◌∙◌, arith, inl, inr}
-use Rattle.std.specs.Prelude.{IfSome, Option, None, Result, Ok, Err, not, ◌==◌, ◌&&◌}
+use Rattle.std.proofs.Common.{◌≡◌, ◌≢◌, ℕ, ◌+◌, ◌-◌, ◌*◌, ◌/◌, ◌%◌, ◌^◌, ◌<◌, Bool, true, false, List, length, All, refl, sym, ap, subst, ◌∙◌, arith, inl, inr}
+use Rattle.std.specs.Prelude.{IfSome, Option, None, not, ◌==◌, ◌&&◌}
 use Rattle.std.proofs.lemmas.Bool.{and_parts, false≢true}
-use Rattle.std.proofs.lemmas.List.Elements.{All-drop, All-filter, All-push, All-weaker}
+use Rattle.std.proofs.lemmas.List.Elements.{All-weaker}
 use Rattle.nk_bits.specs.declared.kind.Kind.{Kind}
 use Rattle.nk_bits.specs.declared.kind.Kind.TheVariants.{Trap}
 use Rattle.nk_bits.specs.declared.leaf.Leaf.{Leaf}
 use Rattle.nk_bits.specs.Accesses.{smep_of, wp_of}
 use Rattle.nk_bits.specs.Kinds.{is_storable, kind_of}
 use Rattle.nk_bits.specs.Paging.{is_canonical, page_of, walk}
-use Rattle.nk_bits.specs.Translations.{IsLive, Translations, capacity, dropped, fill_walked, filled}
+use Rattle.nk_bits.specs.Translations.{IsLive, Translations}
 use Rattle.phys_mem.specs.Memory.{byte_at, entry_in, stored}
 use Rattle.irq_plan.specs.declared.event.What.{What}
 use Rattle.irq_plan.specs.declared.event.What.TheVariants.{Irq, Drop, Fill}
@@ -22,9 +22,10 @@ use Rattle.cpu_step.specs.Turns.{enters_body, is_at_body, turned}
 use Rattle.gate_state.specs.GateWindow.{IsGatePoint}
 use Rattle.gate_state.specs.GuardedStates.{AreKinds, IsAdmitted, IsGuarded, IsHeld}
 use Rattle.gate_state.specs.MachineStates.{MachineState, Opening, nested_of}
-use Rattle.gate_state.specs.MachineSteps.{after_event, after_reading, after_turn, call_in, turn_of, wanted}
+use Rattle.gate_state.specs.MachineSteps.{after_event, after_reading, after_turn, call_in, shown_by_turn, turn_of, wanted}
 use Rattle.gate_state.specs.RespectedKinds.{respects}
 use Rattle.gate_state.specs.SafeStates.{IsSafe, TakesTurn}
+use Rattle.gate_state.specs.ShownSteps.{IsShown}
 use Rattle.gate_state.proofs.LowerLaws.{AllPass, LowerLaws}
 use Rattle.gate_state.proofs.Pending.{pending_changed}
 use Rattle.gate_state.proofs.Ready.{IsReady, Kept}
@@ -103,6 +104,9 @@ module _ (laws : LowerLaws) (o : Opening) (admitted : IsAdmitted o) where
     pub turn_runs : (turn_of s).stepped ≢ stepped.Shutdown
     turn_runs = kept.runs
 
+    pub turn_shows : IsShown (shown_by_turn (turn_of s).stepped)
+    turn_shows = kept.shows
+
     pub turn_places : wp_of s.processor.control.cr0 ≡ false → (place : ℕ) → place / 4096 ≢ 3 → byte_at (turn_of s).memory place ≡ byte_at s.memory place
     turn_places clear place other =
         ap (λ (m : List ℕ). byte_at m place) kept.memory_is
@@ -113,7 +117,16 @@ module _ (laws : LowerLaws) (o : Opening) (admitted : IsAdmitted o) where
   with_event : (s : MachineState) (pending : ℕ) (tlb : Translations) → IsGuarded o s → pending < 2 ^ 16 → AllPass (respects o s.kinds) tlb
       → IsGuarded o (record s { processor = record s.processor { pending = pending; tlb = tlb }; taken = s.taken + 1 })
   with_event s pending tlb guarded small pass = record {
-    control = record { cr0 = guarded.control.cr0; cr4 = guarded.control.cr4; efer = guarded.control.efer; tables = guarded.control.tables; cpl = guarded.control.cpl; registers = guarded.control.registers; pending = small };
+    control = record {
+      cr0 = guarded.control.cr0;
+      cr2 = guarded.control.cr2;
+      cr4 = guarded.control.cr4;
+      efer = guarded.control.efer;
+      tables = guarded.control.tables;
+      cpl = guarded.control.cpl;
+      registers = guarded.control.registers;
+      pending = small;
+    };
     kinds = guarded.kinds;
     tables = guarded.tables;
     memory = guarded.memory;

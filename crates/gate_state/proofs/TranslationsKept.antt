@@ -1,5 +1,5 @@
 -- What holds of each translation kept goes on holding where one goes, and where one that has it comes.
-use Rattle.std.proofs.Common.{◌≡◌, ℕ, ◌-◌, ◌==◌, List, [], ◌∷◌, ◌++◌, length, All, refl}
+use Rattle.std.proofs.Common.{◌≡◌, ℕ, ◌-◌, ◌==◌, [], ◌∷◌, ◌++◌, length, All, refl}
 use Rattle.std.specs.Prelude.{Option, None, Some, Result, Ok, Err, not}
 use Rattle.std.proofs.lemmas.List.Elements.{All-drop, All-filter, All-push}
 use Rattle.nk_bits.specs.declared.leaf.Leaf.{Leaf}

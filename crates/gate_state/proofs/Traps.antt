@@ -1,6 +1,6 @@
 -- A delivery in a guarded state keeps what a turn keeps.
-use Rattle.std.proofs.Common.{◌≡◌, ℕ, ◌+◌, ◌-◌, ◌*◌, ◌/◌, ◌<◌, Bool, true, false, List, length, All, refl, sym, ap, subst, ◌∙◌, arith, inl}
-use Rattle.std.specs.Prelude.{Option, None, Some, Result, Ok}
+use Rattle.std.proofs.Common.{◌≡◌, ℕ, ◌+◌, ◌-◌, ◌*◌, ◌/◌, ◌^◌, ◌<◌, Bool, true, false, List, length, All, refl, sym, ap, subst, ◌∙◌, arith, inl}
+use Rattle.std.specs.Prelude.{IfSome, Option, None, Some, Result, Ok}
 use Rattle.std.proofs.lemmas.Bool.{false≢true}
 use Rattle.std.proofs.lemmas.List.Elements.{All-weaker}
 use Rattle.nk_bits.specs.declared.call.Delivery.{Delivery}
@@ -10,14 +10,17 @@ use Rattle.nk_bits.specs.Kinds.{is_storable, kind_of}
 use Rattle.x86_regs.specs.declared.faults.Fault.{Fault}
 use Rattle.x86_regs.specs.declared.faults.Fault.TheVariants as fault
 use Rattle.x86_regs.specs.declared.registers.Regs.{Regs}
-use Rattle.x86_regs.specs.EffectsKept.{AreRegisters}
+use Rattle.x86_regs.specs.EffectsKept.{AreRegisters, IsSmallFault}
 use Rattle.trap_unit.specs.declared.shutdown.Shut.{Shut}
 use Rattle.trap_unit.specs.TrapDelivery.{Delivered, at_handler, codes_of, delivered}
 use Rattle.cpu_step.specs.declared.stepped.Stepped.TheVariants as stepped
 use Rattle.cpu_step.specs.Processor.{Processor}
 use Rattle.cpu_step.specs.Turns.{delivery_of, raised, shown_by, trapped}
 use Rattle.gate_state.specs.GateWindow.{IsGatePoint}
+use Rattle.gate_state.specs.GuardedStates.{IsControlled}
 use Rattle.gate_state.specs.MachineStates.{Opening}
+use Rattle.gate_state.specs.MachineSteps.{shown_by_turn}
+use Rattle.gate_state.specs.ShownSteps.{IsShown, IsShownDelivery}
 use Rattle.gate_state.proofs.Delivery.{IsDelivery}
 use Rattle.gate_state.proofs.Ready.{IsReady, Kept}
 use Rattle.gate_state.proofs.RegisterBounds.{handler_registers}
@@ -48,17 +51,29 @@ module _ (o : Opening) (ks : List Kind) (facts : TurnFacts o ks) (storable : is_
   shown_made answer d made shut =
       let e : stepped.Delivered d ≡ stepped.Shutdown = sym (ap (λ (a : Result Unit Shut). shown_by a d) made) ∙ shut in absurd (cc)
 
+  -- what a delivery shows
+  delivery_shown : (p : Processor) (vector : ℕ) (code : Option ℕ) → IsControlled p → vector < 48
+      → IfSome code (λ c. c < 2 ^ 64) → IsShownDelivery (delivery_of vector code p)
+  delivery_shown p vector code control few small = record {
+    vector = omega (arith, few);
+    code = small;
+    rip = control.registers.rip;
+    cr2 = (p.control.cr2, control.cr2, refl);
+  }
+
   -- a delivery; with WP clear, one that arrives at a gate point
   pub trap_kept : (wp : Bool) (p : Processor) (m : List ℕ) (vector : ℕ) (code : Option ℕ) → IsReady o ks p m → vector < 48
+      → IfSome code (λ c. c < 2 ^ 64)
       → (wp_of p.control.cr0 ≡ false → IsGatePoint (record p { regs = at_handler p.regs (0xFFFFFF8000001040 + 8 * vector) (0xFFFFFF8000004000 - 8 * (5 + length (codes_of code))) }))
       → Kept o ks wp p.control.root m (trapped vector code p m)
   unfolding trapped
-  trap_kept wp p m vector code ready few point =
+  trap_kept wp p m vector code ready few small point =
       let it : IsDelivery o ks m p.regs vector code (delivered p.regs p.control p.tables vector code m p.tlb) = facts.delivers m p.control p.tables p.regs vector code p.tlb ready.scene ready.control.tables ready.pass few in
       let made : Delivered = delivered p.regs p.control p.tables vector code m p.tlb in
       record {
         control = record {
           cr0 = ready.control.cr0;
+          cr2 = ready.control.cr2;
           cr4 = ready.control.cr4;
           efer = ready.control.efer;
           tables = ready.control.tables;
@@ -70,6 +85,9 @@ module _ (o : Opening) (ks : List Kind) (facts : TurnFacts o ks) (storable : is_
         pass = it.pass;
         window = λ clear. moved_point p (record p { regs = made.regs; tlb = made.tlb }) _ (point clear) it.regs_are refl refl;
         runs = λ e. shown_made made.answer (delivery_of vector code p) it.made e;
+        shows =
+            subst (λ (a : Result Unit Shut). IsShown (shown_by_turn (shown_by a (delivery_of vector code p))))
+            (sym it.made) (delivery_shown p vector code ready.control few small);
         stores = it.stores;
         memory_is = it.memory_is;
         are = trap_stores it.stores it.places it.bytes;
@@ -77,10 +95,12 @@ module _ (o : Opening) (ks : List Kind) (facts : TurnFacts o ks) (storable : is_
       }
 
   -- a processor with another CR2
-  with_cr2 : (p : Processor) (m : List ℕ) (value : ℕ) → IsReady o ks p m → IsReady o ks (record p { control = record p.control { cr2 = value } }) m
-  with_cr2 p m value ready = record {
+  with_cr2 : (p : Processor) (m : List ℕ) (value : ℕ) → value < 2 ^ 64 → IsReady o ks p m
+      → IsReady o ks (record p { control = record p.control { cr2 = value } }) m
+  with_cr2 p m value small ready = record {
     control = record {
       cr0 = ready.control.cr0;
+      cr2 = small;
       cr4 = ready.control.cr4;
       efer = ready.control.efer;
       tables = ready.control.tables;
@@ -102,10 +122,16 @@ module _ (o : Opening) (ks : List Kind) (facts : TurnFacts o ks) (storable : is_
   set_never b set clear = absurd (false≢true (sym clear ∙ set))
 
   -- a fault with WP set
-  pub raise_kept : (wp : Bool) (p : Processor) (m : List ℕ) (it : Fault) → IsReady o ks p m → wp_of p.control.cr0 ≡ true → Kept o ks wp p.control.root m (raised it p m)
-  raise_kept wp p m fault.Divide ready set = trap_kept wp p m 0 None ready (omega arith) (set_never (wp_of p.control.cr0) set)
-  raise_kept wp p m fault.Opcode ready set = trap_kept wp p m 6 None ready (omega arith) (set_never (wp_of p.control.cr0) set)
-  raise_kept wp p m fault.Stack ready set = trap_kept wp p m 12 (Some 0) ready (omega arith) (set_never (wp_of p.control.cr0) set)
-  raise_kept wp p m (fault.General code) ready set = trap_kept wp p m 13 (Some code) ready (omega arith) (set_never (wp_of p.control.cr0) set)
-  raise_kept wp p m (fault.Page code address) ready set =
-      trap_kept wp (record p { control = record p.control { cr2 = address } }) m 14 (Some code) (with_cr2 p m address ready) (omega arith) (set_never (wp_of p.control.cr0) set)
+  pub raise_kept : (wp : Bool) (p : Processor) (m : List ℕ) (it : Fault) → IsSmallFault it → IsReady o ks p m
+      → wp_of p.control.cr0 ≡ true → Kept o ks wp p.control.root m (raised it p m)
+  raise_kept wp p m fault.Divide small ready set =
+      trap_kept wp p m 0 None ready (omega arith) tt (set_never (wp_of p.control.cr0) set)
+  raise_kept wp p m fault.Opcode small ready set =
+      trap_kept wp p m 6 None ready (omega arith) tt (set_never (wp_of p.control.cr0) set)
+  raise_kept wp p m fault.Stack small ready set =
+      trap_kept wp p m 12 (Some 0) ready (omega arith) (omega arith) (set_never (wp_of p.control.cr0) set)
+  raise_kept wp p m (fault.General code) small ready set =
+      trap_kept wp p m 13 (Some code) ready (omega arith) small (set_never (wp_of p.control.cr0) set)
+  raise_kept wp p m (fault.Page code address) small ready set =
+      trap_kept wp (record p { control = record p.control { cr2 = address } }) m 14 (Some code)
+      (with_cr2 p m address small.1 ready) (omega arith) small.0 (set_never (wp_of p.control.cr0) set)

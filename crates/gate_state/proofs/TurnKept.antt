@@ -1,8 +1,9 @@
 -- A turn in a guarded state keeps what a turn keeps; and with WP clear its instruction is one of the gates'.
 use Rattle.std.proofs.Common.{◌≡◌, ◌≢◌, ℕ, ◌+◌, ◌-◌, ◌<◌, ◌≤◌, Bool, true, false, List, refl, sym, ap, subst, ◌∙◌, arith}
-use Rattle.std.specs.Prelude.{Option, None, Some, Result, Ok, Err, is_none, not, ◌==◌, ◌&&◌, if◌then◌else◌}
+use Rattle.std.specs.Prelude.{IfErr, Option, None, Some, Result, Ok, Err, is_none, not, ◌==◌, ◌&&◌, if◌then◌else◌}
 use Rattle.std.proofs.lemmas.Bool.{and_from, eq-eqb, false≢true}
 use Rattle.std.proofs.lemmas.List.Elements.{All-filter}
+use Rattle.std.proofs.lemmas.Result.{IfErr-at_err}
 use Rattle.nk_bits.specs.declared.kind.Kind.{Kind}
 use Rattle.nk_bits.specs.declared.leaf.Leaf.{Leaf}
 use Rattle.nk_bits.specs.Accesses.{wp_of}
@@ -16,6 +17,7 @@ use Rattle.x86_regs.specs.declared.effects.Effect.{Effect}
 use Rattle.x86_regs.specs.declared.faults.Fault.{Fault}
 use Rattle.x86_regs.specs.declared.faults.Fault.TheVariants as fault
 use Rattle.x86_regs.specs.Effects.{effect_of}
+use Rattle.x86_regs.specs.EffectsKept.{IsSmallFault}
 use Rattle.cpu_step.specs.declared.fetch.Fetched.{Fetched}
 use Rattle.cpu_step.specs.InstructionFetch.{instruction_at}
 use Rattle.cpu_step.specs.Processor.{Processor, deliverable}
@@ -88,6 +90,9 @@ module _ (laws : LowerLaws) (o : Opening) (ks : List Kind) (scenes : SceneLaws o
       → let x : Outcome Fault Effect = then_by answer fetched.tlb (λ x after. effect_of x.instr x.size p.regs p.control m after) in Kept o ks true p.control.root m (turned_by x.answer p m x.tlb)
   fetched_kept p m fetched ready set runs same (Err it) is =
       raise_kept o ks facts storable true (record p { tlb = fetched.tlb }) m it
+      (IfErr-at_err IsSmallFault is
+      (subst (λ (x : Outcome Fault Fetched). IfErr x.answer IsSmallFault) (sym same)
+      (laws.bound.fetch m (view_of m p.control p.regs.cpl) p.regs.rip p.tlb)))
       (with_translations o ks p m fetched.tlb ready (subst (λ (x : Outcome Fault Fetched). AllPass (respects o ks) x.tlb) (sym same) (facts.fetch_pass m p.control p.regs.cpl p.regs.rip p.tlb ready.scene ready.pass))) set
   fetched_kept p m fetched ready set runs same (Ok it) is =
       let after : AllPass (respects o ks) fetched.tlb = subst (λ (x : Outcome Fault Fetched). AllPass (respects o ks) x.tlb) (sym same) (facts.fetch_pass m p.control p.regs.cpl p.regs.rip p.tlb ready.scene ready.pass) in
@@ -102,6 +107,8 @@ module _ (laws : LowerLaws) (o : Opening) (ks : List Kind) (scenes : SceneLaws o
           → Kept o ks true p.control.root m (turned_by answer p m (effect_of it.instr it.size p.regs p.control m fetched.tlb).tlb)
       by_answer (Err f) made_is after pass found formed =
           raise_kept o ks facts storable true (record p { tlb = (effect_of it.instr it.size p.regs p.control m fetched.tlb).tlb }) m f
+          (IfErr-at_err IsSmallFault made_is
+          (laws.bound.fault it.instr it.size p.regs p.control m fetched.tlb formed ready.control.registers))
           (with_translations o ks p m (effect_of it.instr it.size p.regs p.control m fetched.tlb).tlb ready pass) set
       by_answer (Ok effect) made_is after pass found formed =
           set_kept laws o ks scenes facts storable p m fetched.tlb (effect_of it.instr it.size p.regs p.control m fetched.tlb).tlb it effect ready after pass formed set runs
@@ -117,7 +124,8 @@ module _ (laws : LowerLaws) (o : Opening) (ks : List Kind) (scenes : SceneLaws o
       by_place : (b : Bool) → is_at_body p.regs ≡ b → (wp : Bool) → wp_of p.control.cr0 ≡ wp
           → Kept o ks (wp_of p.control.cr0) p.control.root m (if b then refused_body p m else turned_by (instruction_made p m).answer p m (instruction_made p m).tlb)
       by_place true at true set =
-          raise_kept o ks facts storable (wp_of p.control.cr0) (record p { tlb = faulted p.tlb 0xFFFFFF8000004 }) m (fault.Page 3 0xFFFFFF8000004FF8)
+          raise_kept o ks facts storable (wp_of p.control.cr0) (record p { tlb = faulted p.tlb 0xFFFFFF8000004 }) m
+          (fault.Page 3 0xFFFFFF8000004FF8) (omega arith, omega arith)
           (with_translations o ks p m (faulted p.tlb 0xFFFFFF8000004) ready (All-filter (λ pair. not (pair.0 == 0xFFFFFF8000004)) (λ (pair : ℕ × Leaf). respects o ks pair ≡ true) p.tlb ready.pass)) set
       by_place true at false clear =
           absurd (false≢true (sym no_body ∙ and_from (is_at_body p.regs) (not (wp_of p.control.cr0)) at (ap not clear)))
@@ -129,7 +137,16 @@ module _ (laws : LowerLaws) (o : Opening) (ks : List Kind) (scenes : SceneLaws o
   -- a processor that is ready, with another mark of the shield
   unshielded : (p : Processor) (m : List ℕ) → IsReady o ks p m → IsReady o ks (record p { shielded = false }) m
   unshielded p m ready = record {
-    control = record { cr0 = ready.control.cr0; cr4 = ready.control.cr4; efer = ready.control.efer; tables = ready.control.tables; cpl = ready.control.cpl; registers = ready.control.registers; pending = ready.control.pending };
+    control = record {
+      cr0 = ready.control.cr0;
+      cr2 = ready.control.cr2;
+      cr4 = ready.control.cr4;
+      efer = ready.control.efer;
+      tables = ready.control.tables;
+      cpl = ready.control.cpl;
+      registers = ready.control.registers;
+      pending = ready.control.pending;
+    };
     scene = ready.scene;
     pass = ready.pass;
   }
@@ -137,7 +154,16 @@ module _ (laws : LowerLaws) (o : Opening) (ks : List Kind) (scenes : SceneLaws o
   -- and one that an interrupt wakes
   awake : (p : Processor) (m : List ℕ) (vector : ℕ) → IsReady o ks p m → vector - 32 < 16 → IsReady o ks (woken vector p) m
   awake p m vector ready few = record {
-    control = record { cr0 = ready.control.cr0; cr4 = ready.control.cr4; efer = ready.control.efer; tables = ready.control.tables; cpl = ready.control.cpl; registers = ready.control.registers; pending = pending_changed p.pending (vector - 32) false ready.control.pending few };
+    control = record {
+      cr0 = ready.control.cr0;
+      cr2 = ready.control.cr2;
+      cr4 = ready.control.cr4;
+      efer = ready.control.efer;
+      tables = ready.control.tables;
+      cpl = ready.control.cpl;
+      registers = ready.control.registers;
+      pending = pending_changed p.pending (vector - 32) false ready.control.pending few;
+    };
     scene = ready.scene;
     pass = ready.pass;
   }
@@ -154,7 +180,8 @@ module _ (laws : LowerLaws) (o : Opening) (ks : List Kind) (scenes : SceneLaws o
       by_vector : (vector : Option ℕ) → deliverable p ≡ vector → Kept o ks (wp_of p.control.cr0) p.control.root m (turned_unless vector p m)
       by_vector (Some vector) is =
           let bounds : (32 ≤ vector) × (vector < 48) = vector_bounds p vector ready.control.pending is in
-          trap_kept o ks facts storable (wp_of p.control.cr0) (woken vector p) m vector None (awake p m vector ready (omega (arith, bounds))) bounds.1
+          trap_kept o ks facts storable (wp_of p.control.cr0) (woken vector p) m vector None
+          (awake p m vector ready (omega (arith, bounds))) bounds.1 tt
           (λ clear. facts.handler_point (woken vector p) vector bounds.0 bounds.1 ready.control.registers refl)
       by_vector None is =
           let here : p.halted ≡ false = awake_if p.halted (subst (λ (v : Option ℕ). p.halted && is_none v ≡ false) is runs) in

@@ -35,9 +35,11 @@ IsCr0 cr0 =
     (cr0 ≡ 0x80000001) ⊎ (cr0 ≡ 0x80010001) ⊎ (cr0 ≡ 0xC0000001)
     ⊎ (cr0 ≡ 0xC0010001) ⊎ (cr0 ≡ 0xE0000001) ⊎ (cr0 ≡ 0xE0010001)
 
--- the registers of control are the opening's, but for CR0 and CR2; the CPL is 0 or 3; the pending vectors are 32 to 47
+-- the registers of control are the opening's, but for CR0, and for CR2, which has 64 bits; the CPL is 0 or 3; the
+-- pending vectors are 32 to 47
 pub record IsControlled (p : Processor) : Type 0 where
   pub cr0 : IsCr0 p.control.cr0
+  pub cr2 : p.control.cr2 < 2 ^ 64
   pub cr4 : p.control.cr4 ≡ 0x100020
   pub efer : p.control.efer ≡ 0xD00
   pub tables : p.tables ≡ opening_tables

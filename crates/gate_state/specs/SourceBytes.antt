@@ -1,6 +1,6 @@
 -- The source of a call, as it is read for it: byte by byte in ascending order, each by its page's translation, which is kept,
 -- or else walked for and filled. It ends at the first byte that can't be read, and raises no fault (SDM volume 3, 4.6).
-use Rattle.std.specs.Prelude.{ℕ, zero, suc, ◌+◌, ◌%◌, ◌/◌, ◌^◌, Bool, ◌&&◌, nat_lt, if◌then◌else◌, List, [], ◌∷◌, length, Option, None, Some}
+use Rattle.std.specs.Prelude.{ℕ, zero, suc, ◌+◌, ◌/◌, ◌^◌, Bool, ◌&&◌, nat_lt, if◌then◌else◌, List, [], ◌∷◌, length, Option, None, Some}
 use Rattle.nk_bits.specs.declared.leaf.Leaf.{Leaf}
 use Rattle.nk_bits.specs.Accesses.{place_in}
 use Rattle.nk_bits.specs.Paging.{is_canonical, page_of}

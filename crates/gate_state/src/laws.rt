@@ -1,6 +1,6 @@
 //! What follows from the definitions: the invariant holds in every state of every run, and what it holds of is safe.
 
-ghost use Rattle.std.specs.Prelude.{◌≡◌, ℕ, List, length, true};
+ghost use Rattle.std.specs.Prelude.{◌≡◌, ℕ, ◌^◌, ◌<◌, List, length, true};
 ghost use Rattle.irq_plan.specs.declared.event.Event.{Event};
 ghost use Rattle.irq_plan.specs.declared.event.What.{What};
 ghost use Rattle.irq_plan.specs.PlannedEvents.{IsPlan, IsPlannable};
@@ -11,13 +11,15 @@ ghost use Rattle.gate_state.specs.GateCalls.{IsCalledThrough, IsCalling};
 ghost use Rattle.gate_state.specs.GuardedStates.{IsAdmitted, IsGuarded};
 ghost use Rattle.gate_state.specs.MachineOpening.{opening_state};
 ghost use Rattle.gate_state.specs.MachineStates.{MachineState, Opening, nested_of};
-ghost use Rattle.gate_state.specs.MachineSteps.{after_event, after_turn, calls, made_by_all, move_of, nested_after, next, served, state};
+ghost use Rattle.gate_state.specs.MachineSteps.{after_event, after_turn, calls, made_by_all, move_of, nested_after, next, seen_by, served, shown_by_turn, state, turn_of};
 ghost use Rattle.gate_state.specs.SafeStates.{IsSafe, TakesTurn};
+ghost use Rattle.gate_state.specs.ShownSteps.{IsShown, IsShownCall};
 ghost use Rattle.gate_state.specs.StepsTaken.{Counts};
 
 use boot_map::{
     opening_bytes_law, opening_entries_law, opening_kinds_law, slot_law, slot_leaf_law,
 };
+use cpu_step::fetch_law;
 use decode_fields::{longer_law, prefixes_law};
 use elf_image::entry_law;
 use gate_text::listing_law;
@@ -27,10 +29,10 @@ use page_desc::{count_law, sound_law};
 use phys_mem::{frame_law, memory_law};
 use x86_alu::flag_law;
 use x86_decode::{decoding_law, spelling_law};
-use x86_regs::{effect_law, grant_law};
+use x86_regs::{bound_law, effect_law, grant_law};
 
 /// Each kind of step keeps the invariant, over which a state is safe and the processor sound; books stay those of memory
-/// over a turn.
+/// over a turn. What a turn and a call show are bytes, and numbers of 64 bits.
 pub(crate) fn steps_law()
     ensures opening { (o : Opening) (input : List ℕ) → IsAdmitted o → IsGuarded o (opening_state o input) }
     ensures event { (o : Opening) (s : MachineState) (what : What) → IsAdmitted o → IsPlannable what
@@ -50,6 +52,10 @@ pub(crate) fn steps_law()
         → IsGuarded o s → IsCalling s.processor → IsCalledThrough plan s k }
     ensures sound { (o : Opening) (s : MachineState) → IsAdmitted o → IsGuarded o s
         → IsSound (length s.memory) s.processor }
+    ensures shown { (o : Opening) (s : MachineState) → IsAdmitted o → TakesTurn s.processor
+        → IsGuarded o s → IsShown (shown_by_turn (turn_of s).stepped) }
+    ensures shown_call { (o : Opening) (s : MachineState) → IsAdmitted o → IsGuarded o s → s.turns < 2 ^ 62
+        → IsShownCall s }
 {
     access_law();
     kind_law();
@@ -71,6 +77,8 @@ pub(crate) fn steps_law()
     flag_law();
     effect_law();
     grant_law();
+    bound_law();
+    fetch_law();
     entry_law();
     call_law();
     call_leaves_law();
@@ -90,6 +98,19 @@ pub fn safety_law()
     ensures called { (o : Opening) (input : List ℕ) (plan : List Event) (n k : ℕ) → IsAdmitted o → IsPlan plan
         → IsCalling (state plan (opening_state o input) n).processor
         → IsCalledThrough plan (state plan (opening_state o input) n) k }
+{
+    steps_law();
+}
+
+/// Every state of every run is guarded. What a step from a guarded state shows are bytes, and numbers of 64 bits; so
+/// are the words of its call, with source and answer.
+pub fn shown_law()
+    ensures guarded { (o : Opening) (input : List ℕ) (plan : List Event) (k : ℕ) → IsAdmitted o → IsPlan plan
+        → IsGuarded o (state plan (opening_state o input) k) }
+    ensures seen { (o : Opening) (plan : List Event) (s : MachineState) → IsAdmitted o → IsGuarded o s
+        → IsShown (seen_by (move_of plan s) s) }
+    ensures called { (o : Opening) (s : MachineState) → IsAdmitted o → IsGuarded o s → s.turns < 2 ^ 62
+        → IsShownCall s }
 {
     steps_law();
 }

@@ -1,5 +1,6 @@
 mod AccessLaws
 mod EntryBits
+mod FaultBounds
 mod KindLaws
 mod SpanLaws
 mod TableFunctions

@@ -1,6 +1,6 @@
 -- An access to memory by linear address, over the translations kept and the page tables: SDM volume 3, 4.6, 4.7 and 4.10.
 -- It finds places in memory, or faults; what stands at the places is read and written elsewhere.
-use Rattle.std.specs.Prelude.{ℕ, ◌≡◌, ◌⊎◌, ◌+◌, ◌-◌, ◌*◌, ◌/◌, ◌%◌, ◌^◌, ◌<◌, ◌≤◌, Bool, true, false, ◌==◌, if◌then◌else◌, nat_lt, min, Option, Some, None, Result, Ok, Err}
+use Rattle.std.specs.Prelude.{ℕ, ⊤, ◌≡◌, ◌⊎◌, ◌+◌, ◌-◌, ◌*◌, ◌/◌, ◌%◌, ◌^◌, ◌<◌, ◌≤◌, Bool, true, false, ◌==◌, if◌then◌else◌, nat_lt, min, Option, Some, None, Result, Ok, Err}
 use Rattle.std.specs.List.{list_all, range_with_len}
 use Rattle.nk_bits.specs.declared.access.Access.{Access}
 use Rattle.nk_bits.specs.declared.access.Access.TheVariants.{Read, Write, Fetch}
@@ -12,6 +12,11 @@ use Rattle.nk_bits.specs.Paging.{page_of, is_canonical, walk}
 use Rattle.nk_bits.specs.AccessRights.{may}
 use Rattle.nk_bits.specs.Translations.{Translations, look, faulted, translation, tlb_after}
 use Rattle.nk_bits.specs.Outcomes.{Outcome, answered, refused, and_then}
+
+-- the error code of a page fault has five bits, and its address 64
+abbrev pub IsSmallAccessFault : AccessFault → Type 0
+IsSmallAccessFault (Page code address) = (code < 2 ^ 5) × (address < 2 ^ 64)
+IsSmallAccessFault NonCanonical = ⊤
 
 -- what an access is made under: the entries of the tables by frame and index, the number of frames in memory, the frame of
 -- the table of level 4, the CPL, and whether WP and SMEP are set

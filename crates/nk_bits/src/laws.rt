@@ -1,7 +1,7 @@
 //! What follows from the definitions for those who walk tables, keep translations, make accesses and judge frames. A
 //! property of translations is a test of a page number and its leaf; tables are any function from frame and index.
 
-ghost use Rattle.std.specs.Prelude.{◌≡◌, ◌≢◌, ℕ, ◌+◌, ◌-◌, ◌*◌, ◌/◌, ◌^◌, ◌<◌, ◌≤◌, suc, Bool, true, false, List, length, All, IfOk, IfSome, Result, Some, None, Ok, Err};
+ghost use Rattle.std.specs.Prelude.{◌≡◌, ◌≢◌, ℕ, ◌+◌, ◌-◌, ◌*◌, ◌/◌, ◌^◌, ◌<◌, ◌≤◌, suc, Bool, true, false, List, length, All, IfErr, IfOk, IfSome, Result, Some, None, Ok, Err};
 ghost use Rattle.nk_bits.specs.declared.access.Access.{Access};
 ghost use Rattle.nk_bits.specs.declared.access.Access.TheVariants.{Fetch};
 ghost use Rattle.nk_bits.specs.declared.kind.Kind.{Kind};
@@ -12,7 +12,7 @@ ghost use Rattle.nk_bits.specs.Kinds.{kind_of, level_of, is_data, is_storable, i
 ghost use Rattle.nk_bits.specs.AccessRights.{may};
 ghost use Rattle.nk_bits.specs.Translations.{Translations, NamesFramesIn, look, dropped, filled};
 ghost use Rattle.nk_bits.specs.Outcomes.{answered};
-ghost use Rattle.nk_bits.specs.Accesses.{View, IsWalked, Serves, IsKept, reached, accessed, crosses, next_page, has_canonical_bytes, place_in};
+ghost use Rattle.nk_bits.specs.Accesses.{View, IsSmallAccessFault, IsWalked, Serves, IsKept, reached, accessed, crosses, next_page, has_canonical_bytes, place_in};
 
 /// The walk by its look-ups: it is the recursion on the level, and goes on past an entry that isn't missing.
 pub fn walk_law()
@@ -49,7 +49,8 @@ pub fn translation_law()
 {}
 
 /// What holds of each translation kept, and of each that the walk of a canonical page finds, goes on holding over an access;
-/// and where the access finds its places, such a translation serves each.
+/// and where the access finds its places, such a translation serves each. A fault's error code has five bits, and its
+/// address 64.
 pub fn access_law()
     ensures kept { (view : View) (access : Access) (test : ℕ × Leaf → Bool) (tlb : Translations) (va width : ℕ)
         → IsWalked view test → va < 2 ^ 64 → 1 ≤ width → All (λ pair. test pair ≡ true) tlb
@@ -72,6 +73,8 @@ pub fn access_law()
     ensures within { (view : View) (access : Access) (size : ℕ) (tlb : Translations) (va : ℕ)
         → view.frames ≡ size / 4096 → is_canonical va ≡ true → NamesFramesIn size tlb
         → NamesFramesIn size (reached view access tlb va).tlb }
+    ensures fault { (view : View) (access : Access) (tlb : Translations) (va width : ℕ) → va < 2 ^ 64
+        → IfErr (accessed view access tlb va width).answer IsSmallAccessFault }
 {}
 
 /// What the kinds of frames allow, and that such frames are in memory.

@@ -4,6 +4,8 @@ mod GrantedAccesses
 mod GrantedEffects
 mod KeptRegisters
 mod PlannedSpans
+mod SmallActs
+mod SmallFaults
 mod WorkedEffectsAccesses
 mod WorkedEffectsArithmetic
 mod WorkedEffectsFlow

@@ -1,11 +1,13 @@
 -- What an effect keeps, and what the translations grant to it: the words of the laws on effects.
-use Rattle.std.specs.Prelude.{◌≡◌, ℕ, ◌^◌, ◌<◌, ⊤, Bool, true, List, length, slice_index}
+use Rattle.std.specs.Prelude.{◌≡◌, ℕ, ◌^◌, ◌<◌, ⊤, Bool, true, length, slice_index}
 use Rattle.nk_bits.specs.declared.access.Access.TheVariants as access
 use Rattle.nk_bits.specs.declared.leaf.Leaf.{Leaf}
 use Rattle.nk_bits.specs.Accesses.{IsAccessSize, IsTarget, Serves, View, crosses, next_page}
 use Rattle.x86_regs.specs.declared.effects.Act.{Act}
 use Rattle.x86_regs.specs.declared.effects.Act.TheVariants as act
 use Rattle.x86_regs.specs.declared.effects.Write.{Write}
+use Rattle.x86_regs.specs.declared.faults.Fault.{Fault}
+use Rattle.x86_regs.specs.declared.faults.Fault.TheVariants as fault
 use Rattle.x86_regs.specs.declared.registers.Regs.{Regs}
 
 -- sixteen general registers of 64 bits, and RIP
@@ -22,6 +24,19 @@ LoadsNothing (act.Cr3 value) = ⊥
 LoadsNothing (act.Cr4 value) = ⊥
 LoadsNothing (act.Idt base limit) = ⊥
 LoadsNothing _ = ⊤
+
+-- the numbers of a fault have 64 bits
+abbrev pub IsSmallFault : Fault → Type 0
+IsSmallFault (fault.General code) = code < 2 ^ 64
+IsSmallFault (fault.Page code address) = (code < 2 ^ 64) × (address < 2 ^ 64)
+IsSmallFault _ = ⊤
+
+-- what an act puts out is a byte, a vector is one of 256, and a value for CR2 has 64 bits
+abbrev pub IsSmallAct : Act → Type 0
+IsSmallAct (act.Out byte port) = byte < 256
+IsSmallAct (act.Interrupt vector) = vector < 256
+IsSmallAct (act.Cr2 value) = value < 2 ^ 64
+IsSmallAct _ = ⊤
 
 -- a write to a memory of so many bytes is granted: on each of its pages a translation of which the test holds serves it,
 -- and gives its place there

@@ -1,17 +1,18 @@
 //! What follows from the definition of an effect, for those who say what a turn of the processor keeps.
 
-ghost use Rattle.std.specs.Prelude.{◌≡◌, ℕ, ◌%◌, Bool, true, false, List, length, All, IfOk, IfSome};
+ghost use Rattle.std.specs.Prelude.{◌≡◌, ℕ, ◌%◌, Bool, true, false, List, length, All, IfErr, IfOk, IfSome};
 ghost use Rattle.x86_decode.specs.declared.instruction.Instr.{Instr};
 ghost use Rattle.x86_decode.specs.Conditions.{is_protected};
 ghost use Rattle.x86_decode.specs.WellFormed.{IsWellFormed};
 ghost use Rattle.nk_bits.specs.declared.control.Control.{Control};
 ghost use Rattle.nk_bits.specs.declared.leaf.Leaf.{Leaf};
-ghost use Rattle.nk_bits.specs.Accesses.{IsWalked};
+ghost use Rattle.nk_bits.specs.declared.fault.AccessFault.{AccessFault};
+ghost use Rattle.nk_bits.specs.Accesses.{IsSmallAccessFault, IsWalked};
 ghost use Rattle.nk_bits.specs.Translations.{NamesFramesIn, Translations};
 ghost use Rattle.page_walk.specs.MemoryAccess.{view_of};
 ghost use Rattle.x86_regs.specs.declared.registers.Regs.{Regs};
-ghost use Rattle.x86_regs.specs.Effects.{LeavesToDelivery, LoadsFrameIn, effect_of};
-ghost use Rattle.x86_regs.specs.EffectsKept.{AreRegisters, IsGranted, LoadsNothing};
+ghost use Rattle.x86_regs.specs.Effects.{LeavesToDelivery, LoadsFrameIn, effect_of, raised};
+ghost use Rattle.x86_regs.specs.EffectsKept.{AreRegisters, IsGranted, IsSmallAct, IsSmallFault, LoadsNothing};
 
 use nk_bits::{access_law, walk_law};
 
@@ -53,4 +54,17 @@ pub fn grant_law()
 {
     access_law();
     walk_law();
+}
+
+/// The numbers of the fault of a well-formed instruction have 64 bits, where registers have, and so have those of the
+/// fault that an access raises. What an act puts out is a byte, the vector that it asks for is one of 256, and its
+/// value for CR2 has 64 bits.
+pub fn bound_law()
+    ensures fault { (i : Instr) (size : ℕ) (regs : Regs) (control : Control) (m : List ℕ) (tlb : Translations)
+        → IsWellFormed i → AreRegisters regs → IfErr (effect_of i size regs control m tlb).answer IsSmallFault }
+    ensures act { (i : Instr) (size : ℕ) (regs : Regs) (control : Control) (m : List ℕ) (tlb : Translations)
+        → IfOk (effect_of i size regs control m tlb).answer (λ effect. IsSmallAct effect.act) }
+    ensures raised { (stack : Bool) (it : AccessFault) → IsSmallAccessFault it → IsSmallFault (raised stack it) }
+{
+    access_law();
 }

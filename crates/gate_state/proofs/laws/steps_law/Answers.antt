@@ -6,7 +6,8 @@ use Rattle.gate_state.proofs.CallThrough.{called_through}
 use Rattle.gate_state.proofs.LowerLaws.{LowerLaws}
 use Rattle.gate_state.proofs.OpeningGuarded.{opening_guarded}
 use Rattle.gate_state.proofs.SceneProofs.{scene_laws}
-use Rattle.gate_state.proofs.StatesKept.{event_guarded, guarded_safe, guarded_sound, turn_books, turn_guarded, turn_stays}
+use Rattle.gate_state.proofs.ShownStates.{call_shown}
+use Rattle.gate_state.proofs.StatesKept.{event_guarded, guarded_safe, guarded_sound, turn_books, turn_guarded, turn_shows, turn_stays}
 use Rattle.gate_state.proofs.TurnFacts.{TurnFacts}
 use Rattle.gate_state.proofs.laws.steps_law.Goals as goal
 
@@ -94,6 +95,11 @@ returns c =
         translations = c.grant_law.ensures.translations;
         granted = c.grant_law.ensures.granted;
       };
+      bound = record {
+        fetch = c.fetch_law.ensures;
+        fault = c.bound_law.ensures.fault;
+        act = c.bound_law.ensures.act;
+      };
     } in
     let facts : (o : Opening) (s : MachineState) → IsAdmitted o → IsGuarded o s → TurnFacts o s.kinds =
     λ o s admitted guarded. turn_facts laws o s.kinds (scene_laws laws o s.kinds admitted guarded.kinds) in
@@ -109,4 +115,6 @@ returns c =
       called = λ o s plan k admitted in_form guarded calling.
           called_through laws o admitted (λ ks are. turn_facts laws o ks (scene_laws laws o ks admitted are)) (body_guarded laws o admitted) plan s in_form k guarded calling;
       sound = λ o s admitted guarded. guarded_sound laws o admitted s guarded;
+      shown = λ o s admitted takes guarded. turn_shows laws o admitted s guarded (facts o s admitted guarded) takes;
+      shown_call = λ o s admitted guarded few. call_shown laws o s guarded few;
     }

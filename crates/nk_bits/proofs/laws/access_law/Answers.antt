@@ -1,5 +1,6 @@
 use Rattle.std.proofs.Common.{◌≡◌, true}
 use Rattle.nk_bits.proofs.AccessLaws.{accessed_keeps, accessed_serves, reached_keeps, reached_serves, page_held, reached_kept, reached_within}
+use Rattle.nk_bits.proofs.FaultBounds.{accessed_small}
 use Rattle.nk_bits.proofs.laws.access_law.Goals as goal
 
 pub returns : goal.returns
@@ -11,4 +12,5 @@ returns c = record {
   held = page_held;
   found_again = reached_kept;
   within = λ view access size tlb va whole canonical names. reached_within view access size whole tlb va canonical names;
+  fault = accessed_small;
 }

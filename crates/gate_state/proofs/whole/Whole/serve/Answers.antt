@@ -1,10 +1,10 @@
-use Rattle.std.proofs.Common.{◌≡◌, ℕ, ◌≤◌, length, refl, sym, ap, subst, ◌∙◌, arith, true}
+use Rattle.std.proofs.Common.{◌≡◌, ℕ, ◌≤◌, refl, sym, ap, subst, ◌∙◌, arith, true}
 use Rattle.std.specs.Prelude.{IfSome, Option, vec_capacity}
 use Rattle.cpu_step.specs.Turns.{enters_body}
 use Rattle.nk_body.specs.CallRules.{IsSourceOf, Sourced, bytes_read, wants}
 use Rattle.nk_body.specs.SourceWords.{sourced_of}
 use Rattle.gate_state.specs.MachineStates.{MachineState, Opening}
-use Rattle.gate_state.specs.MachineSteps.{call_in, served, source_of}
+use Rattle.gate_state.specs.MachineSteps.{call_in, source_of}
 use Rattle.gate_state.specs.SourceBytes.{source_by}
 use Rattle.gate_state.specs.WholeMachine.{WholeState, served_whole}
 use Rattle.gate_state.proofs.SourceReads.{source_is}

@@ -1,0 +1,5 @@
+use Rattle.cpu_step.proofs.FetchFaults.{fetch_small}
+use Rattle.cpu_step.proofs.laws.fetch_law.Goals as goal
+
+pub returns : goal.returns
+returns c = fetch_small c.access_law.ensures.fault c.bound_law.ensures.raised

@@ -1,0 +1,24 @@
+use Rattle.gate_state.specs.GuardedStates.{IsAdmitted}
+use Rattle.gate_state.specs.MachineOpening.{opening_state}
+use Rattle.gate_state.specs.MachineStates.{Opening}
+use Rattle.gate_state.proofs.RunsSafe.{StepsKept, state_guarded}
+use Rattle.gate_state.proofs.ShownStates.{seen_shown}
+use Rattle.gate_state.proofs.laws.shown_law.Goals as goal
+
+pub returns : goal.returns
+returns c =
+    let steps : (o : Opening) → IsAdmitted o → StepsKept o = λ o admitted. record {
+      event = λ s what plannable guarded. c.steps_law.ensures.event o s what admitted plannable guarded;
+      turn = λ s takes guarded. c.steps_law.ensures.turn o s admitted takes guarded;
+      body = λ s at guarded. c.steps_law.ensures.body o s admitted at guarded;
+      stays = λ s takes guarded. c.steps_law.ensures.stays o s admitted takes guarded;
+      serves = λ s guarded. c.steps_law.ensures.serves o s admitted guarded;
+    } in
+    record {
+      guarded = λ o input plan k admitted in_form.
+          state_guarded o (steps o admitted) plan in_form (opening_state o input) k
+          (c.steps_law.ensures.opening o input admitted);
+      seen = λ o plan s admitted guarded.
+          seen_shown plan s (λ takes. c.steps_law.ensures.shown o s admitted takes guarded);
+      called = c.steps_law.ensures.shown_call;
+    }
