@@ -1,0 +1,9 @@
+pub mod Known
+pub mod Texts
+pub mod Digits
+pub mod Hexadecimal
+pub mod LineRoom
+pub mod LineParts
+pub mod ListedLines
+pub mod TakenUp
+pub mod LedgerLines

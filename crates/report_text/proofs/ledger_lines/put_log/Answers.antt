@@ -1,0 +1,30 @@
+use Rattle.std.proofs.Common.{arith, subst}
+use Rattle.std.specs.Io.KnownBytes.{Appends}
+use Rattle.nk_host.specs.Taken.{AppendsPrefix}
+use Rattle.report_text.proofs.LedgerLines.{record_at, records_listed}
+use Rattle.report_text.proofs.ListedLines.{lines_ended, lines_go_on, lines_were_cut}
+use Rattle.report_text.proofs.Known.{on_err, on_ok, some_at}
+use Rattle.report_text.proofs.ledger_lines.put_log.Goals as goal
+
+pub returns-in-Err-clause-some : goal.returns-in-Err-clause-some
+returns-in-Err-clause-some g c =
+    let (it, at, text) = record_at c.args.log.now c.loop-i.i (omega arith) in
+    let here = subst (AppendsPrefix (g.O.Sink.taken c.loop-i.sink) (g.O.Sink.taken c.put_record.new.sink)) text
+    (on_err c.in-Err.is (some_at _ at c.put_record.ensures.some)) in
+    subst (AppendsPrefix (g.O.Sink.taken c.args.sink.now) (g.O.Sink.taken c.put_record.new.sink))
+    (records_listed c.args.log.now)
+    (lines_were_cut g.O.Sink.taken g.O.Sink.faults _ _ _ _ _ _ c.loop-i.invariant c.put_record.new.sink (omega arith)
+    here)
+
+pub loop-i-preserved : goal.loop-i-preserved
+loop-i-preserved g c =
+    let (it, at, text) = record_at c.args.log.now c.loop-i.i (omega arith) in
+    let here = subst (Appends (g.O.Sink.taken c.loop-i.sink) (g.O.Sink.taken c.put_record.new.sink)) text
+    (on_ok c.in_default.is (some_at _ at c.put_record.ensures.all)) in
+    lines_go_on g.O.Sink.taken g.O.Sink.faults _ _ _ _ _ _ c.loop-i.invariant c.put_record.new.sink (omega arith) here
+    c.put_record.ensures.never_falls
+
+pub returns-clause-all : goal.returns-clause-all
+returns-clause-all g c =
+    subst (Appends (g.O.Sink.taken c.args.sink.now) (g.O.Sink.taken c.loop-i.sink)) (records_listed c.args.log.now)
+    (lines_ended g.O.Sink.taken g.O.Sink.faults _ _ _ _ _ _ c.loop-i.invariant (omega arith))

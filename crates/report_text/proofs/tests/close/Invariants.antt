@@ -1,0 +1,5 @@
+use Rattle.nk_body.specs.NestedRecord.{AreBooks}
+use Rattle.report_text.proofs.tests.close.Given as goal
+
+abbrev pub invariant-loop-call : goal.invariant-loop-call
+invariant-loop-call l = AreBooks l.kernel l.mem

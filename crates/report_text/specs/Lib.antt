@@ -1,0 +1,4 @@
+-- What a reader must believe.
+pub mod RunLines
+pub mod ClosingSection
+pub mod RunSummary

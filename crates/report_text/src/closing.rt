@@ -1,0 +1,346 @@
+//! The closing section of a run: root and trap handler, what of kinds and page tables differs from the opening's, and
+//! the ledger.
+ghost use Rattle.std.specs.Prelude.{◌≡◌, ◌+◌, ◌<◌, ◌≤◌, ◌*◌, ◌++◌, length, OnErr, OnOk};
+ghost use Rattle.std.specs.Io.KnownBytes.{Appends};
+ghost use Rattle.nk_host.specs.FaultCounts.{RoseTo};
+ghost use Rattle.nk_host.specs.Taken.{AppendsPrefix};
+ghost use Rattle.phys_mem.specs.Memory.{entry_in};
+ghost use Rattle.nk_bits.specs.Kinds.{kind_of};
+ghost use Rattle.boot_map.specs.Division.{IsLayout};
+ghost use Rattle.boot_map.specs.OpeningKinds.{kind_at};
+ghost use Rattle.page_desc.specs.PageTables.{is_table};
+ghost use Rattle.nk_body.specs.NestedRecord.{AreBooks, nested_by};
+ghost use Rattle.report_text.specs.ClosingSection.{
+  bytes_of_region,
+  entry_lines,
+  is_same_kind,
+  kind_lines,
+  line_of_entry,
+  line_of_kind,
+  lines_of,
+  lines_of_table,
+  log_lines,
+  region_lines,
+  section,
+  table_value,
+};
+ghost use Rattle.report_text.specs.RunLines.{root_line, trap_line};
+
+use crate::changed_lines::{ENTRY, KIND, entry_line, kind_line, root_line, trap_line};
+use crate::ledger_lines::put_ledger;
+use crate::words::NUMBERED;
+use boot_map::Layout;
+use elf_image::Image;
+use nk_bits::Kind;
+use nk_body::Kernel;
+use nk_host::{Sink, SinkFault, put_all};
+use phys_mem::PhysMem;
+
+/// The number of a page table's entries.
+const ENTRIES: u32 = 512;
+
+/// Writes the closing section.
+pub fn section<O: Sink>(
+    sink: &mut O,
+    image: &Image,
+    layout: &Layout,
+    mem: &PhysMem,
+    kernel: &Kernel,
+) -> Result<(), SinkFault>
+    requires layout { IsLayout image.now layout.now }
+    requires books { AreBooks kernel.now mem.now }
+    requires size { length mem.now ≡ 4096 * layout.now.frames }
+    ensures never_falls { O.faults sink.old ≤ O.faults sink.new }
+    ensures failed { OnErr result (RoseTo (O.faults sink.old) (O.faults sink.new)) }
+    ensures all { OnOk result (Appends (O.taken sink.old) (O.taken sink.new)
+        (section image.now layout.now.frames (nested_by kernel.now mem.now))) }
+    ensures some { OnErr result (AppendsPrefix (O.taken sink.old) (O.taken sink.new)
+        (section image.now layout.now.frames (nested_by kernel.now mem.now))) }
+{
+    match put_books(sink, kernel) {
+        Ok(()) => put_changes(sink, image, layout, mem, kernel),
+        Err(fault) => Err(fault),
+    }
+}
+
+/// Writes the frame of the root, and the address of the trap handler.
+fn put_books<O: Sink>(sink: &mut O, kernel: &Kernel) -> Result<(), SinkFault>
+    ensures never_falls { O.faults sink.old ≤ O.faults sink.new }
+    ensures failed { OnErr result (RoseTo (O.faults sink.old) (O.faults sink.new)) }
+    ensures all { OnOk result (Appends (O.taken sink.old) (O.taken sink.new)
+        (root_line kernel.now.root ++ trap_line kernel.now.trap)) }
+    ensures some { OnErr result (AppendsPrefix (O.taken sink.old) (O.taken sink.new)
+        (root_line kernel.now.root ++ trap_line kernel.now.trap)) }
+{
+    match put_all(sink, root_line(&mut [0; NUMBERED], kernel.root())) {
+        Ok(()) => put_all(sink, &trap_line(kernel.trap())),
+        Err(fault) => Err(fault),
+    }
+}
+
+/// Writes what of kinds and page tables isn't the opening's, and the ledger.
+fn put_changes<O: Sink>(
+    sink: &mut O,
+    image: &Image,
+    layout: &Layout,
+    mem: &PhysMem,
+    kernel: &Kernel,
+) -> Result<(), SinkFault>
+    requires layout { IsLayout image.now layout.now }
+    requires books { AreBooks kernel.now mem.now }
+    requires size { length mem.now ≡ 4096 * layout.now.frames }
+    ensures never_falls { O.faults sink.old ≤ O.faults sink.new }
+    ensures failed { OnErr result (RoseTo (O.faults sink.old) (O.faults sink.new)) }
+    ensures all { let nk = nested_by kernel.now mem.now in
+        OnOk result (Appends (O.taken sink.old) (O.taken sink.new)
+        (kind_lines image.now layout.now.frames nk ++ (entry_lines image.now layout.now.frames nk
+        ++ (region_lines (bytes_of_region nk) nk.ledger.book.regions ++ log_lines 0 nk.ledger.log)))) }
+    ensures some { let nk = nested_by kernel.now mem.now in
+        OnErr result (AppendsPrefix (O.taken sink.old) (O.taken sink.new)
+        (kind_lines image.now layout.now.frames nk ++ (entry_lines image.now layout.now.frames nk
+        ++ (region_lines (bytes_of_region nk) nk.ledger.book.regions ++ log_lines 0 nk.ledger.log)))) }
+{
+    match put_kinds(sink, image, layout, kernel) {
+        Ok(()) => put_tables(sink, image, layout, mem, kernel),
+        Err(fault) => Err(fault),
+    }
+}
+
+/// Writes what of page tables isn't the opening's, and the ledger.
+fn put_tables<O: Sink>(
+    sink: &mut O,
+    image: &Image,
+    layout: &Layout,
+    mem: &PhysMem,
+    kernel: &Kernel,
+) -> Result<(), SinkFault>
+    requires layout { IsLayout image.now layout.now }
+    requires books { AreBooks kernel.now mem.now }
+    requires size { length mem.now ≡ 4096 * layout.now.frames }
+    ensures never_falls { O.faults sink.old ≤ O.faults sink.new }
+    ensures failed { OnErr result (RoseTo (O.faults sink.old) (O.faults sink.new)) }
+    ensures all { let nk = nested_by kernel.now mem.now in
+        OnOk result (Appends (O.taken sink.old) (O.taken sink.new)
+        (entry_lines image.now layout.now.frames nk
+        ++ (region_lines (bytes_of_region nk) nk.ledger.book.regions ++ log_lines 0 nk.ledger.log))) }
+    ensures some { let nk = nested_by kernel.now mem.now in
+        OnErr result (AppendsPrefix (O.taken sink.old) (O.taken sink.new)
+        (entry_lines image.now layout.now.frames nk
+        ++ (region_lines (bytes_of_region nk) nk.ledger.book.regions ++ log_lines 0 nk.ledger.log))) }
+{
+    match put_entries(sink, image, layout, mem, kernel) {
+        Ok(()) => put_ledger(sink, mem, kernel),
+        Err(fault) => Err(fault),
+    }
+}
+
+/// Writes the frames whose kind changed.
+fn put_kinds<O: Sink>(
+    sink: &mut O,
+    image: &Image,
+    layout: &Layout,
+    kernel: &Kernel,
+) -> Result<(), SinkFault>
+    requires { IsLayout image.now layout.now }
+    ensures never_falls { O.faults sink.old ≤ O.faults sink.new }
+    ensures failed { OnErr result (RoseTo (O.faults sink.old) (O.faults sink.new)) }
+    ensures all { OnOk result (Appends (O.taken sink.old) (O.taken sink.new) (lines_of
+        (λ f. line_of_kind (kind_at image.now layout.now.frames f) (kind_of kernel.now.frames.kinds f) f)
+        layout.now.frames 0)) }
+    ensures some { OnErr result (AppendsPrefix (O.taken sink.old) (O.taken sink.new) (lines_of
+        (λ f. line_of_kind (kind_at image.now layout.now.frames f) (kind_of kernel.now.frames.kinds f) f)
+        layout.now.frames 0)) }
+{
+    for frame in 0..layout.frames() {
+        if let Err(fault) = put_kind(sink, image, layout, kernel, frame) {
+            return Err(fault);
+        }
+    }
+    Ok(())
+}
+
+/// Writes a frame's kind, if it changed.
+fn put_kind<O: Sink>(
+    sink: &mut O,
+    image: &Image,
+    layout: &Layout,
+    kernel: &Kernel,
+    frame: u32,
+) -> Result<(), SinkFault>
+    requires layout { IsLayout image.now layout.now }
+    requires frame { frame < layout.now.frames }
+    ensures never_falls { O.faults sink.old ≤ O.faults sink.new }
+    ensures failed { OnErr result (RoseTo (O.faults sink.old) (O.faults sink.new)) }
+    ensures all { OnOk result (Appends (O.taken sink.old) (O.taken sink.new)
+        (line_of_kind (kind_at image.now layout.now.frames frame) (kind_of kernel.now.frames.kinds frame) frame)) }
+    ensures some { OnErr result (AppendsPrefix (O.taken sink.old) (O.taken sink.new)
+        (line_of_kind (kind_at image.now layout.now.frames frame) (kind_of kernel.now.frames.kinds frame) frame)) }
+{
+    let kind = kernel.tables().frames.kind(frame);
+    if is_same(layout.kind(image, frame), kind) {
+        return Ok(());
+    }
+    put_all(sink, kind_line(&mut [0; KIND], frame, kind))
+}
+
+/// Writes the entries of page tables that changed.
+fn put_entries<O: Sink>(
+    sink: &mut O,
+    image: &Image,
+    layout: &Layout,
+    mem: &PhysMem,
+    kernel: &Kernel,
+) -> Result<(), SinkFault>
+    requires layout { IsLayout image.now layout.now }
+    requires size { length mem.now ≡ 4096 * layout.now.frames }
+    ensures never_falls { O.faults sink.old ≤ O.faults sink.new }
+    ensures failed { OnErr result (RoseTo (O.faults sink.old) (O.faults sink.new)) }
+    ensures all { OnOk result (Appends (O.taken sink.old) (O.taken sink.new)
+        (entry_lines image.now layout.now.frames (nested_by kernel.now mem.now))) }
+    ensures some { OnErr result (AppendsPrefix (O.taken sink.old) (O.taken sink.new)
+        (entry_lines image.now layout.now.frames (nested_by kernel.now mem.now))) }
+{
+    for frame in 0..layout.frames() {
+        if let Err(fault) = put_entries_of(sink, image, layout, mem, kernel, frame) {
+            return Err(fault);
+        }
+    }
+    Ok(())
+}
+
+/// Writes the entries of a frame that changed, if it is a page table.
+fn put_entries_of<O: Sink>(
+    sink: &mut O,
+    image: &Image,
+    layout: &Layout,
+    mem: &PhysMem,
+    kernel: &Kernel,
+    frame: u32,
+) -> Result<(), SinkFault>
+    requires layout { IsLayout image.now layout.now }
+    requires size { length mem.now ≡ 4096 * layout.now.frames }
+    requires frame { frame < layout.now.frames }
+    ensures never_falls { O.faults sink.old ≤ O.faults sink.new }
+    ensures failed { OnErr result (RoseTo (O.faults sink.old) (O.faults sink.new)) }
+    ensures all { OnOk result (Appends (O.taken sink.old) (O.taken sink.new)
+        (lines_of_table image.now layout.now.frames (nested_by kernel.now mem.now) frame)) }
+    ensures some { OnErr result (AppendsPrefix (O.taken sink.old) (O.taken sink.new)
+        (lines_of_table image.now layout.now.frames (nested_by kernel.now mem.now) frame)) }
+{
+    if is_table_now(kernel, frame) {
+        put_table(sink, image, layout, mem, frame)
+    } else {
+        Ok(())
+    }
+}
+
+/// Whether a frame is a page table now.
+fn is_table_now(kernel: &Kernel, frame: u32) -> bool
+    ensures { result ≡ is_table (kind_of kernel.now.frames.kinds frame) }
+{
+    is_table(kernel.tables().frames.kind(frame))
+}
+
+/// Writes the entries of a page table that changed.
+fn put_table<O: Sink>(
+    sink: &mut O,
+    image: &Image,
+    layout: &Layout,
+    mem: &PhysMem,
+    frame: u32,
+) -> Result<(), SinkFault>
+    requires layout { IsLayout image.now layout.now }
+    requires size { length mem.now ≡ 4096 * layout.now.frames }
+    requires frame { frame < layout.now.frames }
+    ensures never_falls { O.faults sink.old ≤ O.faults sink.new }
+    ensures failed { OnErr result (RoseTo (O.faults sink.old) (O.faults sink.new)) }
+    ensures all { OnOk result (Appends (O.taken sink.old) (O.taken sink.new) (lines_of
+        (λ i. line_of_entry (table_value image.now layout.now.frames frame i)
+        (entry_in mem.now frame i) frame i) 512 0)) }
+    ensures some { OnErr result (AppendsPrefix (O.taken sink.old) (O.taken sink.new) (lines_of
+        (λ i. line_of_entry (table_value image.now layout.now.frames frame i)
+        (entry_in mem.now frame i) frame i) 512 0)) }
+{
+    for index in 0..ENTRIES {
+        if let Err(fault) = put_entry(sink, image, layout, mem, frame, index) {
+            return Err(fault);
+        }
+    }
+    Ok(())
+}
+
+/// Writes an entry of a page table, if it changed.
+fn put_entry<O: Sink>(
+    sink: &mut O,
+    image: &Image,
+    layout: &Layout,
+    mem: &PhysMem,
+    frame: u32,
+    index: u32,
+) -> Result<(), SinkFault>
+    requires layout { IsLayout image.now layout.now }
+    requires size { length mem.now ≡ 4096 * layout.now.frames }
+    requires frame { frame < layout.now.frames }
+    requires index { index ≤ 511 }
+    ensures never_falls { O.faults sink.old ≤ O.faults sink.new }
+    ensures failed { OnErr result (RoseTo (O.faults sink.old) (O.faults sink.new)) }
+    ensures all { OnOk result (Appends (O.taken sink.old) (O.taken sink.new)
+        (line_of_entry (table_value image.now layout.now.frames frame index)
+        (entry_in mem.now frame index) frame index)) }
+    ensures some { OnErr result (AppendsPrefix (O.taken sink.old) (O.taken sink.new)
+        (line_of_entry (table_value image.now layout.now.frames frame index)
+        (entry_in mem.now frame index) frame index)) }
+{
+    let value = entry_now(mem, frame, index);
+    if opening_value(image, layout, frame, index) == value {
+        return Ok(());
+    }
+    put_all(sink, entry_line(&mut [0; ENTRY], frame, index, value))
+}
+
+/// An entry of the page table in a frame, as memory holds it.
+#[tactic(auto, unfolding(phys_mem::specs::Memory::entry_in))]
+fn entry_now(mem: &PhysMem, frame: u32, index: u32) -> u64
+    requires frame { 4096 * frame + 4096 ≤ length mem.now }
+    requires index { index ≤ 511 }
+    ensures { result ≡ entry_in mem.now frame index }
+{
+    mem.load64(4096 * u64::from(frame) + 8 * u64::from(index))
+}
+
+/// An entry of a frame at the opening; 0 where the frame was no page table.
+fn opening_value(image: &Image, layout: &Layout, frame: u32, index: u32) -> u64
+    requires layout { IsLayout image.now layout.now }
+    requires frame { frame < layout.now.frames }
+    requires index { index ≤ 511 }
+    ensures { result ≡ table_value image.now layout.now.frames frame index }
+{
+    if is_table(layout.kind(image, frame)) {
+        layout.entry(image, frame, index as usize)
+    } else {
+        0
+    }
+}
+
+/// Whether a frame of this kind is a page table.
+fn is_table(kind: Kind) -> bool
+    ensures { result ≡ is_table kind }
+{
+    matches!(kind, Kind::Table(1..))
+}
+
+/// Whether two kinds are one.
+fn is_same(one: Kind, other: Kind) -> bool
+    ensures { result ≡ is_same_kind one other }
+{
+    match (one, other) {
+        (Kind::Data, Kind::Data) => true,
+        (Kind::Code, Kind::Code) => true,
+        (Kind::Table(one), Kind::Table(other)) => one == other,
+        (Kind::Fixed, Kind::Fixed) => true,
+        (Kind::Trap, Kind::Trap) => true,
+        (Kind::Guarded, Kind::Guarded) => true,
+        (Kind::Hidden, Kind::Hidden) => true,
+        _ => false,
+    }
+}

@@ -1,0 +1,30 @@
+//! The text of a run: its lines, and the section that closes it. Each call appends to a sink exactly what
+//! `specs/RunLines.antt` and `specs/ClosingSection.antt` say, or a first part of that where the sink fails. It reads
+//! what it is handed, writes to the sink alone, and takes no memory. Which line comes when, and what follows a fault,
+//! it leaves to the crates above. Floor: whole.
+#![tactic(auto)]
+
+// Words, each put before the one behind it.
+mod words;
+
+// The lines of a run, and of its end.
+mod call_lines;
+mod run_lines;
+
+// The parts of the closing section: what isn't as it was at the opening; the regions and the log.
+mod changed_lines;
+mod ledger_lines;
+
+// The whole of it.
+mod closing;
+
+// Counts in place of lines.
+mod counts;
+
+pub use call_lines::called;
+pub use closing::section;
+pub use counts::{RunCounts, summary};
+pub use run_lines::{console, delivery, ending};
+
+#[cfg(test)]
+mod tests;
