@@ -1,0 +1,6 @@
+pub mod LineSizes
+pub mod Replaying
+pub mod SourceLemmas
+pub mod WantedBytes
+mod WorkedLines
+mod WorkedReplays

@@ -1,0 +1,76 @@
+-- The bytes of a source's word, read into a buffer of as many.
+use Rattle.std.proofs.Common.{◌≡◌, ℕ, ◌/◌, ◌%◌, ◌==◌, Bool, true, false, List, length, ◌++◌, Option, None, Some, Result, Ok, Err, codes, refl, sym, ap, ◌∙◌, if◌then◌else◌, inl, inr, arith}
+use Rattle.std.specs.Option.{option_map}
+use Rattle.std.specs.Str.{bytes_eq}
+use Rattle.std.proofs.lemmas.Bool.{cases_Bool, cond-true, cond-false}
+use Rattle.std.proofs.lemmas.List.{take_at}
+use Rattle.std.proofs.lemmas.Slice.Eq.{bytes_eq-Decides}
+use Rattle.hex.proofs.HexLemmas.{decode_pairs-ok}
+use Rattle.hex.specs.declared.error.FromHexError.{FromHexError}
+use Rattle.hex.specs.declared.error.FromHexError.TheVariants.{OddLength, InvalidStringLength}
+use Rattle.hex.specs.Hex.{decode_of, decode_pairs, decode_sized}
+use Rattle.nk_body.specs.CallRules.{Bytes, Sourced}
+use Rattle.replay_core.specs.declared.source.Taken.TheVariants as taken
+use Rattle.replay_core.specs.HeardLines.{given_source, put_in, so_many, source_in}
+use Rattle.replay_core.specs.JournalLines.{bytes_of_word, decoded, is_lower, source_of_word}
+
+decoded_by : (odd fits : Bool) (pairs : Result (List ℕ) FromHexError) (count : ℕ)
+    → ((bytes : List ℕ) → pairs ≡ Ok bytes → (length bytes == count) ≡ fits)
+    → decoded (if odd then Err OddLength else if fits then pairs else Err InvalidStringLength)
+    ≡ so_many count (decoded (if odd then Err OddLength else pairs))
+decoded_by true fits pairs count is = refl
+decoded_by false true (Ok bytes) count is = rw (is bytes refl) refl
+decoded_by false false (Ok bytes) count is = rw (is bytes refl) refl
+decoded_by false true (Err fault) count is = refl
+decoded_by false false (Err fault) count is = refl
+
+-- decoding into room for so many bytes gives those of a word that has so many
+pub decoded_sized : (word : List ℕ) (count : ℕ)
+    → decoded (decode_sized word count) ≡ so_many count (decoded (decode_of word))
+decoded_sized word count =
+    decoded_by (length word % 2 == 1) (length word / 2 == count) (decode_pairs 0 word) count (λ bytes is.
+    let twice = (decode_pairs-ok 0 word bytes is).1 in
+    let half : length bytes ≡ length word / 2 = omega arith in
+    ap (λ n. n == count) half)
+
+-- a word in lower case
+pub read_lower : (done : Bool) (word front : List ℕ) (count : ℕ) → is_lower word ≡ true
+    → put_in done front ≡ decoded (decode_sized word count) → put_in done front ≡ so_many count (bytes_of_word word)
+read_lower done word front count lower put =
+    put ∙ decoded_sized word count
+    ∙ ap (so_many count) (sym (cond-true (is_lower word) (decoded (decode_of word)) None lower))
+
+-- what is read of bytes that a word has, or hasn't
+module _ (count : ℕ) (front back : List ℕ) (size : length front ≡ count) where
+  abbrev given : Bool → Option Sourced
+  given done = option_map (source_in (front ++ back)) (if done then Some (taken.Bytes count) else None)
+
+  of_so_many : (done fits : Bool) (bytes : List ℕ) → put_in done front ≡ (if fits then Some bytes else None)
+      → given done ≡ (if fits then Some (Bytes bytes) else None)
+  of_so_many true true bytes put =
+      let same : front ≡ bytes = cc in
+      ap (λ xs. Some (Bytes xs)) (take_at front back count size ∙ same)
+  of_so_many true false bytes put = absurd (cc)
+  of_so_many false true bytes put = absurd (cc)
+  of_so_many false false bytes put = refl
+
+  of_bytes : (done : Bool) (noted : Option (List ℕ)) → put_in done front ≡ so_many count noted
+      → given done ≡ given_source (Some count) (option_map Bytes noted)
+  of_bytes true None put = absurd (cc)
+  of_bytes false None put = refl
+  of_bytes done (Some bytes) put = of_so_many done (length bytes == count) bytes put
+
+  -- the word isn't `!`
+  pub taken_bytes : (done : Bool) (word : List ℕ) → false ≡ bytes_eq word (codes "!")
+      → put_in done front ≡ so_many count (bytes_of_word word)
+      → given done ≡ given_source (Some count) (source_of_word word)
+  taken_bytes done word other put =
+      elim (cases_Bool (bytes_eq word (codes "-"))) [
+        | inl nothing ↦
+            let is : word ≡ codes "-" = (bytes_eq-Decides word (codes "-")).0 nothing in
+            of_bytes done None (put ∙ ap (λ w. so_many count (bytes_of_word w)) is)
+            ∙ ap (given_source (Some count)) (sym (cond-true _ _ _ nothing))
+        | inr some ↦
+            of_bytes done (bytes_of_word word) put
+            ∙ ap (given_source (Some count)) (sym (cond-false _ _ _ some ∙ cond-false _ _ _ (sym other)))
+      ]

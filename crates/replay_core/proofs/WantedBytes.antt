@@ -1,0 +1,44 @@
+-- A call takes at most as many bytes as a region has, 65,536.
+use Rattle.std.proofs.Common.{◌≡◌, ℕ, ◌+◌, ◌==◌, ◌≤◌, Bool, true, false, List, [], ◌∷◌, All, Option, None, Some, refl, arith}
+use Rattle.std.specs.Prelude.{IfSome, ◌&&◌, nat_le, if◌then◌else◌}
+use Rattle.std.specs.List.{find}
+use Rattle.std.proofs.lemmas.Bool.{and_parts, leb-true}
+use Rattle.std.proofs.lemmas.List.Elements.{All-head, All-tail}
+use Rattle.nk_bits.specs.declared.call.CallWords.{CallWords}
+use Rattle.region_book.specs.RegionCalls.{fits_in, fits_region}
+use Rattle.region_book.specs.RegionRecords.{Book, IsBook, IsRegion, Region, region_of}
+use Rattle.nk_body.specs.CallRules.{wants}
+
+-- the region that is found, if any, has at most that size
+found_most : (next : ℕ) (test : Region → Bool) (rs : List Region) → All (IsRegion next) rs
+    → IfSome (find test rs) (λ r. r.size ≤ 65536)
+found_most next test [] all = tt
+found_most next test (r ∷ rs) all =
+    by_test (test r) (All-head (IsRegion next) r rs all).size.1
+    (found_most next test rs (All-tail (IsRegion next) r rs all))
+  where
+    by_test : (found : Bool) → r.size ≤ 65536 → IfSome (find test rs) (λ r. r.size ≤ 65536)
+        → IfSome (if found then Some r else find test rs) (λ r. r.size ≤ 65536)
+    by_test true here later = here
+    by_test false here later = later
+
+fits_most : (region : Option Region) (offset count : ℕ) → IfSome region (λ r. r.size ≤ 65536)
+    → fits_region region offset count ≡ true → count ≤ 65536
+fits_most None offset count most fits = absurd (cc)
+fits_most (Some r) offset count most fits =
+    let parts = and_parts (nat_le 1 count) (nat_le (offset + count) r.size) fits in
+    let within = leb-true (offset + count) r.size parts.1 in
+    omega arith
+
+pub wants_most : (book : Book) (call : CallWords) (room : ℕ) → IsBook book → 65536 ≤ room
+    → IfSome (wants book call) (λ count. count ≤ room)
+wants_most book call room is roomy = by_test (call.number == 9 && fits_in book call.a call.b call.d) refl
+  where
+    by_test : (takes : Bool) → (call.number == 9 && fits_in book call.a call.b call.d) ≡ takes
+        → IfSome (if takes then Some call.d else None) (λ count. count ≤ room)
+    by_test true takes =
+        let most = fits_most (region_of book call.a) call.b call.d
+        (found_most book.next (λ r. r.id == call.a) book.regions is.each)
+        (and_parts (call.number == 9) (fits_in book call.a call.b call.d) takes).1 in
+        omega arith
+    by_test false takes = tt

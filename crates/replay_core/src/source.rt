@@ -1,0 +1,70 @@
+//! What a call took from memory, as a journal notes it.
+
+ghost use Rattle.std.specs.Prelude.{◌≡◌, ◌≤◌, IfSome, length};
+ghost use Rattle.std.specs.Option.{option_map};
+ghost use Rattle.hex.specs.Hex.{decode_sized};
+ghost use Rattle.nk_body.specs.SourceWords.{sourced_of};
+ghost use Rattle.replay_core.specs.JournalLines.{bytes_of_word, decoded, source_of_word};
+ghost use Rattle.replay_core.specs.HeardLines.{count_of, given_source, put_in, so_many, source_in};
+
+use crate::word::{is_lower, is_text};
+use nk_body::Source;
+
+/// What a call took; its bytes stand at the front of a buffer.
+#[derive(Clone, Copy, Debug, PartialEq, Eq)]
+pub(crate) enum Taken {
+    Nothing,
+    Unreadable,
+    Bytes(usize),
+}
+
+/// Puts the bytes of a word of two digits each, of either case, into a buffer of as many.
+fn is_decoded(buffer: &mut [u8], word: &[u8]) -> bool
+    ensures size { length buffer.new ≡ length buffer.old }
+    ensures put { put_in result buffer.new ≡ decoded (decode_sized word.now (length buffer.old)) }
+{
+    hex::decode_to_slice(word, buffer).is_ok()
+}
+
+/// Puts the bytes of a word into a buffer of as many; whether the word has that form.
+#[tactic(auto, using(crate::proofs::SourceLemmas::read_lower))]
+fn is_read(buffer: &mut [u8], word: &[u8]) -> bool
+    ensures size { length buffer.new ≡ length buffer.old }
+    ensures put { put_in result buffer.new ≡ so_many (length buffer.old) (bytes_of_word word.now) }
+{
+    is_lower(word) && is_decoded(buffer, word)
+}
+
+/// What the word notes of a call that wants so many bytes; None where the word is out of form, or the call doesn't take
+/// that.
+#[tactic(auto, using(crate::proofs::SourceLemmas::taken_bytes))]
+pub(crate) fn take(buffer: &mut [u8], wanted: Option<u64>, word: &[u8]) -> Option<Taken>
+    requires room { IfSome wanted (λ count. count ≤ length buffer.old) }
+    ensures size { length buffer.new ≡ length buffer.old }
+    ensures room { IfSome result (λ taken. count_of taken ≤ length buffer.new) }
+    ensures taken { option_map (source_in buffer.new) result ≡ given_source wanted (source_of_word word.now) }
+{
+    match wanted {
+        None => is_text(word, b"-").then_some(Taken::Nothing),
+        Some(count) => {
+            if is_text(word, b"!") {
+                Some(Taken::Unreadable)
+            } else {
+                let count = count as usize;
+                is_read(&mut buffer[..count], word).then_some(Taken::Bytes(count))
+            }
+        }
+    }
+}
+
+/// The source of a call, from the buffer.
+pub(crate) fn source<'b>(buffer: &'b [u8], taken: Taken) -> Source<'b>
+    requires room { count_of taken ≤ length buffer.now }
+    ensures { sourced_of result ≡ source_in buffer.now taken }
+{
+    match taken {
+        Taken::Nothing => Source::NotTaken,
+        Taken::Unreadable => Source::Unreadable,
+        Taken::Bytes(count) => Source::Bytes(&buffer[..count]),
+    }
+}
