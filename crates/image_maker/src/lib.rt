@@ -1,0 +1,26 @@
+//! Images that are made of a number: an outer kernel whose script declares page tables, fills and loads them, and
+//! writes to regions, for as many processes as the number says. It meets the definition of `specs/MadeImage.antt`. Each
+//! byte of the file is a pure function of the number and the byte's place, with one such function for each part of the
+//! file. It takes memory for the file alone, all of it before the first byte, and time linear in the file. Floor: whole.
+#![tactic(auto)]
+
+// How large the parts of the file are, and where the opening puts them.
+mod layout;
+
+// The headers, by their fields.
+mod field;
+mod header;
+
+// The text at CPL 0, and a user's code.
+mod text;
+
+// The script: one record, and all of them.
+mod record;
+mod script;
+
+// The whole file.
+mod image;
+#[cfg(test)]
+mod tests;
+
+pub use image::{NoMemory, make_image};
