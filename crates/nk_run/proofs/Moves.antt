@@ -9,7 +9,7 @@ use Rattle.gate_state.specs.declared.moves.Move.{Move}
 use Rattle.gate_state.specs.declared.moves.Move.TheVariants as move
 use Rattle.gate_state.specs.MachineStates.{MachineState}
 use Rattle.gate_state.specs.MachineSteps.{answer_in, call_in, move_by, move_of, next, next_by, seen_by, served, source_of, waits}
-use Rattle.nk_run.specs.Lines.{call_line}
+use Rattle.report_text.specs.RunLines.{call_line}
 use Rattle.nk_run.specs.RunStates.{shown, shown_by}
 
 -- at the body, the step is the call's

@@ -14,7 +14,7 @@ use Rattle.nk_run.specs.CommandLine.{command_of, name_in}
 use Rattle.nk_run.specs.Lines.{longest_file}
 use Rattle.nk_run.specs.Witness.{Change, Files, ShelfState, Witness}
 use Rattle.nk_run.specs.Outcome.{Answer, Verdict, passes, decided, first_verdict, checks_of, text_of, outcome, outcome_of, fetched, formed, clean, planned, roomy, file_in}
-use Rattle.nk_run.specs.Clauses.{HasInput, HasRoom, HasSafeRun, IsComplete, IsCutByCount, IsCutWritten, IsDoable, IsDone, IsFaultless, IsGoodImage, IsGoodPlan, IsOutside, IsSafeWhereRun, IsStatus, IsText, IsUnreadByCount, IsUnreadWritten, IsUsage, IsUsageAlone, IsWantWritten, MaySay, Promises, TookAll, TookPrefix}
+use Rattle.nk_run.specs.Clauses.{HasInput, HasJournal, HasRoom, HasSafeRun, IsComplete, IsCutByCount, IsCutWritten, IsDoable, IsDone, IsFaultless, IsGoodImage, IsGoodPlan, IsOutside, IsReplayedWhereRun, IsSafeWhereRun, IsStatus, IsText, IsUnreadByCount, IsUnreadWritten, IsUsage, IsUsageAlone, IsWantWritten, MaySay, Promises, TookAll, TookPrefix}
 use Rattle.nk_run.proofs.Told.{if_told, told_at}
 use Rattle.nk_run.specs.Replies.{CommandSays, IsAnswered, IsWritten, Says, SaysUsage}
 
@@ -266,10 +266,17 @@ run_safe : (seen : Witness) → ((words : List (List ℕ)) (files : Files) (comm
 run_safe seen law =
     if_told seen.shelf.before.files _ (λ files e. if_some (command_of seen.words) (λ command. HasSafeRun command seen.words files) (law seen.words files))
 
+-- and its text is a journal
+run_replayed : (seen : Witness) → ((words : List (List ℕ)) (files : Files) (command : Command) → command_of words ≡ Some command → HasJournal command words files)
+    → IsReplayedWhereRun seen
+run_replayed seen law =
+    if_told seen.shelf.before.files _ (λ files e. if_some (command_of seen.words) (λ command. HasJournal command seen.words files) (law seen.words files))
+
 pub promised : (seen : Witness) (result : ℕ)
     → ((words : List (List ℕ)) (files : Files) (command : Command) → command_of words ≡ Some command → HasSafeRun command words files)
+    → ((words : List (List ℕ)) (files : Files) (command : Command) → command_of words ≡ Some command → HasJournal command words files)
     → IsAnswered seen result → Promises seen result
-promised seen result law r = record {
+promised seen result law again r = record {
   status_range = status_range seen r.status r.text result r.says r.written;
   usage = usage seen r.status r.text result r.says r.written;
   usage_alone = usage_alone seen r.status r.text result r.says r.written;
@@ -284,4 +291,5 @@ promised seen result law r = record {
   complete = complete seen r.status r.text result r.says r.written;
   done = done seen r.status r.text result r.says r.written;
   run_safe = run_safe seen law;
+  run_replayed = run_replayed seen again;
 }

@@ -16,10 +16,10 @@ use Rattle.gate_state.specs.StepsTaken.{Counts}
 use Rattle.gate_state.specs.WholeMachine.{WholeState, is_rest}
 use Rattle.nk_run.specs.declared.ending.Ending.{Ending}
 use Rattle.nk_run.specs.declared.ending.Ending.TheVariants as ending
-use Rattle.nk_run.specs.ClosingSection.{section}
-use Rattle.nk_run.specs.Lines.{ending_line, turns_line}
+use Rattle.report_text.specs.ClosingSection.{section}
+use Rattle.report_text.specs.RunLines.{ending_line, turns_line}
 use Rattle.nk_run.specs.Replies.{IsWritten}
-use Rattle.nk_run.specs.RunStates.{closing, ended, ending_at, lines, one_unless, run_length, run_text, shown_by, steps_within}
+use Rattle.nk_run.specs.RunStates.{closing, ended, ending_at, is_halted, lines, one_unless, run_length, run_text, shown_by, steps_within}
 use Rattle.nk_run.specs.Witness.{sink_change}
 use Rattle.nk_run.proofs.Texts.{prefix_behind, prefix_of_both, rose_before, went_on}
 
@@ -52,20 +52,19 @@ abbrev pub left : ℕ → List Event → MachineState → ℕ
 left steps plan s = (steps - s.turns) + (length plan - s.taken)
 
 -- how a step counts
-record IsStep (steps : ℕ) (plan : List Event) (s after : MachineState) : Type 0 where
-  less : left steps plan s ≡ suc (left steps plan after)
-  turns : after.turns ≤ steps
-  taken : after.taken ≤ length plan
+pub record IsStep (steps : ℕ) (plan : List Event) (s after : MachineState) : Type 0 where
+  pub less : left steps plan s ≡ suc (left steps plan after)
+  pub turns : after.turns ≤ steps
 
-counted : (steps : ℕ) (plan : List Event) (s after : MachineState) (m : Move) → s.turns < steps → s.taken ≤ length plan
+pub counted : (steps : ℕ) (plan : List Event) (s after : MachineState) (m : Move) → s.turns < steps
     → is_rest m ≡ false → Counts plan m s after → IsStep steps plan s after
-counted steps plan s after move.Serve turns taken goes c =
-    record { less = omega (arith, c.turns, c.taken, turns); turns = omega (arith, c.turns, turns); taken = omega (arith, c.taken, taken) }
-counted steps plan s after (move.Take what) turns taken goes c =
-    record { less = omega (arith, c.turns, c.taken, c.left); turns = omega (arith, c.turns, turns); taken = omega (arith, c.taken, c.left) }
-counted steps plan s after move.Turn turns taken goes c =
-    record { less = omega (arith, c.turns, c.taken, turns); turns = omega (arith, c.turns, turns); taken = omega (arith, c.taken, taken) }
-counted steps plan s after move.Rest turns taken goes c = absurd (cc)
+counted steps plan s after move.Serve turns goes c =
+    record { less = omega (arith, c.turns, c.taken, turns); turns = omega (arith, c.turns, turns) }
+counted steps plan s after (move.Take what) turns goes c =
+    record { less = omega (arith, c.turns, c.taken, c.left); turns = omega (arith, c.turns, turns) }
+counted steps plan s after move.Turn turns goes c =
+    record { less = omega (arith, c.turns, c.taken, turns); turns = omega (arith, c.turns, turns) }
+counted steps plan s after move.Rest turns goes c = absurd (cc)
 
 length_going : (steps : ℕ) (plan : List Event) (s : MachineState) → ending_at steps plan s ≡ None
     → left steps plan s ≡ suc (left steps plan (next plan s)) → run_length steps plan s ≡ suc (run_length steps plan (next plan s))
@@ -91,11 +90,12 @@ ends_within zero steps plan s reason e = refl
 ends_within (suc most) steps plan s reason e = ap (λ (o : Option Ending). one_unless o (steps_within most steps plan (next plan s))) e
 
 text_ended : (o : Opening) (steps : ℕ) (plan : List Event) (s : MachineState) (reason : Ending) → ending_at steps plan s ≡ Some reason
-    → run_text o steps plan s ≡ ending_line reason ++ (turns_line s.turns ++ section o (nested_of s))
+    → run_text o steps plan s
+    ≡ ending_line (is_halted reason) ++ (turns_line s.turns ++ section o.image o.frames (nested_of s))
 unfolding run_text lines state run_length closing
 text_ended o steps plan s reason e =
     ap (λ n. lines n plan s ++ closing o steps plan (state plan s n)) (ends_within (left steps plan s) steps plan s reason e)
-    ∙ ap (λ (why : Option Ending). ended why ++ (turns_line s.turns ++ section o (nested_of s))) e
+    ∙ ap (λ (why : Option Ending). ended why ++ (turns_line s.turns ++ section o.image o.frames (nested_of s))) e
 
 -- the text from the opening on, of a memory of so many frames
 pub text_begun : (steps : ℕ) (plan : List Event) (image input : List ℕ) (n frames : ℕ) (s : MachineState)
@@ -117,27 +117,25 @@ pub record IsGoing {O : Type 0} (taken : O → Option (List ℕ)) (faults : O �
   pub appended : Appends (taken first) (taken now) done
   pub never_fell : faults first ≤ faults now
   pub turns_within : w.state.turns ≤ steps
-  pub taken_within : w.state.taken ≤ length plan
 
 module _ {O : Type 0} (taken : O → Option (List ℕ)) (faults : O → ℕ) (first now : O) (o : Opening) (steps : ℕ) (plan : List Event) where
   -- at first nothing went out
-  pub begins : (w : WholeState) → w.opening ≡ o → w.state.turns ≤ steps → w.state.taken ≤ length plan
+  pub begins : (w : WholeState) → w.opening ≡ o → w.state.turns ≤ steps
       → IsGoing taken faults first first (run_text o steps plan w.state) o steps plan w
-  begins w opening turns_within taken_within = record {
+  begins w opening turns_within = record {
     opening = opening;
     done = [];
     split = refl;
     appended = Appends-nil (taken first);
     never_fell = omega arith;
     turns_within = turns_within;
-    taken_within = taken_within;
   }
 
   module _ (whole : List ℕ) (w : WholeState) (going : IsGoing taken faults first now whole o steps plan w) where
     step_is : ending_at steps plan w.state ≡ None → Counts plan (move_of plan w.state) w.state (next plan w.state)
         → IsStep steps plan w.state (next plan w.state)
     step_is e counts =
-        counted steps plan w.state (next plan w.state) (move_of plan w.state) (turn_left steps plan w.state going.turns_within e) going.taken_within
+        counted steps plan w.state (next plan w.state) (move_of plan w.state) (turn_left steps plan w.state going.turns_within e)
         (not_resting steps plan w.state e) counts
 
     -- fewer steps are left then
@@ -157,7 +155,6 @@ module _ {O : Type 0} (taken : O → Option (List ℕ)) (faults : O → ℕ) (fi
         let it = step_is e counts in
         let bytes = shown_by (move_of plan w.state) w.state in
         let turns = ap (λ (s : MachineState). s.turns) is in
-        let events = ap (λ (s : MachineState). s.taken) is in
         record {
           opening = opening ∙ going.opening;
           done = going.done ++ bytes;
@@ -167,7 +164,6 @@ module _ {O : Type 0} (taken : O → Option (List ℕ)) (faults : O → ℕ) (fi
           appended = Appends-trans (taken first) (taken now) (taken later) going.done bytes going.appended put;
           never_fell = omega (arith, going.never_fell, low);
           turns_within = omega (arith, turns, it.turns);
-          taken_within = omega (arith, events, it.taken);
         }
 
     -- a step was taken, and a fault cut what it shows
@@ -188,7 +184,8 @@ module _ {O : Type 0} (taken : O → Option (List ℕ)) (faults : O → ℕ) (fi
 
     -- the run ended, and the rest was written or cut
     pub closes : (later : O) (reason : Ending) (result : ℕ) → ending_at steps plan w.state ≡ Some reason
-        → IsWritten (sink_change taken faults now later) 0 (ending_line reason ++ (turns_line w.state.turns ++ section o (nested_of w.state))) result
+        → IsWritten (sink_change taken faults now later) 0 (ending_line (is_halted reason)
+        ++ (turns_line w.state.turns ++ section o.image o.frames (nested_of w.state))) result
         → IsWritten (sink_change taken faults first later) 0 whole result
     closes later reason result e written =
         let text = going.split ∙ ap (λ l. going.done ++ l) (text_ended o steps plan w.state reason e) in

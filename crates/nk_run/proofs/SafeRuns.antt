@@ -21,9 +21,10 @@ use Rattle.gate_state.specs.SafeStates.{IsSafe}
 use Rattle.nk_run.specs.declared.command_line.Command.{Command}
 use Rattle.nk_run.specs.declared.command_line.Command.TheVariants.{Scan, Map, Run}
 use Rattle.nk_run.specs.declared.command_line.Role.TheVariants.{Image, Input, Plan}
-use Rattle.nk_run.specs.Clauses.{HasSafeRun, IsFileOfBytes, IsSafeRun}
+use Rattle.nk_run.specs.Clauses.{HasJournal, HasSafeRun, IsFileOfBytes, IsSafeRun}
 use Rattle.nk_run.specs.CommandLine.{command_of, map_with, run_with}
 use Rattle.nk_run.specs.NumberWords.{address_of, bounded, decimal_within, is_least_long, is_numeral}
+use Rattle.nk_run.specs.JournalLaw.{IsReplayedRun}
 use Rattle.nk_run.specs.Outcome.{Answer, checks_of, clean, ends, events_in, file_in, first_verdict, formed, opening_in, passes, planned, roomy}
 use Rattle.nk_run.specs.Witness.{Files}
 use Rattle.nk_run.proofs.Rows.{both_pass}
@@ -73,20 +74,35 @@ not_mapped : (b : Bool) (x y : Option ℕ) (steps frames : ℕ) → (if b then m
 not_mapped true x y steps frames e = no_map x y steps frames e
 not_mapped false x y steps frames e = cc
 
-run_chosen : (b : Bool) (x : Option ℕ) (word : List ℕ) (steps frames : ℕ)
-    → (if b then run_with x (decimal_within 512 16384 word) else None) ≡ Some (Run steps frames) → (512 ≤ frames) × (frames ≤ 16384)
-run_chosen true x word steps frames e = spelled_within 512 16384 word frames (run_frames x (decimal_within 512 16384 word) steps frames e)
-run_chosen false x word steps frames e = absurd (cc)
+run_steps : (a b : Option ℕ) (steps frames : ℕ) → run_with a b ≡ Some (Run steps frames) → a ≡ Some steps
+run_steps (Some s) (Some f) steps frames e = cc
+run_steps (Some s) None steps frames e = absurd (cc)
+run_steps None b steps frames e = absurd (cc)
 
--- a run is asked for with 512 to 16,384 frames
-run_within : (words : List (List ℕ)) (steps frames : ℕ) → command_of words ≡ Some (Run steps frames) → (512 ≤ frames) × (frames ≤ 16384)
+-- the bounds of a run
+record IsRunWithin (steps frames : ℕ) : Type 0 where
+  least : 512 ≤ frames
+  most : frames ≤ 16384
+  turns : steps ≤ 4294967296
+
+run_chosen : (b : Bool) (word_steps word_frames : List ℕ) (steps frames : ℕ)
+    → (if b then run_with (decimal_within 0 4294967296 word_steps) (decimal_within 512 16384 word_frames) else None) ≡ Some (Run steps frames)
+    → IsRunWithin steps frames
+run_chosen true word_steps word_frames steps frames e =
+    let room = spelled_within 512 16384 word_frames frames (run_frames (decimal_within 0 4294967296 word_steps) (decimal_within 512 16384 word_frames) steps frames e) in
+    let turns = spelled_within 0 4294967296 word_steps steps (run_steps (decimal_within 0 4294967296 word_steps) (decimal_within 512 16384 word_frames) steps frames e) in
+    record { least = room.0; most = room.1; turns = turns.1 }
+run_chosen false word_steps word_frames steps frames e = absurd (cc)
+
+-- a run is asked for with 512 to 16,384 frames, and 4,294,967,296 turns at most
+run_within : (words : List (List ℕ)) (steps frames : ℕ) → command_of words ≡ Some (Run steps frames) → IsRunWithin steps frames
 run_within [] steps frames e = absurd (cc)
 run_within (a ∷ []) steps frames e = absurd (cc)
 run_within (a ∷ b ∷ []) steps frames e = absurd (no_scan _ steps frames e)
 run_within (a ∷ b ∷ c ∷ []) steps frames e = absurd (cc)
 run_within (a ∷ b ∷ c ∷ d ∷ []) steps frames e = absurd (not_mapped _ (decimal_within 512 16384 c) (address_of d) steps frames e)
 run_within (a ∷ b ∷ c ∷ d ∷ x ∷ []) steps frames e = absurd (cc)
-run_within (a ∷ b ∷ c ∷ d ∷ x ∷ f ∷ []) steps frames e = run_chosen _ (decimal_within 0 4294967296 x) f steps frames e
+run_within (a ∷ b ∷ c ∷ d ∷ x ∷ f ∷ []) steps frames e = run_chosen _ x f steps frames e
 run_within (a ∷ b ∷ c ∷ d ∷ x ∷ f ∷ g ∷ more) steps frames e = absurd (cc)
 
 -- What the checks say where they pass.
@@ -114,23 +130,19 @@ fits n frames e =
     chosen true answer h e = cc
     chosen false answer h e = cc
 
+-- what the checks of a run admit: the image, whose opening has room, and a plan in form
+record IsChecked (files : Files) (words : List (List ℕ)) (frames : ℕ) : Type 0 where
+  admitted : IsAdmitted (opening_in files words frames)
+  planned_are : IsPlan (events_in (plan_of (file_in files words Plan)))
+
 module _ (pages_hold : (b : List ℕ) → first_fault b ≡ None → IsPageList b (pages_of b))
     (clean_holds : (b : List ℕ) → IsPageList b (pages_of b) → first_found b ≡ None → IsNowhere (code_at b))
-    (plan_holds : (bytes : List ℕ) (events : List Event) → plan_of bytes ≡ Ok events → IsPlan events)
-    (safe_holds : (o : Opening) (input : List ℕ) (plan : List Event) (k : ℕ) → IsAdmitted o → IsPlan plan
-    → IsSafe o (state plan (opening_state o input) k))
-    (nested_holds : (o : Opening) (input : List ℕ) (plan : List Event) (k : ℕ) → IsAdmitted o → IsPlan plan
-    → nested_of (state plan (opening_state o input) k)
-    ≡ made_by_all (nested_of (opening_state o input)) (calls plan (opening_state o input) k))
-    (called_holds : (o : Opening) (input : List ℕ) (plan : List Event) (n k : ℕ) → IsAdmitted o → IsPlan plan
-    → IsCalling (state plan (opening_state o input) n).processor
-    → IsCalledThrough plan (state plan (opening_state o input) n) k) where
-  safe_run : (words : List (List ℕ)) (files : Files) (steps frames : ℕ) → (512 ≤ frames) × (frames ≤ 16384)
+    (plan_holds : (bytes : List ℕ) (events : List Event) → plan_of bytes ≡ Ok events → IsPlan events) where
+  checked_run : (words : List (List ℕ)) (files : Files) (steps frames : ℕ) → IsRunWithin steps frames
       → IsFileOfBytes (file_in files words Image) → first_verdict (checks_of (Run steps frames) files words) ≡ passes
-      → IsSafeRun (events_in (plan_of (file_in files words Plan))) (opening_in files words frames) (file_in files words Input)
-  safe_run words files steps frames within bytes passed =
+      → IsChecked files words frames
+  checked_run words files steps frames within bytes passed =
       let image = file_in files words Image in
-      let plan = events_in (plan_of (file_in files words Plan)) in
       let fetched_image = both_pass _ _ passed in
       let form = both_pass _ _ fetched_image.1 in
       let code = both_pass _ _ form.1 in
@@ -139,21 +151,29 @@ module _ (pages_hold : (b : List ℕ) → first_fault b ≡ None → IsPageList 
       let read = both_pass _ _ fetched_plan.1 in
       let room = both_pass _ _ read.1 in
       let pages = pages_hold image (no_fault _ form.0) in
-      let admitted : IsAdmitted (opening_in files words frames) = record {
-        bytes = bytes;
-        layout = record { division = refl; least = within.0; most = within.1; room = fits _ _ room.0 };
-        pages = pages;
-        clean = clean_holds image pages (none_found _ code.0);
-      } in
-      let planned_are : IsPlan plan = plan_holds (file_in files words Plan) plan (read_whole _ read.0) in
       record {
-        safe = λ k. safe_holds _ _ plan k admitted planned_are;
-        nested = λ k. nested_holds _ _ plan k admitted planned_are;
-        called = λ n k. called_holds _ _ plan n k admitted planned_are;
+        admitted = record {
+          bytes = bytes;
+          layout = record { division = refl; least = within.least; most = within.most; room = fits _ _ room.0 };
+          pages = pages;
+          clean = clean_holds image pages (none_found _ code.0);
+        };
+        planned_are = plan_holds (file_in files words Plan) (events_in (plan_of (file_in files words Plan))) (read_whole _ read.0);
       }
 
-  pub safe_where_run : (words : List (List ℕ)) (files : Files) (command : Command) → command_of words ≡ Some command
-      → HasSafeRun command words files
-  safe_where_run words files Scan asked = tt
-  safe_where_run words files (Map frames va) asked = tt
-  safe_where_run words files (Run steps frames) asked = safe_run words files steps frames (run_within words steps frames asked)
+  pub safe_where_run : ((o : Opening) (input : List ℕ) (plan : List Event) → IsAdmitted o → IsPlan plan → IsSafeRun plan o input)
+      → (words : List (List ℕ)) (files : Files) (command : Command) → command_of words ≡ Some command → HasSafeRun command words files
+  safe_where_run law words files Scan asked = tt
+  safe_where_run law words files (Map frames va) asked = tt
+  safe_where_run law words files (Run steps frames) asked = λ bytes passed.
+      let it = checked_run words files steps frames (run_within words steps frames asked) bytes passed in
+      law (opening_in files words frames) (file_in files words Input) (events_in (plan_of (file_in files words Plan))) it.admitted it.planned_are
+
+  pub replayed_where_run : ((o : Opening) (input : List ℕ) (plan : List Event) (steps : ℕ) → IsAdmitted o → IsPlan plan → steps ≤ 4294967296 → IsReplayedRun o input plan steps)
+      → (words : List (List ℕ)) (files : Files) (command : Command) → command_of words ≡ Some command → HasJournal command words files
+  replayed_where_run law words files Scan asked = tt
+  replayed_where_run law words files (Map frames va) asked = tt
+  replayed_where_run law words files (Run steps frames) asked = λ bytes passed.
+      let within = run_within words steps frames asked in
+      let it = checked_run words files steps frames within bytes passed in
+      law (opening_in files words frames) (file_in files words Input) (events_in (plan_of (file_in files words Plan))) steps it.admitted it.planned_are within.turns

@@ -1,5 +1,5 @@
 -- Texts that go out one behind the other.
-use Rattle.std.proofs.Common.{◌≡◌, ℕ, ◌+◌, ◌≤◌, inl, inr, Option, Result, OnErr, OnOk, List, ◌++◌, length, take, sym, subst, arith, length-append}
+use Rattle.std.proofs.Common.{◌≡◌, ℕ, ◌+◌, ◌≤◌, inl, inr, Option, List, ◌++◌, length, take, sym, subst, arith, length-append}
 use Rattle.std.specs.Io.KnownBytes.{Appends}
 use Rattle.std.proofs.KnownBytes.{Appends-trans}
 use Rattle.std.proofs.Math.Seq.{take-append-add}
@@ -8,7 +8,6 @@ use Rattle.nk_host.specs.FaultCounts.{RoseTo}
 use Rattle.nk_host.specs.Taken.{AppendsPrefix}
 use Rattle.nk_run.specs.Replies.{IsWritten}
 use Rattle.nk_run.specs.Witness.{sink_change}
-use Rattle.nk_run.proofs.Told.{err_then, ok_then}
 
 -- a count that rose from a later moment on rose
 pub rose_before : (was then_was is : ℕ) → was ≤ then_was → RoseTo then_was is → RoseTo was is
@@ -40,14 +39,3 @@ went_on taken faults a b c bytes x y status result e low whole written =
       | inl done ↦ inl (done.0, Appends-trans (taken a) (taken b) (taken c) x y first done.1)
       | inr cut ↦ inr (cut.0, rose_before (faults a) (faults b) (faults c) low cut.1, prefix_behind (taken a) (taken b) (taken c) x y first cut.2)
     ]
-
--- a text was put, and behind it the next one where the second put went well, or a prefix where a fault cut it
-pub put_behind : {A E : Type 0} (r : Result A E) (a b c : Option (List ℕ)) (bytes x other y : List ℕ) → bytes ≡ x → other ≡ y
-    → Appends a b bytes → OnOk r (Appends b c other) → OnOk r (Appends a c (x ++ y))
-put_behind r a b c bytes x other y first second whole put =
-    ok_then r (λ h. Appends-trans a b c x y (subst (Appends a b) first whole) (subst (Appends b c) second h)) put
-
-pub cut_behind : {A E : Type 0} (r : Result A E) (a b c : Option (List ℕ)) (bytes x other y : List ℕ) → bytes ≡ x → other ≡ y
-    → Appends a b bytes → OnErr r (AppendsPrefix b c other) → OnErr r (AppendsPrefix a c (x ++ y))
-cut_behind r a b c bytes x other y first second whole cut =
-    err_then r (λ h. prefix_behind a b c x y (subst (Appends a b) first whole) (subst (AppendsPrefix b c) second h)) cut

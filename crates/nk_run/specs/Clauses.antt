@@ -20,6 +20,7 @@ use Rattle.nk_run.specs.declared.command_line.Command.TheVariants.{Scan, Map, Ru
 use Rattle.nk_run.specs.declared.command_line.Role.{Role}
 use Rattle.nk_run.specs.declared.command_line.Role.TheVariants.{Image, Input, Plan}
 use Rattle.nk_run.specs.CommandLine.{command_of, name_in, IsAsked}
+use Rattle.nk_run.specs.JournalLaw.{IsReplayedRun}
 use Rattle.nk_run.specs.Lines.{longest_file, no_memory_line, unread_line, usage_line}
 use Rattle.nk_run.specs.Witness.{Change, Files, ShelfState, SinkState, Witness}
 use Rattle.nk_run.specs.Outcome.{checks_of, events_in, file_in, first_verdict, opening_in, outcome, passes, IsReached}
@@ -182,6 +183,19 @@ abbrev pub IsSafeWhereRun : Witness → Type 0
 IsSafeWhereRun seen = IfTold seen.shelf.before.files (λ files.
     IfSome (command_of seen.words) (λ command. HasSafeRun command seen.words files))
 
+-- where the checks of a run pass, its text is a journal of the calls that were made in it
+abbrev pub HasJournal : Command → List (List ℕ) → Files → Type 0
+HasJournal Scan words files = ⊤
+HasJournal (Map frames va) words files = ⊤
+HasJournal (Run steps frames) words files =
+    IsFileOfBytes (file_in files words Image)
+    → first_verdict (checks_of (Run steps frames) files words) ≡ passes
+    → IsReplayedRun (opening_in files words frames) (file_in files words Input) (events_in (plan_of (file_in files words Plan))) steps
+
+abbrev pub IsReplayedWhereRun : Witness → Type 0
+IsReplayedWhereRun seen = IfTold seen.shelf.before.files (λ files.
+    IfSome (command_of seen.words) (λ command. HasJournal command seen.words files))
+
 pub record Promises (seen : Witness) (status : ℕ) : Type 0 where
   pub status_range : status ≤ 7
   -- words without a form, and the counts: over every shelf and sink, whether they tell their content or not
@@ -202,3 +216,5 @@ pub record Promises (seen : Witness) (status : ℕ) : Type 0 where
   pub done : IsDone seen status
   -- the run whose text is written is safe in each of its states
   pub run_safe : IsSafeWhereRun seen
+  -- and its text is a journal: a replay finds each line right, and ends with the run's closing section
+  pub run_replayed : IsReplayedWhereRun seen

@@ -3,8 +3,9 @@ pub mod NumberWords
 pub mod CommandLine
 pub mod Lines
 pub mod Witness
-pub mod ClosingSection
 pub mod RunStates
+pub mod ReplayedRuns
+pub mod JournalLaw
 pub mod Outcome
 pub mod Clauses
 -- Words of private clauses and proofs.

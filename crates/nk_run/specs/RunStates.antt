@@ -1,5 +1,5 @@
 -- A run: why it ends, how many steps it takes, and its text. Its states are those of the machine.
-use Rattle.std.specs.Prelude.{ℕ, zero, suc, ◌+◌, ◌-◌, ◌==◌, if◌then◌else◌, List, [], ◌++◌, length, Option, None, Some}
+use Rattle.std.specs.Prelude.{ℕ, zero, suc, ◌+◌, ◌-◌, ◌==◌, Bool, true, false, if◌then◌else◌, List, [], ◌++◌, length, Option, None, Some}
 use Rattle.irq_plan.specs.declared.event.Event.{Event}
 use Rattle.gate_state.specs.declared.moves.Move.{Move}
 use Rattle.gate_state.specs.declared.moves.Move.TheVariants as move
@@ -10,8 +10,8 @@ use Rattle.gate_state.specs.MachineSteps.{answer_in, call_in, move_of, next, see
 use Rattle.gate_state.specs.WholeMachine.{is_rest}
 use Rattle.nk_run.specs.declared.ending.Ending.{Ending}
 use Rattle.nk_run.specs.declared.ending.Ending.TheVariants as ending
-use Rattle.nk_run.specs.ClosingSection.{section}
-use Rattle.nk_run.specs.Lines.{call_line, console_line, delivery_line, ending_line, turns_line}
+use Rattle.report_text.specs.ClosingSection.{section}
+use Rattle.report_text.specs.RunLines.{call_line, console_line, delivery_line, ending_line, turns_line}
 
 -- why the run ends at a state, where it does: as many turns were taken as it may have, or the machine rests for good
 unfoldable pub ending_at : ℕ → List Event → MachineState → Option Ending
@@ -51,13 +51,17 @@ unfoldable pub lines : ℕ → List Event → MachineState → List ℕ
 lines zero plan s = []
 lines (suc n) plan s = shown_by (move_of plan s) s ++ lines n plan (next plan s)
 
+abbrev pub is_halted : Ending → Bool
+is_halted ending.Halted = true
+is_halted ending.Steps = false
+
 abbrev pub ended : Option Ending → List ℕ
-ended (Some reason) = ending_line reason
+ended (Some reason) = ending_line (is_halted reason)
 ended None = []
 
 -- what is written at the state at which the run ends
 unfoldable pub closing : Opening → ℕ → List Event → MachineState → List ℕ
-closing o steps plan s = ended (ending_at steps plan s) ++ (turns_line s.turns ++ section o (nested_of s))
+closing o steps plan s = ended (ending_at steps plan s) ++ (turns_line s.turns ++ section o.image o.frames (nested_of s))
 
 -- the text of a run from a state on, by the opening that it began from
 unfoldable pub run_text : Opening → ℕ → List Event → MachineState → List ℕ

@@ -4,26 +4,26 @@ ghost use Rattle.std.specs.Io.KnownBytes.{Appends};
 ghost use Rattle.nk_host.specs.FaultCounts.{RoseTo};
 ghost use Rattle.nk_host.specs.Taken.{AppendsPrefix};
 ghost use Rattle.boot_map.specs.Division.{IsLayout};
+ghost use Rattle.nk_body.specs.CallRules.{Sourced, bytes_read};
 ghost use Rattle.nk_body.specs.NestedRecord.{AreBooks, nested_by};
+ghost use Rattle.nk_body.specs.SourceWords.{sourced_of};
 ghost use Rattle.gate_state.specs.MachineOf.{whole_of};
 ghost use Rattle.gate_state.specs.MachineStates.{nested_of};
-ghost use Rattle.gate_state.specs.MachineSteps.{move_of, next};
+ghost use Rattle.gate_state.specs.MachineSteps.{move_of, next, took_by};
 ghost use Rattle.gate_state.specs.WholeMachine.{is_rest};
-ghost use Rattle.nk_run.specs.ClosingSection.{section};
-ghost use Rattle.nk_run.specs.Lines.{ending_line, turns_line};
+ghost use Rattle.report_text.specs.ClosingSection.{section};
+ghost use Rattle.report_text.specs.RunLines.{ending_line, turns_line};
 ghost use Rattle.nk_run.specs.Replies.{IsWritten};
-ghost use Rattle.nk_run.specs.RunStates.{ending_at, run_text, shown, shown_by};
+ghost use Rattle.nk_run.specs.RunStates.{ending_at, is_halted, run_text, shown, shown_by};
 ghost use Rattle.nk_run.specs.Witness.{sink_change};
 
-use crate::call_lines::{put_call, sourced};
 use crate::ending::Ending;
-use crate::run_lines::{DELIVERY, NUMBERED, console_line, delivery_line, ending_line, turns_line};
-use crate::section::put_section;
 use boot_map::Layout;
 use elf_image::Image;
-use gate_state::{Finished, Machine, Seen, moves_law};
+use gate_state::{Finished, Machine, Seen, Took, moves_law};
 use irq_plan::Plan;
-use nk_host::{Sink, SinkFault, put_all};
+use nk_body::Source;
+use nk_host::{Sink, SinkFault};
 
 /// Takes the steps of a run, and writes its text; gives 0, or 4 after a fault of the sink.
 pub(crate) fn drive<'i, O: Sink>(
@@ -38,7 +38,6 @@ pub(crate) fn drive<'i, O: Sink>(
     requires layout { IsLayout image.now layout.now }
     requires steps { steps ≤ 4294967296 }
     requires turns { (whole_of machine).state.turns ≡ 0 }
-    requires taken { (whole_of machine).state.taken ≡ 0 }
     ensures never_falls { O.faults sink.old ≤ O.faults sink.new }
     ensures written { IsWritten (sink_change O.taken O.faults sink.old sink.new) 0
         (run_text (record { image = image.now; frames = layout.now.frames }) steps plan.now
@@ -102,9 +101,20 @@ fn advance<'i, O: Sink>(
         Machine::Nested(nested) => {
             let (next, called) = nested.serve();
             let source = sourced(called.source, next.source());
-            let shown = put_call(sink, &called.call, source, &called.answer);
+            let shown = report_text::called(sink, &called.call, &source, &called.answer);
             (Machine::Gate(next), shown)
         }
+    }
+}
+
+/// What a call took, with the bytes that were read last.
+fn sourced<'s>(took: Took, bytes: &'s [u8]) -> Source<'s>
+    ensures { (source : Sourced) → took ≡ took_by source → bytes.now ≡ bytes_read source → sourced_of result ≡ source }
+{
+    match took {
+        Took::NotTaken => Source::NotTaken,
+        Took::Unreadable => Source::Unreadable,
+        Took::Taken => Source::Bytes(bytes),
     }
 }
 
@@ -116,8 +126,8 @@ fn show<O: Sink>(seen: &Seen, sink: &mut O) -> Result<(), SinkFault>
     ensures some { OnErr result (AppendsPrefix (O.taken sink.old) (O.taken sink.new) (shown seen.now)) }
 {
     match seen {
-        Seen::Console(byte) => put_all(sink, &console_line(*byte)),
-        Seen::Delivered(it) => put_all(sink, delivery_line(&mut [0; DELIVERY], it)),
+        Seen::Console(byte) => report_text::console(sink, *byte),
+        Seen::Delivered(it) => report_text::delivery(sink, it),
         Seen::Quiet | Seen::Event => Ok(()),
     }
 }
@@ -134,8 +144,8 @@ fn end<'i, O: Sink>(
     requires layout { IsLayout image.now layout.now }
     ensures never_falls { O.faults sink.old ≤ O.faults sink.new }
     ensures written { IsWritten (sink_change O.taken O.faults sink.old sink.new) 0
-        (ending_line ending ++ (turns_line (whole_of machine.entry).state.turns
-        ++ section (record { image = image.now; frames = layout.now.frames }) (nested_of (whole_of machine.entry).state))) result }
+        (ending_line (is_halted ending) ++ (turns_line (whole_of machine.entry).state.turns
+        ++ section image.now layout.now.frames (nested_of (whole_of machine.entry).state))) result }
 {
     let turns = machine.turns();
     let finished = machine.finish();
@@ -156,32 +166,10 @@ fn close<O: Sink>(
     requires size { length finished.now.mem ≡ 4096 * layout.now.frames }
     ensures never_falls { O.faults sink.old ≤ O.faults sink.new }
     ensures written { IsWritten (sink_change O.taken O.faults sink.old sink.new) 0
-        (ending_line ending ++ (turns_line turns ++ section (record { image = image.now; frames = layout.now.frames })
-        (nested_by finished.now.kernel finished.now.mem))) result }
+        (ending_line (is_halted ending) ++ (turns_line turns
+        ++ section image.now layout.now.frames (nested_by finished.now.kernel finished.now.mem))) result }
 {
-    match put_all(sink, ending_line(ending).as_bytes()) {
-        Ok(()) => put_turns(finished, image, layout, turns, sink),
-        Err(_) => 4,
-    }
-}
-
-/// Writes how many turns were taken, and the closing section.
-fn put_turns<O: Sink>(
-    finished: &Finished,
-    image: &Image,
-    layout: &Layout,
-    turns: u64,
-    sink: &mut O,
-) -> u8
-    requires layout { IsLayout image.now layout.now }
-    requires books { AreBooks finished.now.kernel finished.now.mem }
-    requires size { length finished.now.mem ≡ 4096 * layout.now.frames }
-    ensures never_falls { O.faults sink.old ≤ O.faults sink.new }
-    ensures written { IsWritten (sink_change O.taken O.faults sink.old sink.new) 0
-        (turns_line turns ++ section (record { image = image.now; frames = layout.now.frames })
-        (nested_by finished.now.kernel finished.now.mem)) result }
-{
-    match put_all(sink, turns_line(&mut [0; NUMBERED], turns)) {
+    match report_text::ending(sink, ending.is_halted(), turns) {
         Ok(()) => finish(finished, image, layout, sink),
         Err(_) => 4,
     }
@@ -194,10 +182,9 @@ fn finish<O: Sink>(finished: &Finished, image: &Image, layout: &Layout, sink: &m
     requires size { length finished.now.mem ≡ 4096 * layout.now.frames }
     ensures never_falls { O.faults sink.old ≤ O.faults sink.new }
     ensures written { IsWritten (sink_change O.taken O.faults sink.old sink.new) 0
-        (section (record { image = image.now; frames = layout.now.frames })
-        (nested_by finished.now.kernel finished.now.mem)) result }
+        (section image.now layout.now.frames (nested_by finished.now.kernel finished.now.mem)) result }
 {
-    match put_section(sink, image, layout, &finished.mem, &finished.kernel) {
+    match report_text::section(sink, image, layout, &finished.mem, &finished.kernel) {
         Ok(()) => 0,
         Err(_) => 4,
     }

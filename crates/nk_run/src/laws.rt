@@ -1,23 +1,49 @@
 //! What follows from the definitions for the runs that are made.
 
-ghost use Rattle.std.specs.Prelude.{◌≡◌, ℕ, List, Some};
+ghost use Rattle.std.specs.Prelude.{◌≡◌, ◌≤◌, ℕ, List, Some};
+ghost use Rattle.irq_plan.specs.declared.event.Event.{Event};
+ghost use Rattle.irq_plan.specs.PlannedEvents.{IsPlan};
+ghost use Rattle.gate_state.specs.GuardedStates.{IsAdmitted};
+ghost use Rattle.gate_state.specs.MachineStates.{Opening};
 ghost use Rattle.nk_run.specs.declared.command_line.Command.{Command};
 ghost use Rattle.nk_run.specs.CommandLine.{command_of};
-ghost use Rattle.nk_run.specs.Clauses.{HasSafeRun};
+ghost use Rattle.nk_run.specs.Clauses.{HasJournal, HasSafeRun};
+ghost use Rattle.nk_run.specs.JournalLaw.{IsReplayedRun};
 ghost use Rattle.nk_run.specs.Witness.{Files};
 
+use boot_map::opening_kinds_law;
 use byte_scanner::clean_law;
 use elf_image::pages_law;
-use gate_state::safety_law;
+use gate_state::{moves_law, safety_law, shown_law};
 use irq_plan::plan_law;
+use phys_mem::{frame_law, memory_law};
+use vmmu::accepted_law;
 
-/// Where the checks of a run pass, the run is safe in each of its states.
+/// Where the checks of a run pass, the run is safe in each of its states, and its text is a journal of its calls.
 pub(crate) fn run_law()
-    ensures { (words : List (List ℕ)) (files : Files) (command : Command) → command_of words ≡ Some command
+    ensures safe { (words : List (List ℕ)) (files : Files) (command : Command) → command_of words ≡ Some command
         → HasSafeRun command words files }
+    ensures replayed { (words : List (List ℕ)) (files : Files) (command : Command) → command_of words ≡ Some command
+        → HasJournal command words files }
 {
     pages_law();
     clean_law();
     plan_law();
     safety_law();
+    journal_law();
+}
+
+/// A replay of a run's text finds each line right, and ends with the run's own closing section, but for bytes of
+/// declared regions that no call wrote.
+fn journal_law()
+    ensures { (o : Opening) (input : List ℕ) (plan : List Event) (steps : ℕ)
+        → IsAdmitted o → IsPlan plan → steps ≤ 4294967296 → IsReplayedRun o input plan steps }
+{
+    memory_law();
+    frame_law();
+    accepted_law();
+    opening_kinds_law();
+    safety_law();
+    shown_law();
+    moves_law();
 }

@@ -23,13 +23,9 @@ mod scan;
 mod inputs;
 mod run;
 
-// A run: its steps and why it ends, its lines, its closing section, its loop.
-mod call_lines;
+// A run: why it ends, and its loop.
 mod drive;
 mod ending;
-mod ledger_lines;
-mod run_lines;
-mod section;
 
 // The whole.
 mod answer;

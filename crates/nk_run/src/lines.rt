@@ -76,7 +76,7 @@ pub(crate) fn image_line(alloc: Global, fault: &ImageFault) -> Result<String, Al
 }
 
 /// The first protected encoding in the image's code.
-#[tactic(auto, unfolding(crate::specs::Lines::protected_line, crate::specs::Lines::hex_16))]
+#[tactic(auto, unfolding(crate::specs::Lines::protected_line, report_text::specs::RunLines::hex_16))]
 pub(crate) fn protected_line(alloc: Global, found: &Found) -> Result<String, AllocError>
     requires { found.now.count ≤ length found.now.bytes }
     ensures { IfOk result (λ line. string_bytes line
@@ -88,7 +88,7 @@ pub(crate) fn protected_line(alloc: Global, found: &Found) -> Result<String, All
 }
 
 /// The image is admitted.
-#[tactic(auto, unfolding(crate::specs::Lines::admitted_line, crate::specs::Lines::hex_16))]
+#[tactic(auto, unfolding(crate::specs::Lines::admitted_line, report_text::specs::RunLines::hex_16))]
 pub(crate) fn admitted_line(alloc: Global, entry: u64, pages: u32) -> Result<String, AllocError>
     ensures { IfOk result (λ line. string_bytes line ≡ admitted_line entry pages) }
 {

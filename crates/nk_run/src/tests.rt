@@ -4,6 +4,7 @@ mod compiled;
 mod deliveries;
 mod regions;
 mod run;
+mod sources;
 mod tables;
 
 use crate::{Command, nk_main};
@@ -23,6 +24,9 @@ const READ: u32 = 4;
 const READ_EXECUTE: u32 = 5;
 
 const READ_WRITE: u32 = 6;
+
+/// How many bytes the sink takes, in the longest text under test.
+const ROOM: usize = 524_288;
 
 const USAGE: &str =
     "usage: nkrun scan IMAGE | map IMAGE FRAMES VA | run IMAGE INPUT PLAN STEPS FRAMES\n";
@@ -135,7 +139,7 @@ fn run_over(
 ) -> Result<Ran, Fail> {
     let words = owned(alloc, words)?;
     let mut shelf = MemShelf::new(alloc, files, failing_fetches.to_vec(alloc)?)?;
-    let mut sink = MemSink::new(alloc, 65_536, failing_puts.to_vec(alloc)?, cut)?;
+    let mut sink = MemSink::new(alloc, ROOM, failing_puts.to_vec(alloc)?, cut)?;
     let status = nk_main(alloc, &words, &mut shelf, &mut sink);
     Ok(Ran {
         status,

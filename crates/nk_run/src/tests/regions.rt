@@ -6,36 +6,36 @@ use std::alloc::{AllocError, Global};
 use std::test::Fail;
 
 /// MOV RBX, the direct map's address of frame 71, which is the first free one; MOV DWORD [RBX], 64636261.
-const STORES: [u8; 16] = [
+pub(super) const STORES: [u8; 16] = [
     0x48, 0xbb, 0x00, 0x70, 0x04, 0x00, 0x00, 0x80, 0xff, 0xff, 0xc7, 0x03, 0x61, 0x62, 0x63, 0x64,
 ];
 
 /// MOV RAX, the gates; CALL RAX.
-const CALLS: [u8; 12] = [
+pub(super) const CALLS: [u8; 12] = [
     0x48, 0xb8, 0x00, 0x10, 0x00, 0x00, 0x80, 0xff, 0xff, 0xff, 0xff, 0xd0,
 ];
 
 /// MOV EDI, 7; MOV ESI, 16; MOV EDX, 1: a write-once region of 16 bytes.
-const ALLOCATES_ONCE: [u8; 15] = [
+pub(super) const ALLOCATES_ONCE: [u8; 15] = [
     0xbf, 0x07, 0x00, 0x00, 0x00, 0xbe, 0x10, 0x00, 0x00, 0x00, 0xba, 0x01, 0x00, 0x00, 0x00,
 ];
 
 /// MOV EDI, 7; MOV ESI, 8; MOV EDX, 4: a region of 8 bytes whose writes are logged.
-const ALLOCATES_LOGGED: [u8; 15] = [
+pub(super) const ALLOCATES_LOGGED: [u8; 15] = [
     0xbf, 0x07, 0x00, 0x00, 0x00, 0xbe, 0x08, 0x00, 0x00, 0x00, 0xba, 0x04, 0x00, 0x00, 0x00,
 ];
 
 /// MOV EDI, 9; MOV ESI, 256; MOV EDX, 2; MOV RCX, frame 71's address; MOV R8D, 4: four bytes to offset 2.
-const WRITES: [u8; 31] = [
+pub(super) const WRITES: [u8; 31] = [
     0xbf, 0x09, 0x00, 0x00, 0x00, 0xbe, 0x00, 0x01, 0x00, 0x00, 0xba, 0x02, 0x00, 0x00, 0x00, 0x48,
     0xb9, 0x00, 0x70, 0x04, 0x00, 0x00, 0x80, 0xff, 0xff, 0x41, 0xb8, 0x04, 0x00, 0x00, 0x00,
 ];
 
 /// HLT.
-const HALTS: [u8; 1] = [0xf4];
+pub(super) const HALTS: [u8; 1] = [0xf4];
 
 /// The pieces, one after another.
-fn text_of(alloc: Global, pieces: &[&[u8]]) -> Result<Vec<u8>, AllocError> {
+pub(super) fn text_of(alloc: Global, pieces: &[&[u8]]) -> Result<Vec<u8>, AllocError> {
     let mut text = Vec::new(alloc);
     for piece in pieces {
         text.extend_from_slice(piece)?;

@@ -7,7 +7,7 @@ use Rattle.gate_state.specs.MachineOf.{whole_of}
 use Rattle.gate_state.specs.MachineStates.{MachineState}
 use Rattle.gate_state.specs.MachineSteps.{answer_in, call_in, move_of, next, source_of}
 use Rattle.gate_state.specs.WholeMachine.{WholeState}
-use Rattle.nk_run.specs.Lines.{call_line}
+use Rattle.report_text.specs.RunLines.{call_line}
 use Rattle.nk_run.specs.RunStates.{shown, shown_by}
 use Rattle.nk_run.proofs.Moves.{next_served, shows_call, shows_seen}
 use Rattle.nk_run.proofs.drive.advance.Goals as goal
@@ -51,5 +51,5 @@ returns-in-Nested-clause-some g c =
     ∙ ap (λ source. call_line (call_in s.processor.regs) source (answer_in s)) read
     ∙ sym (shows_call plan s c.serve-next.ensures.body)
     ∙ ap (λ (m : Machine). shown_by (move_of plan (whole_of m).state) (whole_of m).state) (sym c.in-Nested.is) in
-    subst (λ l. OnErr c.put_call-shown.result (AppendsPrefix (g.O.Sink.taken c.args.sink.now) (g.O.Sink.taken c.put_call-shown.new.sink) l)) text
-    c.put_call-shown.ensures.some
+    subst (λ l. OnErr c.called-shown.result (AppendsPrefix (g.O.Sink.taken c.args.sink.now) (g.O.Sink.taken c.called-shown.new.sink) l)) text
+    c.called-shown.ensures.some

@@ -1,14 +1,41 @@
-use Rattle.std.proofs.Common.{◌++◌, ◌∙◌}
+use Rattle.std.proofs.Common.{◌++◌, inr, append_assoc, ap, refl, subst}
+use Rattle.nk_host.specs.Taken.{AppendsPrefix}
 use Rattle.nk_body.specs.NestedRecord.{nested_by}
-use Rattle.gate_state.specs.MachineStates.{Opening}
-use Rattle.nk_run.specs.ClosingSection.{section}
-use Rattle.nk_run.specs.Lines.{ending_line, turns_line}
-use Rattle.nk_run.proofs.Texts.{went_on}
+use Rattle.report_text.specs.ClosingSection.{section}
+use Rattle.report_text.specs.RunLines.{ending_line, turns_line}
+use Rattle.nk_run.specs.Replies.{IsWritten}
+use Rattle.nk_run.specs.RunStates.{is_halted}
+use Rattle.nk_run.specs.Witness.{sink_change}
+use Rattle.nk_run.proofs.Texts.{prefix_of_both, went_on}
 use Rattle.nk_run.proofs.drive.close.Goals as goal
 
 pub returns-in-Ok-clause-written : goal.returns-in-Ok-clause-written
 returns-in-Ok-clause-written g c =
-    let o : Opening = record { image = c.args.image.now; frames = c.args.layout.now.frames } in
-    went_on g.O.Sink.taken g.O.Sink.faults c.args.sink.now c.put_all.new.sink c.put_turns.new.sink c.as_bytes.result.now (ending_line c.args.ending)
-    (turns_line c.args.turns ++ section o (nested_by c.args.finished.now.kernel c.args.finished.now.mem)) 0 _
-    (c.as_bytes.ensures.value ∙ c.ending_line.ensures) c.put_all.ensures.never_falls c.in-Ok.ensures.all c.put_turns.ensures.written
+    let why = ending_line (is_halted c.args.ending) in
+    let turns = turns_line c.args.turns in
+    let held = nested_by c.args.finished.now.kernel c.args.finished.now.mem in
+    let rest = section c.args.image.now c.args.layout.now.frames held in
+    subst (λ l. IsWritten
+    (sink_change g.O.Sink.taken g.O.Sink.faults c.args.sink.now c.finish.new.sink) 0 l c.finish.result)
+    (append_assoc why turns rest)
+    (went_on g.O.Sink.taken g.O.Sink.faults c.args.sink.now c.ending.new.sink c.finish.new.sink _ (why ++ turns) rest
+    0 _
+    (ap (λ halted. ending_line halted ++ turns) c.is_halted.ensures) c.ending.ensures.never_falls c.in-Ok.ensures.all
+    c.finish.ensures.written)
+
+pub returns-in-Err-clause-written : goal.returns-in-Err-clause-written
+returns-in-Err-clause-written g c =
+    let why = ending_line (is_halted c.args.ending) in
+    let turns = turns_line c.args.turns in
+    let held = nested_by c.args.finished.now.kernel c.args.finished.now.mem in
+    let rest = section c.args.image.now c.args.layout.now.frames held in
+    let before = g.O.Sink.taken c.args.sink.now in
+    let after = g.O.Sink.taken c.ending.new.sink in
+    let cut = subst (AppendsPrefix before after) (ap (λ halted. ending_line halted ++ turns) c.is_halted.ensures)
+    c.in-Err.ensures.some in
+    inr (
+      refl,
+      c.in-Err.ensures.failed,
+      subst (AppendsPrefix before after) (append_assoc why turns rest)
+          (prefix_of_both before after (why ++ turns) rest cut),
+    )

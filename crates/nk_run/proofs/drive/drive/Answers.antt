@@ -3,13 +3,13 @@ use Rattle.gate_state.specs.MachineOf.{whole_of}
 use Rattle.gate_state.specs.MachineStates.{Opening}
 use Rattle.nk_run.specs.RunStates.{run_text}
 use Rattle.nk_run.proofs.Told.{on_err, on_ok}
-use Rattle.nk_run.proofs.Runs.{IsGoing, begins, closes, goes_less, goes_on, not_resting, turn_left, was_cut}
+use Rattle.nk_run.proofs.Runs.{begins, closes, goes_less, goes_on, not_resting, turn_left, was_cut}
 use Rattle.nk_run.proofs.drive.drive.Goals as goal
 
 pub loop-ending-init : goal.loop-ending-init
 loop-ending-init g c =
     begins g.O.Sink.taken g.O.Sink.faults c.args.sink.now c.args.sink.now _ c.args.steps c.args.plan.now (whole_of c.args.machine)
-    c.requires.opening (omega (arith, c.requires.turns)) (omega (arith, c.requires.taken))
+    c.requires.opening (omega (arith, c.requires.turns))
 
 pub end-requires-clause-opening : goal.end-requires-clause-opening
 end-requires-clause-opening g c = c.loop-ending.invariant.opening

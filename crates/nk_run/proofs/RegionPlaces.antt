@@ -1,0 +1,107 @@
+-- Where the bytes of regions stand.
+use Rattle.std.proofs.Common.{◌≡◌, ◌≢◌, ℕ, zero, suc, ◌+◌, ◌-◌, ◌/◌, ◌%◌, ◌<◌, ◌≤◌, true, false, List, [], ◌∷◌, length, All, inl, inr, refl, sym, ap, subst, ◌∙◌, arith}
+use Rattle.std.specs.Prelude.{◌==◌, Some, slice_index}
+use Rattle.std.specs.List.{list_any, position_or_len}
+use Rattle.std.proofs.lemmas.Bool.{cases_lt, eq-eqb, false≢true, ne_eqb, or_left, or_parts, or_right}
+use Rattle.std.proofs.lemmas.Option.{get_or_from_slice_get, slice_get_within}
+use Rattle.std.proofs.lemmas.List.Elements.{All-cons, All-nil}
+use Rattle.std.proofs.lemmas.List.Folds.{find_at, list_any_at, list_any_none}
+use Rattle.std.proofs.lemmas.List.FromFn.{get_or-range_with_len}
+use Rattle.region_book.specs.RegionCalls.{has_twice}
+use Rattle.region_book.specs.RegionRecords.{Book, IsRegion, Region, byte_place, pool_start, region_of, region_stores}
+use Rattle.nk_run.proofs.Beside.{frame_at}
+use Rattle.nk_run.proofs.HeldPuts.{hits}
+
+-- what holds of each region holds of the one that is found
+pub found_holds : (P : Region → Type 0) (book : Book) (id : ℕ) (r : Region) → region_of book id ≡ Some r
+    → All P book.regions → P r
+found_holds P book id r found all =
+    let at = position_or_len (λ x. x.id == id) book.regions in
+    let there = sym (find_at (λ x. x.id == id) book.regions) ∙ found in
+    subst P (get_or_from_slice_get book.regions at r r there) (all at r (slice_get_within book.regions at r there))
+
+-- the frame of each byte of a region is one of its frames
+pub frame_holds : (P : ℕ → Type 0) (next : ℕ) (r : Region) → IsRegion next r → All P r.frames → (at : ℕ) → at < r.size
+    → P (frame_at r at)
+frame_holds P next r is all at inside = all ((r.place + at) / 4096) 0 (omega (arith, is.held, inside))
+
+-- that of a byte of the pool is one of the pool's
+pub frame_pooled : (next : ℕ) (r : Region) → IsRegion next r → r.pooled ≡ true → (at : ℕ) → at < r.size
+    → (10 ≤ frame_at r at) × (frame_at r at < 26)
+frame_pooled next r is pooled at inside =
+    let facts = is.pooled pooled in
+    let p = r.first - pool_start in
+    let i = (r.place + at) / 4096 in
+    let within : i < (r.place + r.size + 4095) / 4096 = omega (arith, inside) in
+    let frame : frame_at r at ≡ 10 + p / 4096 + i =
+    ap (λ fs. slice_index fs i) facts.3 ∙ get_or-range_with_len (10 + p / 4096)
+    ((r.place + r.size + 4095) / 4096) i 0 within in
+    let fits : p + r.size ≤ 65536 = omega (arith, facts.0, facts.1) in
+    (omega (arith, frame), omega (arith, frame, fits, facts.2, inside))
+
+-- Frames that stand once.
+
+twice_apart : (f : ℕ) (fs : List ℕ) → has_twice (f ∷ fs) ≡ false → (j : ℕ) → j < length fs → f ≡ slice_index fs j → ⊥
+unfolding has_twice
+twice_apart f fs distinct j inside same =
+    let once = (or_parts (list_any (λ g. g == f) fs) (has_twice fs) distinct).0 in
+    false≢true (sym once ∙ list_any_at (λ g. g == f) fs j 0 inside (eq-eqb (slice_index fs j) f (sym same)))
+
+pub same_index : (fs : List ℕ) → has_twice fs ≡ false → (i j : ℕ) → i < length fs → j < length fs
+    → slice_index fs i ≡ slice_index fs j → i ≡ j
+unfolding has_twice
+same_index [] distinct i j one other same = absurd (omega arith)
+same_index (f ∷ fs) distinct zero zero one other same = refl
+same_index (f ∷ fs) distinct zero (suc j) one other same = absurd (twice_apart f fs distinct j (omega arith) same)
+same_index (f ∷ fs) distinct (suc i) zero one other same = absurd (twice_apart f fs distinct i (omega arith) (sym same))
+same_index (f ∷ fs) distinct (suc i) (suc j) one other same =
+    ap suc (same_index fs (or_parts (list_any (λ g. g == f) fs) (has_twice fs) distinct).1 i j (omega arith)
+    (omega arith) same)
+
+-- so the bytes of a declared region stand apart
+pub same_byte : (next : ℕ) (r : Region) → IsRegion next r → r.pooled ≡ false → has_twice r.frames ≡ false
+    → (a b : ℕ) → a < r.size → b < r.size → byte_place r a ≡ byte_place r b → a ≡ b
+same_byte next r is declared distinct a b one other same =
+    let facts = is.declared declared in
+    let f = frame_at r a in
+    let g = frame_at r b in
+    let frames : f ≡ g = omega (arith, same) in
+    let places : (r.place + a) % 4096 ≡ (r.place + b) % 4096 = omega (arith, same) in
+    let index = same_index r.frames distinct ((r.place + a) / 4096) ((r.place + b) / 4096)
+    (omega (arith, is.held, one)) (omega (arith, is.held, other)) frames in
+    omega (arith, index, places)
+
+-- Stores in a region.
+
+module _ (r : Region) where
+  pub stores_all : (P : ℕ → Type 0) (offset : ℕ) (bytes : List ℕ)
+      → ((k : ℕ) → offset ≤ k → k < offset + length bytes → P (byte_place r k))
+      → All (λ w. P w.0) (region_stores r offset bytes)
+  unfolding region_stores
+  stores_all P offset [] each = All-nil (λ (w : ℕ × ℕ). P w.0)
+  stores_all P offset (b ∷ bytes) each =
+      All-cons (λ (w : ℕ × ℕ). P w.0) (byte_place r offset, b) (region_stores r (offset + 1) bytes)
+      (each offset (omega arith) (omega arith))
+      (stores_all P (offset + 1) bytes (λ k least most. each k (omega (arith, least)) (omega (arith, most))))
+
+  pub stores_hit : (offset : ℕ) (bytes : List ℕ) (k : ℕ) → offset ≤ k → k < offset + length bytes
+      → hits (byte_place r k) (region_stores r offset bytes) ≡ true
+  unfolding region_stores
+  stores_hit offset [] k least most = absurd (omega (arith, least, most))
+  stores_hit offset (b ∷ bytes) k least most = elim (cases_lt offset k) [
+    | inl later ↦
+        or_right (byte_place r offset == byte_place r k) (hits (byte_place r k) (region_stores r (offset + 1) bytes))
+        (stores_hit (offset + 1) bytes k (omega (arith, later)) (omega (arith, most)))
+    | inr here ↦
+        let at : offset ≡ k = omega (arith, here, least) in
+        or_left (byte_place r offset == byte_place r k) (hits (byte_place r k) (region_stores r (offset + 1) bytes))
+        (eq-eqb (byte_place r offset) (byte_place r k) (ap (byte_place r) at))
+  ]
+
+  pub stores_miss : (place offset : ℕ) (bytes : List ℕ)
+      → ((k : ℕ) → offset ≤ k → k < offset + length bytes → byte_place r k ≢ place)
+      → hits place (region_stores r offset bytes) ≡ false
+  stores_miss place offset bytes apart =
+      list_any_none (λ w. w.0 == place) (region_stores r offset bytes)
+      (stores_all (λ p. (p == place) ≡ false) offset bytes
+      (λ k least most. ne_eqb (byte_place r k) place (apart k least most)))
