@@ -4,12 +4,12 @@ use Rattle.std.specs.Prelude.{if◌then◌else◌}
 use Rattle.std.proofs.lemmas.Bool.{cases_lt, false≢true, or_left}
 use Rattle.std.proofs.lemmas.List.{get_or_past}
 use Rattle.std.proofs.lemmas.List.Elements.{All-nil}
-use Rattle.std.proofs.lemmas.List.FromFn.{fill_by_all, get_or-map-range_with_len}
+use Rattle.std.proofs.lemmas.List.FromFn.{get_or-map-range_with_len}
 use Rattle.nk_bits.specs.declared.kind.Kind.TheVariants.{Data, Hidden}
 use Rattle.nk_bits.specs.Kinds.{kind_of}
 use Rattle.phys_mem.specs.Memory.{byte_at}
 use Rattle.page_desc.specs.PageTables.{is_table}
-use Rattle.boot_map.specs.Opening.{IsOpening, byte_in}
+use Rattle.boot_map.specs.Opening.{byte_in}
 use Rattle.boot_map.specs.OpeningKinds.{kind_at, kinds}
 use Rattle.region_book.specs.RegionRecords.{Region}
 use Rattle.gate_state.specs.MachineOpening.{opening_memory, opening_state}
@@ -53,8 +53,3 @@ module _ (o : Opening) (count : length (kinds o.image o.frames) ≡ o.frames)
     regions = All-nil (λ (r : Region). r.pooled ≡ false → IsTold (opened o) (was_table o []) (λ f. 0)
         (nested_of (opening_state o input)).held (nested_of (opening_state o input)).held r);
   }
-
--- the opening has one memory
-pub same_opening : (o : Opening) (m : List ℕ) → IsOpening o.image o.frames m → m ≡ opening_memory o
-unfolding opening_memory
-same_opening o m is = fill_by_all (byte_in o.image o.frames) m (4096 * o.frames) 0 is.length is.bytes

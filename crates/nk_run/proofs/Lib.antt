@@ -3,11 +3,14 @@ pub mod Told
 pub mod Forms
 pub mod Numerals
 pub mod Rows
+pub mod RunRows
 pub mod Promises
 pub mod Runs
 pub mod SafeRuns
 pub mod Moves
 pub mod Texts
+pub mod OpeningMemory
+pub mod CountedRuns
 pub mod Splits
 pub mod Glyphs
 pub mod SpelledNumbers

@@ -7,14 +7,17 @@ use Rattle.byte_scanner.specs.FirstFound.{first_found}
 use Rattle.irq_plan.specs.declared.event.Event.{Event}
 use Rattle.irq_plan.specs.PlanFile.{plan_of}
 use Rattle.boot_map.specs.Division.{need}
+use Rattle.gate_state.specs.MachineStates.{Opening}
+use Rattle.replay_core.specs.ReplayedCalls.{replay_of}
+use Rattle.image_maker.specs.MadeImage.{image_of_number}
 use Rattle.nk_run.specs.declared.command_line.Command.{Command}
-use Rattle.nk_run.specs.declared.command_line.Command.TheVariants.{Scan, Map, Run}
-use Rattle.nk_run.specs.declared.command_line.Role.TheVariants.{Image, Input, Plan}
+use Rattle.nk_run.specs.declared.command_line.Command.TheVariants.{Scan, Map, Run, Replay, Make, Work}
+use Rattle.nk_run.specs.declared.command_line.Role.TheVariants.{Image, Input, Plan, Journal}
 use Rattle.nk_run.specs.CommandLine.{command_of, name_in}
 use Rattle.nk_run.specs.Lines.{longest_file}
 use Rattle.nk_run.specs.Witness.{Change, Files, ShelfState, Witness}
-use Rattle.nk_run.specs.Outcome.{Answer, Verdict, passes, decided, first_verdict, checks_of, text_of, outcome, outcome_of, fetched, formed, clean, planned, roomy, file_in}
-use Rattle.nk_run.specs.Clauses.{HasInput, HasJournal, HasRoom, HasSafeRun, IsComplete, IsCutByCount, IsCutWritten, IsDoable, IsDone, IsFaultless, IsGoodImage, IsGoodPlan, IsOutside, IsReplayedWhereRun, IsSafeWhereRun, IsStatus, IsText, IsUnreadByCount, IsUnreadWritten, IsUsage, IsUsageAlone, IsWantWritten, MaySay, Promises, TookAll, TookPrefix}
+use Rattle.nk_run.specs.Outcome.{Answer, Verdict, passes, decided, first_verdict, checks_of, text_of, outcome, outcome_of, fetched, formed, clean, journaled, made_checks, opened, opening_in, planned, replay_in, roomy, file_in}
+use Rattle.nk_run.specs.Clauses.{HasJournal, HasOutside, HasSafeRun, IsComplete, IsCutByCount, IsCutWritten, IsDoable, IsDone, IsFaultless, IsGoodImage, IsGoodJournal, IsGoodPlan, IsOutside, IsReplayedWhereRun, IsSafeWhereRun, IsStatus, IsText, IsUnreadByCount, IsUnreadWritten, IsUsage, IsUsageAlone, IsWantWritten, MaySay, Promises, TookAll, TookPrefix}
 use Rattle.nk_run.proofs.Told.{if_told, told_at}
 use Rattle.nk_run.specs.Replies.{CommandSays, IsAnswered, IsWritten, Says, SaysUsage}
 
@@ -72,18 +75,61 @@ module _ (words : List (List ℕ)) (files : Files) (image : List ℕ) (held : fi
       let (plan, given, plan_good) = some_and (files (name_in words Plan)) _ wanted in
       ap (λ (o : Option (List ℕ)). planned (plan_of (unwrap_or o []))) given ∙ read_passes (plan_of plan) plan_good.formed
 
-  checks_pass : (command : Command) → HasRoom command image → HasInput command words files
-      → first_verdict (checks_of command files words) ≡ passes
-  checks_pass Scan room given = rw (fetch_passes, form_passes, code_passes) refl
-  checks_pass (Map frames va) room given = rw (fetch_passes, form_passes, code_passes, room_passes frames room) refl
-  checks_pass (Run steps frames) room given =
+  journal_passes : (o : Opening) → IsSomeAnd (files (name_in words Journal)) (IsGoodJournal o)
+      → fetched Journal (files (name_in words Journal)) ≡ passes
+  journal_passes o wanted =
+      let (journal, given, right) = some_and (files (name_in words Journal)) _ wanted in
+      rw given (rw (le-ltb longest_file (length journal) right.within) refl)
+
+  journal_right : (frames : ℕ) → IsSomeAnd (files (name_in words Journal)) (IsGoodJournal (opening_in files words frames))
+      → journaled (replay_in files words frames).bad ≡ passes
+  journal_right frames wanted =
+      let (journal, given, right) = some_and (files (name_in words Journal)) _ wanted in
+      ap (λ (o : Option (List ℕ)). journaled (replay_of (unwrap_or o []) (opened (opening_in files words frames))).bad) given
+      ∙ ap journaled right.right
+
+  scan_passes : first_verdict (checks_of Scan files words) ≡ passes
+  scan_passes = rw (fetch_passes, form_passes, code_passes) refl
+
+  map_passes : (frames va : ℕ) → need image frames ≤ frames → first_verdict (checks_of (Map frames va) files words) ≡ passes
+  map_passes frames va room = rw (fetch_passes, form_passes, code_passes, room_passes frames room) refl
+
+  run_passes : (steps frames : ℕ) → need image frames ≤ frames → HasOutside words files
+      → first_verdict (checks_of (Run steps frames) files words) ≡ passes
+  run_passes steps frames room given =
       rw (fetch_passes, form_passes, code_passes, input_passes given.0, plan_passes given.1, plan_read given.1, room_passes frames room) refl
 
-  outcome_good : (command : Command) → command_of words ≡ Some command → HasRoom command image → HasInput command words files
-      → outcome words files ≡ Some (record { status = 0; text = text_of command files words })
-  outcome_good command asked room given =
-      ap (λ (c : Option Command). outcome_of c words files) asked
-      ∙ ap (λ (v : Verdict). decided v (record { status = 0; text = text_of command files words })) (checks_pass command room given)
+  replay_passes : (frames : ℕ) → need image frames ≤ frames
+      → IsSomeAnd (files (name_in words Journal)) (IsGoodJournal (opening_in files words frames))
+      → first_verdict (checks_of (Replay frames) files words) ≡ passes
+  replay_passes frames room given =
+      rw (fetch_passes, form_passes, code_passes, journal_passes (opening_in files words frames) given, room_passes frames room, journal_right frames given) refl
+
+-- and so those on an image that is made
+made_passes : (image : List ℕ) → IsGoodImage image → need image 4096 ≤ 4096 → first_verdict (made_checks image) ≡ passes
+made_passes image good room = rw (good.formed, good.clean, le-leb (need image 4096) 4096 room) refl
+
+-- where what the words ask for can be done, all checks pass
+checks_pass : (words : List (List ℕ)) (files : Files) (command : Command) → IsDoable command words files
+    → first_verdict (checks_of command files words) ≡ passes
+checks_pass words files Scan doable =
+    let (image, held, good) = some_and (files (name_in words Image)) _ doable in scan_passes words files image held good.0
+checks_pass words files (Map frames va) doable =
+    let (image, held, good) = some_and (files (name_in words Image)) _ doable in map_passes words files image held good.0 frames va good.1
+checks_pass words files (Run steps frames) doable =
+    let (image, held, good) = some_and (files (name_in words Image)) _ doable.0 in
+    run_passes words files image held good.0 steps frames good.1 doable.1
+checks_pass words files (Replay frames) doable =
+    let (image, held, good) = some_and (files (name_in words Image)) _ doable.0 in
+    replay_passes words files image held good.0 frames good.1 doable.1
+checks_pass words files (Make number) doable = refl
+checks_pass words files (Work number) doable = made_passes (image_of_number number) doable.0 doable.1
+
+outcome_good : (words : List (List ℕ)) (files : Files) (command : Command) → command_of words ≡ Some command
+    → IsDoable command words files → outcome words files ≡ Some (record { status = 0; text = text_of command files words })
+outcome_good words files command asked doable =
+    ap (λ (c : Option Command). outcome_of c words files) asked
+    ∙ ap (λ (v : Verdict). decided v (record { status = 0; text = text_of command files words })) (checks_pass words files command doable)
 
 -- words without a form have the usage line for their outcome
 formless_outcome : (words : List (List ℕ)) (files : Files) (status : ℕ) (text : List ℕ) → SaysUsage words status text
@@ -252,9 +298,7 @@ module _ (seen : Witness) (status : ℕ) (text : List ℕ) (result : ℕ) where
   done_with files wanted (inl want) = inr want
   done_with files wanted (inr o) =
       let (command, asked, doable) = some_and (command_of seen.words) _ wanted in
-      let (image, held, fits) = some_and (files (name_in seen.words Image)) _ doable.0 in
-      let good = outcome_good seen.words files image held fits.0 command asked fits.1 doable.1 in
-      inl (o.status_is ∙ status_of _ _ (sym o.is ∙ good))
+      inl (o.status_is ∙ status_of _ _ (sym o.is ∙ outcome_good seen.words files command asked doable))
 
   done : Says seen.words seen.shelf status text → IsWritten seen.sink status text result → IsDone seen result
   done says written =

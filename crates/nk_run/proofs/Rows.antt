@@ -1,23 +1,17 @@
--- What the row of a run's checks says of the outcome.
-use Rattle.std.proofs.Common.{◌≡◌, ℕ, ◌≤◌, inl, inr, Bool, true, false, List, [], ◌∷◌, ◌++◌, Option, Some, None, IsSome, IsSomeAnd, Ok, Result, Contains, arith, refl, sym, ap, subst, ◌∙◌}
+-- What a row of checks says of the outcome.
+use Rattle.std.proofs.Common.{◌≡◌, ◌≢◌, ◌⊎◌, ℕ, suc, ◌≤◌, inl, inr, Bool, true, false, List, [], ◌∷◌, ◌++◌, Option, Some, None, IsSome, IsSomeAnd, Ok, Result, Contains, arith, refl, sym, ap, subst, ◌∙◌}
+use Rattle.std.proofs.lemmas.Bool.{or_cases, or_right}
 use Rattle.std.proofs.lemmas.Grind.{common_steps}
 use Rattle.std.specs.Prelude.{MatchBool, ⊤}
 use Rattle.nk_host.specs.FaultCounts.{NeverFalls, RoseTo}
 use Rattle.nk_host.specs.Told.{IfTold}
-use Rattle.irq_plan.specs.declared.event.Event.{Event}
-use Rattle.irq_plan.specs.PlanFile.{plan_of}
-use Rattle.boot_map.specs.Division.{need}
 use Rattle.nk_run.specs.declared.command_line.Command.{Command}
-use Rattle.nk_run.specs.declared.command_line.Command.TheVariants.{Run}
 use Rattle.nk_run.specs.declared.command_line.Role.{Role}
-use Rattle.nk_run.specs.declared.command_line.Role.TheVariants.{Image, Input, Plan}
+use Rattle.nk_run.specs.declared.command_line.Role.TheVariants.{Image, Input, Plan, Journal}
 use Rattle.nk_run.specs.CommandLine.{IsAsked, command_of, is_same, name_in, roles_of}
 use Rattle.nk_run.specs.Witness.{Change, Files, ShelfState}
-use Rattle.nk_run.specs.Outcome.{Answer, Check, DoesPass, IsReached, IsReachedAfter, Verdict, checks_of, decided, ends, events_in, file_in, first_verdict, outcome, outcome_of, passes, image_checks, input_checks, opening_in, roomy, run_checks, test, text_of, unheld, unless_ended}
-use Rattle.gate_state.specs.MachineOpening.{opening_state}
-use Rattle.gate_state.specs.MachineStates.{Opening}
-use Rattle.nk_run.specs.RunStates.{run_text}
-use Rattle.nk_run.specs.Replies.{CommandSays, IsOwn, RefusesBy, StopsIn}
+use Rattle.nk_run.specs.Outcome.{Answer, Check, DoesPass, IsReached, IsReachedAfter, Verdict, checks_of, decided, ends, fetch, fetched, file_in, first_verdict, outcome, outcome_of, passes, image_checks, text_of, unheld, unless_ended}
+use Rattle.nk_run.specs.Replies.{CommandSays, IsOwn, IsWant, RefusesBy, Stops, StopsIn, is_listed}
 use Rattle.nk_run.proofs.Checks.{first_verdict-append}
 use Rattle.nk_run.proofs.Told.{if_told, told_at}
 
@@ -63,122 +57,154 @@ rose_from : (before mid after : ℕ) → before ≤ mid → RoseTo mid after →
 rose_from before mid after low rose = grind (arith, common_steps)
 
 -- the image's checks pass, and then a check on the other files stops the row
-pub stops_behind : (words : List (List ℕ)) (before mid after : ShelfState) (image : List ℕ) (status : ℕ) (text : List ℕ)
+pub stops_behind : (words : List (List ℕ)) (before mid after : ShelfState) (image : List ℕ) (roles : List Role)
+    (later : Files → List Check) (status : ℕ) (text : List ℕ)
     → NeverFalls before.faults mid.faults → mid.files ≡ before.files
     → IfTold before.files (λ files. (image ≡ file_in files words Image) × (first_verdict (image_checks files words) ≡ passes))
-    → StopsIn words (record { before = mid; after = after }) (λ files. input_checks files words) status text
-    → StopsIn words (record { before = before; after = after }) (λ files. run_checks files words) status text
-stops_behind words before mid after image status text falls same passed (inl stop) = inl (record {
+    → StopsIn words (record { before = mid; after = after }) roles later status text
+    → StopsIn words (record { before = before; after = after }) (Image ∷ roles) (λ files. image_checks files words ++ later files) status text
+stops_behind words before mid after image roles later status text falls same passed (inl stop) = inl (record {
   role = stop.role;
+  listed = or_right (is_same Image stop.role) (is_listed roles stop.role) stop.listed;
   unread = record {
     rose = rose_from _ _ _ (falls (name_in words stop.role)) stop.unread.rose;
     status_is = stop.unread.status_is;
     text_is = stop.unread.text_is;
   };
   reached = if_told before.files _ (λ files e.
-      reached-behind stop.role (image_checks files words) (input_checks files words) (told_at before.files _ files e passed).1
+      reached-behind stop.role (image_checks files words) (later files) (told_at before.files _ files e passed).1
       (told_at mid.files _ files (same ∙ e) stop.reached));
 })
-stops_behind words before mid after image status text falls same passed (inr (inl want)) = inr (inl want)
-stops_behind words before mid after image status text falls same passed (inr (inr stop)) = inr (inr (record {
+stops_behind words before mid after image roles later status text falls same passed (inr (inl want)) = inr (inl want)
+stops_behind words before mid after image roles later status text falls same passed (inr (inr stop)) = inr (inr (record {
   ended = if_told before.files _ (λ files e.
-      first_verdict-append (image_checks files words) (input_checks files words)
-      ∙ ap (λ (v : Verdict). unless_ended v (first_verdict (input_checks files words))) (told_at before.files _ files e passed).1
+      first_verdict-append (image_checks files words) (later files)
+      ∙ ap (λ (v : Verdict). unless_ended v (first_verdict (later files))) (told_at before.files _ files e passed).1
       ∙ told_at mid.files _ files (same ∙ e) stop.ended);
   own = stop.own;
 }))
 
-own_one : (status : ℕ) → status ≡ 1 → IsOwn status
-own_one status e = record {
-  small = omega (arith, e);
-  not_usage = λ h. omega (arith, e, h);
-  not_unread = λ h. omega (arith, e, h);
-  not_cut = λ h. omega (arith, e, h);
-  not_want = λ h. omega (arith, e, h);
-}
+-- the fetch of the journal stops the row that is it alone
+pub journal_stops : (words : List (List ℕ)) (shelf : Change ShelfState) (status : ℕ) (text : List ℕ)
+    → Stops words shelf Journal (λ files. fetched Journal (files (name_in words Journal))) status text
+    → StopsIn words shelf (Journal ∷ []) (λ files. fetch files words Journal ∷ []) status text
+journal_stops words shelf status text (inl stop) = inl (record {
+  role = Journal;
+  listed = refl;
+  unread = stop;
+  reached = if_told shelf.before.files _ (λ files e. tt);
+})
+journal_stops words shelf status text (inr (inl want)) = inr (inl want)
+journal_stops words shelf status text (inr (inr stop)) = inr (inr (record {
+  ended = if_told shelf.before.files _ (λ files e.
+      ap (λ (v : Verdict). unless_ended v passes) (told_at shelf.before.files _ files e stop.ended));
+  own = stop.own;
+}))
 
-own_zero : IsOwn 0
-own_zero = record {
-  small = omega arith;
-  not_usage = λ h. omega (arith, h);
-  not_unread = λ h. omega (arith, h);
-  not_cut = λ h. omega (arith, h);
-  not_want = λ h. omega (arith, h);
+-- a number that isn't one of those of the usage line and of the outside
+own_number : (number status : ℕ) → (number ≡ 0) ⊎ ((number ≡ 1) ⊎ (number ≡ 6)) → status ≡ number → IsOwn status
+own_number number status kinds e = record {
+  small = bound kinds;
+  not_usage = λ h. other 2 kinds h (omega arith) (omega arith) (omega arith);
+  not_unread = λ h. other 3 kinds h (omega arith) (omega arith) (omega arith);
+  not_cut = λ h. other 4 kinds h (omega arith) (omega arith) (omega arith);
+  not_want = λ h. other 5 kinds h (omega arith) (omega arith) (omega arith);
 }
+  where
+    bound : (number ≡ 0) ⊎ ((number ≡ 1) ⊎ (number ≡ 6)) → status ≤ 7
+    bound (inl zero) = omega (arith, e, zero)
+    bound (inr (inl one)) = omega (arith, e, one)
+    bound (inr (inr six)) = omega (arith, e, six)
+
+    other : (n : ℕ) → (number ≡ 0) ⊎ ((number ≡ 1) ⊎ (number ≡ 6)) → status ≡ n → n ≢ 0 → n ≢ 1 → n ≢ 6 → ⊥
+    other n (inl zero) h a b c = a (omega (arith, e, zero, h))
+    other n (inr (inl one)) h a b c = b (omega (arith, e, one, h))
+    other n (inr (inr six)) h a b c = c (omega (arith, e, six, h))
+
+pub own_zero : IsOwn 0
+own_zero = own_number 0 0 (inl refl) refl
 
 some_is : {A : Type 0} (o : Option A) (x : A) → o ≡ Some x → IsSome o
 some_is {A = A} o x e = let P : Option A → Type 0 = λ p. IsSome p in subst P (sym e) refl
 
-last_ends : (v : Verdict) (answer : Answer) → v ≡ ends answer → unless_ended v passes ≡ ends answer
-last_ends v answer e = rw e refl
+-- two roles that are the same are one
+same_role : (one other : Role) → is_same one other ≡ true → one ≡ other
+same_role Image Image e = refl
+same_role Input Input e = refl
+same_role Plan Plan e = refl
+same_role Journal Journal e = refl
+same_role Image Input e = cc
+same_role Image Plan e = cc
+same_role Image Journal e = cc
+same_role Input Image e = cc
+same_role Input Plan e = cc
+same_role Input Journal e = cc
+same_role Plan Image e = cc
+same_role Plan Input e = cc
+same_role Plan Journal e = cc
+same_role Journal Image e = cc
+same_role Journal Input e = cc
+same_role Journal Plan e = cc
 
-module _ (words : List (List ℕ)) (steps frames : ℕ) (asked : command_of words ≡ Some (Run steps frames)) where
-  every_role : (role : Role) → Contains (roles_of (Run steps frames)) role
-  every_role Image = (0, omega arith, refl)
-  every_role Input = (1, omega arith, refl)
-  every_role Plan = (2, omega arith, refl)
+contains_there : (roles : List Role) (role other : Role) → Contains roles role → Contains (other ∷ roles) role
+contains_there roles role other (n, within, is) = (suc n, omega (arith, within), is)
 
-  role_asked : (role : Role) → IsAsked words role
-  role_asked role =
+listed_contains : (roles : List Role) (role : Role) → is_listed roles role ≡ true → Contains roles role
+listed_contains [] role e = cc
+listed_contains (other ∷ roles) role e = elim (or_cases (is_same other role) (is_listed roles role) e) [
+    | inl here ↦ (0, omega arith, same_role other role here)
+    | inr later ↦ contains_there roles role other (listed_contains roles role later)
+  ]
+
+-- the row of a command's checks on files, and the checks behind it
+module _ (words : List (List ℕ)) (command : Command) (asked : command_of words ≡ Some command) (row later : Files → List Check)
+    (whole : (files : Files) → checks_of command files words ≡ row files ++ later files) where
+  role_asked : (role : Role) → is_listed (roles_of command) role ≡ true → IsAsked words role
+  role_asked role listed =
       let P : Option Command → Type 0 = λ o. IsSomeAnd o (λ command. Contains (roles_of command) role) in
-      subst P (sym asked) (every_role role)
+      subst P (sym asked) (listed_contains (roles_of command) role listed)
 
-  room : Files → Verdict
-  room files = roomy (need (file_in files words Image) frames) frames
-
-  run_answer : Files → Answer
-  run_answer files = record { status = 0; text = text_of (Run steps frames) files words }
+  abbrev pub answer : Files → Answer
+  answer files = record { status = 0; text = text_of command files words }
 
   outcome_is : (files : Files) → outcome words files
-      ≡ decided (unless_ended (first_verdict (run_checks files words)) (unless_ended (room files) passes)) (run_answer files)
-  unfolding room run_answer
+      ≡ decided (unless_ended (first_verdict (row files)) (first_verdict (later files))) (answer files)
   outcome_is files =
       ap (λ (o : Option Command). outcome_of o words files) asked
-      ∙ ap (λ (v : Verdict). decided v (run_answer files)) (first_verdict-append (run_checks files words) (test (room files) ∷ []))
-
-  -- the text of a run, from an opening
-  text_from : Opening → List Event → List ℕ → List ℕ
-  text_from o plan input = run_text o steps plan (opening_state o input)
-
-  -- the text of the run, of what the files are
-  text_is : {image input : List ℕ} {plan : List Event} (files : Files) → plan_of (file_in files words Plan) ≡ Ok plan
-      → image ≡ file_in files words Image → input ≡ file_in files words Input
-      → let o : Opening = record { image = image; frames = frames } in
-      Some (run_answer files) ≡ Some (record { status = 0; text = run_text o steps plan (opening_state o input) })
-  unfolding run_answer text_from
-  text_is {image = image} {plan = plan} files plan_is image_is input_is =
-      let says : List ℕ → Option Answer = λ l. Some (record { status = 0; text = l }) in
-      ap (λ (r : Result (List Event) ℕ). says (text_from (opening_in files words frames) (events_in r) (file_in files words Input))) plan_is
-      ∙ ap (λ (b : List ℕ). says (text_from (record { image = b; frames = frames }) plan (file_in files words Input))) (sym image_is)
-      ∙ ap (λ (b : List ℕ). says (text_from (record { image = image; frames = frames }) plan b)) (sym input_is)
+      ∙ ap (λ (checks : List Check). decided (first_verdict checks) (answer files)) (whole files)
+      ∙ ap (λ (v : Verdict). decided v (answer files)) (first_verdict-append (row files) (later files))
 
   -- a check of the row ended it
-  row_ended : (files : Files) (answer : Answer) → first_verdict (run_checks files words) ≡ ends answer → outcome words files ≡ Some answer
-  row_ended files answer e =
-      outcome_is files ∙ ap (λ (v : Verdict). decided (unless_ended v (unless_ended (room files) passes)) (run_answer files)) e
+  row_ended : (files : Files) (it : Answer) → first_verdict (row files) ≡ ends it → outcome words files ≡ Some it
+  row_ended files it e =
+      outcome_is files ∙ ap (λ (v : Verdict). decided (unless_ended v (first_verdict (later files))) (answer files)) e
 
-  -- the row passed, and the room decides
-  row_passed : (files : Files) → first_verdict (run_checks files words) ≡ passes
-      → outcome words files ≡ decided (unless_ended (room files) passes) (run_answer files)
-  row_passed files e =
-      outcome_is files ∙ ap (λ (v : Verdict). decided (unless_ended v (unless_ended (room files) passes)) (run_answer files)) e
+  -- the row passed, and the checks behind it decide
+  row_passed : (files : Files) (v : Verdict) → first_verdict (row files) ≡ passes → first_verdict (later files) ≡ v
+      → outcome words files ≡ decided v (answer files)
+  row_passed files v e is =
+      outcome_is files ∙ ap (λ (u : Verdict). decided (unless_ended u (first_verdict (later files))) (answer files)) e
+      ∙ ap (λ (u : Verdict). decided u (answer files)) is
+
+  pub wants_says : (shelf : Change ShelfState) (status : ℕ) (text : List ℕ) → IsWant status text → CommandSays words shelf status text
+  wants_says shelf status text want = inr (inl (record { asked = some_is (command_of words) _ asked; want = want }))
 
   pub row_says : (shelf : Change ShelfState) (status : ℕ) (text : List ℕ)
-      → StopsIn words shelf (λ files. run_checks files words) status text → CommandSays words shelf status text
+      → StopsIn words shelf (roles_of command) row status text → CommandSays words shelf status text
   row_says shelf status text (inl stop) = inl (record {
     role = stop.role;
     unread = record {
-      asked = role_asked stop.role;
+      asked = role_asked stop.role stop.listed;
       rose = stop.unread.rose;
       reached = if_told shelf.before.files _ (λ files e.
           let P : Option Command → Type 0 = λ o. IsSomeAnd o (λ command. IsReached stop.role (checks_of command files words)) in
-          subst P (sym asked) (reached-append stop.role (run_checks files words) (test (roomy (need (file_in files words Image) frames) frames) ∷ [])
-          (told_at shelf.before.files _ files e stop.reached)));
+          subst P (sym asked) (subst (IsReached stop.role) (sym (whole files)) (reached-append stop.role (row files) (later files)
+          (told_at shelf.before.files _ files e stop.reached))));
     };
     status_is = stop.unread.status_is;
     text_is = stop.unread.text_is;
   })
-  row_says shelf status text (inr (inl want)) = inr (inl (record { asked = some_is (command_of words) _ asked; want = want }))
+  row_says shelf status text (inr (inl want)) = wants_says shelf status text want
   row_says shelf status text (inr (inr stop)) = inr (inr (record {
     asked = some_is (command_of words) _ asked;
     outcome_is = if_told shelf.before.files _
@@ -186,40 +212,34 @@ module _ (words : List (List ℕ)) (steps frames : ℕ) (asked : command_of word
     own = stop.own;
   }))
 
-  -- the run was made
-  pub ran_says : (shelf : Change ShelfState) (text : List ℕ)
-      → IfTold shelf.before.files (λ files. outcome words files ≡ Some (record { status = 0; text = text })) → CommandSays words shelf 0 text
-  ran_says shelf text is = inr (inr (record { asked = some_is (command_of words) _ asked; outcome_is = is; own = own_zero }))
+  -- what the command's outcome is, where files are told
+  pub outcome_says : (shelf : Change ShelfState) (status : ℕ) (text : List ℕ) → IsOwn status
+      → IfTold shelf.before.files (λ files. outcome words files ≡ Some (record { status = status; text = text })) → CommandSays words shelf status text
+  outcome_says shelf status text own is = inr (inr (record { asked = some_is (command_of words) _ asked; outcome_is = is; own = own }))
 
-  -- the files are those that are told, where they are told, and the row passed on them
-  module _ (told : Option Files) (image input : List ℕ) (plan : List Event) (held : IfTold told (λ files. (image ≡ file_in files words Image) × (input ≡ file_in files words Input) × (plan_of (file_in files words Plan) ≡ Ok plan) × (first_verdict (run_checks files words) ≡ passes))) where
-    room_is : (files : Files) (v : Verdict) → told ≡ Some files → roomy (need image frames) frames ≡ v → room files ≡ v
-    unfolding room
-    room_is files v e is =
-        ap (λ (b : List ℕ). roomy (need b frames) frames) (sym (told_at told _ files e held).0) ∙ is
+  -- the row refused
+  pub row_refuses : (shelf : Change ShelfState) (number status : ℕ) (text : List ℕ) (verdict : Verdict)
+      → (number ≡ 0) ⊎ ((number ≡ 1) ⊎ (number ≡ 6)) → ((files : Files) (it : Answer) → verdict ≡ ends it → first_verdict (row files) ≡ ends it)
+      → RefusesBy number verdict status text → CommandSays words shelf status text
+  row_refuses shelf number status text verdict kinds ends_so (inl want) = wants_says shelf status text want
+  row_refuses shelf number status text verdict kinds ends_so (inr (ended, is)) =
+      outcome_says shelf status text (own_number number status kinds is) (if_told shelf.before.files _ (λ files e.
+      row_ended files (record { status = status; text = text }) (ends_so files (record { status = status; text = text }) ended)))
 
-    pub room_says : (shelf : Change ShelfState) (status : ℕ) (text : List ℕ) → shelf.before.files ≡ told
-        → RefusesBy 1 (roomy (need image frames) frames) status text → CommandSays words shelf status text
-    room_says shelf status text same (inl want) = inr (inl (record { asked = some_is (command_of words) _ asked; want = want }))
-    room_says shelf status text same (inr (ended, one)) = inr (inr (record {
-      asked = some_is (command_of words) _ asked;
-      outcome_is = if_told shelf.before.files _ (λ files e.
-          let told_is : told ≡ Some files = sym same ∙ e in
-          let answer : Answer = record { status = status; text = text } in
-          row_passed files (told_at told _ files told_is held).3
-          ∙ ap (λ (v : Verdict). decided v (run_answer files)) (last_ends (room files) answer (room_is files _ told_is ended)));
-      own = own_one status one;
-    }))
+  -- the row passed, and then a check refused
+  pub later_says : (shelf : Change ShelfState) (number status : ℕ) (text : List ℕ) (verdict : Verdict)
+      → (number ≡ 0) ⊎ ((number ≡ 1) ⊎ (number ≡ 6))
+      → IfTold shelf.before.files (λ files. (first_verdict (row files) ≡ passes)
+      × ((it : Answer) → verdict ≡ ends it → first_verdict (later files) ≡ ends it))
+      → RefusesBy number verdict status text → CommandSays words shelf status text
+  later_says shelf number status text verdict kinds passed (inl want) = wants_says shelf status text want
+  later_says shelf number status text verdict kinds passed (inr (ended, is)) =
+      outcome_says shelf status text (own_number number status kinds is) (if_told shelf.before.files _ (λ files e.
+      let given = told_at shelf.before.files _ files e passed in
+      let it : Answer = record { status = status; text = text } in
+      row_passed files (ends it) given.0 (given.1 it ended)))
 
-    -- the row and the room pass, and the text is that of the run
-    pub ready_says : roomy (need image frames) frames ≡ passes → IfTold told (λ files. outcome words files ≡ Some (record {
-      status = 0;
-      text = run_text (record { image = image; frames = frames }) steps plan
-          (opening_state (record { image = image; frames = frames }) input);
-    }))
-    ready_says fits =
-        if_told told _ (λ files e.
-        let given = told_at told _ files e held in
-        row_passed files given.3
-        ∙ ap (λ (v : Verdict). decided (unless_ended v passes) (run_answer files)) (room_is files passes e fits)
-        ∙ text_is files given.2 given.0 given.1)
+  -- the row passed, and so did the checks behind it
+  pub all_says : (files : Files) → first_verdict (row files) ≡ passes → first_verdict (later files) ≡ passes
+      → outcome words files ≡ Some (answer files)
+  all_says files first last = row_passed files passes first last

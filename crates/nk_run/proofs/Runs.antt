@@ -66,7 +66,7 @@ counted steps plan s after move.Turn turns goes c =
     record { less = omega (arith, c.turns, c.taken, turns); turns = omega (arith, c.turns, turns) }
 counted steps plan s after move.Rest turns goes c = absurd (cc)
 
-length_going : (steps : ℕ) (plan : List Event) (s : MachineState) → ending_at steps plan s ≡ None
+pub length_going : (steps : ℕ) (plan : List Event) (s : MachineState) → ending_at steps plan s ≡ None
     → left steps plan s ≡ suc (left steps plan (next plan s)) → run_length steps plan s ≡ suc (run_length steps plan (next plan s))
 unfolding run_length steps_within
 length_going steps plan s e less =
@@ -84,7 +84,7 @@ text_going o steps plan s e less =
     ap (λ n. lines n plan s ++ closing o steps plan (state plan s n)) (length_going steps plan s e less)
     ∙ append_assoc (shown_by (move_of plan s) s) (lines n plan (next plan s)) (closing o steps plan (state plan (next plan s) n))
 
-ends_within : (most steps : ℕ) (plan : List Event) (s : MachineState) (reason : Ending) → ending_at steps plan s ≡ Some reason → steps_within most steps plan s ≡ 0
+pub ends_within : (most steps : ℕ) (plan : List Event) (s : MachineState) (reason : Ending) → ending_at steps plan s ≡ Some reason → steps_within most steps plan s ≡ 0
 unfolding steps_within
 ends_within zero steps plan s reason e = refl
 ends_within (suc most) steps plan s reason e = ap (λ (o : Option Ending). one_unless o (steps_within most steps plan (next plan s))) e

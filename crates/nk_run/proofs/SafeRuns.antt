@@ -18,8 +18,9 @@ use Rattle.gate_state.specs.MachineOpening.{opening_state}
 use Rattle.gate_state.specs.MachineStates.{Opening, nested_of}
 use Rattle.gate_state.specs.MachineSteps.{calls, made_by_all, state}
 use Rattle.gate_state.specs.SafeStates.{IsSafe}
+use Rattle.std.specs.Option.{option_map}
 use Rattle.nk_run.specs.declared.command_line.Command.{Command}
-use Rattle.nk_run.specs.declared.command_line.Command.TheVariants.{Scan, Map, Run}
+use Rattle.nk_run.specs.declared.command_line.Command.TheVariants.{Scan, Map, Run, Replay, Make, Work}
 use Rattle.nk_run.specs.declared.command_line.Role.TheVariants.{Image, Input, Plan}
 use Rattle.nk_run.specs.Clauses.{HasJournal, HasSafeRun, IsFileOfBytes, IsSafeRun}
 use Rattle.nk_run.specs.CommandLine.{command_of, map_with, run_with}
@@ -66,13 +67,22 @@ no_map (Some f) (Some va) steps frames e = cc
 no_map (Some f) None steps frames e = cc
 no_map None va steps frames e = cc
 
-no_scan : (b : Bool) (steps frames : ℕ) → (if b then Some Scan else None) ≡ Some (Run steps frames) → ⊥
-no_scan true steps frames e = cc
-no_scan false steps frames e = cc
+no_short : (scans makes works : Bool) (n : Option ℕ) (steps frames : ℕ)
+    → (if scans then Some Scan else if makes then option_map Make n else if works then option_map Work n else None)
+    ≡ Some (Run steps frames) → ⊥
+no_short true makes works n steps frames e = cc
+no_short false true works (Some n) steps frames e = cc
+no_short false true works None steps frames e = cc
+no_short false false true (Some n) steps frames e = cc
+no_short false false true None steps frames e = cc
+no_short false false false n steps frames e = cc
 
-not_mapped : (b : Bool) (x y : Option ℕ) (steps frames : ℕ) → (if b then map_with x y else None) ≡ Some (Run steps frames) → ⊥
-not_mapped true x y steps frames e = no_map x y steps frames e
-not_mapped false x y steps frames e = cc
+no_middle : (maps replays : Bool) (x y : Option ℕ) (steps frames : ℕ)
+    → (if maps then map_with x y else if replays then option_map Replay x else None) ≡ Some (Run steps frames) → ⊥
+no_middle true replays x y steps frames e = no_map x y steps frames e
+no_middle false true (Some n) y steps frames e = cc
+no_middle false true None y steps frames e = cc
+no_middle false false x y steps frames e = cc
 
 run_steps : (a b : Option ℕ) (steps frames : ℕ) → run_with a b ≡ Some (Run steps frames) → a ≡ Some steps
 run_steps (Some s) (Some f) steps frames e = cc
@@ -98,9 +108,9 @@ run_chosen false word_steps word_frames steps frames e = absurd (cc)
 run_within : (words : List (List ℕ)) (steps frames : ℕ) → command_of words ≡ Some (Run steps frames) → IsRunWithin steps frames
 run_within [] steps frames e = absurd (cc)
 run_within (a ∷ []) steps frames e = absurd (cc)
-run_within (a ∷ b ∷ []) steps frames e = absurd (no_scan _ steps frames e)
+run_within (a ∷ b ∷ []) steps frames e = absurd (no_short _ _ _ (decimal_within 1 100 b) steps frames e)
 run_within (a ∷ b ∷ c ∷ []) steps frames e = absurd (cc)
-run_within (a ∷ b ∷ c ∷ d ∷ []) steps frames e = absurd (not_mapped _ (decimal_within 512 16384 c) (address_of d) steps frames e)
+run_within (a ∷ b ∷ c ∷ d ∷ []) steps frames e = absurd (no_middle _ _ (decimal_within 512 16384 c) (address_of d) steps frames e)
 run_within (a ∷ b ∷ c ∷ d ∷ x ∷ []) steps frames e = absurd (cc)
 run_within (a ∷ b ∷ c ∷ d ∷ x ∷ f ∷ []) steps frames e = run_chosen _ x f steps frames e
 run_within (a ∷ b ∷ c ∷ d ∷ x ∷ f ∷ g ∷ more) steps frames e = absurd (cc)
@@ -165,6 +175,9 @@ module _ (pages_hold : (b : List ℕ) → first_fault b ≡ None → IsPageList 
       → (words : List (List ℕ)) (files : Files) (command : Command) → command_of words ≡ Some command → HasSafeRun command words files
   safe_where_run law words files Scan asked = tt
   safe_where_run law words files (Map frames va) asked = tt
+  safe_where_run law words files (Replay frames) asked = tt
+  safe_where_run law words files (Make number) asked = tt
+  safe_where_run law words files (Work number) asked = tt
   safe_where_run law words files (Run steps frames) asked = λ bytes passed.
       let it = checked_run words files steps frames (run_within words steps frames asked) bytes passed in
       law (opening_in files words frames) (file_in files words Input) (events_in (plan_of (file_in files words Plan))) it.admitted it.planned_are
@@ -173,6 +186,9 @@ module _ (pages_hold : (b : List ℕ) → first_fault b ≡ None → IsPageList 
       → (words : List (List ℕ)) (files : Files) (command : Command) → command_of words ≡ Some command → HasJournal command words files
   replayed_where_run law words files Scan asked = tt
   replayed_where_run law words files (Map frames va) asked = tt
+  replayed_where_run law words files (Replay frames) asked = tt
+  replayed_where_run law words files (Make number) asked = tt
+  replayed_where_run law words files (Work number) asked = tt
   replayed_where_run law words files (Run steps frames) asked = λ bytes passed.
       let within = run_within words steps frames asked in
       let it = checked_run words files steps frames within bytes passed in

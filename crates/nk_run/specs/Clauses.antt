@@ -14,16 +14,18 @@ use Rattle.gate_state.specs.GateCalls.{IsCalledThrough, IsCalling}
 use Rattle.gate_state.specs.MachineOpening.{opening_state}
 use Rattle.gate_state.specs.MachineStates.{Opening, nested_of}
 use Rattle.gate_state.specs.MachineSteps.{calls, made_by_all, state}
+use Rattle.replay_core.specs.ReplayedCalls.{replay_of}
+use Rattle.image_maker.specs.MadeImage.{image_of_number}
 use Rattle.gate_state.specs.SafeStates.{IsSafe}
 use Rattle.nk_run.specs.declared.command_line.Command.{Command}
-use Rattle.nk_run.specs.declared.command_line.Command.TheVariants.{Scan, Map, Run}
+use Rattle.nk_run.specs.declared.command_line.Command.TheVariants.{Scan, Map, Run, Replay, Make, Work}
 use Rattle.nk_run.specs.declared.command_line.Role.{Role}
-use Rattle.nk_run.specs.declared.command_line.Role.TheVariants.{Image, Input, Plan}
+use Rattle.nk_run.specs.declared.command_line.Role.TheVariants.{Image, Input, Plan, Journal}
 use Rattle.nk_run.specs.CommandLine.{command_of, name_in, IsAsked}
 use Rattle.nk_run.specs.JournalLaw.{IsReplayedRun}
 use Rattle.nk_run.specs.Lines.{longest_file, no_memory_line, unread_line, usage_line}
 use Rattle.nk_run.specs.Witness.{Change, Files, ShelfState, SinkState, Witness}
-use Rattle.nk_run.specs.Outcome.{checks_of, events_in, file_in, first_verdict, opening_in, outcome, passes, IsReached}
+use Rattle.nk_run.specs.Outcome.{checks_of, events_in, file_in, first_verdict, opened, opening_in, outcome, passes, IsReached}
 
 -- the count of faults of the name of a role's file rose
 abbrev pub NameRose : List (List ℕ) → Change ShelfState → Role → Type 0
@@ -124,30 +126,40 @@ pub record IsGoodImage (b : List ℕ) : Type 0 where
   pub formed : first_fault b ≡ None
   pub clean : first_found b ≡ None
 
--- the image has room for its opening, where the command makes one
-abbrev pub HasRoom : Command → List ℕ → Type 0
-HasRoom Scan b = ⊤
-HasRoom (Map frames va) b = need b frames ≤ frames
-HasRoom (Run steps frames) b = need b frames ≤ frames
+-- the opening of the image has room in a memory of so many frames
+abbrev pub HasRoom : ℕ → List ℕ → Type 0
+HasRoom frames b = need b frames ≤ frames
+
+-- the image is held and good, and the test holds of it
+abbrev pub HasImage : List (List ℕ) → Files → (List ℕ → Type 0) → Type 0
+HasImage words files test = IsSomeAnd (files (name_in words Image)) (λ image. IsGoodImage image × test image)
 
 -- the plan is within the limit, and each of its lines is in form
 pub record IsGoodPlan (b : List ℕ) : Type 0 where
   pub within : length b ≤ longest_file
   pub formed : IsOk (plan_of b)
 
--- the command's other files are held: an input within the limit, and a plan that is good
-abbrev pub HasInput : Command → List (List ℕ) → Files → Type 0
-HasInput Scan words files = ⊤
-HasInput (Map frames va) words files = ⊤
-HasInput (Run steps frames) words files =
+-- an input is held within the limit, and a plan that is good
+abbrev pub HasOutside : List (List ℕ) → Files → Type 0
+HasOutside words files =
     IsSomeAnd (files (name_in words Input)) (λ input. length input ≤ longest_file)
     × IsSomeAnd (files (name_in words Plan)) IsGoodPlan
 
+-- a journal is held within the limit, and each of its lines up to its end is right
+pub record IsGoodJournal (o : Opening) (b : List ℕ) : Type 0 where
+  pub within : length b ≤ longest_file
+  pub right : (replay_of b (opened o)).bad ≡ None
+
 -- what the words ask for can be done with the files
 abbrev pub IsDoable : Command → List (List ℕ) → Files → Type 0
-IsDoable command words files =
-    IsSomeAnd (files (name_in words Image)) (λ image. IsGoodImage image × HasRoom command image)
-    × HasInput command words files
+IsDoable Scan words files = HasImage words files (λ image. ⊤)
+IsDoable (Map frames va) words files = HasImage words files (HasRoom frames)
+IsDoable (Run steps frames) words files = HasImage words files (HasRoom frames) × HasOutside words files
+IsDoable (Replay frames) words files =
+    HasImage words files (HasRoom frames)
+    × IsSomeAnd (files (name_in words Journal)) (IsGoodJournal (opening_in files words frames))
+IsDoable (Make number) words files = ⊤
+IsDoable (Work number) words files = IsGoodImage (image_of_number number) × HasRoom 4096 (image_of_number number)
 
 -- what can be done is done: without a fault the status is 0, or that of want of memory
 abbrev pub IsDone : Witness → ℕ → Type 0
@@ -172,12 +184,11 @@ IsFileOfBytes b = (i : ℕ) → slice_index b i < 256
 
 -- where the checks of a run pass, the run is safe
 abbrev pub HasSafeRun : Command → List (List ℕ) → Files → Type 0
-HasSafeRun Scan words files = ⊤
-HasSafeRun (Map frames va) words files = ⊤
 HasSafeRun (Run steps frames) words files =
     IsFileOfBytes (file_in files words Image)
     → first_verdict (checks_of (Run steps frames) files words) ≡ passes
     → IsSafeRun (events_in (plan_of (file_in files words Plan))) (opening_in files words frames) (file_in files words Input)
+HasSafeRun _ words files = ⊤
 
 abbrev pub IsSafeWhereRun : Witness → Type 0
 IsSafeWhereRun seen = IfTold seen.shelf.before.files (λ files.
@@ -185,12 +196,11 @@ IsSafeWhereRun seen = IfTold seen.shelf.before.files (λ files.
 
 -- where the checks of a run pass, its text is a journal of the calls that were made in it
 abbrev pub HasJournal : Command → List (List ℕ) → Files → Type 0
-HasJournal Scan words files = ⊤
-HasJournal (Map frames va) words files = ⊤
 HasJournal (Run steps frames) words files =
     IsFileOfBytes (file_in files words Image)
     → first_verdict (checks_of (Run steps frames) files words) ≡ passes
     → IsReplayedRun (opening_in files words frames) (file_in files words Input) (events_in (plan_of (file_in files words Plan))) steps
+HasJournal _ words files = ⊤
 
 abbrev pub IsReplayedWhereRun : Witness → Type 0
 IsReplayedWhereRun seen = IfTold seen.shelf.before.files (λ files.

@@ -1,16 +1,21 @@
 -- The command line: the forms that the words may have, and the name that stands for each role's file.
 use Rattle.std.specs.Prelude.{ℕ, ◌≤◌, Bool, true, false, if◌then◌else◌, List, [], ◌∷◌, Contains, Option, None, Some, IsSomeAnd, codes, slice_index_or, IsTrue, ⊤}
+use Rattle.std.specs.Option.{option_map}
 use Rattle.std.specs.Str.{bytes_eq}
 use Rattle.nk_bits.specs.Paging.{is_canonical}
 use Rattle.nk_run.specs.declared.command_line.Command.{Command}
-use Rattle.nk_run.specs.declared.command_line.Command.TheVariants.{Scan, Map, Run}
+use Rattle.nk_run.specs.declared.command_line.Command.TheVariants.{Scan, Map, Run, Replay, Make, Work}
 use Rattle.nk_run.specs.declared.command_line.Role.{Role}
-use Rattle.nk_run.specs.declared.command_line.Role.TheVariants.{Image, Input, Plan}
+use Rattle.nk_run.specs.declared.command_line.Role.TheVariants.{Image, Input, Plan, Journal}
 use Rattle.nk_run.specs.NumberWords.{decimal_within, address_of}
 
--- `scan IMAGE`
-abbrev pub scan_of : List ℕ → Option Command
-scan_of name = if bytes_eq name (codes "scan") then Some Scan else None
+-- `scan IMAGE`; and `make NUMBER` and `work NUMBER`, NUMBER from 1 to 100
+abbrev pub short_of : List ℕ → List ℕ → Option Command
+short_of name word =
+    if bytes_eq name (codes "scan") then Some Scan
+    else if bytes_eq name (codes "make") then option_map Make (decimal_within 1 100 word)
+    else if bytes_eq name (codes "work") then option_map Work (decimal_within 1 100 word)
+    else None
 
 -- `map IMAGE FRAMES VA`: FRAMES from 512 to 16,384, which are 2 MiB to 64 MiB, and VA a canonical address
 abbrev pub map_with : Option ℕ → Option ℕ → Option Command
@@ -18,9 +23,12 @@ map_with (Some frames) (Some va) = Some (Map frames va)
 map_with (Some frames) None = None
 map_with None va = None
 
-abbrev pub map_of : List ℕ → List ℕ → List ℕ → Option Command
-map_of name frames va =
-    if bytes_eq name (codes "map") then map_with (decimal_within 512 16384 frames) (address_of va) else None
+-- that, or `replay IMAGE FRAMES JOURNAL` with the same bounds on FRAMES
+abbrev pub middle_of : List ℕ → List ℕ → List ℕ → Option Command
+middle_of name frames word =
+    if bytes_eq name (codes "map") then map_with (decimal_within 512 16384 frames) (address_of word)
+    else if bytes_eq name (codes "replay") then option_map Replay (decimal_within 512 16384 frames)
+    else None
 
 -- `run IMAGE INPUT PLAN STEPS FRAMES`: STEPS at most 2^32, the most turns that the run may take, and FRAMES as above
 abbrev pub run_with : Option ℕ → Option ℕ → Option Command
@@ -36,8 +44,8 @@ run_of name steps frames =
 
 -- the command that the words spell, without the program's own name; other words have no form
 abbrev pub command_of : List (List ℕ) → Option Command
-command_of (name ∷ image ∷ []) = scan_of name
-command_of (name ∷ image ∷ frames ∷ va ∷ []) = map_of name frames va
+command_of (name ∷ word ∷ []) = short_of name word
+command_of (name ∷ image ∷ frames ∷ word ∷ []) = middle_of name frames word
 command_of (name ∷ image ∷ input ∷ plan ∷ steps ∷ frames ∷ []) = run_of name steps frames
 command_of _ = None
 
@@ -46,18 +54,25 @@ abbrev pub word_count : Command → ℕ
 word_count Scan = 2
 word_count (Map frames va) = 4
 word_count (Run steps frames) = 6
+word_count (Replay frames) = 4
+word_count (Make number) = 2
+word_count (Work number) = 2
 
 -- a command's numbers lie within their bounds
 abbrev pub IsBounded : Command → Type 0
 IsBounded Scan = ⊤
 IsBounded (Map frames va) = (512 ≤ frames) × (frames ≤ 16384) × IsTrue (is_canonical va)
 IsBounded (Run steps frames) = (steps ≤ 4294967296) × (512 ≤ frames) × (frames ≤ 16384)
+IsBounded (Replay frames) = (512 ≤ frames) × (frames ≤ 16384)
+IsBounded (Make number) = (1 ≤ number) × (number ≤ 100)
+IsBounded (Work number) = (1 ≤ number) × (number ≤ 100)
 
 -- two roles are one
 abbrev pub is_same : Role → Role → Bool
 is_same Image Image = true
 is_same Input Input = true
 is_same Plan Plan = true
+is_same Journal Journal = true
 is_same _ _ = false
 
 -- the place among the words of the name of a role's file
@@ -65,6 +80,7 @@ abbrev pub word_place : Role → ℕ
 word_place Image = 1
 word_place Input = 2
 word_place Plan = 3
+word_place Journal = 3
 
 -- the name of a role's file
 abbrev pub name_in : List (List ℕ) → Role → List ℕ
@@ -75,6 +91,9 @@ abbrev pub roles_of : Command → List Role
 roles_of Scan = Image ∷ []
 roles_of (Map frames va) = Image ∷ []
 roles_of (Run steps frames) = Image ∷ Input ∷ Plan ∷ []
+roles_of (Replay frames) = Image ∷ Journal ∷ []
+roles_of (Make number) = []
+roles_of (Work number) = []
 
 -- the words have a form, and the role is one of its command's
 abbrev pub IsAsked : List (List ℕ) → Role → Type 0

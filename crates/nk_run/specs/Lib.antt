@@ -6,6 +6,7 @@ pub mod Witness
 pub mod RunStates
 pub mod ReplayedRuns
 pub mod JournalLaw
+pub mod WorkSummary
 pub mod Outcome
 pub mod Clauses
 -- Words of private clauses and proofs.

@@ -1,4 +1,4 @@
--- The lines that the program writes, byte for byte. Lists of bytes nest to the right, as a format writes them.
+-- The lines that the program writes beside those of a run, byte for byte. Lists of bytes nest to the right, as a format writes them.
 use Rattle.std.specs.Prelude.{ℕ, ◌++◌, if◌then◌else◌, List, codes, Result, Ok, Err}
 use Rattle.std.specs.Fmt.{decimal}
 use Rattle.hex.specs.Hex.{encode_lower}
@@ -6,7 +6,7 @@ use Rattle.nk_bits.specs.declared.leaf.Leaf.{Leaf}
 use Rattle.nk_bits.specs.declared.leaf.Rights.{Rights}
 use Rattle.report_text.specs.RunLines.{hex_16}
 use Rattle.nk_run.specs.declared.command_line.Role.{Role}
-use Rattle.nk_run.specs.declared.command_line.Role.TheVariants.{Image, Input, Plan}
+use Rattle.nk_run.specs.declared.command_line.Role.TheVariants.{Image, Input, Plan, Journal}
 
 -- the most bytes of a file that is read: 64 MiB
 abbrev pub longest_file : ℕ
@@ -17,10 +17,11 @@ abbrev pub role_text : Role → List ℕ
 role_text Image = codes "image"
 role_text Input = codes "input"
 role_text Plan = codes "plan"
+role_text Journal = codes "journal"
 
 -- the words have none of the forms
 unfoldable pub usage_line : List ℕ
-usage_line = codes "usage: nkrun scan IMAGE | map IMAGE FRAMES VA | run IMAGE INPUT PLAN STEPS FRAMES\n"
+usage_line = codes "usage: nkrun scan IMAGE | map IMAGE FRAMES VA | run IMAGE INPUT PLAN STEPS FRAMES | replay IMAGE FRAMES JOURNAL | make NUMBER | work NUMBER\n"
 
 -- there was no memory
 unfoldable pub no_memory_line : List ℕ
@@ -56,6 +57,10 @@ noroom_line need have = codes "noroom " ++ (decimal need ++ (codes " " ++ (decim
 -- the first line of a plan that isn't well formed
 unfoldable pub plan_line : ℕ → List ℕ
 plan_line number = codes "plan line " ++ (decimal number ++ codes "\n")
+
+-- the first line of a journal that isn't well formed, or that says of a call what the nested kernel's state doesn't give
+unfoldable pub journal_line : ℕ → List ℕ
+journal_line number = codes "journal line " ++ (decimal number ++ codes "\n")
 
 -- rights, a letter each: read; write; execute; user or supervisor
 unfoldable pub rights_text : Rights → List ℕ

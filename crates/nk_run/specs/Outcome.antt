@@ -14,16 +14,20 @@ use Rattle.irq_plan.specs.PlanFile.{plan_of}
 use Rattle.boot_map.specs.Division.{need}
 use Rattle.boot_map.specs.FixedFrames.{opening_root}
 use Rattle.boot_map.specs.OpeningEntries.{opening_entry}
-use Rattle.gate_state.specs.MachineOpening.{opening_state}
-use Rattle.gate_state.specs.MachineStates.{Opening}
+use Rattle.gate_state.specs.MachineOpening.{opening_memory, opening_state}
+use Rattle.gate_state.specs.MachineStates.{Opening, nested_of}
+use Rattle.report_text.specs.ClosingSection.{section}
+use Rattle.replay_core.specs.ReplayedCalls.{Replay as WholeReplay, Replayed, replay_of}
+use Rattle.image_maker.specs.MadeImage.{image_of_number}
 use Rattle.nk_run.specs.declared.command_line.Command.{Command}
-use Rattle.nk_run.specs.declared.command_line.Command.TheVariants.{Scan, Map, Run}
+use Rattle.nk_run.specs.declared.command_line.Command.TheVariants.{Scan, Map, Run, Replay, Make, Work}
 use Rattle.nk_run.specs.declared.command_line.Role.{Role}
-use Rattle.nk_run.specs.declared.command_line.Role.TheVariants.{Image, Input, Plan}
+use Rattle.nk_run.specs.declared.command_line.Role.TheVariants.{Image, Input, Plan, Journal}
 use Rattle.nk_run.specs.CommandLine.{command_of, is_same, name_in}
 use Rattle.nk_run.specs.Witness.{Files}
-use Rattle.nk_run.specs.Lines.{longest_file, usage_line, longer_line, image_line, protected_line, admitted_line, noroom_line, plan_line, walk_line}
+use Rattle.nk_run.specs.Lines.{longest_file, usage_line, longer_line, image_line, protected_line, admitted_line, noroom_line, plan_line, journal_line, walk_line}
 use Rattle.nk_run.specs.RunStates.{run_text}
+use Rattle.nk_run.specs.WorkSummary.{work_text}
 
 -- a status and the text that goes with it
 pub record Answer : Type 0 where
@@ -87,13 +91,13 @@ clean None = passes
 clean (Some found) =
     ends (record { status = 1; text = protected_line found.at (take found.count found.bytes) })
 
--- the checks on the image that every command makes
+-- the checks on the bytes of an image
+abbrev pub form_checks : List ℕ → List Check
+form_checks image = test (formed (first_fault image)) ∷ test (clean (first_found image)) ∷ []
+
+-- the checks on the image that commands on files make first
 abbrev pub image_checks : Files → List (List ℕ) → List Check
-image_checks files words =
-    fetch files words Image
-    ∷ test (formed (first_fault (file_in files words Image)))
-    ∷ test (clean (first_found (file_in files words Image)))
-    ∷ []
+image_checks files words = fetch files words Image ∷ form_checks (file_in files words Image)
 
 -- the plan has a line that is out of form: the first is named
 abbrev pub planned : Result (List Event) ℕ → Verdict
@@ -129,6 +133,30 @@ translation_of image frames va = walk (opening_entry image frames) frames openin
 abbrev pub opening_in : Files → List (List ℕ) → ℕ → Opening
 opening_in files words frames = record { image = file_in files words Image; frames = frames }
 
+-- the checks on all files of a replay
+abbrev pub journal_checks : Files → List (List ℕ) → List Check
+journal_checks files words = image_checks files words ++ fetch files words Journal ∷ []
+
+-- what a replay begins from, and where it ends
+abbrev pub opened : Opening → Replayed
+opened o = record { nested = nested_of (opening_state o []); memory = opening_memory o }
+
+abbrev pub replay_in : Files → List (List ℕ) → ℕ → WholeReplay
+replay_in files words frames = replay_of (file_in files words Journal) (opened (opening_in files words frames))
+
+-- the journal has a line that isn't right: the first is named
+abbrev pub journaled : Option ℕ → Verdict
+journaled None = passes
+journaled (Some number) = ends (record { status = 6; text = journal_line number })
+
+-- the checks on an image that is made, which are those on one that is read, and what `work` runs: 2,000,000 turns at most, in
+-- 4,096 frames, without input or events
+abbrev pub made_checks : List ℕ → List Check
+made_checks image = form_checks image ++ test (roomy (need image 4096) 4096) ∷ []
+
+abbrev pub worked : List ℕ → List ℕ
+worked image = work_text 2000000 [] (opening_state (record { image = image; frames = 4096 }) [])
+
 -- the checks of a command, in order, and its text where all pass
 abbrev pub checks_of : Command → Files → List (List ℕ) → List Check
 checks_of Scan files words = image_checks files words
@@ -136,6 +164,13 @@ checks_of (Map frames va) files words =
     image_checks files words ++ test (roomy (need (file_in files words Image) frames) frames) ∷ []
 checks_of (Run steps frames) files words =
     run_checks files words ++ test (roomy (need (file_in files words Image) frames) frames) ∷ []
+checks_of (Replay frames) files words =
+    journal_checks files words
+    ++ test (roomy (need (file_in files words Image) frames) frames)
+    ∷ test (journaled (replay_in files words frames).bad)
+    ∷ []
+checks_of (Make number) files words = []
+checks_of (Work number) files words = made_checks (image_of_number number)
 
 abbrev pub text_of : Command → Files → List (List ℕ) → List ℕ
 text_of Scan files words =
@@ -144,6 +179,10 @@ text_of (Map frames va) files words = walk_line (translation_of (file_in files w
 text_of (Run steps frames) files words =
     run_text (opening_in files words frames) steps (events_in (plan_of (file_in files words Plan)))
     (opening_state (opening_in files words frames) (file_in files words Input))
+text_of (Replay frames) files words =
+    section (file_in files words Image) frames (replay_in files words frames).made.nested
+text_of (Make number) files words = image_of_number number
+text_of (Work number) files words = worked (image_of_number number)
 
 -- the outcome of the words, of which the command is what they spell
 abbrev pub outcome_of : Option Command → List (List ℕ) → Files → Option Answer

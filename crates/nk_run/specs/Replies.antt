@@ -1,16 +1,19 @@
 -- What the top call says, and how it is written.
-use Rattle.std.specs.Prelude.{◌≡◌, ◌≢◌, ℕ, ◌≤◌, ◌⊎◌, List, Option, None, Some, Result, IsSome}
+use Rattle.std.specs.Prelude.{◌≡◌, ◌≢◌, ℕ, ◌*◌, Bool, true, ◌≤◌, ◌⊎◌, List, length, Option, None, Some, Result, IsSome}
+use Rattle.std.specs.List.{list_any}
 use Rattle.nk_bits.specs.declared.leaf.Leaf.{Leaf}
 use Rattle.irq_plan.specs.declared.event.Event.{Event}
 use Rattle.nk_host.specs.Told.{IfTold}
 use Rattle.byte_scanner.specs.FirstFound.{first_found}
 use Rattle.boot_map.specs.Division.{Division, IsLayout}
+use Rattle.nk_body.specs.NestedRecord.{AreBooks, Books, nested_by}
 use Rattle.gate_state.specs.MachineOpening.{opening_state}
+use Rattle.report_text.specs.ClosingSection.{section}
 use Rattle.nk_run.specs.declared.command_line.Role.{Role}
-use Rattle.nk_run.specs.CommandLine.{command_of}
+use Rattle.nk_run.specs.CommandLine.{command_of, is_same}
 use Rattle.nk_run.specs.Lines.{no_memory_line, unread_line, usage_line, walk_line}
 use Rattle.nk_run.specs.Witness.{Change, Files, ShelfState, SinkState, Witness}
-use Rattle.nk_run.specs.Outcome.{Check, Verdict, ends, decided, first_verdict, outcome, IsReached}
+use Rattle.nk_run.specs.Outcome.{Check, Verdict, ends, decided, first_verdict, outcome, worked, IsReached}
 use Rattle.nk_run.specs.RunStates.{run_text}
 use Rattle.nk_run.specs.Clauses.{AreKept, IsUnread, NameRose, SinkRose, TookAll, TookPrefix}
 
@@ -97,17 +100,22 @@ abbrev pub Stops : List (List ℕ) → Change ShelfState → Role → (Files →
 Stops words shelf role verdict status text =
     StopsUnread words shelf role status text ⊎ (IsWant status text ⊎ StopsEnded shelf verdict status text)
 
+-- the role is one of these
+abbrev pub is_listed : List Role → Role → Bool
+is_listed roles role = list_any (λ other. is_same other role) roles
+
 -- the fetch of a role's file in a row of checks failed, and where files are told the checks before that fetch pass
-pub record StopsUnreadIn (words : List (List ℕ)) (shelf : Change ShelfState) (checks : Files → List Check)
+pub record StopsUnreadIn (words : List (List ℕ)) (shelf : Change ShelfState) (roles : List Role) (checks : Files → List Check)
     (status : ℕ) (text : List ℕ) : Type 0 where
   pub role : Role
+  pub listed : is_listed roles role ≡ true
   pub unread : StopsUnread words shelf role status text
   pub reached : IfTold shelf.before.files (λ files. IsReached role (checks files))
 
--- the reply is one of these, for a row of checks with several fetches
-abbrev pub StopsIn : List (List ℕ) → Change ShelfState → (Files → List Check) → ℕ → List ℕ → Type 0
-StopsIn words shelf checks status text =
-    StopsUnreadIn words shelf checks status text
+-- the reply is one of these, for a row of checks that fetches the files of these roles
+abbrev pub StopsIn : List (List ℕ) → Change ShelfState → List Role → (Files → List Check) → ℕ → List ℕ → Type 0
+StopsIn words shelf roles checks status text =
+    StopsUnreadIn words shelf roles checks status text
     ⊎ (IsWant status text ⊎ StopsEnded shelf (λ files. first_verdict (checks files)) status text)
 
 -- a check on what was fetched ended the command with its number as the status, or there was no memory to say so
@@ -137,3 +145,22 @@ pub record IsReady (words : List (List ℕ)) (told : Option Files) (steps frames
     text = run_text (record { image = image; frames = frames }) steps plan
         (opening_state (record { image = image; frames = frames }) input);
   }))
+
+-- a replay was made: the image has its layout, books and memory stand for one record, and where files are told the closing
+-- section of that record is the outcome's text
+pub record IsReplayedFrom (words : List (List ℕ)) (told : Option Files) (frames : ℕ) (image : List ℕ) (layout : Division)
+    (books : Books) (memory : List ℕ) : Type 0 where
+  pub layout_is : IsLayout image layout
+  pub books_are : AreBooks books memory
+  pub size : length memory ≡ 4096 * layout.frames
+  pub outcome_is : IfTold told (λ files. outcome words files ≡ Some (record {
+    status = 0;
+    text = section image layout.frames (nested_by books memory);
+  }))
+
+-- a run of a made image may begin: it has its layout, and the summary of the run is the outcome's text
+pub record IsWorkable (words : List (List ℕ)) (image : List ℕ) (layout : Division) : Type 0 where
+  pub layout_is : IsLayout image layout
+  pub frames_are : layout.frames ≡ 4096
+  pub clean : first_found image ≡ None
+  pub outcome_is : (files : Files) → outcome words files ≡ Some (record { status = 0; text = worked image })

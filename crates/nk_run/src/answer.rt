@@ -8,10 +8,13 @@ ghost use Rattle.nk_run.specs.Replies.{IsAnswered};
 
 use crate::command_line::Command;
 use crate::lines::usage_line;
+use crate::make::make;
 use crate::map::map;
+use crate::replay::replay;
 use crate::reply::{Line, Reply};
 use crate::run::run;
 use crate::scan::scan;
+use crate::work::work;
 use nk_host::{Shelf, Sink};
 use std::alloc::Global;
 
@@ -44,5 +47,8 @@ pub(crate) fn answer<S: Shelf, O: Sink>(
         Some(Command::Scan) => scan(alloc, words, shelf).write(sink),
         Some(Command::Map { frames, va }) => map(alloc, words, frames, va, shelf).write(sink),
         Some(Command::Run { steps, frames }) => run(alloc, words, steps, frames, shelf, sink),
+        Some(Command::Replay { frames }) => replay(alloc, words, frames, shelf, sink),
+        Some(Command::Make { number }) => make(alloc, words, number, sink),
+        Some(Command::Work { number }) => work(alloc, words, number, sink),
     }
 }

@@ -1,7 +1,7 @@
 //! The command line, read by hand: all words are positional.
 ghost use Rattle.std.specs.Prelude.{◌≡◌, length, map, IfSome};
 ghost use Rattle.std.specs.String.{string_bytes};
-ghost use Rattle.nk_run.specs.CommandLine.{command_of, map_of, run_of, scan_of, word_count, word_place, IsBounded};
+ghost use Rattle.nk_run.specs.CommandLine.{command_of, middle_of, run_of, short_of, word_count, word_place, IsBounded};
 
 use crate::numbers::{address_of, decimal_within};
 
@@ -14,6 +14,11 @@ const MOST_FRAMES: u64 = 16_384;
 /// The greatest number of turns that a run may take.
 const MOST_STEPS: u64 = 4_294_967_296;
 
+/// The least and the greatest number of which an image is made.
+const LEAST_NUMBER: u64 = 1;
+
+const MOST_NUMBER: u64 = 100;
+
 /// What a file is to a command.
 #[derive(Clone, Copy, Debug, PartialEq, Eq)]
 pub enum Role {
@@ -23,6 +28,8 @@ pub enum Role {
     Input,
     /// The events of the outside.
     Plan,
+    /// The text of a run, of which the calls are made again.
+    Journal,
 }
 
 impl Role {
@@ -34,6 +41,7 @@ impl Role {
             Role::Image => 1,
             Role::Input => 2,
             Role::Plan => 3,
+            Role::Journal => 3,
         }
     }
 }
@@ -47,6 +55,12 @@ pub enum Command {
     Map { frames: u32, va: u64 },
     /// Run an image for at most so many turns, in a memory of so many frames.
     Run { steps: u64, frames: u32 },
+    /// Make the calls of a journal, in a memory of so many frames.
+    Replay { frames: u32 },
+    /// Write the image of a number.
+    Make { number: u64 },
+    /// Run the image of a number, and count.
+    Work { number: u64 },
 }
 
 impl Command {
@@ -57,8 +71,10 @@ impl Command {
         ensures count { IfSome result (λ command. length words.now ≡ word_count command) }
     {
         match words {
-            [name, _image] => read_scan(name.as_str()),
-            [name, _image, frames, va] => read_map(name.as_str(), frames.as_str(), va.as_str()),
+            [name, word] => read_short(name.as_str(), word.as_str()),
+            [name, _image, frames, word] => {
+                read_middle(name.as_str(), frames.as_str(), word.as_str())
+            }
             [name, _image, _input, _plan, steps, frames] => {
                 read_run(name.as_str(), steps.as_str(), frames.as_str())
             }
@@ -67,33 +83,47 @@ impl Command {
     }
 }
 
-/// `scan IMAGE`.
-fn read_scan(name: &str) -> Option<Command>
-    ensures command { result ≡ scan_of name.now }
-    ensures is_scan { IfSome result (λ command. command ≡ Command.Scan) }
+/// `scan IMAGE`, `make NUMBER` or `work NUMBER`.
+fn read_short(name: &str, word: &str) -> Option<Command>
+    ensures command { result ≡ short_of name.now word.now }
+    ensures bounds { IfSome result IsBounded }
+    ensures count { IfSome result (λ command. word_count command ≡ 2) }
 {
     if name == "scan" {
-        Some(Command::Scan)
-    } else {
-        None
+        return Some(Command::Scan);
     }
+    if name == "make" {
+        let number = decimal_within(word, LEAST_NUMBER, MOST_NUMBER)?;
+        return Some(Command::Make { number });
+    }
+    if name == "work" {
+        let number = decimal_within(word, LEAST_NUMBER, MOST_NUMBER)?;
+        return Some(Command::Work { number });
+    }
+    None
 }
 
-/// `map IMAGE FRAMES VA`.
-fn read_map(name: &str, frames: &str, va: &str) -> Option<Command>
-    ensures command { result ≡ map_of name.now frames.now va.now }
+/// `map IMAGE FRAMES VA` or `replay IMAGE FRAMES JOURNAL`.
+fn read_middle(name: &str, frames: &str, word: &str) -> Option<Command>
+    ensures command { result ≡ middle_of name.now frames.now word.now }
     ensures bounds { IfSome result IsBounded }
     ensures count { IfSome result (λ command. word_count command ≡ 4) }
 {
-    if name != "map" {
-        return None;
+    if name == "map" {
+        let frames = decimal_within(frames, LEAST_FRAMES, MOST_FRAMES)?;
+        let va = address_of(word)?;
+        return Some(Command::Map {
+            frames: frames as u32,
+            va,
+        });
     }
-    let frames = decimal_within(frames, LEAST_FRAMES, MOST_FRAMES)?;
-    let va = address_of(va)?;
-    Some(Command::Map {
-        frames: frames as u32,
-        va,
-    })
+    if name == "replay" {
+        let frames = decimal_within(frames, LEAST_FRAMES, MOST_FRAMES)?;
+        return Some(Command::Replay {
+            frames: frames as u32,
+        });
+    }
+    None
 }
 
 /// `run IMAGE INPUT PLAN STEPS FRAMES`.

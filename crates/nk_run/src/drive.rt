@@ -60,7 +60,7 @@ pub(crate) fn drive<'i, O: Sink>(
 
 /// Why the run ends at this state, where it does.
 #[tactic(auto, unfolding(crate::specs::RunStates::ending_at))]
-fn ending_at<'i>(machine: &Machine<'i>, plan: &Plan, steps: u64) -> Option<Ending>
+pub(crate) fn ending_at<'i>(machine: &Machine<'i>, plan: &Plan, steps: u64) -> Option<Ending>
     ensures { result ≡ ending_at steps plan.now (whole_of machine.now).state }
 {
     if machine.turns() == steps {

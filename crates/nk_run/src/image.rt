@@ -7,7 +7,7 @@ ghost use Rattle.elf_image.specs.Rows.{first_fault};
 ghost use Rattle.byte_scanner.specs.FirstFound.{first_found};
 ghost use Rattle.nk_run.specs.CommandLine.{name_in, word_place};
 ghost use Rattle.nk_run.specs.Witness.{shelf_change};
-ghost use Rattle.nk_run.specs.Outcome.{fetched, formed, clean, first_verdict, image_checks, file_in, passes};
+ghost use Rattle.nk_run.specs.Outcome.{fetched, formed, clean, first_verdict, form_checks, image_checks, file_in, passes};
 ghost use Rattle.nk_run.specs.ReplyText.{bytes_of};
 ghost use Rattle.nk_run.specs.Replies.{RefusesBy, Stops};
 
@@ -78,6 +78,23 @@ fn admit(alloc: Global, image: &Image) -> Option<Reply>
     }
 }
 
+/// The image that the file is, or the reply to its first fault, else to the first protected encoding in its code.
+pub(crate) fn judge(alloc: Global, bytes: Vec<u8>) -> Result<Image, Reply>
+    ensures clean { IfOk result (λ image. first_found image ≡ None) }
+    ensures judged { MatchResult result
+        (λ image. (image ≡ bytes.items) × (first_verdict (form_checks bytes.items) ≡ passes))
+        (λ reply. RefusesBy 1 (first_verdict (form_checks bytes.items)) reply.status (bytes_of reply.line)) }
+{
+    let image = match form(alloc, bytes) {
+        Ok(image) => image,
+        Err(reply) => return Err(reply),
+    };
+    match admit(alloc, &image) {
+        None => Ok(image),
+        Some(reply) => Err(reply),
+    }
+}
+
 /// The image, or the reply to the first check on it that doesn't pass.
 pub(crate) fn open<S: Shelf>(alloc: Global, words: &[String], shelf: &mut S) -> Result<Image, Reply>
     requires { word_place Role.Image < length words.now }
@@ -94,12 +111,5 @@ pub(crate) fn open<S: Shelf>(alloc: Global, words: &[String], shelf: &mut S) -> 
         Ok(bytes) => bytes,
         Err(reply) => return Err(reply),
     };
-    let image = match form(alloc, bytes) {
-        Ok(image) => image,
-        Err(reply) => return Err(reply),
-    };
-    match admit(alloc, &image) {
-        None => Ok(image),
-        Some(reply) => Err(reply),
-    }
+    judge(alloc, bytes)
 }

@@ -1,5 +1,5 @@
 //! The files that a run takes beside the image: its input, and the plan of the events of the outside.
-ghost use Rattle.std.specs.Prelude.{◌≡◌, ◌<◌, Ok, length, map, MatchResult};
+ghost use Rattle.std.specs.Prelude.{◌≡◌, ◌<◌, [], ◌∷◌, Ok, length, map, MatchResult};
 ghost use Rattle.std.specs.String.{string_bytes};
 ghost use Rattle.irq_plan.specs.PlanFile.{plan_of};
 ghost use Rattle.nk_host.specs.FaultCounts.{NeverFalls};
@@ -70,7 +70,7 @@ pub(crate) fn open_outside<S: Shelf>(
         × (plan_of (file_in files names Role.Plan) ≡ Ok outside.plan)
         × (first_verdict (input_checks files names) ≡ passes)))
         (λ reply. StopsIn names (shelf_change S.files S.faults shelf.old shelf.new)
-        (λ files. input_checks files names) reply.status (bytes_of reply.line)) }
+        (Role.Input ∷ Role.Plan ∷ []) (λ files. input_checks files names) reply.status (bytes_of reply.line)) }
 {
     let input = match fetch(alloc, words, Role::Input, shelf) {
         Ok(input) => input,

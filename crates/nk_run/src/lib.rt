@@ -16,14 +16,19 @@ mod reply;
 mod image;
 
 // The commands.
+mod make;
 mod map;
-mod scan;
-
-// The command `run`: the files beside the image, the opening.
-mod inputs;
+mod replay;
 mod run;
+mod scan;
+mod work;
 
-// A run: why it ends, and its loop.
+// What runs and replays begin from: the files beside the image, the opening.
+mod inputs;
+mod opening;
+
+// A run: why it ends, its loop, and its loop where it is counted.
+mod count;
 mod drive;
 mod ending;
 

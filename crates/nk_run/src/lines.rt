@@ -12,6 +12,7 @@ ghost use Rattle.nk_run.specs.Lines.{
   admitted_line,
   noroom_line,
   plan_line,
+  journal_line,
   rights_text,
   frame_line,
   missing_line,
@@ -29,7 +30,7 @@ use std::alloc::{AllocError, Global};
 pub(crate) fn usage_line() -> &'static str
     ensures { result.now ≡ usage_line }
 {
-    "usage: nkrun scan IMAGE | map IMAGE FRAMES VA | run IMAGE INPUT PLAN STEPS FRAMES\n"
+    "usage: nkrun scan IMAGE | map IMAGE FRAMES VA | run IMAGE INPUT PLAN STEPS FRAMES | replay IMAGE FRAMES JOURNAL | make NUMBER | work NUMBER\n"
 }
 
 /// There was no memory.
@@ -49,6 +50,7 @@ pub(crate) fn unread_line(role: Role) -> &'static str
         Role::Image => "unread image\n",
         Role::Input => "unread input\n",
         Role::Plan => "unread plan\n",
+        Role::Journal => "unread journal\n",
     }
 }
 
@@ -60,6 +62,7 @@ pub(crate) fn longer_line(role: Role) -> &'static str
         Role::Image => "longer image 67108864\n",
         Role::Input => "longer input 67108864\n",
         Role::Plan => "longer plan 67108864\n",
+        Role::Journal => "longer journal 67108864\n",
     }
 }
 
@@ -112,6 +115,14 @@ pub(crate) fn plan_line(alloc: Global, number: u64) -> Result<String, AllocError
     ensures { IfOk result (λ line. string_bytes line ≡ plan_line number) }
 {
     format!(in alloc; "plan line {number}\n")
+}
+
+/// The first line of the journal that isn't right, numbered from 1.
+#[tactic(auto, unfolding(crate::specs::Lines::journal_line))]
+pub(crate) fn journal_line(alloc: Global, number: u64) -> Result<String, AllocError>
+    ensures { IfOk result (λ line. string_bytes line ≡ journal_line number) }
+{
+    format!(in alloc; "journal line {number}\n")
 }
 
 /// The four letters of rights.

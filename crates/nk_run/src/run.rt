@@ -1,5 +1,5 @@
 //! The command `run IMAGE INPUT PLAN STEPS FRAMES`.
-ghost use Rattle.std.specs.Prelude.{◌≡◌, ◌<◌, ◌≤◌, None, length, map, IfSome, MatchResult, Ok, Some};
+ghost use Rattle.std.specs.Prelude.{◌≡◌, ◌<◌, ◌≤◌, None, length, map, IfSome, MatchResult, Ok, Some, [], ◌∷◌};
 ghost use Rattle.std.specs.String.{string_bytes};
 ghost use Rattle.irq_plan.specs.PlanFile.{plan_of};
 ghost use Rattle.nk_host.specs.Told.{IfTold};
@@ -16,12 +16,11 @@ use crate::command_line::{Command, Role};
 use crate::drive::drive;
 use crate::image::open;
 use crate::inputs::{Outside, open_outside};
-use crate::lines::noroom_line;
-use crate::reply::{Reply, made, want};
-use boot_map::{Layout, prepare};
+use crate::opening::{begin, divide};
+use crate::reply::{Reply, want};
+use boot_map::Layout;
 use elf_image::Image;
-use gate_state::{Machine, OuterMachine};
-use nk_body::Kernel;
+use gate_state::Machine;
 use nk_host::{Shelf, Sink};
 use std::alloc::Global;
 
@@ -40,48 +39,6 @@ struct Ready {
     outside: Outside,
 }
 
-/// The machine as a run begins, None where there is no memory for it.
-fn begin<'i>(
-    alloc: Global,
-    image: &'i Image,
-    layout: &'i Layout,
-    input: Vec<u8>,
-) -> Option<OuterMachine<'i>>
-    requires layout { IsLayout image.now layout.now }
-    requires clean { first_found image.now ≡ None }
-    ensures opening { IfSome result (λ machine. machine.opening ≡ record { image = image.now; frames = layout.now.frames }) }
-    ensures state { IfSome result (λ machine. machine.state
-        ≡ opening_state (record { image = image.now; frames = layout.now.frames }) input.items) }
-{
-    let memory = match prepare(alloc, image, layout) {
-        Ok(memory) => memory,
-        Err(_) => return None,
-    };
-    let kernel = match Kernel::start(alloc, &memory, image, layout) {
-        Ok(kernel) => kernel,
-        Err(_) => return None,
-    };
-    match OuterMachine::start(alloc, memory, kernel, image, layout, input) {
-        Ok(machine) => Some(machine),
-        Err(_) => None,
-    }
-}
-
-/// The division of a memory of so many frames for the image, or the reply where it has no room.
-fn divide(alloc: Global, image: &Image, frames: u32) -> Result<Layout, Reply>
-    requires least { 512 ≤ frames }
-    requires most { frames ≤ 16384 }
-    ensures { MatchResult result
-        (λ layout. IsLayout image.now layout × (layout.frames ≡ frames)
-        × (roomy (need image.now frames) frames ≡ passes))
-        (λ reply. RefusesBy 1 (roomy (need image.now frames) frames) reply.status (bytes_of reply.line)) }
-{
-    match Layout::of(image, frames) {
-        Ok(layout) => Ok(layout),
-        Err(fault) => Err(made(1, noroom_line(alloc, &fault))),
-    }
-}
-
 /// The files of a run, or the reply to the first check on them that doesn't pass.
 fn hold<S: Shelf>(alloc: Global, words: &[String], shelf: &mut S) -> Result<Held, Reply>
     requires { 3 < length words.now }
@@ -93,7 +50,7 @@ fn hold<S: Shelf>(alloc: Global, words: &[String], shelf: &mut S) -> Result<Held
         × (plan_of (file_in files names Role.Plan) ≡ Ok held.outside.plan)
         × (first_verdict (run_checks files names) ≡ passes)))
         (λ reply. StopsIn names (shelf_change S.files S.faults shelf.old shelf.new)
-        (λ files. run_checks files names) reply.status (bytes_of reply.line)) }
+        (Role.Image ∷ Role.Input ∷ Role.Plan ∷ []) (λ files. run_checks files names) reply.status (bytes_of reply.line)) }
 {
     let image = match open(alloc, words, shelf) {
         Ok(image) => image,

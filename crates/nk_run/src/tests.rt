@@ -28,8 +28,7 @@ const READ_WRITE: u32 = 6;
 /// How many bytes the sink takes, in the longest text under test.
 const ROOM: usize = 524_288;
 
-const USAGE: &str =
-    "usage: nkrun scan IMAGE | map IMAGE FRAMES VA | run IMAGE INPUT PLAN STEPS FRAMES\n";
+const USAGE: &str = "usage: nkrun scan IMAGE | map IMAGE FRAMES VA | run IMAGE INPUT PLAN STEPS FRAMES | replay IMAGE FRAMES JOURNAL | make NUMBER | work NUMBER\n";
 
 /// What the top call gave and wrote.
 #[derive(Drop)]

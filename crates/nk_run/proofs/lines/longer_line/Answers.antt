@@ -14,3 +14,7 @@ returns-in-Input c = search rules
 pub returns-in-Plan : goal.returns-in-Plan
 unfolding longer_line digits
 returns-in-Plan c = search rules
+
+pub returns-in-Journal : goal.returns-in-Journal
+unfolding longer_line digits
+returns-in-Journal c = search rules

@@ -1,15 +1,15 @@
 use Rattle.std.proofs.Common.{map, refl}
 use Rattle.std.specs.String.{string_bytes}
-use Rattle.nk_run.proofs.Rows.{ready_says, room_says, row_says}
+use Rattle.nk_run.proofs.RunRows.{ready_says, run_room_says, run_row_says}
 use Rattle.nk_run.proofs.run.make_ready.Goals as goal
 
 pub returns-in-Err-clause-ready : goal.returns-in-Err-clause-ready
 returns-in-Err-clause-ready g c =
-    row_says _ c.args.steps c.args.frames c.requires.asked _ _ _ c.in-Err.ensures.held
+    run_row_says _ c.args.steps c.args.frames c.requires.asked _ _ _ c.in-Err.ensures.held
 
 pub returns-in-Err-divide-clause-ready : goal.returns-in-Err-divide-clause-ready
 returns-in-Err-divide-clause-ready g c =
-    room_says _ c.args.steps c.args.frames c.requires.asked _ _ _ _ c.in-Ok.ensures.held.1 _ _ _ refl c.in-Err-divide.ensures
+    run_room_says _ c.args.steps c.args.frames c.requires.asked _ _ _ _ c.in-Ok.ensures.held.1 _ _ _ refl c.in-Err-divide.ensures
 
 pub returns-in-Ok-divide-clause-ready : goal.returns-in-Ok-divide-clause-ready
 returns-in-Ok-divide-clause-ready g c = record {

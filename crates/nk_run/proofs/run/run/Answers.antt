@@ -4,7 +4,7 @@ use Rattle.gate_state.specs.MachineStates.{Opening}
 use Rattle.nk_run.specs.Replies.{IsWritten}
 use Rattle.nk_run.specs.RunStates.{run_text}
 use Rattle.nk_run.specs.Witness.{sink_change}
-use Rattle.nk_run.proofs.Rows.{ran_says}
+use Rattle.nk_run.proofs.RunRows.{ran_says}
 use Rattle.nk_run.proofs.Runs.{text_begun}
 use Rattle.nk_run.proofs.run.run.Goals as goal
 

@@ -1,0 +1,211 @@
+-- What the checks of a run, of a replay and of a made image say of their outcomes.
+use Rattle.std.proofs.Common.{◌≡◌, ℕ, inl, inr, List, [], ◌∷◌, ◌++◌, Option, None, Some, Ok, Result, refl, sym, ap, subst, ◌∙◌}
+use Rattle.nk_host.specs.Told.{IfTold}
+use Rattle.irq_plan.specs.declared.event.Event.{Event}
+use Rattle.irq_plan.specs.PlanFile.{plan_of}
+use Rattle.boot_map.specs.Division.{need}
+use Rattle.gate_state.specs.MachineOpening.{opening_state}
+use Rattle.gate_state.specs.MachineStates.{Opening}
+use Rattle.report_text.specs.ClosingSection.{section}
+use Rattle.replay_core.specs.ReplayedCalls.{Replay, replay_of}
+use Rattle.image_maker.specs.MadeImage.{image_of_number}
+use Rattle.nk_run.specs.declared.command_line.Command.TheVariants.{Make, Replay as ReplayCommand, Run, Work}
+use Rattle.nk_run.specs.declared.command_line.Role.TheVariants.{Image, Input, Journal, Plan}
+use Rattle.nk_run.specs.CommandLine.{command_of, roles_of}
+use Rattle.nk_run.specs.Outcome.{Answer, Check, Verdict, ends, events_in, file_in, first_verdict, form_checks, journal_checks, journaled, opened, opening_in, outcome, passes, replay_in, roomy, run_checks, test, unless_ended, worked}
+use Rattle.nk_run.specs.Replies.{CommandSays, IsWant, RefusesBy, StopsIn}
+use Rattle.nk_run.specs.RunStates.{run_text}
+use Rattle.nk_run.specs.Witness.{Change, Files, ShelfState}
+use Rattle.nk_run.proofs.Rows.{all_says, later_says, outcome_says, own_zero, row_refuses, row_says, wants_says}
+use Rattle.nk_run.proofs.Told.{if_told, told_at}
+
+last_ends : (v later : Verdict) (it : Answer) → v ≡ ends it → unless_ended v later ≡ ends it
+last_ends v later it e = rw e refl
+
+next_ends : (u v : Verdict) (it : Answer) → u ≡ passes → v ≡ ends it → unless_ended u (unless_ended v passes) ≡ ends it
+next_ends u v it first e = rw (first, e) refl
+
+both : (u v : Verdict) → u ≡ passes → v ≡ passes → unless_ended u (unless_ended v passes) ≡ passes
+both u v first second = rw (first, second) refl
+
+-- A run.
+module _ (words : List (List ℕ)) (steps frames : ℕ) (asked : command_of words ≡ Some (Run steps frames)) where
+  run_row : Files → List Check
+  run_row files = run_checks files words
+
+  run_last : Files → List Check
+  run_last files = test (roomy (need (file_in files words Image) frames) frames) ∷ []
+
+  pub run_row_says : (shelf : Change ShelfState) (status : ℕ) (text : List ℕ)
+      → StopsIn words shelf (roles_of (Run steps frames)) (λ files. run_checks files words) status text → CommandSays words shelf status text
+  run_row_says = row_says words (Run steps frames) asked (λ files. run_checks files words) (λ files. test (roomy (need (file_in files words Image) frames) frames) ∷ []) (λ files. refl)
+
+  -- the run was made
+  pub ran_says : (shelf : Change ShelfState) (text : List ℕ)
+      → IfTold shelf.before.files (λ files. outcome words files ≡ Some (record { status = 0; text = text })) → CommandSays words shelf 0 text
+  ran_says shelf text is =
+      outcome_says words (Run steps frames) asked (λ files. run_checks files words) (λ files. test (roomy (need (file_in files words Image) frames) frames) ∷ []) (λ files. refl) shelf 0 text own_zero is
+
+  -- the files are those that are told, where they are told, and the row passed on them
+  module _ (told : Option Files) (image input : List ℕ) (plan : List Event) (held : IfTold told (λ files. (image ≡ file_in files words Image) × (input ≡ file_in files words Input) × (plan_of (file_in files words Plan) ≡ Ok plan) × (first_verdict (run_checks files words) ≡ passes))) where
+    run_room : (files : Files) (v : Verdict) → told ≡ Some files → roomy (need image frames) frames ≡ v
+        → roomy (need (file_in files words Image) frames) frames ≡ v
+    run_room files v e is =
+        ap (λ (b : List ℕ). roomy (need b frames) frames) (sym (told_at told _ files e held).0) ∙ is
+
+    pub run_room_says : (shelf : Change ShelfState) (status : ℕ) (text : List ℕ) → shelf.before.files ≡ told
+        → RefusesBy 1 (roomy (need image frames) frames) status text → CommandSays words shelf status text
+    run_room_says shelf status text same refuses =
+        later_says words (Run steps frames) asked (λ files. run_checks files words) (λ files. test (roomy (need (file_in files words Image) frames) frames) ∷ []) (λ files. refl)
+        shelf 1 status text (roomy (need image frames) frames) (inr (inl refl))
+        (if_told shelf.before.files _ (λ files e.
+        let told_is : told ≡ Some files = sym same ∙ e in
+        ((told_at told _ files told_is held).3, λ it is. last_ends _ passes it (run_room files _ told_is is)))) refuses
+
+    text_from : Opening → List Event → List ℕ → List ℕ
+    text_from o plan input = run_text o steps plan (opening_state o input)
+
+    text_is : (files : Files) → plan_of (file_in files words Plan) ≡ Ok plan → image ≡ file_in files words Image → input ≡ file_in files words Input
+        → run_text (opening_in files words frames) steps (events_in (plan_of (file_in files words Plan))) (opening_state (opening_in files words frames) (file_in files words Input))
+        ≡ run_text (record { image = image; frames = frames }) steps plan (opening_state (record { image = image; frames = frames }) input)
+    unfolding text_from
+    text_is files plan_is image_is input_is =
+        ap (λ (r : Result (List Event) ℕ). text_from (opening_in files words frames) (events_in r) (file_in files words Input)) plan_is
+        ∙ ap (λ (b : List ℕ). text_from (record { image = b; frames = frames }) plan (file_in files words Input)) (sym image_is)
+        ∙ ap (λ (b : List ℕ). text_from (record { image = image; frames = frames }) plan b) (sym input_is)
+
+    -- the row and the room pass, and the text is that of the run
+    pub ready_says : roomy (need image frames) frames ≡ passes → IfTold told (λ files. outcome words files ≡ Some (record {
+      status = 0;
+      text = run_text (record { image = image; frames = frames }) steps plan
+          (opening_state (record { image = image; frames = frames }) input);
+    }))
+    ready_says fits =
+        if_told told _ (λ files e.
+        let given = told_at told _ files e held in
+        all_says words (Run steps frames) asked (λ files. run_checks files words) (λ files. test (roomy (need (file_in files words Image) frames) frames) ∷ []) (λ files. refl)
+        files given.3 (ap (λ (v : Verdict). unless_ended v passes) (run_room files passes e fits))
+        ∙ ap (λ (l : List ℕ). Some (record { status = 0; text = l })) (text_is files given.2 given.0 given.1))
+
+-- A replay.
+module _ (words : List (List ℕ)) (frames : ℕ) (asked : command_of words ≡ Some (ReplayCommand frames)) where
+  abbrev replay_row : Files → List Check
+  replay_row files = journal_checks files words
+
+  abbrev replay_later : Files → List Check
+  replay_later files =
+      test (roomy (need (file_in files words Image) frames) frames) ∷ test (journaled (replay_in files words frames).bad) ∷ []
+
+  pub replay_row_says : (shelf : Change ShelfState) (status : ℕ) (text : List ℕ)
+      → StopsIn words shelf (roles_of (ReplayCommand frames)) (λ files. journal_checks files words) status text → CommandSays words shelf status text
+  replay_row_says = row_says words (ReplayCommand frames) asked replay_row replay_later (λ files. refl)
+
+  pub replayed_says : (shelf : Change ShelfState) (text : List ℕ)
+      → IfTold shelf.before.files (λ files. outcome words files ≡ Some (record { status = 0; text = text })) → CommandSays words shelf 0 text
+  replayed_says shelf text is =
+      outcome_says words (ReplayCommand frames) asked replay_row replay_later (λ files. refl) shelf 0 text own_zero is
+
+  module _ (told : Option Files) (image journal : List ℕ) (held : IfTold told (λ files. (image ≡ file_in files words Image) × (journal ≡ file_in files words Journal) × (first_verdict (journal_checks files words) ≡ passes))) where
+    replay_made : Replay
+    replay_made = replay_of journal (opened (record { image = image; frames = frames }))
+
+    replay_room : (files : Files) (v : Verdict) → told ≡ Some files → roomy (need image frames) frames ≡ v
+        → roomy (need (file_in files words Image) frames) frames ≡ v
+    replay_room files v e is =
+        ap (λ (b : List ℕ). roomy (need b frames) frames) (sym (told_at told _ files e held).0) ∙ is
+
+    replay_is : (files : Files) → told ≡ Some files
+        → replay_in files words frames ≡ replay_of journal (opened (record { image = image; frames = frames }))
+    replay_is files e =
+        let given = told_at told _ files e held in
+        ap (λ (b : List ℕ). replay_of b (opened (opening_in files words frames))) (sym given.1)
+        ∙ ap (λ (b : List ℕ). replay_of journal (opened (record { image = b; frames = frames }))) (sym given.0)
+
+    pub replay_room_says : (shelf : Change ShelfState) (status : ℕ) (text : List ℕ) → shelf.before.files ≡ told
+        → RefusesBy 1 (roomy (need image frames) frames) status text → CommandSays words shelf status text
+    replay_room_says shelf status text same refuses =
+        later_says words (ReplayCommand frames) asked replay_row replay_later (λ files. refl)
+        shelf 1 status text (roomy (need image frames) frames) (inr (inl refl))
+        (if_told shelf.before.files _ (λ files e.
+        let told_is : told ≡ Some files = sym same ∙ e in
+        ((told_at told _ files told_is held).2, λ it is. last_ends _ _ it (replay_room files _ told_is is)))) refuses
+
+    -- a line of the journal isn't right
+    pub journal_says : roomy (need image frames) frames ≡ passes → (shelf : Change ShelfState) (status : ℕ) (text : List ℕ) → shelf.before.files ≡ told
+        → RefusesBy 6 (journaled (replay_of journal (opened (record { image = image; frames = frames }))).bad) status text
+        → CommandSays words shelf status text
+    journal_says fits shelf status text same refuses =
+        later_says words (ReplayCommand frames) asked replay_row replay_later (λ files. refl)
+        shelf 6 status text (journaled (replay_of journal (opened (record { image = image; frames = frames }))).bad) (inr (inr refl))
+        (if_told shelf.before.files _ (λ files e.
+        let told_is : told ≡ Some files = sym same ∙ e in
+        ((told_at told _ files told_is held).2, λ it is. next_ends _ _ it (replay_room files passes told_is fits)
+        (ap (λ (r : Replay). journaled r.bad) (replay_is files told_is) ∙ is)))) refuses
+
+    -- the row, the room and the journal pass, and the text is the section of what the calls made
+    pub made_says : roomy (need image frames) frames ≡ passes → (replay_of journal (opened (record { image = image; frames = frames }))).bad ≡ None
+        → IfTold told (λ files. outcome words files ≡ Some (record {
+      status = 0;
+      text = section image frames (replay_of journal (opened (record { image = image; frames = frames }))).made.nested;
+    }))
+    made_says fits right =
+        if_told told _ (λ files e.
+        let given = told_at told _ files e held in
+        all_says words (ReplayCommand frames) asked replay_row replay_later (λ files. refl)
+        files given.2 (both _ _ (replay_room files passes e fits) (ap (λ (r : Replay). journaled r.bad) (replay_is files e) ∙ ap journaled right))
+        ∙ ap (λ (r : Replay). Some (record { status = 0; text = section (file_in files words Image) frames r.made.nested })) (replay_is files e)
+        ∙ ap (λ (b : List ℕ). Some (record { status = 0; text = section b frames (replay_of journal (opened (record { image = image; frames = frames }))).made.nested })) (sym given.0))
+
+-- A made image.
+module _ (words : List (List ℕ)) (number : ℕ) (asked : command_of words ≡ Some (Work number)) where
+  abbrev work_row : Files → List Check
+  work_row files = form_checks (image_of_number number)
+
+  abbrev work_later : Files → List Check
+  work_later files = test (roomy (need (image_of_number number) 4096) 4096) ∷ []
+
+  pub work_says : (shelf : Change ShelfState) (text : List ℕ)
+      → ((files : Files) → outcome words files ≡ Some (record { status = 0; text = text })) → CommandSays words shelf 0 text
+  work_says shelf text is =
+      outcome_says words (Work number) asked work_row work_later (λ files. refl) shelf 0 text own_zero
+      (if_told shelf.before.files _ (λ files e. is files))
+
+  pub work_wants : (shelf : Change ShelfState) (status : ℕ) (text : List ℕ) → IsWant status text → CommandSays words shelf status text
+  work_wants = wants_says words (Work number) asked work_row work_later (λ files. refl)
+
+  module _ (image : List ℕ) (made : image ≡ image_of_number number) where
+    pub work_form_says : (shelf : Change ShelfState) (status : ℕ) (text : List ℕ)
+        → RefusesBy 1 (first_verdict (form_checks image)) status text → CommandSays words shelf status text
+    work_form_says shelf status text refuses =
+        row_refuses words (Work number) asked work_row work_later (λ files. refl)
+        shelf 1 status text (first_verdict (form_checks image)) (inr (inl refl))
+        (λ files it is. ap (λ (b : List ℕ). first_verdict (form_checks b)) (sym made) ∙ is) refuses
+
+    pub work_room_says : first_verdict (form_checks image) ≡ passes → (shelf : Change ShelfState) (status : ℕ) (text : List ℕ)
+        → RefusesBy 1 (roomy (need image 4096) 4096) status text → CommandSays words shelf status text
+    work_room_says formed shelf status text refuses =
+        later_says words (Work number) asked work_row work_later (λ files. refl)
+        shelf 1 status text (roomy (need image 4096) 4096) (inr (inl refl))
+        (if_told shelf.before.files _ (λ files e.
+        (ap (λ (b : List ℕ). first_verdict (form_checks b)) (sym made) ∙ formed,
+        λ it is. last_ends _ passes it (ap (λ (b : List ℕ). roomy (need b 4096) 4096) (sym made) ∙ is)))) refuses
+
+    pub workable : first_verdict (form_checks image) ≡ passes → roomy (need image 4096) 4096 ≡ passes
+        → (files : Files) → outcome words files ≡ Some (record { status = 0; text = worked image })
+    workable formed fits files =
+        all_says words (Work number) asked work_row work_later (λ files. refl) files
+        (ap (λ (b : List ℕ). first_verdict (form_checks b)) (sym made) ∙ formed)
+        (ap (λ (b : List ℕ). unless_ended (roomy (need b 4096) 4096) passes) (sym made) ∙ ap (λ (v : Verdict). unless_ended v passes) fits)
+        ∙ ap (λ (b : List ℕ). Some (record { status = 0; text = worked b })) (sym made)
+
+-- Making an image needs no check.
+pub make_says : (words : List (List ℕ)) (number : ℕ) → command_of words ≡ Some (Make number) → (shelf : Change ShelfState)
+    → CommandSays words shelf 0 (image_of_number number)
+make_says words number asked shelf =
+    outcome_says words (Make number) asked (λ files. []) (λ files. []) (λ files. refl) shelf 0 (image_of_number number) own_zero
+    (if_told shelf.before.files _ (λ files e.
+    all_says words (Make number) asked (λ files. []) (λ files. []) (λ files. refl) files refl refl))
+
+pub make_wants : (words : List (List ℕ)) (number : ℕ) → command_of words ≡ Some (Make number) → (shelf : Change ShelfState)
+    → (status : ℕ) (text : List ℕ) → IsWant status text → CommandSays words shelf status text
+make_wants words number asked = wants_says words (Make number) asked (λ files. []) (λ files. []) (λ files. refl)

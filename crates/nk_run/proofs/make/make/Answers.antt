@@ -1,0 +1,26 @@
+use Rattle.std.proofs.Common.{inr, map, subst, ◌∙◌}
+use Rattle.std.specs.String.{string_bytes}
+use Rattle.image_maker.specs.MadeImage.{image_of_number}
+use Rattle.nk_run.specs.Replies.{IsWritten}
+use Rattle.nk_run.specs.Witness.{sink_change}
+use Rattle.nk_run.proofs.RunRows.{make_says, make_wants}
+use Rattle.nk_run.proofs.make.make.Goals as goal
+
+pub returns-in-Ok : goal.returns-in-Ok
+returns-in-Ok g c = λ shelf same. record {
+  status = 0;
+  text = image_of_number c.args.number;
+  says = inr (make_says _ c.args.number c.requires.asked shelf);
+  written = subst (λ l. IsWritten (sink_change g.O.Sink.taken g.O.Sink.faults c.args.sink.now c.put_file.new.sink) 0 l c.put_file.result)
+      (c.deref.ensures.value ∙ c.in-Ok.ensures) c.put_file.ensures;
+  files_stay = same;
+}
+
+pub returns-in-Err : goal.returns-in-Err
+returns-in-Err g c = λ shelf same. record {
+  status = _;
+  text = _;
+  says = inr (make_wants _ c.args.number c.requires.asked shelf _ _ c.want.ensures);
+  written = c.write.ensures.written;
+  files_stay = same;
+}

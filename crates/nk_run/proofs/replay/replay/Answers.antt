@@ -1,0 +1,25 @@
+use Rattle.std.proofs.Common.{inr}
+use Rattle.nk_body.specs.NestedRecord.{nested_by}
+use Rattle.report_text.specs.ClosingSection.{section}
+use Rattle.nk_run.proofs.RunRows.{replayed_says}
+use Rattle.nk_run.proofs.replay.replay.Goals as goal
+
+pub returns-in-Err : goal.returns-in-Err
+returns-in-Err g c = record {
+  status = _;
+  text = _;
+  says = inr c.in-Err.ensures.made;
+  written = c.write.ensures.written;
+  files_stay = c.make_replay.ensures.files_stay;
+}
+
+pub returns : goal.returns
+returns g c =
+    let it = c.in-Ok.replayed in
+    record {
+      status = 0;
+      text = section it.image it.layout.frames (nested_by it.left.kernel it.left.memory);
+      says = inr (replayed_says _ c.args.frames c.requires.asked _ _ c.in-Ok.ensures.made.outcome_is);
+      written = c.show.ensures;
+      files_stay = c.make_replay.ensures.files_stay;
+    }

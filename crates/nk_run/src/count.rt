@@ -1,0 +1,178 @@
+//! The loop of a run that is counted: step after step of the machine, and the summary in the end.
+ghost use Rattle.std.specs.Prelude.{◌≡◌, ◌<◌, ◌≤◌, ◌+◌, ◌++◌, ℕ, List, false, filter, length};
+ghost use Rattle.page_desc.specs.PageTables.{is_table};
+ghost use Rattle.nk_body.specs.NestedRecord.{nested_by};
+ghost use Rattle.gate_state.specs.MachineOf.{whole_of};
+ghost use Rattle.gate_state.specs.MachineStates.{nested_of};
+ghost use Rattle.gate_state.specs.MachineSteps.{move_of, next};
+ghost use Rattle.gate_state.specs.WholeMachine.{is_rest};
+ghost use Rattle.report_text.specs.RunLines.{ending_line, turns_line};
+ghost use Rattle.report_text.specs.RunSummary.{summary_lines};
+ghost use Rattle.nk_run.specs.Replies.{IsWritten};
+ghost use Rattle.nk_run.specs.RunStates.{is_halted};
+ghost use Rattle.nk_run.specs.WorkSummary.{HasRoom, summary_of, with_answer, with_shown, with_step, work_text};
+ghost use Rattle.nk_run.specs.Witness.{sink_change};
+
+use crate::drive::ending_at;
+use crate::ending::Ending;
+use gate_state::{Machine, Seen, moves_law};
+use irq_plan::Plan;
+use nk_bits::{Answer, Kind};
+use nk_body::Kernel;
+use nk_host::Sink;
+use page_desc::Frames;
+use report_text::{RunCounts, ending, summary};
+
+/// How many turns the run of a made image may take.
+const STEPS: u64 = 2_000_000;
+
+/// The bytes of the log.
+const LOG_BYTES: u64 = 65_536;
+
+/// What a run showed so far: calls that were made, those of them that were accepted, and traps that were delivered.
+#[derive(Clone, Copy, Debug, PartialEq, Eq)]
+pub(crate) struct Tally {
+    pub calls: u64,
+    pub accepted: u64,
+    pub deliveries: u64,
+}
+
+impl Tally {
+    /// Before the first step.
+    const NOTHING: Tally = Tally {
+        calls: 0,
+        accepted: 0,
+        deliveries: 0,
+    };
+}
+
+/// Takes the steps of a run of a made image, and writes its summary; gives 0, or 4 after a fault of the sink.
+pub(crate) fn count<'i, O: Sink>(machine: Machine<'i>, plan: &Plan, sink: &mut O) -> u8
+    requires turns { (whole_of machine).state.turns ≡ 0 }
+    ensures never_falls { O.faults sink.old ≤ O.faults sink.new }
+    ensures written { IsWritten (sink_change O.taken O.faults sink.old sink.new) 0
+        (work_text 2000000 plan.now (whole_of machine.entry).state) result }
+{
+    moves_law();
+    let mut machine = machine;
+    let mut tally = Tally::NOTHING;
+    loop {
+        if let Some(ending) = ending_at(&machine, plan, STEPS) {
+            return sum_up(machine, ending, &tally, sink);
+        }
+        let (next, more) = advance(machine, plan, tally);
+        machine = next;
+        tally = more;
+    }
+}
+
+/// Takes a step, and counts what it shows.
+fn advance<'i>(machine: Machine<'i>, plan: &Plan, tally: Tally) -> (Machine<'i>, Tally)
+    requires left { is_rest (move_of plan.now (whole_of machine).state) ≡ false }
+    requires turns { (whole_of machine).state.turns < 4294967296 }
+    requires counted { HasRoom tally }
+    ensures next { (whole_of result.0).state ≡ next plan.now (whole_of machine.entry).state }
+    ensures counted { let s = (whole_of machine.entry).state in result.1 ≡ with_step (move_of plan.now s) s tally }
+{
+    match machine {
+        Machine::Outer(outer) => {
+            let (next, seen) = outer.step(plan);
+            (next, shown(tally, &seen))
+        }
+        Machine::Gate(gate) => {
+            let (next, seen) = gate.step(plan);
+            (next, shown(tally, &seen))
+        }
+        Machine::Nested(nested) => {
+            let (next, called) = nested.serve();
+            (Machine::Gate(next), answered(tally, &called.answer))
+        }
+    }
+}
+
+/// Counts what a step shows that isn't the nested kernel's.
+fn shown(tally: Tally, seen: &Seen) -> Tally
+    requires { HasRoom tally }
+    ensures { result ≡ with_shown seen.now tally }
+{
+    match seen {
+        Seen::Delivered(_) => Tally {
+            deliveries: tally.deliveries + 1,
+            ..tally
+        },
+        Seen::Console(_) | Seen::Quiet | Seen::Event => tally,
+    }
+}
+
+/// Counts a call by its answer.
+fn answered(tally: Tally, answer: &Answer) -> Tally
+    requires { HasRoom tally }
+    ensures { result ≡ with_answer answer.now tally }
+{
+    let is_accepted = answer.value == 0 || answer.value >= 256;
+    Tally {
+        calls: tally.calls + 1,
+        accepted: if is_accepted { tally.accepted + 1 } else { tally.accepted },
+        deliveries: tally.deliveries,
+    }
+}
+
+/// Ends the run of a machine, and writes why, how many turns it took, and the counts.
+fn sum_up<'i, O: Sink>(machine: Machine<'i>, reason: Ending, tally: &Tally, sink: &mut O) -> u8
+    ensures never_falls { O.faults sink.old ≤ O.faults sink.new }
+    ensures written { IsWritten (sink_change O.taken O.faults sink.old sink.new) 0
+        (ending_line (is_halted reason) ++ (turns_line (whole_of machine.entry).state.turns
+        ++ summary_lines (summary_of tally.now (nested_of (whole_of machine.entry).state)))) result }
+{
+    let turns = machine.turns();
+    let finished = machine.finish();
+    let counts = summed(&finished.kernel, tally);
+    match ending(sink, reason.is_halted(), turns) {
+        Ok(()) => put_counts(&counts, sink),
+        Err(_) => 4,
+    }
+}
+
+/// Writes the counts.
+fn put_counts<O: Sink>(counts: &RunCounts, sink: &mut O) -> u8
+    ensures never_falls { O.faults sink.old ≤ O.faults sink.new }
+    ensures written { IsWritten (sink_change O.taken O.faults sink.old sink.new) 0 (summary_lines counts.now) result }
+{
+    match summary(sink, counts) {
+        Ok(()) => 0,
+        Err(_) => 4,
+    }
+}
+
+/// What was counted, and what the books have in the end.
+fn summed(kernel: &Kernel, tally: &Tally) -> RunCounts
+    ensures { (memory : List ℕ) → result ≡ summary_of tally.now (nested_by kernel.now memory) }
+{
+    RunCounts {
+        calls: tally.calls,
+        accepted: tally.accepted,
+        deliveries: tally.deliveries,
+        tables: count_tables(&kernel.tables().frames),
+        regions: kernel.regions().count() as u64,
+        records: kernel.log().len(),
+        log_bytes: LOG_BYTES - kernel.log().room(),
+    }
+}
+
+/// How many frames are page tables.
+fn count_tables(frames: &Frames) -> u64
+    ensures { result ≡ length (filter is_table frames.now.kinds) }
+{
+    let mut count = 0;
+    for frame in 0..frames.frames() {
+        count += u64::from(is_table(frames.kind(frame)));
+    }
+    count
+}
+
+/// Whether a frame of this kind is a page table.
+fn is_table(kind: Kind) -> bool
+    ensures { result ≡ is_table kind }
+{
+    matches!(kind, Kind::Table(1..))
+}

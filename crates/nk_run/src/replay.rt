@@ -1,0 +1,168 @@
+//! The command `replay IMAGE FRAMES JOURNAL`.
+ghost use Rattle.std.specs.Prelude.{◌≡◌, ◌<◌, ◌*◌, None, length, map, MatchResult, Some, [], ◌∷◌};
+ghost use Rattle.std.specs.String.{string_bytes};
+ghost use Rattle.nk_host.specs.Told.{IfTold};
+ghost use Rattle.byte_scanner.specs.FirstFound.{first_found};
+ghost use Rattle.boot_map.specs.Division.{IsLayout};
+ghost use Rattle.nk_body.specs.NestedRecord.{AreBooks, nested_by};
+ghost use Rattle.report_text.specs.ClosingSection.{section};
+ghost use Rattle.replay_core.specs.ReplayedCalls.{replay_of};
+ghost use Rattle.nk_run.specs.CommandLine.{command_of, word_count, IsBounded};
+ghost use Rattle.nk_run.specs.Witness.{shelf_change, sink_change};
+ghost use Rattle.nk_run.specs.Outcome.{file_in, first_verdict, journal_checks, journaled, opened, passes};
+ghost use Rattle.nk_run.specs.ReplyText.{bytes_of};
+ghost use Rattle.nk_run.specs.Replies.{CommandSays, IsAnswered, IsReplayedFrom, IsWritten, RefusesBy, StopsIn};
+
+use crate::command_line::{Command, Role};
+use crate::image::{fetch, open};
+use crate::lines::journal_line;
+use crate::opening::{Guarded, divide, guard};
+use crate::reply::{Reply, made, want};
+use boot_map::Layout;
+use elf_image::Image;
+use nk_host::{Shelf, Sink};
+use replay_core::{ReplayFault, replay as replay_calls};
+use std::alloc::Global;
+
+/// What a replay reads from its files.
+#[derive(Drop)]
+struct Held {
+    image: Image,
+    journal: Vec<u8>,
+}
+
+/// What the calls of a journal left.
+#[derive(Drop)]
+struct Replayed {
+    image: Image,
+    layout: Layout,
+    left: Guarded,
+}
+
+/// The files of a replay, or the reply to the first check on them that doesn't pass.
+fn hold<S: Shelf>(alloc: Global, words: &[String], shelf: &mut S) -> Result<Held, Reply>
+    requires { 3 < length words.now }
+    ensures files_stay { S.files shelf.new ≡ S.files shelf.old }
+    ensures held { let names = map string_bytes words.now in MatchResult result
+        (λ held. (first_found held.image ≡ None)
+        × IfTold (S.files shelf.old) (λ files. (held.image ≡ file_in files names Role.Image)
+        × (held.journal.items ≡ file_in files names Role.Journal)
+        × (first_verdict (journal_checks files names) ≡ passes)))
+        (λ reply. StopsIn names (shelf_change S.files S.faults shelf.old shelf.new)
+        (Role.Image ∷ Role.Journal ∷ []) (λ files. journal_checks files names) reply.status (bytes_of reply.line)) }
+{
+    let image = match open(alloc, words, shelf) {
+        Ok(image) => image,
+        Err(reply) => return Err(reply),
+    };
+    match fetch(alloc, words, Role::Journal, shelf) {
+        Ok(journal) => Ok(Held { image, journal }),
+        Err(reply) => Err(reply),
+    }
+}
+
+/// The reply to the first line of a journal that isn't right.
+fn refuse(alloc: Global, number: u64) -> Reply
+    ensures { RefusesBy 6 (journaled (Some number)) result.status (bytes_of result.line) }
+{
+    made(6, journal_line(alloc, number))
+}
+
+/// What the calls of a journal leave of the opening, or the reply to its first line that isn't right.
+fn make_calls(alloc: Global, image: &Image, layout: &Layout, journal: &[u8]) -> Result<Guarded, Reply>
+    requires { IsLayout image.now layout.now }
+    ensures { let from = opened (record { image = image.now; frames = layout.now.frames }) in MatchResult result
+        (λ left. ((replay_of journal.now from).bad ≡ None)
+        × (nested_by left.kernel left.memory ≡ (replay_of journal.now from).made.nested)
+        × AreBooks left.kernel left.memory
+        × (length left.memory ≡ 4096 * layout.now.frames))
+        (λ reply. RefusesBy 6 (journaled (replay_of journal.now from).bad) reply.status (bytes_of reply.line)) }
+{
+    let Guarded { memory, kernel } = match guard(alloc, image, layout) {
+        Some(guarded) => guarded,
+        None => return Err(want()),
+    };
+    let mut memory = memory;
+    let mut kernel = kernel;
+    match replay_calls(alloc, &mut kernel, &mut memory, journal) {
+        Ok(()) => Ok(Guarded { memory, kernel }),
+        Err(ReplayFault::Line(number)) => Err(refuse(alloc, number)),
+        Err(ReplayFault::Memory) => Err(want()),
+    }
+}
+
+/// What the calls of the journal left, or the reply where they aren't all made.
+fn make_replay<S: Shelf>(
+    alloc: Global,
+    words: &[String],
+    frames: u32,
+    shelf: &mut S,
+) -> Result<Replayed, Reply>
+    requires asked { command_of (map string_bytes words.now) ≡ Some (Command.Replay frames) }
+    requires count { length words.now ≡ word_count (Command.Replay frames) }
+    requires bounds { IsBounded (Command.Replay frames) }
+    ensures files_stay { S.files shelf.new ≡ S.files shelf.old }
+    ensures made { let names = map string_bytes words.now in MatchResult result
+        (λ it. IsReplayedFrom names (S.files shelf.old) frames it.image it.layout it.left.kernel it.left.memory)
+        (λ reply. CommandSays names (shelf_change S.files S.faults shelf.old shelf.new)
+        reply.status (bytes_of reply.line)) }
+{
+    let held = match hold(alloc, words, shelf) {
+        Ok(held) => held,
+        Err(reply) => return Err(reply),
+    };
+    let Held { image, journal } = held;
+    let layout = match divide(alloc, &image, frames) {
+        Ok(layout) => layout,
+        Err(reply) => return Err(reply),
+    };
+    match make_calls(alloc, &image, &layout, &journal) {
+        Ok(left) => Ok(Replayed { image, layout, left }),
+        Err(reply) => Err(reply),
+    }
+}
+
+/// Makes the calls of a journal, and writes the closing section.
+pub(crate) fn replay<S: Shelf, O: Sink>(
+    alloc: Global,
+    words: &[String],
+    frames: u32,
+    shelf: &mut S,
+    sink: &mut O,
+) -> u8
+    requires asked { command_of (map string_bytes words.now) ≡ Some (Command.Replay frames) }
+    requires count { length words.now ≡ word_count (Command.Replay frames) }
+    requires bounds { IsBounded (Command.Replay frames) }
+    ensures { IsAnswered (record {
+      words = map string_bytes words.now;
+      shelf = shelf_change S.files S.faults shelf.old shelf.new;
+      sink = sink_change O.taken O.faults sink.old sink.new;
+    }) result }
+{
+    let replayed = match make_replay(alloc, words, frames, shelf) {
+        Ok(replayed) => replayed,
+        Err(reply) => return reply.write(sink),
+    };
+    show(&replayed, sink)
+}
+
+/// Writes the closing section; gives 0, or 4 after a fault of the sink.
+fn show<O: Sink>(replayed: &Replayed, sink: &mut O) -> u8
+    requires layout { IsLayout replayed.now.image replayed.now.layout }
+    requires books { AreBooks replayed.now.left.kernel replayed.now.left.memory }
+    requires size { length replayed.now.left.memory ≡ 4096 * replayed.now.layout.frames }
+    ensures { IsWritten (sink_change O.taken O.faults sink.old sink.new) 0
+        (section replayed.now.image replayed.now.layout.frames
+        (nested_by replayed.now.left.kernel replayed.now.left.memory)) result }
+{
+    match report_text::section(
+        sink,
+        &replayed.image,
+        &replayed.layout,
+        &replayed.left.memory,
+        &replayed.left.kernel,
+    ) {
+        Ok(()) => 0,
+        Err(_) => 4,
+    }
+}
