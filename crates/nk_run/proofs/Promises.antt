@@ -125,7 +125,7 @@ checks_pass words files (Replay frames) doable =
 checks_pass words files (Make number) doable = refl
 checks_pass words files (Work number) doable = made_passes (image_of_number number) doable.0 doable.1
 
-outcome_good : (words : List (List ℕ)) (files : Files) (command : Command) → command_of words ≡ Some command
+pub outcome_good : (words : List (List ℕ)) (files : Files) (command : Command) → command_of words ≡ Some command
     → IsDoable command words files → outcome words files ≡ Some (record { status = 0; text = text_of command files words })
 outcome_good words files command asked doable =
     ap (λ (c : Option Command). outcome_of c words files) asked

@@ -152,9 +152,9 @@ contains_there roles role other (n, within, is) = (suc n, omega (arith, within),
 listed_contains : (roles : List Role) (role : Role) → is_listed roles role ≡ true → Contains roles role
 listed_contains [] role e = cc
 listed_contains (other ∷ roles) role e = elim (or_cases (is_same other role) (is_listed roles role) e) [
-    | inl here ↦ (0, omega arith, same_role other role here)
-    | inr later ↦ contains_there roles role other (listed_contains roles role later)
-  ]
+  | inl here ↦ (0, omega arith, same_role other role here)
+  | inr later ↦ contains_there roles role other (listed_contains roles role later)
+]
 
 -- the row of a command's checks on files, and the checks behind it
 module _ (words : List (List ℕ)) (command : Command) (asked : command_of words ≡ Some command) (row later : Files → List Check)

@@ -138,16 +138,18 @@ module _ (words : List (List ℕ)) (frames : ℕ) (asked : command_of words ≡ 
         later_says words (ReplayCommand frames) asked replay_row replay_later (λ files. refl)
         shelf 6 status text (journaled (replay_of journal (opened (record { image = image; frames = frames }))).bad) (inr (inr refl))
         (if_told shelf.before.files _ (λ files e.
-        let told_is : told ≡ Some files = sym same ∙ e in
-        ((told_at told _ files told_is held).2, λ it is. next_ends _ _ it (replay_room files passes told_is fits)
-        (ap (λ (r : Replay). journaled r.bad) (replay_is files told_is) ∙ is)))) refuses
+        let told_is : told ≡ Some files = sym same ∙ e in (
+          (told_at told _ files told_is held).2,
+          λ it is. next_ends _ _ it (replay_room files passes told_is fits)
+              (ap (λ (r : Replay). journaled r.bad) (replay_is files told_is) ∙ is),
+        ))) refuses
 
     -- the row, the room and the journal pass, and the text is the section of what the calls made
     pub made_says : roomy (need image frames) frames ≡ passes → (replay_of journal (opened (record { image = image; frames = frames }))).bad ≡ None
         → IfTold told (λ files. outcome words files ≡ Some (record {
-      status = 0;
-      text = section image frames (replay_of journal (opened (record { image = image; frames = frames }))).made.nested;
-    }))
+          status = 0;
+          text = section image frames (replay_of journal (opened (record { image = image; frames = frames }))).made.nested;
+        }))
     made_says fits right =
         if_told told _ (λ files e.
         let given = told_at told _ files e held in
@@ -186,9 +188,10 @@ module _ (words : List (List ℕ)) (number : ℕ) (asked : command_of words ≡ 
     work_room_says formed shelf status text refuses =
         later_says words (Work number) asked work_row work_later (λ files. refl)
         shelf 1 status text (roomy (need image 4096) 4096) (inr (inl refl))
-        (if_told shelf.before.files _ (λ files e.
-        (ap (λ (b : List ℕ). first_verdict (form_checks b)) (sym made) ∙ formed,
-        λ it is. last_ends _ passes it (ap (λ (b : List ℕ). roomy (need b 4096) 4096) (sym made) ∙ is)))) refuses
+        (if_told shelf.before.files _ (λ files e. (
+          ap (λ (b : List ℕ). first_verdict (form_checks b)) (sym made) ∙ formed,
+          λ it is. last_ends _ passes it (ap (λ (b : List ℕ). roomy (need b 4096) 4096) (sym made) ∙ is),
+        ))) refuses
 
     pub workable : first_verdict (form_checks image) ≡ passes → roomy (need image 4096) 4096 ≡ passes
         → (files : Files) → outcome words files ≡ Some (record { status = 0; text = worked image })

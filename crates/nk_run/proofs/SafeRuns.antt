@@ -1,7 +1,7 @@
 -- Where the checks of a run pass, the image is admitted and has room, and the plan is in form: the run is safe.
-use Rattle.std.proofs.Common.{◌≡◌, ℕ, ◌≤◌, Bool, true, false, inl, inr, List, [], ◌∷◌, Option, Some, None, Result, Ok, Err, refl, sym, ap, ◌∙◌, arith}
-use Rattle.std.specs.Prelude.{if◌then◌else◌, ◌&&◌, nat_le}
-use Rattle.std.proofs.lemmas.Bool.{and_parts, cases_Bool, leb-true}
+use Rattle.std.proofs.Common.{◌≡◌, ℕ, ◌≤◌, Bool, true, false, inl, inr, List, [], ◌∷◌, length, Option, Some, None, Result, Ok, Err, refl, sym, ap, ◌∙◌, arith}
+use Rattle.std.specs.Prelude.{if◌then◌else◌, ◌&&◌, nat_le, unwrap_or}
+use Rattle.std.proofs.lemmas.Bool.{and_parts, cases_Bool, cases_lt, leb-true, lt-ltb}
 use Rattle.elf_image.specs.declared.fault.ImageFault.{ImageFault}
 use Rattle.elf_image.specs.Pages.{IsPageList, pages_of}
 use Rattle.elf_image.specs.Rows.{first_fault}
@@ -22,12 +22,14 @@ use Rattle.std.specs.Option.{option_map}
 use Rattle.nk_run.specs.declared.command_line.Command.{Command}
 use Rattle.nk_run.specs.declared.command_line.Command.TheVariants.{Scan, Map, Run, Replay, Make, Work}
 use Rattle.nk_run.specs.declared.command_line.Role.TheVariants.{Image, Input, Plan}
-use Rattle.nk_run.specs.Clauses.{HasJournal, HasSafeRun, IsFileOfBytes, IsSafeRun}
-use Rattle.nk_run.specs.CommandLine.{command_of, map_with, run_with}
+use Rattle.nk_run.specs.Clauses.{HasJournal, HasSafeRun, IsFileOfBytes, IsGoodImage, IsSafeRun}
+use Rattle.nk_run.specs.CommandLine.{command_of, map_with, name_in, run_with}
 use Rattle.nk_run.specs.NumberWords.{address_of, bounded, decimal_within, is_least_long, is_numeral}
 use Rattle.nk_run.specs.JournalLaw.{IsReplayedRun}
-use Rattle.nk_run.specs.Outcome.{Answer, checks_of, clean, ends, events_in, file_in, first_verdict, formed, opening_in, passes, planned, roomy}
+use Rattle.nk_run.specs.Lines.{longest_file}
+use Rattle.nk_run.specs.Outcome.{Answer, checks_of, clean, ends, events_in, fetched, file_in, first_verdict, formed, opening_in, passes, planned, roomy}
 use Rattle.nk_run.specs.Witness.{Files}
+use Rattle.nk_run.proofs.JournalOutcomes.{journal_of}
 use Rattle.nk_run.proofs.Rows.{both_pass}
 
 -- What the words of a run say of the number of frames.
@@ -140,8 +142,21 @@ fits n frames e =
     chosen true answer h e = cc
     chosen false answer h e = cc
 
+held_within : (file : Option (List ℕ)) → fetched Image file ≡ passes → length (unwrap_or file []) ≤ longest_file
+held_within None e = absurd (cc)
+held_within (Some b) e =
+    elim (cases_lt longest_file (length b)) [
+      | inl longer ↦ absurd (chosen _ _ (lt-ltb longest_file (length b) longer) e)
+      | inr within ↦ within
+    ]
+  where
+    chosen : (b : Bool) (answer : Answer) → b ≡ true → (if b then ends answer else passes) ≡ passes → ⊥
+    chosen true answer h e = cc
+    chosen false answer h e = cc
+
 -- what the checks of a run admit: the image, whose opening has room, and a plan in form
 record IsChecked (files : Files) (words : List (List ℕ)) (frames : ℕ) : Type 0 where
+  good : IsGoodImage (file_in files words Image)
   admitted : IsAdmitted (opening_in files words frames)
   planned_are : IsPlan (events_in (plan_of (file_in files words Plan)))
 
@@ -162,6 +177,11 @@ module _ (pages_hold : (b : List ℕ) → first_fault b ≡ None → IsPageList 
       let room = both_pass _ _ read.1 in
       let pages = pages_hold image (no_fault _ form.0) in
       record {
+        good = record {
+          within = held_within (files (name_in words Image)) fetched_image.0;
+          formed = no_fault _ form.0;
+          clean = none_found _ code.0;
+        };
         admitted = record {
           bytes = bytes;
           layout = record { division = refl; least = within.least; most = within.most; room = fits _ _ room.0 };
@@ -192,4 +212,6 @@ module _ (pages_hold : (b : List ℕ) → first_fault b ≡ None → IsPageList 
   replayed_where_run law words files (Run steps frames) asked = λ bytes passed.
       let within = run_within words steps frames asked in
       let it = checked_run words files steps frames within bytes passed in
-      law (opening_in files words frames) (file_in files words Input) (events_in (plan_of (file_in files words Plan))) steps it.admitted it.planned_are within.turns
+      journal_of (opening_in files words frames) (file_in files words Input) (events_in (plan_of (file_in files words Plan))) steps
+      it.good it.admitted.layout.room
+      (law (opening_in files words frames) (file_in files words Input) (events_in (plan_of (file_in files words Plan))) steps it.admitted it.planned_are within.turns)

@@ -22,7 +22,7 @@ use Rattle.nk_run.specs.declared.command_line.Command.TheVariants.{Scan, Map, Ru
 use Rattle.nk_run.specs.declared.command_line.Role.{Role}
 use Rattle.nk_run.specs.declared.command_line.Role.TheVariants.{Image, Input, Plan, Journal}
 use Rattle.nk_run.specs.CommandLine.{command_of, name_in, IsAsked}
-use Rattle.nk_run.specs.JournalLaw.{IsReplayedRun}
+use Rattle.nk_run.specs.JournalLaw.{IsJournal}
 use Rattle.nk_run.specs.Lines.{longest_file, no_memory_line, unread_line, usage_line}
 use Rattle.nk_run.specs.Witness.{Change, Files, ShelfState, SinkState, Witness}
 use Rattle.nk_run.specs.Outcome.{checks_of, events_in, file_in, first_verdict, opened, opening_in, outcome, passes, IsReached}
@@ -194,12 +194,12 @@ abbrev pub IsSafeWhereRun : Witness → Type 0
 IsSafeWhereRun seen = IfTold seen.shelf.before.files (λ files.
     IfSome (command_of seen.words) (λ command. HasSafeRun command seen.words files))
 
--- where the checks of a run pass, its text is a journal of the calls that were made in it
+-- where the checks of a run pass, its text is a journal of it
 abbrev pub HasJournal : Command → List (List ℕ) → Files → Type 0
 HasJournal (Run steps frames) words files =
     IsFileOfBytes (file_in files words Image)
     → first_verdict (checks_of (Run steps frames) files words) ≡ passes
-    → IsReplayedRun (opening_in files words frames) (file_in files words Input) (events_in (plan_of (file_in files words Plan))) steps
+    → IsJournal (opening_in files words frames) (file_in files words Input) (events_in (plan_of (file_in files words Plan))) steps
 HasJournal _ words files = ⊤
 
 abbrev pub IsReplayedWhereRun : Witness → Type 0
@@ -226,5 +226,5 @@ pub record Promises (seen : Witness) (status : ℕ) : Type 0 where
   pub done : IsDone seen status
   -- the run whose text is written is safe in each of its states
   pub run_safe : IsSafeWhereRun seen
-  -- and its text is a journal: a replay finds each line right, and ends with the run's closing section
+  -- and its text is a journal: `replay` of it finds each line right, and shows the run's closing section
   pub run_replayed : IsReplayedWhereRun seen

@@ -5,9 +5,9 @@ pub mod Lines
 pub mod Witness
 pub mod RunStates
 pub mod ReplayedRuns
-pub mod JournalLaw
 pub mod WorkSummary
 pub mod Outcome
+pub mod JournalLaw
 pub mod Clauses
 -- Words of private clauses and proofs.
 pub mod ReplyText

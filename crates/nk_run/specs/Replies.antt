@@ -1,5 +1,5 @@
 -- What the top call says, and how it is written.
-use Rattle.std.specs.Prelude.{◌≡◌, ◌≢◌, ℕ, ◌*◌, Bool, true, ◌≤◌, ◌⊎◌, List, length, Option, None, Some, Result, IsSome}
+use Rattle.std.specs.Prelude.{◌≡◌, ◌≢◌, ℕ, ◌*◌, Bool, true, ◌<◌, ◌≤◌, ◌⊎◌, List, length, Option, None, Some, Result, IsSome}
 use Rattle.std.specs.List.{list_any}
 use Rattle.nk_bits.specs.declared.leaf.Leaf.{Leaf}
 use Rattle.irq_plan.specs.declared.event.Event.{Event}
@@ -10,6 +10,7 @@ use Rattle.nk_body.specs.NestedRecord.{AreBooks, Books, nested_by}
 use Rattle.gate_state.specs.MachineOpening.{opening_state}
 use Rattle.report_text.specs.ClosingSection.{section}
 use Rattle.nk_run.specs.declared.command_line.Role.{Role}
+use Rattle.nk_run.specs.declared.count.Tally.{Tally}
 use Rattle.nk_run.specs.CommandLine.{command_of, is_same}
 use Rattle.nk_run.specs.Lines.{no_memory_line, unread_line, usage_line, walk_line}
 use Rattle.nk_run.specs.Witness.{Change, Files, ShelfState, SinkState, Witness}
@@ -164,3 +165,9 @@ pub record IsWorkable (words : List (List ℕ)) (image : List ℕ) (layout : Div
   pub frames_are : layout.frames ≡ 4096
   pub clean : first_found image ≡ None
   pub outcome_is : (files : Files) → outcome words files ≡ Some (record { status = 0; text = worked image })
+
+-- one more can be counted of each
+pub record CanCount (t : Tally) : Type 0 where
+  pub calls : t.calls < 4294967296
+  pub accepted : t.accepted < 4294967296
+  pub deliveries : t.deliveries < 4294967296

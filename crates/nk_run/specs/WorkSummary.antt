@@ -1,5 +1,5 @@
 -- What the command `work` tells of a run: why it ended, how many turns it took, and counts in place of its lines.
-use Rattle.std.specs.Prelude.{ℕ, zero, suc, ◌+◌, ◌<◌, ◌==◌, ◌||◌, nat_le, Bool, if◌then◌else◌, List, ◌++◌, filter, length}
+use Rattle.std.specs.Prelude.{ℕ, zero, suc, ◌+◌, ◌==◌, ◌||◌, nat_le, Bool, if◌then◌else◌, List, ◌++◌, filter, length}
 use Rattle.nk_bits.specs.declared.call.Answer.{Answer}
 use Rattle.irq_plan.specs.declared.event.Event.{Event}
 use Rattle.page_desc.specs.PageTables.{is_table}
@@ -16,12 +16,6 @@ use Rattle.report_text.specs.RunSummary.{summary_lines}
 use Rattle.report_text.specs.declared.counts.RunCounts.{RunCounts}
 use Rattle.nk_run.specs.declared.count.Tally.{Tally}
 use Rattle.nk_run.specs.RunStates.{ended, ending_at, run_length}
-
--- one more can be counted of each
-pub record HasRoom (t : Tally) : Type 0 where
-  pub calls : t.calls < 4294967296
-  pub accepted : t.accepted < 4294967296
-  pub deliveries : t.deliveries < 4294967296
 
 -- an answer that isn't the number of a rule: 0, or the identifier of a region
 abbrev pub is_accepted : Answer → Bool

@@ -8,9 +8,9 @@ ghost use Rattle.gate_state.specs.MachineSteps.{move_of, next};
 ghost use Rattle.gate_state.specs.WholeMachine.{is_rest};
 ghost use Rattle.report_text.specs.RunLines.{ending_line, turns_line};
 ghost use Rattle.report_text.specs.RunSummary.{summary_lines};
-ghost use Rattle.nk_run.specs.Replies.{IsWritten};
+ghost use Rattle.nk_run.specs.Replies.{CanCount, IsWritten};
 ghost use Rattle.nk_run.specs.RunStates.{is_halted};
-ghost use Rattle.nk_run.specs.WorkSummary.{HasRoom, summary_of, with_answer, with_shown, with_step, work_text};
+ghost use Rattle.nk_run.specs.WorkSummary.{summary_of, with_answer, with_shown, with_step, work_text};
 ghost use Rattle.nk_run.specs.Witness.{sink_change};
 
 use crate::drive::ending_at;
@@ -70,7 +70,7 @@ pub(crate) fn count<'i, O: Sink>(machine: Machine<'i>, plan: &Plan, sink: &mut O
 fn advance<'i>(machine: Machine<'i>, plan: &Plan, tally: Tally) -> (Machine<'i>, Tally)
     requires left { is_rest (move_of plan.now (whole_of machine).state) ≡ false }
     requires turns { (whole_of machine).state.turns < 4294967296 }
-    requires counted { HasRoom tally }
+    requires counted { CanCount tally }
     ensures next { (whole_of result.0).state ≡ next plan.now (whole_of machine.entry).state }
     ensures counted { let s = (whole_of machine.entry).state in result.1 ≡ with_step (move_of plan.now s) s tally }
 {
@@ -92,7 +92,7 @@ fn advance<'i>(machine: Machine<'i>, plan: &Plan, tally: Tally) -> (Machine<'i>,
 
 /// Counts what a step shows that isn't the nested kernel's.
 fn shown(tally: Tally, seen: &Seen) -> Tally
-    requires { HasRoom tally }
+    requires { CanCount tally }
     ensures { result ≡ with_shown seen.now tally }
 {
     match seen {
@@ -106,13 +106,17 @@ fn shown(tally: Tally, seen: &Seen) -> Tally
 
 /// Counts a call by its answer.
 fn answered(tally: Tally, answer: &Answer) -> Tally
-    requires { HasRoom tally }
+    requires { CanCount tally }
     ensures { result ≡ with_answer answer.now tally }
 {
     let is_accepted = answer.value == 0 || answer.value >= 256;
     Tally {
         calls: tally.calls + 1,
-        accepted: if is_accepted { tally.accepted + 1 } else { tally.accepted },
+        accepted: if is_accepted {
+            tally.accepted + 1
+        } else {
+            tally.accepted
+        },
         deliveries: tally.deliveries,
     }
 }

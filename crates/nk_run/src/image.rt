@@ -1,4 +1,4 @@
-//! The checks on the image, which every command makes first.
+//! The checks on the image, which every command on files makes first.
 ghost use Rattle.std.specs.Prelude.{◌≡◌, ◌<◌, length, map, None, IfOk, MatchOption, MatchResult};
 ghost use Rattle.std.specs.String.{string_bytes};
 ghost use Rattle.nk_host.specs.FaultCounts.{NeverFalls};

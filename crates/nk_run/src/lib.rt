@@ -1,7 +1,8 @@
-//! The top call: reads the words, fetches what they name from a shelf of files, judges the image, shows
-//! what was asked of it or runs it, and writes one text to a sink. Its promises are `specs/Clauses`, over
-//! the outcome of `specs/Outcome`. It touches the outside through the shelf and the sink alone; the
-//! machine's files and standard output it leaves to the program. Floor: program.
+//! The top call: reads the words, fetches what they name from a shelf of files or makes it, judges the
+//! image, shows what was asked of it, runs it, or makes a run's calls again, and writes one text to a sink.
+//! Its promises are `specs/Clauses`, over the outcome of `specs/Outcome`. It touches the outside through
+//! the shelf and the sink alone; the machine's files and standard output it leaves to the program. Floor:
+//! program.
 #![tactic(auto)]
 
 // The words.
@@ -12,7 +13,7 @@ mod numbers;
 mod lines;
 mod reply;
 
-// The image, which every command opens first.
+// The image, which every command on files opens first.
 mod image;
 
 // The commands.
@@ -23,7 +24,7 @@ mod run;
 mod scan;
 mod work;
 
-// What runs and replays begin from: the files beside the image, the opening.
+// What runs and replays begin from: a run's other files, the opening.
 mod inputs;
 mod opening;
 

@@ -69,7 +69,12 @@ fn refuse(alloc: Global, number: u64) -> Reply
 }
 
 /// What the calls of a journal leave of the opening, or the reply to its first line that isn't right.
-fn make_calls(alloc: Global, image: &Image, layout: &Layout, journal: &[u8]) -> Result<Guarded, Reply>
+fn make_calls(
+    alloc: Global,
+    image: &Image,
+    layout: &Layout,
+    journal: &[u8],
+) -> Result<Guarded, Reply>
     requires { IsLayout image.now layout.now }
     ensures { let from = opened (record { image = image.now; frames = layout.now.frames }) in MatchResult result
         (λ left. ((replay_of journal.now from).bad ≡ None)
@@ -117,7 +122,11 @@ fn make_replay<S: Shelf>(
         Err(reply) => return Err(reply),
     };
     match make_calls(alloc, &image, &layout, &journal) {
-        Ok(left) => Ok(Replayed { image, layout, left }),
+        Ok(left) => Ok(Replayed {
+            image,
+            layout,
+            left,
+        }),
         Err(reply) => Err(reply),
     }
 }

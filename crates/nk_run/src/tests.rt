@@ -2,6 +2,8 @@
 mod calls;
 mod compiled;
 mod deliveries;
+mod journals;
+mod made;
 mod regions;
 mod run;
 mod sources;
@@ -28,7 +30,8 @@ const READ_WRITE: u32 = 6;
 /// How many bytes the sink takes, in the longest text under test.
 const ROOM: usize = 524_288;
 
-const USAGE: &str = "usage: nkrun scan IMAGE | map IMAGE FRAMES VA | run IMAGE INPUT PLAN STEPS FRAMES | replay IMAGE FRAMES JOURNAL | make NUMBER | work NUMBER\n";
+const USAGE: &str =
+    "usage: nkrun scan IMAGE | map IMAGE FRAMES VA | run IMAGE INPUT PLAN STEPS FRAMES | replay IMAGE FRAMES JOURNAL | make NUMBER | work NUMBER\n";
 
 /// What the top call gave and wrote.
 #[derive(Drop)]

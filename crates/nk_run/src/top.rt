@@ -13,8 +13,8 @@ use std::alloc::Global;
 /// text of a run is written while its turns are taken.
 ///
 /// The statuses: 0 done; 1 the image is refused; 2 the words have none of the forms; 3 a file couldn't be read; 4 the
-/// text couldn't be written whole; 5 there was no memory; 6 the plan isn't well formed; 7 a file is longer than the
-/// limit.
+/// text couldn't be written whole; 5 there was no memory; 6 a line of the plan or of the journal isn't right; 7 a file
+/// is longer than the limit.
 ///
 /// The promises are the fields of `Promises`, each over what was seen of words, shelf and sink before and after. That
 /// is named here once, so that no promise can take one thing for another.

@@ -7,7 +7,7 @@ use std::test::Fail;
 /// MOV EDX, 71; MOV RCX, a leaf of frame 71 that grants reads alone; MOV RAX, the gates; CALL RAX; MOV [RBX], AL. MOV
 /// EDI, 2; MOV ESI, 1; MOV EDX, 71; MOV RAX, the gates; CALL RAX; MOV [RBX], AL. The second store goes through the
 /// translation that the first one kept. The declaration empties the translations, so the third store faults.
-const DECLARES: [u8; 80] = [
+pub(super) const DECLARES: [u8; 80] = [
     0x48, 0xbb, 0x00, 0x70, 0x04, 0x00, 0x00, 0x80, 0xff, 0xff, 0x88, 0x03, 0xbf, 0x03, 0x00, 0x00,
     0x00, 0xbe, 0x46, 0x00, 0x00, 0x00, 0xba, 0x47, 0x00, 0x00, 0x00, 0x48, 0xb9, 0x21, 0x70, 0x04,
     0x00, 0x00, 0x00, 0x00, 0x80, 0x48, 0xb8, 0x00, 0x10, 0x00, 0x00, 0x80, 0xff, 0xff, 0xff, 0xff,
@@ -15,13 +15,16 @@ const DECLARES: [u8; 80] = [
     0x00, 0x00, 0x48, 0xb8, 0x00, 0x10, 0x00, 0x00, 0x80, 0xff, 0xff, 0xff, 0xff, 0xd0, 0x88, 0x03,
 ];
 
+/// What a run of it writes.
+pub(super) const DECLARED: &str =
+    "k 3 46 47 8000000000047021 0 - 0 -\nk 2 1 47 8000000000047021 0 - 0 -\n\
+    i 14 3 ffffffff8000004e ffff800000047000\nend halted\nturns 62\nroot 5\n\
+    trap ffffff80000011da\nf 71 table1\nt 70 71 8000000000047021\n";
+
 #[test]
 fn kinds_and_entries_that_changed_are_told(rt: HostRuntime) -> Result<(), Fail> {
-    let text = "k 3 46 47 8000000000047021 0 - 0 -\nk 2 1 47 8000000000047021 0 - 0 -\n\
-        i 14 3 ffffffff8000004e ffff800000047000\nend halted\nturns 62\nroot 5\n\
-        trap ffffff80000011da\nf 71 table1\nt 70 71 8000000000047021\n";
     let ran = run_planned(rt.alloc(), &DECLARES, "", "100")?;
-    assert!(rt; gives(&ran, 0, text));
+    assert!(rt; gives(&ran, 0, DECLARED));
     Ok(())
 }
 

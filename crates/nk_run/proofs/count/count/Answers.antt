@@ -57,7 +57,9 @@ loop-ending-smaller g c =
 
 pub loop-ending-preserved : goal.loop-ending-preserved
 loop-ending-preserved g c =
-    let s = (whole_of c.loop-ending.machine).state in
-    (c.loop-ending.invariant.0, counts_on 2000000 c.args.plan.now (whole_of c.args.machine).state s c.loop-ending.tally c.loop-ending.invariant.1
-    (sym c.ending_at.ensures ∙ c.in_default.is) (c.moves_law.ensures c.args.plan.now s)
-    (whole_of c.advance-next.result.0).state c.advance-next.result.1 c.advance-next.ensures.next c.advance-next.ensures.counted)
+    let s = (whole_of c.loop-ending.machine).state in (
+      c.loop-ending.invariant.0,
+      counts_on 2000000 c.args.plan.now (whole_of c.args.machine).state s c.loop-ending.tally c.loop-ending.invariant.1
+          (sym c.ending_at.ensures ∙ c.in_default.is) (c.moves_law.ensures c.args.plan.now s)
+          (whole_of c.advance-next.result.0).state c.advance-next.result.1 c.advance-next.ensures.next c.advance-next.ensures.counted,
+    )

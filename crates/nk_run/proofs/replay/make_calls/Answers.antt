@@ -13,8 +13,7 @@ returns-in-Ok c =
     let begun : standing_in c.in-Some.guarded.kernel c.in-Some.guarded.memory ≡ opened o =
     stands_opened o c.in-Some.guarded.kernel c.in-Some.guarded.memory c.in-Some.ensures.opening c.in-Some.ensures.kinds
     c.in-Some.ensures.root c.in-Some.ensures.ledger in
-    let made = c.in-Ok.ensures.made (λ e. absurd (cc)) in
-    (
+    let made = c.in-Ok.ensures.made (λ e. absurd (cc)) in (
       ap (λ (s : Replayed). (replay_of c.args.journal.now s).bad) (sym begun) ∙ c.in-Ok.ensures.done,
       ap (λ (s : Replayed). s.nested) made ∙ ap (λ (s : Replayed). (replay_of c.args.journal.now s).made.nested) begun,
       c.in-Ok.ensures.books,
