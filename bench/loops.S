@@ -1,6 +1,6 @@
 /* A loop of machine code that runs alike on nkrun, QEMU, Bochs and Unicorn: at any address, at CPL 0 in 64-bit mode.
- * LOOP is 1 for registers alone, 5 instructions an iteration, or 2 for a mix of 20. It ends by telling RAX on port E9,
- * as 16 letters from a to p, and stops whoever runs it. With NATIVE it is a Linux program that writes RAX's bytes. */
+ * LOOP is 1 for registers alone, 5 instructions an iteration, 2 for a mix of 20, or 3 for LOOP alone, which most turns
+ * of a made image are. It ends by telling RAX on port E9, as 16 letters from a to p, and stops whoever runs it. With NATIVE it is a Linux program that writes RAX's bytes. */
         .section .text.start, "ax"
         .globl  _start
 _start: leaq    table(%rip), %rbx
@@ -15,6 +15,8 @@ loop:   addq    %rcx, %rax
         addq    %rdx, %rax
         decq    %rcx
         jnz     loop
+#elif LOOP == 3
+loop:   loop    loop
 #else
 loop:   movq    (%rbx), %rdx            /* load */
         leaq    (%rdx,%rcx,2), %rdx

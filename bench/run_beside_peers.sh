@@ -1,6 +1,7 @@
 #!/bin/sh
-# Times `nkrun run` on two loops of machine code beside QEMU with one instruction a block, Unicorn with a hook on each
-# instruction, and Bochs, in one run, and prints the rates by processor time. A benchmark, not a test.
+# Times `nkrun run` on three loops of machine code beside QEMU with one instruction a block, Unicorn with a hook on each
+# instruction, and Bochs, in one run, and prints the rates by processor time; then `nkrun work 100` beside as many plain
+# instructions on each, and `nkrun replay` of that run's journal. A benchmark, not a test.
 # usage: bench/run_beside_peers.sh [ROUNDS [SECONDS [PROGRAM]]]
 #   SECONDS is about what one run takes; PROGRAM is an nkrun that is built already, or - for the peers alone.
 # needs gcc, ld, objcopy, python3, and of the peers those that are there (Debian: qemu-system-x86, libunicorn-dev,
@@ -25,6 +26,7 @@ build_loop() {
 
 (build_loop registers 1)
 (build_loop mix 2)
+(build_loop user 3)
 [ $# -ge 3 ] || "$top/nkrun" scan "$work/mix/image"
 command -v qemu-system-x86_64 >/dev/null || echo "left out: no qemu-system-x86_64"
 command -v bochs >/dev/null || echo "left out: no bochs"

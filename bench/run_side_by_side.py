@@ -1,4 +1,5 @@
-"""Runs two loops on nkrun and its peers in turn, checks what each computed, and prints rates by processor time."""
+"""Runs loops on nkrun and its peers in turn, and a made image on nkrun, checks what each computed, and prints rates by
+processor time."""
 import os
 import pathlib
 import re
@@ -9,9 +10,10 @@ import subprocess
 import sys
 
 ROUNDS, SECONDS, NKRUN, WORK = int(sys.argv[1]), float(sys.argv[2]), sys.argv[3], pathlib.Path(sys.argv[4])
-LOOPS = {"registers": 5, "mix": 20}     # instructions an iteration
+LOOPS = {"registers": 5, "mix": 20, "user": 1}  # instructions an iteration
 TINY = 1000                             # iterations of the run that measures the start
 MOST_TURNS = 4294967296
+LEAST_MADE, MOST_MADE = 1, 100          # numbers of made images: the first measures the start
 BOCHSRC = """display_library: term
 romimage: file=rom
 log: bochs.log
@@ -71,16 +73,22 @@ def programs():
     return found
 
 
+def timed(words, text="text"):
+    """Processor seconds of these words, whose output goes to a file."""
+    with open(WORK / "go") as go, open(WORK / text, "w") as output:
+        process = subprocess.Popen(["timeout", "600", *words], cwd=WORK, env={**os.environ, "TERM": "xterm"},
+                                   stdin=go, stdout=output, stderr=subprocess.DEVNULL)
+        usage = os.wait4(process.pid, 0)[2]
+    return usage.ru_utime + usage.ru_stime
+
+
 def run(loop, iterations, form, words, told):
     """Processor seconds, and what was told."""
     code = (WORK / loop / form).read_bytes().replace(b"ITERATED", struct.pack("<Q", iterations))
     (WORK / form).write_bytes(code)
     (WORK / form).chmod(0o755)
-    with open(WORK / "go") as go, open(WORK / "text", "w") as text:
-        process = subprocess.Popen(["timeout", "600", *words], cwd=WORK, env={**os.environ, "TERM": "xterm"},
-                                   stdin=go, stdout=text, stderr=subprocess.DEVNULL)
-        usage = os.wait4(process.pid, 0)[2]
-    return usage.ru_utime + usage.ru_stime, *told((WORK / "text").read_bytes().decode("latin-1"))
+    seconds = timed(words)
+    return seconds, *told((WORK / "text").read_bytes().decode("latin-1"))
 
 
 def checked(loop, iterations, program):
@@ -111,23 +119,75 @@ def iterations_for(loop, program):
     return min(int(iterations * SECONDS / seconds), MOST_TURNS // LOOPS[loop] - TINY)
 
 
+def made_turns(made):
+    return 10_000 * made + 35
+
+
+def work(made):
+    """Processor seconds of the summed up run of a made image."""
+    seconds = timed([os.path.abspath(NKRUN), "work", str(made)])
+    turns = number(r"^end halted\nturns (\d+)$", (WORK / "text").read_text())
+    if turns != made_turns(made):
+        sys.exit(f"work {made}: {turns} turns")
+    return seconds
+
+
+def replay(journal):
+    """Processor seconds of the replay of a journal of the largest made image."""
+    seconds = timed([os.path.abspath(NKRUN), "replay", "made", "4096", journal])
+    if not (WORK / "text").read_text().startswith("root "):
+        sys.exit(f"replay of {journal}: " + (WORK / "text").read_text()[:80])
+    return seconds
+
+
+def keep_journal():
+    """Makes the largest image and keeps the journal of its run; gives its number of calls."""
+    timed([os.path.abspath(NKRUN), "make", str(MOST_MADE)], "made")
+    timed([os.path.abspath(NKRUN), "run", "made", "empty", "empty", "2000000", "4096"], "journal")
+    return len(re.findall(r"^k ", (WORK / "journal").read_text(), re.M))
+
+
+def measured_made():
+    """Processor seconds of the turns of the largest made image beyond those of the least, and of the replay of its calls
+    beyond that of none."""
+    start = work(LEAST_MADE)
+    return work(MOST_MADE) - start, replay("journal") - replay("empty")
+
+
+def tell_made(calls, times, rates):
+    """The rate of a made image's turns, of the rate of plain instructions on each program, and that of its calls."""
+    working, replaying = map(statistics.median, zip(*times))
+    turns = made_turns(MOST_MADE) - made_turns(LEAST_MADE)
+    rate = turns / working / 1e6
+    print(f"work {MOST_MADE}: {turns:,} turns beyond work {LEAST_MADE} in {working:.3f} s, {rate:.2f} million a second; "
+          + ", ".join(f"{rate / other:.3f} of {name}'s plain instructions" for name, other in rates.items()))
+    print(f"replay: {calls:,} calls in {replaying:.3f} s, {calls / replaying:,.0f} a second, "
+          f"{replaying / working:.3f} of the time of their run")
+
+
 def main():
     (WORK / "empty").touch()
     (WORK / "go").write_text("c\n")     # starts a Bochs that was built with its debugger
     (WORK / "bochsrc").write_text(BOCHSRC)
     pairs = [(loop, name, program) for loop in LOOPS for name, program in programs().items()]
     iterations = [iterations_for(loop, program) for loop, _, program in pairs]
-    rounds = [[measured(loop, most, program) for (loop, _, program), most in zip(pairs, iterations)]
-              for _ in range(ROUNDS)]
+    calls = keep_journal() if NKRUN != "-" else 0
+    rounds, made = [], []
+    for _ in range(ROUNDS):
+        rounds.append([measured(loop, most, program) for (loop, _, program), most in zip(pairs, iterations)])
+        made += [measured_made()] if calls else []
     print(f"medians of {ROUNDS} rounds, in turn; million instructions a second of processor time, the start taken off")
     print(f"{'loop':9} {'program':7} {'iterations':>13} {'start, s':>9} {'rate':>8} {'nkrun, of it':>13}")
-    own = {}
+    own, plain = {}, {}
     for (loop, name, _), most, times in zip(pairs, iterations, zip(*rounds)):
         start, seconds = map(statistics.median, zip(*times))
         rate = LOOPS[loop] * (most - TINY) / seconds / 1e6
         own.setdefault(loop, rate if name == "nkrun" else None)
+        plain |= {name: rate} if loop == "user" else {}
         ratio = f"{own[loop] / rate:.3f}" if own[loop] else "-"
         print(f"{loop:9} {name:7} {most:13,} {start:9.3f} {rate:8.2f} {ratio:>13}")
+    if calls:
+        tell_made(calls, made, plain)
 
 
 main()

@@ -15,4 +15,7 @@ must_be_cut() {
 
 must_be_cut scan "$image"
 must_be_cut run "$image" /dev/null /dev/null 1000000 512
-echo "status 4 twice, as it must be"
+must_be_cut replay "$image" 512 /dev/null
+must_be_cut make 1
+must_be_cut work 1
+echo "status 4 five times, as it must be"
