@@ -1,5 +1,5 @@
-//! What the forms whose effect is a value make of the values that they read: traps, the flags, and the system. Branches,
-//! calls and returns write the registers in place.
+//! What the forms whose effect is a value make of the values that they read: traps, the flags, and the system.
+//! Branches, calls and returns write the registers in place.
 
 ghost use Rattle.std.specs.Prelude.{◌≡◌, ◌*◌, ◌<◌, ◌^◌, IsTrue};
 ghost use Rattle.x86_decode.specs.WellFormed.{IsWellFormed};
