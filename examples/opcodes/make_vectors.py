@@ -224,9 +224,10 @@ def checksums_file():
     return text
 
 
-def main(folder):
+def vector_files():
+    """The files but for the checksums, by their names."""
     one, two = "(SDM volume 2, table A-2)", "(SDM volume 2, table A-3)"
-    files = {
+    return {
         "one_byte_00.rt": vectors_file(
             f"Opcodes 00 to 7F {one}", ("FROM_00", False, range(0x00, 0x40)), ("FROM_40", False, range(0x40, 0x80))),
         "one_byte_80.rt": vectors_file(
@@ -237,8 +238,11 @@ def main(folder):
             f"Opcodes after 0F {two}", ("FROM_0F_00", True, range(0x00, 0x80)), ("FROM_0F_80", True, range(0x80, 0xB8)),
             ("FROM_0F_B8", True, range(0xB8, 0x100))),
         "edges.rt": edges_file(),
-        "checksums.rt": checksums_file(),
     }
+
+
+def main(folder):
+    files = {**vector_files(), "checksums.rt": checksums_file()}
     for name, text in files.items():
         with open(os.path.join(folder, name), "w") as file:
             file.write(text)

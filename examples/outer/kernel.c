@@ -37,7 +37,8 @@ static void console_number(uint64_t number)
                 console_byte(digits[--length]);
 }
 
-/* Where a trap leads: this kernel expects none. */
+/* Where a trap leads: this kernel expects none, and doesn't return from one. The handler runs on the trap stack with IF
+ * clear, below what the delivery pushed (docs/MACHINE.md, 5.2), and HLT there ends the run. */
 __attribute__((noreturn)) static void trap_handler(void)
 {
         console("unexpected trap\n");

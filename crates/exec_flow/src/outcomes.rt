@@ -1,4 +1,5 @@
-//! What an instruction makes of the values that it reads, by its form.
+//! What the forms whose effect is a value make of the values that they read: traps, the flags, and the system.
+//! Branches, calls and returns write the registers in place.
 
 ghost use Rattle.std.specs.Prelude.{◌≡◌, ◌*◌, ◌<◌, ◌^◌, IsTrue};
 ghost use Rattle.x86_decode.specs.WellFormed.{IsWellFormed};
@@ -16,7 +17,7 @@ use x86_regs::{Act, Change, Fault, Form, Regs, change_flag};
 /// The registers afterwards, the number that is written where a write is checked, and the act. `next` is the address of
 /// the next instruction, and memory has so many frames.
 ///
-/// Fails with #GP where a branch's target isn't canonical, and where a control register doesn't take the value.
+/// Fails with #GP where a control register doesn't take the value.
 pub(crate) fn outcome_by(
     form: Form,
     instr: &Instr,
