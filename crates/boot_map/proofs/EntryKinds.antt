@@ -32,7 +32,7 @@ kind_past : (b : List ℕ) (frames f : ℕ) → frames ≤ f → kind_of (kinds 
 kind_past b frames f past = get_or_past (kinds b frames) f Hidden (omega (arith, kinds_length b frames))
 
 -- a page of the image is no table
-image_level : (x : Bool) → level_of (cond x Code Data) ≡ 0
+pub image_level : (x : Bool) → level_of (cond x Code Data) ≡ 0
 image_level true = refl
 image_level false = refl
 
@@ -49,7 +49,7 @@ level_most b frames f = elim (cases_lt f frames) [
 ]
 
 -- a frame of a kind that is a table lies in memory
-table_inside : (b : List ℕ) (frames f : ℕ) → 1 ≤ level_of (kind_of (kinds b frames) f) → f < frames
+pub table_inside : (b : List ℕ) (frames f : ℕ) → 1 ≤ level_of (kind_of (kinds b frames) f) → f < frames
 table_inside b frames f table = elim (cases_lt f frames) [
   | inl inside ↦ inside
   | inr past ↦ absurd (omega (arith, table, ap level_of (kind_past b frames f past)))
@@ -64,7 +64,7 @@ kind_table b (MapTable k) is = omega arith
 kind_table b (ImagePage k) is = absurd (omega (arith, is, image_level (is_executable b (get_or (pages_of b) k 0))))
 kind_table b _ is = absurd (omega (arith, is))
 
-held_entry : (b : List ℕ) (frames f i : ℕ) (t : ℕ → ℕ → ℕ) → HoldsTables b frames t → i < 512 → f < frames →
+pub held_entry : (b : List ℕ) (frames f i : ℕ) (t : ℕ → ℕ → ℕ) → HoldsTables b frames t → i < 512 → f < frames →
     1 ≤ level_of (kind_of_part b (part_at (division_of b frames) f)) →
     t f i ≡ entry_of_part b (division_of b frames) (part_at (division_of b frames) f) i
 held_entry b frames f i t holds small inside table =

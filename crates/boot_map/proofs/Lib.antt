@@ -1,5 +1,6 @@
 pub mod Bytes
 pub mod EntryBits
+pub mod EntryFormLaws
 pub mod EntryKinds
 pub mod EntryLaws
 pub mod FillLaws

@@ -31,7 +31,7 @@ unfolding part_at
 image_entry b frames i small = entry_within b frames image_directory i small
 
 -- and in any tables that hold the slot
-held_image_entry : (b : List ℕ) (frames i : ℕ) (t : ℕ → ℕ → ℕ) → IsLayout b (division_of b frames) →
+pub held_image_entry : (b : List ℕ) (frames i : ℕ) (t : ℕ → ℕ → ℕ) → IsLayout b (division_of b frames) →
     HoldsSlot b frames t → i < 512 →
     t image_directory i ≡ range_entry (division_of b frames) i
 unfolding part_at

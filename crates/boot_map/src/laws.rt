@@ -4,6 +4,7 @@ ghost use Rattle.std.specs.Prelude.{◌≡◌, ◌≢◌, ◌⊎◌, ℕ, ◌+�
 ghost use Rattle.std.specs.Result.{result_ok};
 ghost use Rattle.phys_mem.specs.Memory.{byte_at, entry_in};
 ghost use Rattle.nk_bits.specs.declared.kind.Kind.TheVariants.{Code, Fixed, Table, Trap};
+ghost use Rattle.nk_bits.specs.EntryForms.{has_form, has_leaf_form, has_table_form};
 ghost use Rattle.nk_bits.specs.Kinds.{allows, is_storable, kind_of, level_of};
 ghost use Rattle.nk_bits.specs.Paging.{frame_of, is_canonical_page, is_executable, is_present, is_slot_entry, is_user, is_writable, rights_of, slot_value, walk};
 ghost use Rattle.gate_text.specs.Listing.{gate_byte};
@@ -14,7 +15,7 @@ ghost use Rattle.boot_map.specs.OpeningKinds.{kind_at, kinds};
 ghost use Rattle.boot_map.specs.OpeningEntries.{opening_entry, link, table_level};
 ghost use Rattle.boot_map.specs.Opening.{IsOpening};
 ghost use Rattle.boot_map.specs.Parts.{part_at};
-ghost use Rattle.boot_map.specs.KernelSlot.{HoldsSlot, HoldsTables, IsCodePage, IsWrittenInSlot, slot_leaf, slot_start};
+ghost use Rattle.boot_map.specs.KernelSlot.{HoldsSlot, HoldsTables, IsCodePage, IsNamedIn, IsWrittenInSlot, slot_leaf, slot_start};
 
 /// The entries of the opening's tables stand in its memory, so that the walk from the opening's root finds in memory
 /// what it finds in the entries.
@@ -115,7 +116,8 @@ pub fn opening_respects_law()
 /// Tables that hold the opening's: no table is of a level above 4; a present entry at level 1 names a frame whose kind allows
 /// its rights, one above it a table of the next lower level, with every right, and entry 511 of the root is the kernel
 /// slot's. Tables that hold the kernel slot: its tables lead to each other alone, that for the image to fixed frames other
-/// than the handler's; and a writable leaf of the slot stands in one of its tables of level 1.
+/// than the handler's; and a writable leaf of the slot stands in one of its tables of level 1. A present entry of each of these
+/// tables has the form of its level, in the kernel slot's own tables too.
 pub fn opening_entries_law()
     ensures levels { (b : List ℕ) (frames f : ℕ) → level_of (kind_of (kinds b frames) f) ≤ 4 }
     ensures leaf { (b : List ℕ) (frames f i : ℕ) (t : ℕ → ℕ → ℕ) → IsLayout b (division_of b frames)
@@ -142,4 +144,13 @@ pub fn opening_entries_law()
     ensures written { (b : List ℕ) (frames page : ℕ) (t : ℕ → ℕ → ℕ) → IsLayout b (division_of b frames)
         → IsPageList b (pages_of b) → HoldsSlot b frames t → slot_start ≤ page → page < 2 ^ 52
         → IfSome (slot_leaf b frames page) (λ leaf. leaf.rights.can_write ≡ true → IsWrittenInSlot frames t leaf.frame) }
+    ensures form { (b : List ℕ) (frames f i : ℕ) (t : ℕ → ℕ → ℕ) → IsLayout b (division_of b frames)
+        → HoldsTables b frames t → i < 512 → 1 ≤ level_of (kind_of (kinds b frames) f) → is_present (t f i) ≡ true
+        → has_form (level_of (kind_of (kinds b frames) f)) (t f i) ≡ true }
+    ensures slot_links { (b : List ℕ) (frames f i : ℕ) (t : ℕ → ℕ → ℕ) → IsLayout b (division_of b frames)
+        → HoldsSlot b frames t → i < 512 → (f ≡ slot_table) ⊎ ((f ≡ area_directory) ⊎ (f ≡ image_directory))
+        → is_present (t f i) ≡ true → has_table_form (t f i) ≡ true }
+    ensures slot_leaves { (b : List ℕ) (frames f i : ℕ) (t : ℕ → ℕ → ℕ) → IsLayout b (division_of b frames)
+        → HoldsSlot b frames t → i < 512 → (f ≡ area_table) ⊎ IsNamedIn t image_directory f
+        → is_present (t f i) ≡ true → has_leaf_form (t f i) ≡ true }
 {}

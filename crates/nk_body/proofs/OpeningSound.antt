@@ -1,10 +1,11 @@
 -- The opening's memory holds sound tables, and its ledger is kept.
 use Rattle.std.proofs.Common.{◌≡◌, ◌≢◌, ◌⊎◌, ℕ, ◌+◌, ◌-◌, ◌*◌, ◌<◌, ◌≤◌, Bool, true, false, List, length, arith, refl, sym, ap, ◌∙◌, inl, inr}
-use Rattle.std.specs.Prelude.{All, [], not, ◌||◌, ◌==◌, if◌then◌else◌}
-use Rattle.std.proofs.lemmas.Bool.{and_from, and_parts, cases_Bool, eq-eqb, eqb-true}
+use Rattle.std.specs.Prelude.{not, ◌&&◌, ◌||◌, ◌==◌, if◌then◌else◌}
+use Rattle.std.proofs.lemmas.Bool.{and_parts, cases_Bool, cond-false, eq-eqb, eqb-true, ne_eqb}
 use Rattle.std.proofs.lemmas.Bool.Decides.{eqb_tells}
 use Rattle.nk_bits.specs.declared.kind.Kind.{Kind}
 use Rattle.nk_bits.specs.declared.kind.Kind.TheVariants.{Fixed, Guarded, Table}
+use Rattle.nk_bits.specs.EntryForms.{has_form, has_leaf_form, has_table_form}
 use Rattle.nk_bits.specs.Kinds.{allows, kind_of, level_of}
 use Rattle.nk_bits.specs.Paging.{frame_of, is_executable, is_present, is_slot_entry, is_user, is_writable, rights_of, slot_value}
 use Rattle.phys_mem.specs.Memory.{entry_in}
@@ -12,7 +13,7 @@ use Rattle.boot_map.specs.Opening.{IsOpening}
 use Rattle.boot_map.specs.OpeningKinds.{kind_at, kinds}
 use Rattle.boot_map.specs.Parts.{part_at}
 use Rattle.page_desc.specs.PageTables.{HoldsSoundTables}
-use Rattle.page_desc.specs.SoundTables.{grants_all, is_lawful, is_lawful_leaf, is_lawful_link}
+use Rattle.page_desc.specs.SoundTables.{is_lawful, is_lawful_leaf, is_lawful_link}
 use Rattle.write_log.specs.LogRecords.{log_size}
 use Rattle.nk_body.specs.NestedRecord.{IsKept}
 use Rattle.nk_body.specs.SourceWords.{opening_ledger}
@@ -35,6 +36,8 @@ pub record OpeningLaws (b m : List ℕ) (frames : ℕ) : Type 0 where
       → is_slot_entry (level_of (kind_of (kinds b frames) f)) i ≡ false → is_present (entry_in m f i) ≡ true
       → (level_of (kind_of (kinds b frames) (frame_of (entry_in m f i))) + 1 ≡ level_of (kind_of (kinds b frames) f))
       × (is_writable (entry_in m f i) ≡ true) × (is_user (entry_in m f i) ≡ true) × (is_executable (entry_in m f i) ≡ true)
+  pub form : (f i : ℕ) → i < 512 → 1 ≤ level_of (kind_of (kinds b frames) f) → is_present (entry_in m f i) ≡ true
+      → has_form (level_of (kind_of (kinds b frames) f)) (entry_in m f i) ≡ true
   pub slot : (f : ℕ) → level_of (kind_of (kinds b frames) f) ≡ 4 → entry_in m f 511 ≡ slot_value
   pub named : (i : ℕ) → i < 512 → is_present (entry_in m 9 i) ≡ true
       → (kind_of (kinds b frames) (frame_of (entry_in m 9 i)) ≡ Fixed) × (frame_of (entry_in m 9 i) ≢ 2)
@@ -42,16 +45,17 @@ pub record OpeningLaws (b m : List ℕ) (frames : ℕ) : Type 0 where
       → (frame_of (entry_in m 6 i) ≡ 7) ⊎ (frame_of (entry_in m 6 i) ≡ 9)
   pub area_names : (i : ℕ) → i < 512 → is_present (entry_in m 7 i) ≡ true → frame_of (entry_in m 7 i) ≡ 8
   pub lawful_leaf : (ks : List Kind) (i e : ℕ)
-      → (is_present e ≡ true → allows (kind_of ks (frame_of e)) (rights_of e) ≡ true) → is_lawful ks 1 i e ≡ true
+      → (is_present e ≡ true → (has_leaf_form e ≡ true) × (allows (kind_of ks (frame_of e)) (rights_of e) ≡ true))
+      → is_lawful ks 1 i e ≡ true
   pub lawful_link : (ks : List Kind) (level i e : ℕ) → level ≢ 1 → is_slot_entry level i ≡ false
-      → (is_present e ≡ true → (level_of (kind_of ks (frame_of e)) + 1 ≡ level) × (grants_all e ≡ true))
+      → (is_present e ≡ true → (has_table_form e ≡ true) × (level_of (kind_of ks (frame_of e)) + 1 ≡ level))
       → is_lawful ks level i e ≡ true
 
 -- the kernel slot's value is lawful in its entry
 lawful_slot : (ks : List Kind) (level i e : ℕ) → is_slot_entry level i ≡ true → e ≡ slot_value → is_lawful ks level i e ≡ true
 unfolding is_lawful
 lawful_slot ks level i e at is =
-    ap (λ (x : Bool). if x then e == slot_value else not (is_present e) || (if level == 1 then is_lawful_leaf ks e else is_lawful_link ks level e)) at
+    ap (λ (x : Bool). if x then e == slot_value else not (is_present e) || (has_form level e && (if level == 1 then is_lawful_leaf ks e else is_lawful_link ks level e))) at
     ∙ ap (λ n. n == slot_value) is ∙ eq-eqb slot_value slot_value refl
 
 module _ (b m : List ℕ) (frames : ℕ) (laws : OpeningLaws b m frames) (least : 512 ≤ frames) (opening : IsOpening b frames m) where
@@ -66,10 +70,14 @@ module _ (b m : List ℕ) (frames : ℕ) (laws : OpeningLaws b m frames) (least 
         lawful_slot ks (level_of (kind_of ks f)) i (entry_in m f i) at
         (ap (entry_in m f) (eqb-true i 511 parts.1) ∙ laws.slot f (eqb-true _ 4 parts.0))
     | inr other ↦ elim (eqb_tells (level_of (kind_of ks f)) 1) [
-      | inl one ↦ ap (λ n. is_lawful ks n i (entry_in m f i)) one.1 ∙ laws.lawful_leaf ks i (entry_in m f i) (laws.leaf f i small one.1)
+      | inl one ↦ ap (λ n. is_lawful ks n i (entry_in m f i)) one.1 ∙ laws.lawful_leaf ks i (entry_in m f i)
+          (λ present. (ap (λ n. has_form n (entry_in m f i)) (sym one.1) ∙ laws.form f i small least present, laws.leaf f i small one.1 present))
       | inr more ↦ laws.lawful_link ks (level_of (kind_of ks f)) i (entry_in m f i) more.1 other
-          (λ present. let is = laws.link f i small (omega (arith, least, more.1)) other present in
-          (is.0, and_from _ _ (and_from _ _ is.1 is.2) is.3))
+          (λ present. let e : ℕ = entry_in m f i in
+          let test : (level_of (kind_of ks f) == 1) ≡ false = ne_eqb (level_of (kind_of ks f)) 1 more.1 in (
+            sym (cond-false (level_of (kind_of ks f) == 1) (has_leaf_form e) (has_table_form e) test) ∙ laws.form f i small least present,
+            (laws.link f i small (omega (arith, least, more.1)) other present).0,
+          ))
     ]
   ]
 

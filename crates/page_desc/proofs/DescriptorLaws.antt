@@ -36,8 +36,8 @@ table_replaceable d t a b c counted fixed most inside table small =
       links = λ stands named.
           let parts = and_parts (is_link_level (level_of (kind_of d.kinds a))) (is_present (t a b)) stands in
           omega (arith, counted.links (frame_of (t a b)) named, links_least d.kinds t a b inside small parts.0 parts.1);
-      loose_room = loose_room d t counted most (frame_of c);
-      links_room = links_room d t counted most (frame_of c);
+      loose_room = λ stands. loose_room d t counted most (frame_of c);
+      links_room = λ stands. links_room d t counted most (frame_of c);
     }
 
 -- an absent value may be replaced, also after a kind is set
@@ -48,8 +48,8 @@ absent_replaceable d t a level e c kind counted most absent =
     record {
       loose = λ stands named. absurd (both_ways (level == 1 && is_loose e) (and_right (level == 1) _ (and_left _ _ absent)) stands);
       links = λ stands named. absurd (both_ways (is_link_level level && is_present e) (and_right (is_link_level level) _ absent) stands);
-      loose_room = λ inside. loose_room d t counted most (frame_of c) (omega (arith, inside, length-set d.kinds a kind));
-      links_room = λ inside. links_room d t counted most (frame_of c) (omega (arith, inside, length-set d.kinds a kind));
+      loose_room = λ stands inside. loose_room d t counted most (frame_of c) (omega (arith, inside, length-set d.kinds a kind));
+      links_room = λ stands inside. links_room d t counted most (frame_of c) (omega (arith, inside, length-set d.kinds a kind));
     }
 
 -- after an entry was replaced

@@ -13,6 +13,7 @@ pub mod NewTables
 pub mod PageTableStores
 pub mod PageTableValues
 pub mod RecordWalk
+mod RefutedEntries
 pub mod SlotLeafTables
 pub mod SoundWalk
 pub mod Sums

@@ -7,6 +7,7 @@ use Rattle.std.proofs.lemmas.Result.{IfOk-at_ok}
 use Rattle.nk_bits.specs.declared.kind.Kind.{Kind}
 use Rattle.nk_bits.specs.declared.leaf.Leaf.{Leaf}
 use Rattle.nk_bits.specs.declared.leaf.Rights.{Rights}
+use Rattle.nk_bits.specs.EntryForms.{has_form}
 use Rattle.nk_bits.specs.Kinds.{allows, kind_of, level_of}
 use Rattle.nk_bits.specs.Paging.{all_rights, common, frame_of, is_canonical_page, is_executable, is_missing, is_present, is_slot_entry, is_slot_page, is_user, is_writable, page_index, rights_of, slot_value, walk, walk_from}
 use Rattle.page_desc.specs.SoundTables.{AreTables, grants_all, is_lawful, is_lawful_leaf, is_lawful_link}
@@ -26,16 +27,26 @@ pub index_small : (page level : ℕ) → page_index page level < 512
 unfolding page_index
 index_small page level = omega arith
 
--- a lawful entry that is present, but for the kernel slot's
+-- a lawful entry that is present, but for the kernel slot's: it has the form of its level, and is a lawful leaf or link
+lawful_parts : (kinds : List Kind) (level i e : ℕ) → is_lawful kinds level i e ≡ true
+    → is_slot_entry level i ≡ false → is_present e ≡ true
+    → (has_form level e ≡ true)
+    × ((if level == 1 then is_lawful_leaf kinds e else is_lawful_link kinds level e) ≡ true)
+unfolding is_lawful
+lawful_parts kinds level i e lawful other present =
+    elim (or_cases (not (is_present e)) _ (sym (cond-false (is_slot_entry level i) (e == slot_value) _ other) ∙ lawful)) [
+      | inl absent ↦ absurd (false≢true (sym (ap not present) ∙ absent))
+      | inr both ↦ and_parts (has_form level e) _ both
+    ]
+
+pub lawful_form : (kinds : List Kind) (level i e : ℕ) → is_lawful kinds level i e ≡ true
+    → is_slot_entry level i ≡ false → is_present e ≡ true → has_form level e ≡ true
+lawful_form kinds level i e lawful other present = (lawful_parts kinds level i e lawful other present).0
+
 pub lawful_present : (kinds : List Kind) (level i e : ℕ) → is_lawful kinds level i e ≡ true
     → is_slot_entry level i ≡ false → is_present e ≡ true
     → (if level == 1 then is_lawful_leaf kinds e else is_lawful_link kinds level e) ≡ true
-unfolding is_lawful
-lawful_present kinds level i e lawful other present =
-    elim (or_cases (not (is_present e)) _ (sym (cond-false (is_slot_entry level i) (e == slot_value) _ other) ∙ lawful)) [
-      | inl absent ↦ absurd (false≢true (sym (ap not present) ∙ absent))
-      | inr form ↦ form
-    ]
+lawful_present kinds level i e lawful other present = (lawful_parts kinds level i e lawful other present).1
 
 -- the rights that a link leaves
 grants_common : (e : ℕ) → grants_all e ≡ true → common all_rights (rights_of e) ≡ all_rights

@@ -3,6 +3,7 @@ use Rattle.std.proofs.Common.{◌≡◌, ◌==◌, ◌&&◌, ℕ, true, false, L
 use Rattle.std.specs.Prelude.{if◌then◌else◌}
 use Rattle.nk_bits.specs.declared.kind.Kind.{Kind}
 use Rattle.nk_bits.specs.declared.kind.Kind.TheVariants.{Data, Fixed, Table, Trap}
+use Rattle.nk_bits.specs.EntryForms.{has_leaf_form, has_table_form}
 use Rattle.nk_bits.specs.Paging.{frame_of, is_executable, is_present, is_user, is_writable, slot_value}
 use Rattle.page_desc.specs.FrameCounts.{count_in, holds_leaves, holds_links, is_link_to, is_loose, is_loose_leaf, is_slot_leaf_table, sum_below}
 use Rattle.page_desc.specs.SoundTables.{is_lawful}
@@ -34,10 +35,13 @@ unfolding count_in sum_below frame_of is_present is_user is_writable tables
 counts = (refl, refl, refl)
 
 -- a leaf of Data may be writable, one of the table in frame 1 may not; a link of level 2 names a table of level 1 with every
--- right; the last entry of a table of level 4 is the slot's
+-- right; each has A, and a writable leaf D, none G, and no link PS; bits 9 to 11 are free; the last entry of a table of level 4
+-- is the slot's
 lawful :
     (is_lawful kinds 1 0 9223372036854784099 ≡ true) × (is_lawful kinds 1 511 9223372036854780003 ≡ false) × (is_lawful kinds 1 0 9223372036854779937 ≡ true) ×
     (is_lawful kinds 2 0 4135 ≡ true) × (is_lawful kinds 3 0 4135 ≡ false) × (is_lawful kinds 2 0 4133 ≡ false) × (is_lawful kinds 2 0 4134 ≡ true) ×
-    (is_lawful kinds 4 511 24615 ≡ true) × (is_lawful kinds 4 511 0 ≡ false) × (is_lawful kinds 3 511 24615 ≡ false) × (is_lawful kinds 4 510 28711 ≡ true)
-unfolding is_lawful slot_value frame_of is_present is_user is_writable is_executable kinds
-lawful = (refl, refl, refl, refl, refl, refl, refl, refl, refl, refl, refl)
+    (is_lawful kinds 4 511 24615 ≡ true) × (is_lawful kinds 4 511 0 ≡ false) × (is_lawful kinds 3 511 24615 ≡ false) × (is_lawful kinds 4 510 28711 ≡ true) ×
+    (is_lawful kinds 1 0 9223372036854784067 ≡ false) × (is_lawful kinds 1 0 9223372036854784035 ≡ false) × (is_lawful kinds 1 0 9223372036854784355 ≡ false) ×
+    (is_lawful kinds 2 0 4103 ≡ false) × (is_lawful kinds 2 0 4263 ≡ false) × (is_lawful kinds 1 0 9223372036854787683 ≡ true)
+unfolding is_lawful slot_value has_leaf_form has_table_form frame_of is_present is_user is_writable is_executable kinds
+lawful = (refl, refl, refl, refl, refl, refl, refl, refl, refl, refl, refl, refl, refl, refl, refl, refl, refl)

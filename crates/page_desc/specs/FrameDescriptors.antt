@@ -17,14 +17,16 @@ pub record AreCounted (d : Descriptors) (t : ℕ → ℕ → ℕ) : Type 0 where
   pub links : (frame : ℕ) → frame < length d.kinds → slice_index d.links frame ≡ links_in d.kinds t frame
 
 -- an entry of a table of this level may change from the old value to the new one: if the old value counts for a frame in
--- memory, it was counted, and the counts of a frame in memory that the new value names have room for one more
+-- memory, it was counted; and if the new one does, the count that it raises has room for one more
 pub record IsReplaceable (level old new : ℕ) (d : Descriptors) : Type 0 where
   pub loose : (level == 1 && is_loose old) ≡ true → frame_of old < length d.kinds
       → 1 ≤ slice_index d.loose (frame_of old)
   pub links : (is_link_level level && is_present old) ≡ true → frame_of old < length d.kinds
       → 1 ≤ slice_index d.links (frame_of old)
-  pub loose_room : frame_of new < length d.kinds → slice_index d.loose (frame_of new) < 2 ^ 32 - 1
-  pub links_room : frame_of new < length d.kinds → slice_index d.links (frame_of new) < 2 ^ 32 - 1
+  pub loose_room : (level == 1 && is_loose new) ≡ true → frame_of new < length d.kinds
+      → slice_index d.loose (frame_of new) < 2 ^ 32 - 1
+  pub links_room : (is_link_level level && is_present new) ≡ true → frame_of new < length d.kinds
+      → slice_index d.links (frame_of new) < 2 ^ 32 - 1
 
 -- what comes of it: one less where the old value counted, one more where the new one counts
 pub record IsReplaced (level old new : ℕ) (before after : Descriptors) : Type 0 where

@@ -30,7 +30,7 @@ pub fn lower(counts: &mut Vec<u32>, stands: bool, frame: u64)
 /// Counts one frame once less where the first test stands, and then another once more where the second does.
 pub fn change(counts: &mut Vec<u32>, was: bool, from: u64, is: bool, to: u64)
     requires counted { was ≡ true → from < length counts.old.items → 1 ≤ slice_index counts.old.items from }
-    requires room { to < length counts.old.items → slice_index counts.old.items to < 2 ^ 32 - 1 }
+    requires room { is ≡ true → to < length counts.old.items → slice_index counts.old.items to < 2 ^ 32 - 1 }
     ensures each { (other : ℕ) → other < length counts.old.items
         → slice_index counts.new.items other + one_if (was && from == other) ≡ slice_index counts.old.items other + one_if (is && to == other) }
     ensures length { length counts.new.items ≡ length counts.old.items }

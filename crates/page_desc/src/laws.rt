@@ -6,7 +6,7 @@ ghost use Rattle.phys_mem.specs.Memory.{entry_in, frame_zeroed, stored, stores};
 ghost use Rattle.nk_bits.specs.declared.kind.Kind.{Kind};
 ghost use Rattle.nk_bits.specs.declared.kind.Kind.TheVariants.{Data, Fixed, Guarded, Table};
 ghost use Rattle.nk_bits.specs.declared.leaf.Leaf.{Leaf};
-ghost use Rattle.nk_bits.specs.EntryForms.{has_table_form};
+ghost use Rattle.nk_bits.specs.EntryForms.{has_form, has_leaf_form, has_table_form};
 ghost use Rattle.nk_bits.specs.Kinds.{allows, kind_of, level_of};
 ghost use Rattle.nk_bits.specs.Paging.{emptied, frame_of, is_canonical_page, is_present, is_slot_entry, is_slot_page, is_user, is_writable, replaced, rights_of, slot_value, walk, zeroed};
 ghost use Rattle.page_desc.specs.FrameCounts.{IsSlotFixed, holds_leaves, holds_links, is_link_level, is_link_to, is_loose_leaf, links_in, loose_in, may_hold_table, one_if};
@@ -101,7 +101,8 @@ pub fn descriptor_law()
 /// Over sound tables the walk of a canonical page outside the kernel slot, from any table of level 4, finds only a leaf that
 /// the kind of its frame allows. Sound tables stay sound over a lawful entry, over changes in frames that are no tables, and
 /// where a frame of data with no loose leaf becomes a new table or guarded, a table that nothing links data, and a guarded
-/// frame data. What a lawful entry is by its level.
+/// frame data. What a lawful entry is by its level. A present entry of sound tables has the form of its level, and so has the
+/// kernel slot's value.
 pub fn sound_law()
     ensures walk { (kinds : List Kind) (t : ℕ → ℕ → ℕ) (frames root page : ℕ) (leaf : Leaf) → AreTables kinds t
         → level_of (kind_of kinds root) ≡ 4 → is_canonical_page page ≡ true → is_slot_page page ≡ false
@@ -130,11 +131,15 @@ pub fn sound_law()
     ensures slot { (kinds : List Kind) (t : ℕ → ℕ → ℕ) (f : ℕ) → AreTables kinds t
         → level_of (kind_of kinds f) ≡ 4 → t f 511 ≡ slot_value }
     ensures lawful_leaf { (kinds : List Kind) (i e : ℕ)
-        → (is_present e ≡ true → allows (kind_of kinds (frame_of e)) (rights_of e) ≡ true) → is_lawful kinds 1 i e ≡ true }
+        → (is_present e ≡ true → (has_leaf_form e ≡ true) × (allows (kind_of kinds (frame_of e)) (rights_of e) ≡ true))
+        → is_lawful kinds 1 i e ≡ true }
     ensures lawful_link { (kinds : List Kind) (level i e : ℕ) → level ≢ 1 → is_slot_entry level i ≡ false
-        → (is_present e ≡ true → (level_of (kind_of kinds (frame_of e)) + 1 ≡ level) × (grants_all e ≡ true))
+        → (is_present e ≡ true → (has_table_form e ≡ true) × (level_of (kind_of kinds (frame_of e)) + 1 ≡ level))
         → is_lawful kinds level i e ≡ true }
-    ensures form { (e : ℕ) → has_table_form e ≡ true → grants_all e ≡ true }
+    ensures form { (kinds : List Kind) (t : ℕ → ℕ → ℕ) (f i : ℕ) → AreTables kinds t → i < 512
+        → 1 ≤ level_of (kind_of kinds f) → level_of (kind_of kinds f) ≤ 4 → is_present (t f i) ≡ true
+        → has_form (level_of (kind_of kinds f)) (t f i) ≡ true }
+    ensures slot_form { has_table_form slot_value ≡ true }
 {
     kind_law();
 }

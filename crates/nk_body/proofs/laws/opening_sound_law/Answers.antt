@@ -20,6 +20,7 @@ returns-clause-sound c b m frames layout pages opening =
       levels = c.opening_entries_law.ensures.levels b frames;
       leaf = λ f i. c.opening_entries_law.ensures.leaf b frames f i (entry_in m) layout pages tables;
       link = λ f i. c.opening_entries_law.ensures.link b frames f i (entry_in m) layout tables;
+      form = λ f i. c.opening_entries_law.ensures.form b frames f i (entry_in m) layout tables;
       slot = λ f. c.opening_entries_law.ensures.slot b frames f (entry_in m) layout tables;
       named = λ i. c.opening_entries_law.ensures.named b frames i (entry_in m) layout slot;
       slot_names = λ i. c.opening_entries_law.ensures.slot_names b frames i (entry_in m) layout slot;

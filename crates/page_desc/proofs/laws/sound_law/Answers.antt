@@ -3,7 +3,7 @@ use Rattle.nk_bits.specs.declared.kind.Kind.{Kind}
 use Rattle.nk_bits.specs.declared.kind.Kind.TheVariants.{Data, Guarded}
 use Rattle.nk_bits.specs.Kinds.{is_data, is_guarded, kind_of, level_of}
 use Rattle.page_desc.proofs.KindsKept.{tables_freed, tables_guarded, tables_new, tables_old}
-use Rattle.page_desc.proofs.LawfulForms.{form_grants, lawful_leaf, lawful_link, leaf_allowed, link_leads, slot_entry_is}
+use Rattle.page_desc.proofs.LawfulForms.{entry_form, lawful_leaf, lawful_link, leaf_allowed, link_leads, slot_entry_is, slot_form}
 use Rattle.page_desc.proofs.SoundWalk.{sound_walk}
 use Rattle.page_desc.proofs.TablesKept.{tables_elsewhere, tables_replaced}
 use Rattle.page_desc.proofs.laws.sound_law.Goals as goal
@@ -29,5 +29,6 @@ returns c =
       slot = λ kinds t f tables four. slot_entry_is kinds t tables f four;
       lawful_leaf = lawful_leaf;
       lawful_link = lawful_link;
-      form = form_grants;
+      form = λ kinds t f i tables small least most present. entry_form kinds t tables f i small least most present;
+      slot_form = slot_form;
     }
