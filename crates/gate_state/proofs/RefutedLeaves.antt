@@ -40,7 +40,9 @@ image_frames b first n None low = tt
 image_frames b first n (Some k) low = by (is_executable b n) (is_writable b n)
   where
     by : (runs writes : Bool)
-        → IfSome (if runs then Some (fetchable (first + k)) else if writes then Some (writable (first + k)) else Some (readable (first + k)))
+        → IfSome (if runs then Some (fetchable (first + k))
+        else if writes then Some (writable (first + k))
+        else Some (readable (first + k)))
         (λ laid. laid.frame ≢ 1)
     by true writes = λ (e : first + k ≡ 1). omega (arith, e, low)
     by false true = λ (e : first + k ≡ 1). omega (arith, e, low)
@@ -56,7 +58,8 @@ slot_frames b frames page low other =
     first = pages_start (division_of b frames)
 
     by : (area : Bool)
-        → IfSome (if area then area_leaf (page - slot_start) else image_leaf b first page (position (λ m. m == page) (pages_of b)))
+        → IfSome (if area then area_leaf (page - slot_start)
+        else image_leaf b first page (position (λ m. m == page) (pages_of b)))
         (λ laid. laid.frame ≢ 1)
     by true =
         let n : ℕ = page - slot_start in
@@ -70,7 +73,8 @@ module _ (o : Opening) (ks : List Kind) where
   IsExecutableRefused kind = (page : ℕ) (leaf : Leaf) → is_slot_page page ≡ true → page ≢ slot_start + 1
       → leaf.rights.exec ≡ true → kind_of ks leaf.frame ≡ kind → respects o ks (page, leaf) ≡ false
 
-  code_or_gates : (leaf : Leaf) → fits_kind ks leaf ≡ true → leaf.rights.exec ≡ true → is_code (kind_of ks leaf.frame) ≡ false → leaf.frame ≡ 1
+  code_or_gates : (leaf : Leaf) → fits_kind ks leaf ≡ true → leaf.rights.exec ≡ true
+      → is_code (kind_of ks leaf.frame) ≡ false → leaf.frame ≡ 1
   code_or_gates leaf fits runs other =
       let parts = and_parts (not leaf.rights.can_write || is_storable (kind_of ks leaf.frame)) _ fits in
       let may : (leaf.frame == 1 || is_code (kind_of ks leaf.frame)) ≡ true =
@@ -80,7 +84,8 @@ module _ (o : Opening) (ks : List Kind) where
         | inr code ↦ absurd (false≢true (sym other ∙ code))
       ]
 
-  fits_within : (page : ℕ) (leaf : Leaf) → is_slot_page page ≡ true → respects o ks (page, leaf) ≡ true → fits_kind ks leaf ≡ true
+  fits_within : (page : ℕ) (leaf : Leaf) → is_slot_page page ≡ true → respects o ks (page, leaf) ≡ true
+      → fits_kind ks leaf ≡ true
   unfolding respects
   fits_within page leaf within is =
       (and_parts (is_leaf (slot_leaf o.image o.frames page) leaf) (fits_kind ks leaf)

@@ -26,7 +26,8 @@ at_body p enters at = record {
 }
 
 -- at any other gate point it doesn't
-elsewhere : (p : Processor) (offset : ℕ) → wp_of p.control.cr0 ≡ false → enters_body p ≡ false → IsAtPoint offset p → offset ≢ 27
+elsewhere : (p : Processor) (offset : ℕ) → wp_of p.control.cr0 ≡ false → enters_body p ≡ false
+    → IsAtPoint offset p → offset ≢ 27
 elsewhere p offset clear outside at is =
     let rip : p.regs.rip ≡ 0xFFFFFF800000101B = at.rip ∙ ap (λ (n : ℕ). gate_address + n) is in
     let enters : enters_body p ≡ true = λ i. (at.supervisor i == 0 && rip i == 0xFFFFFF800000101B) && not (clear i) in
