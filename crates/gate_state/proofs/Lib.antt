@@ -43,6 +43,8 @@ pub mod StatesKept
 pub mod Assembly
 pub mod LooseLeaves
 pub mod BodyKept
+pub mod StatesOf
+pub mod RefutedLeaves
 pub mod OpeningBytes
 pub mod OpeningGuarded
 pub mod RunsSafe

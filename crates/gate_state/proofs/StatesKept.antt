@@ -19,6 +19,7 @@ use Rattle.nk_body.specs.NestedRecord.{AreBooks, Books, nested_in}
 use Rattle.cpu_step.specs.declared.stepped.Stepped.TheVariants as stepped
 use Rattle.cpu_step.specs.Processor.{IsSound}
 use Rattle.cpu_step.specs.Turns.{enters_body, is_at_body, turned}
+use Rattle.gate_state.specs.AnyVector.{DeliversAny}
 use Rattle.gate_state.specs.GateWindow.{IsGatePoint}
 use Rattle.gate_state.specs.GuardedStates.{AreKinds, IsAdmitted, IsGuarded, IsHeld}
 use Rattle.gate_state.specs.MachineStates.{MachineState, Opening, nested_of}
@@ -175,6 +176,12 @@ module _ (laws : LowerLaws) (o : Opening) (admitted : IsAdmitted o) where
       let at = (scenes_of s.kinds guarded.kinds).walked s.memory s.processor.control 0 (ready s guarded).scene (4096 * page) leaf walked.0
       (ap (walk (entry_in s.memory) (length s.memory / 4096) s.processor.control.root) same ∙ walked.1) in
       ap (λ n. respects o s.kinds (n, leaf)) (sym same) ∙ at
+
+  -- each vector can be delivered
+  pub guarded_delivers : (s : MachineState) → IsGuarded o s → TurnFacts o s.kinds → DeliversAny s
+  guarded_delivers s guarded facts vector code few =
+      (facts.delivers s.memory s.processor.control s.processor.tables s.processor.regs vector code s.processor.tlb
+      (ready s guarded).scene guarded.control.tables guarded.translations few).made
 
   pub guarded_safe : (s : MachineState) → IsGuarded o s → TurnFacts o s.kinds → IsSafe o s
   guarded_safe s guarded facts = record {

@@ -6,6 +6,7 @@ pub mod MachineSteps
 pub mod GateWindow
 pub mod RespectedKinds
 pub mod SafeStates
+pub mod AnyVector
 pub mod ShownSteps
 pub mod GuardedStates
 pub mod StepsTaken

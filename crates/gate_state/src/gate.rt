@@ -3,7 +3,7 @@
 ghost use Rattle.std.specs.Prelude.{◌≡◌, ◌<◌, false, length, ◌*◌};
 ghost use Rattle.nk_body.specs.NestedRecord.{AreBooks};
 ghost use Rattle.cpu_step.specs.Turns.{enters_body};
-ghost use Rattle.gate_state.specs.MachineOf.{whole_of};
+ghost use Rattle.gate_state.specs.MachineOf.{IsInGates, IsOf, whole_of};
 ghost use Rattle.gate_state.specs.MachineSteps.{move_of, seen_by};
 ghost use Rattle.gate_state.specs.SafeStates.{IsSafe};
 ghost use Rattle.gate_state.specs.WholeMachine.{is_rest, next_whole};
@@ -16,7 +16,7 @@ use std::marker::Model;
 
 /// The machine with WP clear in the gates.
 pub struct GateMachine<'i> {
-    pub(crate) whole: Whole<'i>,
+    pub(crate) whole: Box<Whole<'i>>,
 }
 
 impl<'i> Model for GateMachine<'i> {
@@ -27,10 +27,10 @@ impl<'i> Model for GateMachine<'i> {
 
     ghost Value = { WholeState };
 
-    ghost view = { λ m. m.whole };
+    ghost view = { λ m. m.whole.value };
 
-    ghost invariant = { λ m. (wp_of m.whole.state.processor.control.cr0 ≡ false)
-        × (enters_body m.whole.state.processor ≡ false) };
+    ghost invariant = { λ m. (wp_of m.whole.value.state.processor.control.cr0 ≡ false)
+        × (enters_body m.whole.value.state.processor ≡ false) };
 }
 
 impl<'i> GateMachine<'i> {
@@ -41,16 +41,22 @@ impl<'i> GateMachine<'i> {
         ensures seen { result.1 ≡ seen_by (move_of plan.now self.entry.state) self.entry.state }
         ensures no_body { enters_body self.entry.state.processor ≡ false }
         ensures safe { IsSafe self.entry.opening self.entry.state }
+        ensures in_gates { IsInGates self.entry.state.processor }
+        ensures sorted { IsOf result.0 }
     {
         let GateMachine { whole } = self;
+        whole.stands_in_gates();
         whole.is_running(plan);
         step(whole, plan)
     }
 
     /// Whether the machine rests for good. In the gates the machine never rests.
     pub fn done(&self, plan: &Plan) -> bool
-        ensures { result ≡ is_rest (move_of plan.now self.now.state) }
+        ensures done { result ≡ is_rest (move_of plan.now self.now.state) }
+        ensures never { result ≡ false }
+        ensures in_gates { IsInGates self.now.state.processor }
     {
+        self.whole.stands_in_gates();
         self.whole.is_running(plan);
         false
     }
@@ -78,9 +84,11 @@ impl<'i> GateMachine<'i> {
         ensures ledger { result.kernel.ledger ≡ self.entry.state.ledger }
         ensures books { AreBooks result.kernel result.mem }
         ensures safe { IsSafe self.entry.opening self.entry.state }
+        ensures in_gates { IsInGates self.entry.state.processor }
     {
         let GateMachine { whole } = self;
+        whole.stands_in_gates();
         whole.is_safe();
-        whole.finish()
+        Box::into_inner(whole).finish()
     }
 }

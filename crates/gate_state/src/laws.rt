@@ -1,14 +1,17 @@
 //! What follows from the definitions: the invariant holds in every state of every run, and what it holds of is safe.
 
-ghost use Rattle.std.specs.Prelude.{◌≡◌, ℕ, ◌^◌, ◌<◌, List, length, true};
+ghost use Rattle.std.specs.Prelude.{◌≡◌, ℕ, ◌^◌, ◌<◌, List, length, false, true};
 ghost use Rattle.irq_plan.specs.declared.event.Event.{Event};
 ghost use Rattle.irq_plan.specs.declared.event.What.{What};
 ghost use Rattle.irq_plan.specs.PlannedEvents.{IsPlan, IsPlannable};
+ghost use Rattle.nk_bits.specs.Accesses.{wp_of};
 ghost use Rattle.cpu_step.specs.Processor.{IsSound};
 ghost use Rattle.cpu_step.specs.Turns.{enters_body};
 ghost use Rattle.nk_body.specs.NestedRecord.{AreBooks, Books};
+ghost use Rattle.gate_state.specs.AnyVector.{DeliversAny};
 ghost use Rattle.gate_state.specs.GateCalls.{IsCalledThrough, IsCalling};
 ghost use Rattle.gate_state.specs.GuardedStates.{IsAdmitted, IsGuarded};
+ghost use Rattle.gate_state.specs.MachineOf.{IsAtBody, IsInGates};
 ghost use Rattle.gate_state.specs.MachineOpening.{opening_state};
 ghost use Rattle.gate_state.specs.MachineStates.{MachineState, Opening, nested_of};
 ghost use Rattle.gate_state.specs.MachineSteps.{after_event, after_turn, calls, made_by_all, move_of, nested_after, next, seen_by, served, shown_by_turn, state, turn_of};
@@ -31,7 +34,8 @@ use x86_alu::flag_law;
 use x86_decode::{decoding_law, spelling_law};
 use x86_regs::{bound_law, effect_law, grant_law};
 
-/// Each kind of step keeps the invariant, over which a state is safe and the processor sound; books stay those of memory
+/// Each kind of step keeps the invariant, over which a state is safe, the processor sound and, with WP clear, in the gates
+/// or at the body; books stay those of memory
 /// over a turn. What a turn and a call show are bytes, and numbers of 64 bits.
 pub(crate) fn steps_law()
     ensures opening { (o : Opening) (input : List ℕ) → IsAdmitted o → IsGuarded o (opening_state o input) }
@@ -48,8 +52,13 @@ pub(crate) fn steps_law()
     ensures serves { (o : Opening) (s : MachineState) → IsAdmitted o → IsGuarded o s
         → nested_of (served s) ≡ nested_after s }
     ensures safe { (o : Opening) (s : MachineState) → IsAdmitted o → IsGuarded o s → IsSafe o s }
+    ensures in_gates { (o : Opening) (s : MachineState) → IsAdmitted o → IsGuarded o s
+        → wp_of s.processor.control.cr0 ≡ false → enters_body s.processor ≡ false → IsInGates s.processor }
+    ensures at_body { (o : Opening) (s : MachineState) → IsAdmitted o → IsGuarded o s
+        → enters_body s.processor ≡ true → IsAtBody s.processor }
     ensures called { (o : Opening) (s : MachineState) (plan : List Event) (k : ℕ) → IsAdmitted o → IsPlan plan
         → IsGuarded o s → IsCalling s.processor → IsCalledThrough plan s k }
+    ensures delivers { (o : Opening) (s : MachineState) → IsAdmitted o → IsGuarded o s → DeliversAny s }
     ensures sound { (o : Opening) (s : MachineState) → IsAdmitted o → IsGuarded o s
         → IsSound (length s.memory) s.processor }
     ensures shown { (o : Opening) (s : MachineState) → IsAdmitted o → TakesTurn s.processor
@@ -85,11 +94,14 @@ pub(crate) fn steps_law()
     stores_law();
 }
 
-/// Every state of every run is guarded, and so safe: in the opening, and after each step under any plan. What the nested
-/// kernel guards in it is what the accepted calls make of the opening's record. A call that is made through the gates
-/// with interrupts off is answered.
+/// Every state of every run is guarded, and so safe: in the opening, and after each step under any plan. In a guarded
+/// state each vector can be delivered. What the nested kernel guards in a state is what the accepted calls make of the
+/// opening's record. A call that is made through the gates with interrupts off is answered.
 pub fn safety_law()
     ensures opening { (o : Opening) (input : List ℕ) → IsAdmitted o → IsGuarded o (opening_state o input) }
+    ensures guarded { (o : Opening) (input : List ℕ) (plan : List Event) (k : ℕ) → IsAdmitted o → IsPlan plan
+        → IsGuarded o (state plan (opening_state o input) k) }
+    ensures delivers { (o : Opening) (s : MachineState) → IsAdmitted o → IsGuarded o s → DeliversAny s }
     ensures safe { (o : Opening) (input : List ℕ) (plan : List Event) (k : ℕ) → IsAdmitted o → IsPlan plan
         → IsSafe o (state plan (opening_state o input) k) }
     ensures nested { (o : Opening) (input : List ℕ) (plan : List Event) (k : ℕ) → IsAdmitted o → IsPlan plan

@@ -3,7 +3,7 @@
 ghost use Rattle.std.specs.Prelude.{◌≡◌, ◌<◌, false, length, ◌*◌};
 ghost use Rattle.cpu_step.specs.Turns.{enters_body};
 ghost use Rattle.nk_body.specs.NestedRecord.{AreBooks};
-ghost use Rattle.gate_state.specs.MachineOf.{whole_of};
+ghost use Rattle.gate_state.specs.MachineOf.{IsOf, whole_of};
 ghost use Rattle.gate_state.specs.MachineSteps.{move_of, seen_by};
 ghost use Rattle.gate_state.specs.SafeStates.{IsSafe};
 ghost use Rattle.gate_state.specs.WholeMachine.{is_rest, next_whole};
@@ -26,7 +26,8 @@ pub enum Machine<'i> {
 impl<'i> Machine<'i> {
     /// Whether the machine rests for good. In the gates it never does.
     pub fn done(&self, plan: &Plan) -> bool
-        ensures { result ≡ is_rest (move_of plan.now (whole_of self.now).state) }
+        ensures done { result ≡ is_rest (move_of plan.now (whole_of self.now).state) }
+        ensures sorted { IsOf self.now }
     {
         match self {
             Machine::Outer(machine) => machine.done(plan),
@@ -55,6 +56,7 @@ impl<'i> Machine<'i> {
         ensures ledger { result.kernel.ledger ≡ (whole_of self.entry).state.ledger }
         ensures books { AreBooks result.kernel result.mem }
         ensures safe { IsSafe (whole_of self.entry).opening (whole_of self.entry).state }
+        ensures sorted { IsOf self.entry }
     {
         match self {
             Machine::Outer(machine) => machine.finish(),
@@ -65,26 +67,30 @@ impl<'i> Machine<'i> {
 }
 
 /// The state that the machine is in.
-fn sorted<'i>(whole: Whole<'i>) -> Machine<'i>
-    ensures { whole_of result ≡ whole.entry }
+fn sorted<'i>(whole: Box<Whole<'i>>) -> Machine<'i>
+    ensures whole { whole_of result ≡ whole.entry.value }
+    ensures sorted { IsOf result }
 {
     if whole.keeps_supervisor() {
         Machine::Outer(OuterMachine { whole })
     } else if whole.is_at_body() {
+        whole.stands_at_body();
         Machine::Nested(NestedMachine { whole })
     } else {
+        whole.stands_in_gates();
         Machine::Gate(GateMachine { whole })
     }
 }
 
 /// The step of a machine for which no body is to run, with what it shows.
-pub(crate) fn step<'i>(whole: Whole<'i>, plan: &Plan) -> (Machine<'i>, Seen)
-    requires no_body { enters_body whole.state.processor ≡ false }
-    requires left { is_rest (move_of plan.now whole.state) ≡ false }
-    requires turns { whole.state.turns < 4294967296 }
-    ensures next { whole_of result.0 ≡ next_whole plan.now whole.entry }
-    ensures seen { result.1 ≡ seen_by (move_of plan.now whole.entry.state) whole.entry.state }
-    ensures safe { IsSafe whole.entry.opening whole.entry.state }
+pub(crate) fn step<'i>(whole: Box<Whole<'i>>, plan: &Plan) -> (Machine<'i>, Seen)
+    requires no_body { enters_body whole.value.state.processor ≡ false }
+    requires left { is_rest (move_of plan.now whole.value.state) ≡ false }
+    requires turns { whole.value.state.turns < 4294967296 }
+    ensures next { whole_of result.0 ≡ next_whole plan.now whole.entry.value }
+    ensures seen { result.1 ≡ seen_by (move_of plan.now whole.entry.value.state) whole.entry.value.state }
+    ensures safe { IsSafe whole.entry.value.opening whole.entry.value.state }
+    ensures sorted { IsOf result.0 }
 {
     whole.is_safe();
     let mut whole = whole;

@@ -1,8 +1,9 @@
 //! The machine at the nested kernel's body: WP is clear.
 
-ghost use Rattle.std.specs.Prelude.{◌≡◌, ◌<◌, true, length, ◌*◌};
+ghost use Rattle.std.specs.Prelude.{◌≡◌, ◌<◌, false, true, length, ◌*◌};
 ghost use Rattle.nk_body.specs.NestedRecord.{AreBooks};
 ghost use Rattle.cpu_step.specs.Turns.{enters_body};
+ghost use Rattle.gate_state.specs.MachineOf.{IsAtBody, IsInGates};
 ghost use Rattle.gate_state.specs.MachineSteps.{called_in, move_of};
 ghost use Rattle.gate_state.specs.SafeStates.{IsSafe};
 ghost use Rattle.gate_state.specs.WholeMachine.{is_rest, served_whole};
@@ -15,7 +16,7 @@ use std::marker::Model;
 
 /// The machine with WP clear at the body's place: the one state from which what the nested kernel guards changes.
 pub struct NestedMachine<'i> {
-    pub(crate) whole: Whole<'i>,
+    pub(crate) whole: Box<Whole<'i>>,
 }
 
 impl<'i> Model for NestedMachine<'i> {
@@ -25,9 +26,9 @@ impl<'i> Model for NestedMachine<'i> {
 
     ghost Value = { WholeState };
 
-    ghost view = { λ m. m.whole };
+    ghost view = { λ m. m.whole.value };
 
-    ghost invariant = { λ m. enters_body m.whole.state.processor ≡ true };
+    ghost invariant = { λ m. enters_body m.whole.value.state.processor ≡ true };
 }
 
 impl<'i> NestedMachine<'i> {
@@ -38,17 +39,24 @@ impl<'i> NestedMachine<'i> {
         ensures called { result.1 ≡ called_in self.entry.state }
         ensures body { enters_body self.entry.state.processor ≡ true }
         ensures safe { IsSafe self.entry.opening self.entry.state }
+        ensures at_body { IsAtBody self.entry.state.processor }
+        ensures in_gates { IsInGates result.0.state.processor }
     {
         let NestedMachine { mut whole } = self;
+        whole.stands_at_body();
         whole.is_safe();
         let called = whole.serve();
+        whole.stands_in_gates();
         (GateMachine { whole }, called)
     }
 
     /// Whether the machine rests for good. At the body the machine never rests.
     pub fn done(&self, plan: &Plan) -> bool
-        ensures { result ≡ is_rest (move_of plan.now self.now.state) }
+        ensures done { result ≡ is_rest (move_of plan.now self.now.state) }
+        ensures never { result ≡ false }
+        ensures at_body { IsAtBody self.now.state.processor }
     {
+        self.whole.stands_at_body();
         self.whole.is_serving(plan);
         false
     }
@@ -69,9 +77,11 @@ impl<'i> NestedMachine<'i> {
         ensures ledger { result.kernel.ledger ≡ self.entry.state.ledger }
         ensures books { AreBooks result.kernel result.mem }
         ensures safe { IsSafe self.entry.opening self.entry.state }
+        ensures at_body { IsAtBody self.entry.state.processor }
     {
         let NestedMachine { whole } = self;
+        whole.stands_at_body();
         whole.is_safe();
-        whole.finish()
+        Box::into_inner(whole).finish()
     }
 }

@@ -8,7 +8,7 @@ ghost use Rattle.byte_scanner.specs.FirstFound.{first_found};
 ghost use Rattle.nk_body.specs.NestedRecord.{AreBooks};
 ghost use Rattle.nk_body.specs.SourceWords.{opening_ledger};
 ghost use Rattle.cpu_step.specs.Turns.{enters_body};
-ghost use Rattle.gate_state.specs.MachineOf.{whole_of};
+ghost use Rattle.gate_state.specs.MachineOf.{IsOf, IsOuter, whole_of};
 ghost use Rattle.gate_state.specs.MachineOpening.{opening_state};
 ghost use Rattle.gate_state.specs.MachineSteps.{move_of, seen_by};
 ghost use Rattle.gate_state.specs.SafeStates.{IsSafe};
@@ -34,7 +34,7 @@ const MOST_READ: usize = 65_536;
 
 /// The machine with WP set: the outer kernel runs, or the gates do before they clear WP and after they set it.
 pub struct OuterMachine<'i> {
-    pub(crate) whole: Whole<'i>,
+    pub(crate) whole: Box<Whole<'i>>,
 }
 
 impl<'i> Model for OuterMachine<'i> {
@@ -44,9 +44,9 @@ impl<'i> Model for OuterMachine<'i> {
 
     ghost Value = { WholeState };
 
-    ghost view = { λ m. m.whole };
+    ghost view = { λ m. m.whole.value };
 
-    ghost invariant = { λ m. wp_of m.whole.state.processor.control.cr0 ≡ true };
+    ghost invariant = { λ m. wp_of m.whole.value.state.processor.control.cr0 ≡ true };
 }
 
 impl<'i> OuterMachine<'i> {
@@ -73,6 +73,7 @@ impl<'i> OuterMachine<'i> {
         ensures state { IfOk result (λ machine. machine.state
             ≡ opening_state (record { image = image.now; frames = layout.now.frames }) input.items) }
         ensures source { IfOk result (λ machine. machine.source ≡ []) }
+        ensures outer { IfOk result (λ machine. IsOuter machine.state.processor) }
     {
         safety_law();
         clean_image_law(image);
@@ -95,7 +96,13 @@ impl<'i> OuterMachine<'i> {
             image,
             layout,
         };
-        Ok(OuterMachine { whole })
+        match Box::new(alloc, whole) {
+            Ok(whole) => Ok(OuterMachine { whole }),
+            Err(failed) => {
+                drop(failed.value.finish());
+                Err(NoMemory)
+            }
+        }
     }
 
     /// One step: an event of the plan, or a turn; with what it shows.
@@ -106,6 +113,8 @@ impl<'i> OuterMachine<'i> {
         ensures seen { result.1 ≡ seen_by (move_of plan.now self.entry.state) self.entry.state }
         ensures no_body { enters_body self.entry.state.processor ≡ false }
         ensures safe { IsSafe self.entry.opening self.entry.state }
+        ensures outer { IsOuter self.entry.state.processor }
+        ensures sorted { IsOf result.0 }
     {
         let OuterMachine { whole } = self;
         step(whole, plan)
@@ -113,7 +122,8 @@ impl<'i> OuterMachine<'i> {
 
     /// Whether the machine is halted for good: no vector wakes it, and no event of the plan is left.
     pub fn done(&self, plan: &Plan) -> bool
-        ensures { result ≡ is_rest (move_of plan.now self.now.state) }
+        ensures done { result ≡ is_rest (move_of plan.now self.now.state) }
+        ensures outer { IsOuter self.now.state.processor }
     {
         matches!(self.whole.next_move(plan), Move::Rest)
     }
@@ -134,9 +144,10 @@ impl<'i> OuterMachine<'i> {
         ensures ledger { result.kernel.ledger ≡ self.entry.state.ledger }
         ensures books { AreBooks result.kernel result.mem }
         ensures safe { IsSafe self.entry.opening self.entry.state }
+        ensures outer { IsOuter self.entry.state.processor }
     {
         let OuterMachine { whole } = self;
         whole.is_safe();
-        whole.finish()
+        Box::into_inner(whole).finish()
     }
 }

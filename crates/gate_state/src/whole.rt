@@ -6,6 +6,7 @@ ghost use Rattle.nk_bits.specs.Accesses.{wp_of};
 ghost use Rattle.cpu_step.specs.Turns.{enters_body};
 ghost use Rattle.nk_body.specs.NestedRecord.{AreBooks};
 ghost use Rattle.gate_state.specs.EventMoves.{IfTaken};
+ghost use Rattle.gate_state.specs.MachineOf.{IsAtBody, IsInGates};
 ghost use Rattle.gate_state.specs.MachineSteps.{after_event, after_turn, answered_with, call_in, called_in, move_by, move_of, seen_by, shown_by_turn, turn_of, waits};
 ghost use Rattle.gate_state.specs.SafeStates.{IsSafe, TakesTurn};
 ghost use Rattle.gate_state.specs.WholeMachine.{is_rest, next_whole, served_whole};
@@ -170,6 +171,25 @@ impl<'i> Whole<'i> {
         requires { enters_body self.now.state.processor ≡ true }
         ensures { is_rest (move_of plan.now self.now.state) ≡ false }
     {
+        let _taken = self.taken;
+    }
+
+    /// With WP clear, where no body is to run, the supervisor stands in the gates.
+    pub fn stands_in_gates(&self)
+        requires clear { wp_of self.now.state.processor.control.cr0 ≡ false }
+        requires no_body { enters_body self.now.state.processor ≡ false }
+        ensures { IsInGates self.now.state.processor }
+    {
+        steps_law();
+        let _taken = self.taken;
+    }
+
+    /// Where the body is to run, the supervisor stands at its place.
+    pub fn stands_at_body(&self)
+        requires { enters_body self.now.state.processor ≡ true }
+        ensures { IsAtBody self.now.state.processor }
+    {
+        steps_law();
         let _taken = self.taken;
     }
 

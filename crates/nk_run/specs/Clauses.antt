@@ -10,7 +10,9 @@ use Rattle.byte_scanner.specs.FirstFound.{first_found}
 use Rattle.irq_plan.specs.declared.event.Event.{Event}
 use Rattle.irq_plan.specs.PlanFile.{plan_of}
 use Rattle.boot_map.specs.Division.{need}
+use Rattle.gate_state.specs.AnyVector.{DeliversAny}
 use Rattle.gate_state.specs.GateCalls.{IsCalledThrough, IsCalling}
+use Rattle.gate_state.specs.GuardedStates.{IsGuarded}
 use Rattle.gate_state.specs.MachineOpening.{opening_state}
 use Rattle.gate_state.specs.MachineStates.{Opening, nested_of}
 use Rattle.gate_state.specs.MachineSteps.{calls, made_by_all, state}
@@ -171,7 +173,11 @@ IsDone seen status = IfTold seen.shelf.before.files (λ files.
 pub record IsSafeRun (plan : List Event) (o : Opening) (input : List ℕ) : Type 0 where
   -- each of its states is safe
   pub safe : (k : ℕ) → IsSafe o (state plan (opening_state o input) k)
-  -- and what the nested kernel guards in it is what the accepted calls made of the opening's record
+  -- and has the invariant
+  pub guarded : (k : ℕ) → IsGuarded o (state plan (opening_state o input) k)
+  -- each vector can be delivered in it
+  pub delivers : (k : ℕ) → DeliversAny (state plan (opening_state o input) k)
+  -- what the nested kernel guards in it is what the accepted calls made of the opening's record
   pub nested : (k : ℕ) → nested_of (state plan (opening_state o input) k)
       ≡ made_by_all (nested_of (opening_state o input)) (calls plan (opening_state o input) k)
   -- a call that is made through the gates with interrupts off is answered

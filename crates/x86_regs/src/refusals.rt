@@ -61,6 +61,7 @@ fn has_no_condition(op: Op) -> bool
         Op::Mov | Op::Movsxd | Op::Movzx8 | Op::Movzx16 | Op::Movsx8 | Op::Movsx16 => true,
         Op::Set(_) | Op::Lea | Op::Push | Op::Pop => true,
         Op::J(_) | Op::Jmp | Op::Call | Op::Ret => true,
+        Op::Loop | Op::Loope | Op::Loopne | Op::Jrcxz => true,
         _ => false,
     }
 }

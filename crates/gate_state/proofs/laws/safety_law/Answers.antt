@@ -16,6 +16,9 @@ returns c =
     } in
     record {
       opening = c.steps_law.ensures.opening;
+      guarded = λ o input plan k admitted in_form.
+          state_guarded o (steps o admitted) plan in_form (opening_state o input) k (c.steps_law.ensures.opening o input admitted);
+      delivers = c.steps_law.ensures.delivers;
       safe = λ o input plan k admitted in_form.
           c.steps_law.ensures.safe o (state plan (opening_state o input) k) admitted
           (state_guarded o (steps o admitted) plan in_form (opening_state o input) k (c.steps_law.ensures.opening o input admitted));

@@ -1,13 +1,14 @@
 use Rattle.gate_state.specs.GuardedStates.{IsAdmitted, IsGuarded}
 use Rattle.gate_state.specs.MachineStates.{MachineState, Opening}
 use Rattle.gate_state.proofs.Assembly.{turn_facts}
-use Rattle.gate_state.proofs.BodyKept.{body_guarded, body_serves}
+use Rattle.gate_state.proofs.BodyKept.{body_guarded, body_serves, body_stands}
 use Rattle.gate_state.proofs.CallThrough.{called_through}
 use Rattle.gate_state.proofs.LowerLaws.{LowerLaws}
 use Rattle.gate_state.proofs.OpeningGuarded.{opening_guarded}
 use Rattle.gate_state.proofs.SceneProofs.{scene_laws}
 use Rattle.gate_state.proofs.ShownStates.{call_shown}
-use Rattle.gate_state.proofs.StatesKept.{event_guarded, guarded_safe, guarded_sound, turn_books, turn_guarded, turn_shows, turn_stays}
+use Rattle.gate_state.proofs.StatesKept.{event_guarded, guarded_delivers, guarded_safe, guarded_sound, turn_books, turn_guarded, turn_shows, turn_stays}
+use Rattle.gate_state.proofs.StatesOf.{at_body, in_gates}
 use Rattle.gate_state.proofs.TurnFacts.{TurnFacts}
 use Rattle.gate_state.proofs.laws.steps_law.Goals as goal
 
@@ -112,8 +113,11 @@ returns c =
       books = λ o s books admitted takes guarded same are. turn_books laws o admitted s guarded (facts o s admitted guarded) takes books same are;
       serves = λ o s admitted guarded. body_serves laws o s admitted guarded;
       safe = λ o s admitted guarded. guarded_safe laws o admitted s guarded (facts o s admitted guarded);
+      in_gates = λ o s admitted guarded clear outside. in_gates s.processor clear outside (guarded.window clear);
+      at_body = λ o s admitted guarded enters. at_body s.processor enters (guarded.window (body_stands s.processor enters).1);
       called = λ o s plan k admitted in_form guarded calling.
           called_through laws o admitted (λ ks are. turn_facts laws o ks (scene_laws laws o ks admitted are)) (body_guarded laws o admitted) plan s in_form k guarded calling;
+      delivers = λ o s admitted guarded. guarded_delivers laws o admitted s guarded (facts o s admitted guarded);
       sound = λ o s admitted guarded. guarded_sound laws o admitted s guarded;
       shown = λ o s admitted takes guarded. turn_shows laws o admitted s guarded (facts o s admitted guarded) takes;
       shown_call = λ o s admitted guarded few. call_shown laws o s guarded few;

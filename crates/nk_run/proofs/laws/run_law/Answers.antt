@@ -1,3 +1,5 @@
+use Rattle.gate_state.specs.MachineOpening.{opening_state}
+use Rattle.gate_state.specs.MachineSteps.{state}
 use Rattle.nk_run.proofs.SafeRuns.{replayed_where_run, safe_where_run}
 use Rattle.nk_run.proofs.laws.run_law.Goals as goal
 
@@ -5,6 +7,10 @@ pub returns-clause-safe : goal.returns-clause-safe
 returns-clause-safe c =
     safe_where_run c.pages_law.ensures c.clean_law.ensures c.plan_law.ensures (λ o input plan admitted planned_are. record {
       safe = λ k. c.safety_law.ensures.safe o input plan k admitted planned_are;
+      guarded = λ k. c.safety_law.ensures.guarded o input plan k admitted planned_are;
+      delivers = λ k.
+          c.safety_law.ensures.delivers o (state plan (opening_state o input) k) admitted
+          (c.safety_law.ensures.guarded o input plan k admitted planned_are);
       nested = λ k. c.safety_law.ensures.nested o input plan k admitted planned_are;
       called = λ n k. c.safety_law.ensures.called o input plan n k admitted planned_are;
     })
