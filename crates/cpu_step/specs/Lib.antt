@@ -2,6 +2,7 @@
 pub mod Processor
 pub mod InstructionFetch
 pub mod Turns
+pub mod TurnStores
 pub mod EventsTaken
 pub mod TranslationsLent
 -- Words of private clauses and proofs.

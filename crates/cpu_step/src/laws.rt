@@ -1,19 +1,43 @@
 //! What follows from the definitions, for those who say what a turn of the machine shows.
 
-ghost use Rattle.std.specs.Prelude.{ℕ, List, IfErr};
+ghost use Rattle.std.specs.Prelude.{◌≡◌, ◌≤◌, ℕ, List, IfErr, length};
 ghost use Rattle.nk_bits.specs.Accesses.{View};
 ghost use Rattle.nk_bits.specs.Translations.{Translations};
+ghost use Rattle.phys_mem.specs.Memory.{stored};
+ghost use Rattle.x86_decode.specs.declared.instruction.Decoded.{Decoded};
+ghost use Rattle.x86_decode.specs.Decoding.{Decodes};
+ghost use Rattle.x86_decode.specs.Reader.{decoded_of};
+ghost use Rattle.x86_decode.specs.Spelling.{AreBytes};
 ghost use Rattle.x86_regs.specs.EffectsKept.{IsSmallFault};
 ghost use Rattle.cpu_step.specs.InstructionFetch.{instruction_at};
+ghost use Rattle.cpu_step.specs.Processor.{Processor};
+ghost use Rattle.cpu_step.specs.TurnStores.{turn_stores};
+ghost use Rattle.cpu_step.specs.Turns.{turned};
 
 use nk_bits::access_law;
+use phys_mem::memory_law;
+use trap_unit::delivery_law;
+use x86_decode::decoding_law;
 use x86_regs::bound_law;
 
-/// The numbers of the fault of a fetch have 64 bits.
+/// The numbers of the fault of a fetch have 64 bits. The fetch goes by what the decoder computes of the bytes so far, at
+/// most fifteen: that is an answer which the relation of bytes and answers allows, and the only one.
 pub fn fetch_law()
-    ensures { (m : List ℕ) (view : View) (rip : ℕ) (tlb : Translations)
+    ensures right { (bytes : List ℕ) → AreBytes bytes → length bytes ≤ 15 → Decodes bytes (decoded_of bytes) }
+    ensures only { (bytes : List ℕ) (answer : Decoded) → AreBytes bytes → length bytes ≤ 15
+        → Decodes bytes answer → answer ≡ decoded_of bytes }
+    ensures small { (m : List ℕ) (view : View) (rip : ℕ) (tlb : Translations)
         → IfErr (instruction_at m view rip tlb).answer IsSmallFault }
 {
     access_law();
     bound_law();
+    decoding_law();
+}
+
+/// Memory after a turn is memory after the turn's stores.
+pub fn turn_stores_law()
+    ensures { (p : Processor) (m : List ℕ) → (turned p m).memory ≡ stored m (turn_stores p m) }
+{
+    memory_law();
+    delivery_law();
 }

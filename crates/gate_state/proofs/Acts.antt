@@ -1,6 +1,6 @@
 -- What an instruction asks of the processor keeps what a turn keeps: with WP set, where no control register and no table
 -- is loaded.
-use Rattle.std.proofs.Common.{◌≡◌, ◌⊎◌, ℕ, ◌+◌, ◌*◌, ◌<◌, Bool, true, false, List, refl, sym, subst, arith, inl, inr}
+use Rattle.std.proofs.Common.{◌≡◌, ◌⊎◌, ℕ, ◌+◌, ◌*◌, ◌<◌, Bool, true, false, List, [], refl, sym, subst, arith, inl, inr}
 use Rattle.std.specs.Prelude.{IfSome, Option, None, Some, Result, Ok, Err, not, ◌==◌, ◌&&◌, if◌then◌else◌}
 use Rattle.std.proofs.lemmas.Bool.{and_parts}
 use Rattle.std.proofs.lemmas.List.Elements.{All-filter}
@@ -15,6 +15,7 @@ use Rattle.port_bus.specs.PortWords.{byte_from, console_byte, input_after}
 use Rattle.x86_regs.specs.declared.delivery.Frame.{Frame}
 use Rattle.x86_regs.specs.declared.effects.Act.{Act}
 use Rattle.x86_regs.specs.declared.effects.Act.TheVariants as act
+use Rattle.x86_regs.specs.declared.faults.Fault.{Fault}
 use Rattle.x86_regs.specs.declared.faults.Fault.TheVariants as fault
 use Rattle.x86_regs.specs.declared.registers.Regs.{Regs}
 use Rattle.x86_regs.specs.EffectsKept.{AreRegisters, IsSmallAct, LoadsNothing}
@@ -22,6 +23,7 @@ use Rattle.trap_unit.specs.declared.shutdown.Shut.{Shut}
 use Rattle.trap_unit.specs.TrapDelivery.{interrupt_allowed}
 use Rattle.trap_unit.specs.TrapReturn.{at_return, may_return, returned, selector}
 use Rattle.cpu_step.specs.Processor.{Processor}
+use Rattle.cpu_step.specs.TurnStores.{act_stores, interrupt_stores, return_stores}
 use Rattle.cpu_step.specs.Turns.{acted, interrupted_by, ran, returned_by, shown, with_al}
 use Rattle.gate_state.specs.MachineStates.{Opening}
 use Rattle.gate_state.specs.RespectedKinds.{respects}
@@ -85,11 +87,11 @@ chosen false x y z e = inr (refl, e)
 module _ (o : Opening) (ks : List Kind) (facts : TurnFacts o ks) (storable : is_storable (kind_of ks 3) ≡ true) where
   -- a byte that goes to the console, or is lost
   shown_kept : (wp : Bool) (byte : Option ℕ) (p : Processor) (m : List ℕ) → IfSome byte (λ b. b < 256)
-      → IsReady o ks p m → wp_of p.control.cr0 ≡ true → Kept o ks wp p.control.root m (shown byte p m)
+      → IsReady o ks p m → wp_of p.control.cr0 ≡ true → Kept o ks wp p.control.root m (shown byte p m) []
   shown_kept wp None p m small ready set =
       ran_kept o ks wp p m ready (set_never o ks facts storable (wp_of p.control.cr0) set)
   shown_kept wp (Some byte) p m small ready set =
-      let kept : Kept o ks wp p.control.root m (ran p m) = ran_kept o ks wp p m ready (set_never o ks facts storable (wp_of p.control.cr0) set) in
+      let kept : Kept o ks wp p.control.root m (ran p m) [] = ran_kept o ks wp p m ready (set_never o ks facts storable (wp_of p.control.cr0) set) in
       record {
         control = kept.control;
         same_root = kept.same_root;
@@ -97,7 +99,6 @@ module _ (o : Opening) (ks : List Kind) (facts : TurnFacts o ks) (storable : is_
         window = kept.window;
         runs = λ e. absurd (cc);
         shows = small;
-        stores = kept.stores;
         memory_is = kept.memory_is;
         are = kept.are;
         places = kept.places;
@@ -107,19 +108,19 @@ module _ (o : Opening) (ks : List Kind) (facts : TurnFacts o ks) (storable : is_
   interrupted_kept : (wp : Bool) (allowed : Result Bool Shut) (vector : ℕ) (before : Regs) (p : Processor) (m : List ℕ)
       → vector < 256 → (allowed ≡ Ok false) ⊎ ((allowed ≡ Ok true) × (vector < 48))
       → IsReady o ks p m → IsReady o ks (record p { regs = before }) m → wp_of p.control.cr0 ≡ true
-      → Kept o ks wp p.control.root m (interrupted_by allowed vector before p m)
+      → Kept o ks wp p.control.root m (interrupted_by allowed vector before p m) (interrupt_stores allowed vector before p m)
   interrupted_kept wp allowed vector before p m few (inl refused) ready old set =
-      subst (λ (a : Result Bool Shut). Kept o ks wp p.control.root m (interrupted_by a vector before p m)) (sym refused)
+      subst (λ (a : Result Bool Shut). Kept o ks wp p.control.root m (interrupted_by a vector before p m) (interrupt_stores a vector before p m)) (sym refused)
       (raise_kept o ks facts storable wp (record p { regs = before }) m (fault.General (8 * vector + 2))
       (omega (arith, few)) old set)
   interrupted_kept wp allowed vector before p m few (inr asked) ready old set =
-      subst (λ (a : Result Bool Shut). Kept o ks wp p.control.root m (interrupted_by a vector before p m)) (sym asked.0)
+      subst (λ (a : Result Bool Shut). Kept o ks wp p.control.root m (interrupted_by a vector before p m) (interrupt_stores a vector before p m)) (sym asked.0)
       (trap_kept o ks facts storable wp p m vector None ready asked.1 tt
       (set_never o ks facts storable (wp_of p.control.cr0) set))
 
   -- a return: the CPL is 3, or 0
   returns_ok : (wp : Bool) (regs before : Regs) (frame : Frame) (p : Processor) (m : List ℕ) → IsReady o ks p m → IsReady o ks (record p { regs = before }) m
-      → wp_of p.control.cr0 ≡ true → AreRegisters regs → Kept o ks wp p.control.root m (returned_by (returned regs frame) before p m)
+      → wp_of p.control.cr0 ≡ true → AreRegisters regs → Kept o ks wp p.control.root m (returned_by (returned regs frame) before p m) (return_stores (returned regs frame) before p m)
   unfolding returned
   returns_ok wp regs before frame p m ready old set are =
       return_choice wp (may_return regs.cpl (selector frame.cs) (selector frame.ss) && is_canonical frame.rip) (at_return regs frame) before p m ready old set
@@ -131,7 +132,8 @@ module _ (o : Opening) (ks : List Kind) (facts : TurnFacts o ks) (storable : is_
 
       return_choice : (wp : Bool) (b : Bool) (after before : Regs) (p : Processor) (m : List ℕ) → IsReady o ks p m → IsReady o ks (record p { regs = before }) m → wp_of p.control.cr0 ≡ true
           → (b ≡ true → AreRegisters after × ((after.cpl ≡ 0) ⊎ (after.cpl ≡ 3)))
-          → Kept o ks wp p.control.root m (returned_by (if b then Ok after else Err (fault.General 0)) before p m)
+          → let answer : Result Regs Fault = if b then Ok after else Err (fault.General 0) in
+          Kept o ks wp p.control.root m (returned_by answer before p m) (return_stores answer before p m)
       return_choice wp true after before p m ready old set is =
           ran_kept o ks wp (record p { regs = after }) m (with_registers o ks p m after ready (is refl).0 (is refl).1) (set_never o ks facts storable (wp_of p.control.cr0) set)
       return_choice wp false after before p m ready old set is =
@@ -144,7 +146,7 @@ module _ (o : Opening) (ks : List Kind) (facts : TurnFacts o ks) (storable : is_
   -- any act that loads neither a control register nor a table
   pub act_kept : (wp : Bool) (a : Act) (before : Regs) (p : Processor) (m : List ℕ) → LoadsNothing a → IsSmallAct a
       → IsReady o ks p m → IsReady o ks (record p { regs = before }) m
-      → wp_of p.control.cr0 ≡ true → Kept o ks wp p.control.root m (acted a before p m)
+      → wp_of p.control.cr0 ≡ true → Kept o ks wp p.control.root m (acted a before p m) (act_stores a before p m)
   act_kept wp act.Quiet before p m calm small ready old set =
       ran_kept o ks wp p m ready (set_never o ks facts storable (wp_of p.control.cr0) set)
   act_kept wp (act.Out byte port) before p m calm small ready old set =

@@ -17,6 +17,7 @@ use Rattle.x86_regs.specs.Operands.{wrapped}
 use Rattle.trap_unit.specs.declared.delivery.Entry.{Entry}
 use Rattle.trap_unit.specs.declared.gate.Gate.{Gate}
 use Rattle.trap_unit.specs.declared.shutdown.Shut.{Shut}
+use Rattle.trap_unit.specs.DeliveryStores.{delivery_stores, frame_stores, pushes_stores}
 use Rattle.trap_unit.specs.TrapDelivery.{Delivered, Pushed, arrived, at_handler, codes_of, delivered, entered, entry_found, frame_values, gate_address, gate_found, gate_level, gate_offset, gate_read, if_good, interrupt_allowed, is_good, passes_limit, pushes, read_at, shut}
 use Rattle.page_desc.specs.PageTables.{is_kept}
 use Rattle.gate_state.specs.MachineOpening.{opening_tables}
@@ -30,14 +31,13 @@ use Rattle.gate_state.proofs.DeliveryReads.{Gives, read_gives, then_gives}
 use Rattle.gate_state.proofs.DeliveryPushes.{IsPushed, pushes_give, stores_kept as kept_by}
 
 pub record IsDelivery (o : Opening) (ks : List Kind) (m : List ℕ) (regs : Regs) (vector : ℕ) (code : Option ℕ)
-    (it : Delivered) : Type 0 where
+    (it : Delivered) (ws : List (ℕ × ℕ)) : Type 0 where
   pub made : it.answer ≡ Ok tt
   pub regs_are : it.regs ≡ at_handler regs (0xFFFFFF8000001040 + 8 * vector)
       (0xFFFFFF8000004000 - 8 * (5 + length (codes_of code)))
-  pub stores : List (ℕ × ℕ)
-  pub memory_is : it.memory ≡ stored m stores
-  pub places : All (λ w. w.0 / 4096 ≡ 3) stores
-  pub bytes : All (λ w. w.1 < 256) stores
+  pub memory_is : it.memory ≡ stored m ws
+  pub places : All (λ w. w.0 / 4096 ≡ 3) ws
+  pub bytes : All (λ w. w.1 < 256) ws
   pub pass : AllPass (respects o ks) it.tlb
 
 -- INT n asks first: it never shuts the machine down, and is allowed for the 48 vectors alone
@@ -60,17 +60,16 @@ told false few is = inl refl
 
 -- what comes of the pushes comes of the delivery
 arrived_gives : (o : Opening) (ks : List Kind) (m : List ℕ) (regs : Regs) (handler top vector : ℕ) (code : Option ℕ)
-    (last : Pushed)
+    (last : Pushed) (ws : List (ℕ × ℕ))
     → handler ≡ 0xFFFFFF8000001040 + 8 * vector → top ≡ 0xFFFFFF8000004000 - 8 * (5 + length (codes_of code))
-    → IsPushed o ks m top last
-    → IsDelivery o ks m regs vector code (arrived regs handler last.answer last.memory last.tlb)
-arrived_gives o ks m regs handler top vector code last leads ends done =
-    subst (λ (r : Result ℕ Shut). IsDelivery o ks m regs vector code (arrived regs handler r last.memory last.tlb))
+    → IsPushed o ks m top last ws
+    → IsDelivery o ks m regs vector code (arrived regs handler last.answer last.memory last.tlb) ws
+arrived_gives o ks m regs handler top vector code last ws leads ends done =
+    subst (λ (r : Result ℕ Shut). IsDelivery o ks m regs vector code (arrived regs handler r last.memory last.tlb) ws)
     (sym done.answers)
     (record {
       made = refl;
       regs_are = ap (λ (x : ℕ × ℕ). at_handler regs x.0 x.1) (λ j. (leads j, ends j));
-      stores = done.stores;
       memory_is = done.memory_is;
       places = done.places;
       bytes = done.bytes;
@@ -147,25 +146,26 @@ module _ (laws : LowerLaws) (o : Opening) (ks : List Kind) (scenes : SceneLaws o
     entered_gives : (regs : Regs) (vector : ℕ) (code : Option ℕ) (tlb : Translations) (handler top : ℕ)
         → handler ≡ 0xFFFFFF8000001040 + 8 * vector → top ≡ 0xFFFFFF8000004000 → AllPass (respects o ks) tlb
         → IsDelivery o ks m regs vector code (entered regs control code (Ok (record { handler = handler; top = top }))
-        m tlb)
+        m tlb) (frame_stores regs control code (Ok (record { handler = handler; top = top })) m tlb)
     entered_gives regs vector code tlb handler top leads stands pass =
         let values : List ℕ = frame_values regs code in
         let count : length values ≡ 5 + length (codes_of code) = omega arith in
         let few : length (codes_of code) ≤ 1 = few_codes code in
         arrived_gives o ks m regs handler (top - 8 * length values) vector code (pushes control values top m tlb)
-        leads (omega (arith, count, stands))
+        (pushes_stores control values top m tlb) leads (omega (arith, count, stands))
         (pushes_give laws o ks scenes control values top m tlb scene pass (omega (arith, count, few, stands))
         (omega (arith, stands)))
 
     delivers_here : (regs : Regs) (vector : ℕ) (code : Option ℕ) (tlb : Translations) → AllPass (respects o ks) tlb
         → vector < 48
         → IsDelivery o ks m regs vector code (delivered regs control opening_tables vector code m tlb)
-    unfolding delivered
+        (delivery_stores regs control opening_tables vector code m tlb)
+    unfolding delivered delivery_stores
     delivers_here regs vector code tlb pass few =
         let entry : Outcome Shut Entry = entry_found control opening_tables vector m tlb in
         let gives = entry_gives vector tlb few pass in
         subst (λ (r : Result Entry Shut). IsDelivery o ks m regs vector code
-        (entered regs control code r m entry.tlb)) (sym gives.answers)
+        (entered regs control code r m entry.tlb) (frame_stores regs control code r m entry.tlb)) (sym gives.answers)
         (entered_gives regs vector code entry.tlb (gate_offset (laid_gate vector))
         (number_from idt_and_tss_byte 8 1060 / 16 * 16)
         (gate_leads vector few).1 (ap (λ x. x / 16 * 16) stack_is) gives.pass)
@@ -209,8 +209,10 @@ module _ (laws : LowerLaws) (o : Opening) (ks : List Kind) (scenes : SceneLaws o
       (tlb : Translations)
       → IsScene o ks m control → tables ≡ opening_tables → AllPass (respects o ks) tlb → vector < 48
       → IsDelivery o ks m regs vector code (delivered regs control tables vector code m tlb)
+      (delivery_stores regs control tables vector code m tlb)
   delivers m control tables regs vector code tlb scene same pass few =
-      subst (λ t. IsDelivery o ks m regs vector code (delivered regs control t vector code m tlb)) (sym same)
+      subst (λ t. IsDelivery o ks m regs vector code (delivered regs control t vector code m tlb)
+      (delivery_stores regs control t vector code m tlb)) (sym same)
       (delivers_here m control scene regs vector code tlb pass few)
 
   pub asks : (m : List ℕ) (control : Control) (tables : Tables) (cpl vector : ℕ) (tlb : Translations)

@@ -17,6 +17,7 @@ use Rattle.boot_map.specs.KernelSlot.{slot_leaf, slot_start, writable}
 use Rattle.page_walk.specs.MemoryAccess.{stores_at, view_of, written}
 use Rattle.x86_regs.specs.Operands.{lowered}
 use Rattle.trap_unit.specs.declared.shutdown.Shut.{Shut}
+use Rattle.trap_unit.specs.DeliveryStores.{push_stores, pushes_stores, stores_found, stores_on}
 use Rattle.trap_unit.specs.TrapDelivery.{Pushed, made_at, pushed, pushed_on, pushes}
 use Rattle.gate_state.specs.MachineStates.{Opening}
 use Rattle.gate_state.specs.RespectedKinds.{respects}
@@ -25,13 +26,12 @@ use Rattle.gate_state.proofs.Scene.{AreStores, IsScene, SceneLaws, scene_stored}
 use Rattle.gate_state.proofs.SceneProofsWalks.{kind_is}
 use Rattle.gate_state.proofs.DeliveryReads.{stack_leaf, whole_part}
 
--- memory after stores on the trap stack
-pub record IsPushed (o : Opening) (ks : List Kind) (m : List ℕ) (last : ℕ) (it : Pushed) : Type 0 where
+-- memory after these stores, on the trap stack alone
+pub record IsPushed (o : Opening) (ks : List Kind) (m : List ℕ) (last : ℕ) (it : Pushed) (ws : List (ℕ × ℕ)) : Type 0 where
   pub answers : it.answer ≡ Ok last
-  pub stores : List (ℕ × ℕ)
-  pub memory_is : it.memory ≡ stored m stores
-  pub places : All (λ w. w.0 / 4096 ≡ 3) stores
-  pub bytes : All (λ w. w.1 < 256) stores
+  pub memory_is : it.memory ≡ stored m ws
+  pub places : All (λ w. w.0 / 4096 ≡ 3) ws
+  pub bytes : All (λ w. w.1 < 256) ws
   pub pass : AllPass (respects o ks) it.tlb
 
 -- the stores of an access on one page are those of its number
@@ -71,8 +71,8 @@ module _ (laws : LowerLaws) (o : Opening) (ks : List Kind) (scenes : SceneLaws o
   -- a push at this address
   push_at : (control : Control) (value top va : ℕ) (m : List ℕ) (tlb : Translations) → IsScene o ks m control
       → AllPass (respects o ks) tlb → lowered top 8 ≡ va → 0xFFFFFF8000003000 ≤ va → va + 8 ≤ 0xFFFFFF8000004000
-      → IsPushed o ks m va (pushed control value top m tlb)
-  unfolding pushed
+      → IsPushed o ks m va (pushed control value top m tlb) (push_stores control value top m tlb)
+  unfolding pushed push_stores
   push_at control value top va m tlb scene pass is low high =
       let at : ℕ = lowered top 8 in
       let page : page_of at ≡ slot_start + 3 = omega (arith, is, low, high) in
@@ -86,45 +86,46 @@ module _ (laws : LowerLaws) (o : Opening) (ks : List Kind) (scenes : SceneLaws o
       let found : (accessed (view_of m control 0) Write tlb at 8).answer ≡ Ok target =
       scenes.slot_accessed m control 0 Write tlb at 8 (writable trap_stack) scene pass fits from (omega arith) short
       laid refl in
-      record {
+      subst (λ (ws : List (ℕ × ℕ)). IsPushed o ks m va (pushed control value top m tlb) ws) (sym (ap (stores_found at 8 value) found))
+      (record {
         answers = ap (made_at at) found ∙ ap Ok is;
-        stores = stores_at at 8 target value;
         memory_is = ap (written m at 8 value) found;
         places = one_part (λ w. w.0 / 4096 ≡ 3) at 8 place value short
             (laws.store.within_frame 8 place value 3 (omega arith) (omega (arith, short)));
         bytes = one_part (λ w. w.1 < 256) at 8 place value short (laws.store.values 8 place value);
         pass = scenes.accessed_pass m control 0 Write tlb at 8 scene pass fits (omega arith);
-      }
+      })
 
   push_gives : (control : Control) (value top : ℕ) (m : List ℕ) (tlb : Translations) → IsScene o ks m control
       → AllPass (respects o ks) tlb → 0xFFFFFF8000003000 + 8 ≤ top → top ≤ 0xFFFFFF8000004000
-      → IsPushed o ks m (top - 8) (pushed control value top m tlb)
+      → IsPushed o ks m (top - 8) (pushed control value top m tlb) (push_stores control value top m tlb)
   push_gives control value top m tlb scene pass low high =
       push_at control value top (top - 8) m tlb scene pass (omega (arith, low, high)) (omega (arith, low))
       (omega (arith, low, high))
 
   -- a scene after a push
-  pushed_scene : (m : List ℕ) (control : Control) (last : ℕ) (it : Pushed) → IsScene o ks m control
-      → IsPushed o ks m last it → IsScene o ks it.memory control
-  pushed_scene m control last it scene done =
+  pushed_scene : (m : List ℕ) (control : Control) (last : ℕ) (it : Pushed) (ws : List (ℕ × ℕ)) → IsScene o ks m control
+      → IsPushed o ks m last it ws → IsScene o ks it.memory control
+  pushed_scene m control last it ws scene done =
       subst (λ l. IsScene o ks l control) (sym done.memory_is)
-      (scene_stored o ks scenes m control done.stores scene
-      (stores_kept m control done.stores done.places done.bytes scene))
+      (scene_stored o ks scenes m control ws scene (stores_kept m control ws done.places done.bytes scene))
 
   -- pushes after a push
   push_on : (m : List ℕ) (middle last : ℕ) (first : Pushed) (next : ℕ → List ℕ → Translations → Pushed)
-      → IsPushed o ks m middle first
-      → IsPushed o ks first.memory last (next middle first.memory first.tlb)
+      (ws : List (ℕ × ℕ)) (more : ℕ → List ℕ → Translations → List (ℕ × ℕ))
+      → IsPushed o ks m middle first ws
+      → IsPushed o ks first.memory last (next middle first.memory first.tlb) (more middle first.memory first.tlb)
       → IsPushed o ks m last (pushed_on first.answer first.memory first.tlb next)
-  push_on m middle last first next done later =
-      subst (λ (r : Result ℕ Shut). IsPushed o ks m last (pushed_on r first.memory first.tlb next)) (sym done.answers)
+      (ws ++ stores_on first.answer first.memory first.tlb more)
+  push_on m middle last first next ws more done later =
+      let then : List (ℕ × ℕ) = more middle first.memory first.tlb in
+      subst (λ (r : Result ℕ Shut). IsPushed o ks m last (pushed_on r first.memory first.tlb next)
+      (ws ++ stores_on r first.memory first.tlb more)) (sym done.answers)
       (record {
         answers = later.answers;
-        stores = done.stores ++ later.stores;
-        memory_is = later.memory_is ∙ ap (λ l. stored l later.stores) done.memory_is
-            ∙ sym (laws.store.append m done.stores later.stores);
-        places = All-append (λ w. w.0 / 4096 ≡ 3) done.stores later.stores done.places later.places;
-        bytes = All-append (λ w. w.1 < 256) done.stores later.stores done.bytes later.bytes;
+        memory_is = later.memory_is ∙ ap (λ l. stored l then) done.memory_is ∙ sym (laws.store.append m ws then);
+        places = All-append (λ w. w.0 / 4096 ≡ 3) ws then done.places later.places;
+        bytes = All-append (λ w. w.1 < 256) ws then done.bytes later.bytes;
         pass = later.pass;
       })
 
@@ -132,10 +133,9 @@ module _ (laws : LowerLaws) (o : Opening) (ks : List Kind) (scenes : SceneLaws o
   pub pushes_give : (control : Control) (values : List ℕ) (top : ℕ) (m : List ℕ) (tlb : Translations)
       → IsScene o ks m control
       → AllPass (respects o ks) tlb → 0xFFFFFF8000003000 + 8 * length values ≤ top → top ≤ 0xFFFFFF8000004000
-      → IsPushed o ks m (top - 8 * length values) (pushes control values top m tlb)
+      → IsPushed o ks m (top - 8 * length values) (pushes control values top m tlb) (pushes_stores control values top m tlb)
   pushes_give control [] top m tlb scene pass low high = record {
     answers = ap Ok (omega arith);
-    stores = [];
     memory_is = sym (stored_none m);
     places = All-nil (λ w. w.0 / 4096 ≡ 3);
     bytes = All-nil (λ w. w.1 < 256);
@@ -143,10 +143,12 @@ module _ (laws : LowerLaws) (o : Opening) (ks : List Kind) (scenes : SceneLaws o
   }
   pushes_give control (value ∷ values) top m tlb scene pass low high =
       let first : Pushed = pushed control value top m tlb in
-      let done : IsPushed o ks m (top - 8) first =
+      let made : List (ℕ × ℕ) = push_stores control value top m tlb in
+      let done : IsPushed o ks m (top - 8) first made =
       push_gives control value top m tlb scene pass (omega (arith, low)) high in
       let last : top - 8 - 8 * length values ≡ top - 8 * suc (length values) = omega (arith, low) in
-      push_on m (top - 8) (top - 8 * suc (length values)) first (pushes control values) done
-      (subst (λ at. IsPushed o ks first.memory at (pushes control values (top - 8) first.memory first.tlb)) last
-      (pushes_give control values (top - 8) first.memory first.tlb (pushed_scene m control (top - 8) first scene done)
+      push_on m (top - 8) (top - 8 * suc (length values)) first (pushes control values) made (pushes_stores control values) done
+      (subst (λ at. IsPushed o ks first.memory at (pushes control values (top - 8) first.memory first.tlb)
+      (pushes_stores control values (top - 8) first.memory first.tlb)) last
+      (pushes_give control values (top - 8) first.memory first.tlb (pushed_scene m control (top - 8) first made scene done)
       done.pass (omega (arith, low)) (omega (arith, high))))

@@ -23,6 +23,7 @@ use Rattle.x86_regs.specs.Effects.{effect_of}
 use Rattle.x86_regs.specs.EffectsKept.{AreRegisters, IsGranted, IsSmallAct, LoadsNothing}
 use Rattle.cpu_step.specs.declared.fetch.Fetched.{Fetched}
 use Rattle.cpu_step.specs.Processor.{Processor}
+use Rattle.cpu_step.specs.TurnStores.{act_stores, effect_stores, write_stores}
 use Rattle.cpu_step.specs.Turns.{acted, kept_in_cr0, memory_after}
 use Rattle.gate_state.specs.GateWindow.{IsGatePoint}
 use Rattle.gate_state.specs.GuardedStates.{IsCr0}
@@ -34,26 +35,21 @@ use Rattle.gate_state.proofs.LowerLaws.{AllPass, LowerLaws}
 use Rattle.gate_state.proofs.Ready.{IsReady, Kept, kept_behind, no_stores, ran_kept, stored_none}
 use Rattle.gate_state.proofs.Scene.{AreStores, IsScene, SceneLaws, scene_stored}
 use Rattle.gate_state.proofs.Acts.{act_kept, with_registers}
-use Rattle.gate_state.proofs.Traps.{trap_stores}
+use Rattle.gate_state.proofs.Traps.{on_trap_stack}
 use Rattle.gate_state.proofs.TurnFacts.{TurnFacts}
 use Rattle.gate_state.proofs.Window.{KeepsWindow, cr0_after}
-use Rattle.gate_state.proofs.Writes.{stack_stores, stores_bytes, write_stores}
+use Rattle.gate_state.proofs.Writes.{granted_stores, stack_stores, stores_bytes}
 
 -- a fact of an answer that is there
 pub ok_at : {A F : Type 0} (P : A → Type 0) (r : Result A F) (x : A) → r ≡ Ok x → IfOk r P → P x
 ok_at {A} {F} P r x is fact = let Q : Result A F → Type 0 = λ a. IfOk a P in subst Q is fact
 
--- the stores of an instruction's one write
-abbrev pub stores_of : Option Write → List (ℕ × ℕ)
-stores_of None = []
-stores_of (Some w) = stores_at w.va w.width w.target w.value
-
-pub memory_stored : (write : Option Write) (m : List ℕ) → memory_after write m ≡ stored m (stores_of write)
+pub memory_stored : (write : Option Write) (m : List ℕ) → memory_after write m ≡ stored m (write_stores write)
 memory_stored None m = sym (stored_none m)
 memory_stored (Some w) m = refl
 
 -- what holds of the stores of the write, if there is one
-write_cases : (Q : List (ℕ × ℕ) → Type 0) (P : Write → Type 0) (write : Option Write) → IfSome write P → Q [] → ((w : Write) → P w → Q (stores_at w.va w.width w.target w.value)) → Q (stores_of write)
+write_cases : (Q : List (ℕ × ℕ) → Type 0) (P : Write → Type 0) (write : Option Write) → IfSome write P → Q [] → ((w : Write) → P w → Q (stores_at w.va w.width w.target w.value)) → Q (write_stores write)
 write_cases Q P None fact none some = none
 write_cases Q P (Some w) fact none some = some w fact
 
@@ -87,12 +83,12 @@ module _ (laws : LowerLaws) (o : Opening) (ks : List Kind) (scenes : SceneLaws o
   -- such an act, where it leaves the supervisor at a gate point if it leaves WP clear
   cr0_kept : (wp : Bool) (a : Act) (before : Regs) (p : Processor) (m : List ℕ) → IsCr0Act a → IsReady o ks p m → IsCr0 (cr0_after a p.control.cr0)
       → (wp_of (cr0_after a p.control.cr0) ≡ false → IsGatePoint (record p { control = record p.control { cr0 = cr0_after a p.control.cr0 } }))
-      → Kept o ks wp p.control.root m (acted a before p m)
+      → Kept o ks wp p.control.root m (acted a before p m) (act_stores a before p m)
   cr0_kept wp a before p m (inl quiet) ready is point =
-      subst (λ (x : Act). Kept o ks wp p.control.root m (acted x before p m)) (sym quiet)
+      subst (λ (x : Act). Kept o ks wp p.control.root m (acted x before p m) (act_stores x before p m)) (sym quiet)
       (ran_kept o ks wp p m ready (subst (λ (x : Act). wp_of (cr0_after x p.control.cr0) ≡ false → IsGatePoint (record p { control = record p.control { cr0 = cr0_after x p.control.cr0 } })) quiet point))
   cr0_kept wp a before p m (inr loads) ready is point =
-      subst (λ (x : Act). Kept o ks wp p.control.root m (acted x before p m)) (sym loads.1)
+      subst (λ (x : Act). Kept o ks wp p.control.root m (acted x before p m) (act_stores x before p m)) (sym loads.1)
       (ran_kept o ks wp (record p { control = record p.control { cr0 = kept_in_cr0 loads.0 } }) m
       (with_cr0 p m (kept_in_cr0 loads.0) ready (subst (λ (x : Act). IsCr0 (cr0_after x p.control.cr0)) loads.1 is))
       (subst (λ (x : Act). wp_of (cr0_after x p.control.cr0) ≡ false → IsGatePoint (record p { control = record p.control { cr0 = cr0_after x p.control.cr0 } })) loads.1 point))
@@ -115,10 +111,10 @@ module _ (laws : LowerLaws) (o : Opening) (ks : List Kind) (scenes : SceneLaws o
       }
 
   -- the processor and memory behind the write
-  behind : (p : Processor) (m : List ℕ) (tlb : Translations) (effect : Effect) → IsReady o ks p m → AllPass (respects o ks) tlb → IsMade p m effect → AreStores ks (stores_of effect.write)
+  behind : (p : Processor) (m : List ℕ) (tlb : Translations) (effect : Effect) → IsReady o ks p m → AllPass (respects o ks) tlb → IsMade p m effect → AreStores ks (write_stores effect.write)
       → IsReady o ks (record p { regs = effect.regs; tlb = tlb }) (memory_after effect.write m)
   behind p m tlb effect ready pass done are =
-      let scene : IsScene o ks (memory_after effect.write m) p.control = subst (λ (x : List ℕ). IsScene o ks x p.control) (sym (memory_stored effect.write m)) (scene_stored o ks scenes m p.control (stores_of effect.write) ready.scene are) in
+      let scene : IsScene o ks (memory_after effect.write m) p.control = subst (λ (x : List ℕ). IsScene o ks x p.control) (sym (memory_stored effect.write m)) (scene_stored o ks scenes m p.control (write_stores effect.write) ready.scene are) in
       record {
         control = record {
           cr0 = ready.control.cr0;
@@ -137,44 +133,47 @@ module _ (laws : LowerLaws) (o : Opening) (ks : List Kind) (scenes : SceneLaws o
   -- an instruction of the gates, with WP clear
   pub window_kept : (p : Processor) (m : List ℕ) (tlb : Translations) (effect : Effect) → IsReady o ks p m → AllPass (respects o ks) tlb → IsMade p m effect → KeepsWindow p effect
       → (wp : Bool) → Kept o ks wp p.control.root m (acted effect.act p.regs (record p { regs = effect.regs; tlb = tlb }) (memory_after effect.write m))
+      (effect_stores (Ok effect) p m tlb)
   window_kept p m tlb effect ready pass done keeps wp =
       let view = view_of m p.control p.regs.cpl in
-      let places : All (λ (s : ℕ × ℕ). s.0 / 4096 ≡ 3) (stores_of effect.write) =
+      let places : All (λ (s : ℕ × ℕ). s.0 / 4096 ≡ 3) (write_stores effect.write) =
       write_cases (λ ws. All (λ (s : ℕ × ℕ). s.0 / 4096 ≡ 3) ws) (λ w. IsGranted view (respects o ks) (length m) w × ((page_of w.va ≡ slot_start + 3) × (crosses w.va w.width ≡ false))) effect.write
       (both_of (IsGranted view (respects o ks) (length m)) (λ w. (page_of w.va ≡ slot_start + 3) × (crosses w.va w.width ≡ false)) effect.write done.granted keeps.write_is)
       (All-nil (λ (s : ℕ × ℕ). s.0 / 4096 ≡ 3))
       (λ w both. stack_stores laws o ks scenes view (length m) w both.0 both.1.0 both.1.1 (stack_leaf o.image o.frames)) in
-      let bytes : All (λ (s : ℕ × ℕ). s.1 < 256) (stores_of effect.write) =
+      let bytes : All (λ (s : ℕ × ℕ). s.1 < 256) (write_stores effect.write) =
       write_cases (λ ws. All (λ (s : ℕ × ℕ). s.1 < 256) ws) (IsGranted view (respects o ks) (length m)) effect.write done.granted
       (All-nil (λ (s : ℕ × ℕ). s.1 < 256)) (λ w granted. stores_bytes laws w.va w.width w.target w.value) in
-      let are : AreStores ks (stores_of effect.write) = trap_stores o ks facts storable (stores_of effect.write) places bytes in
+      let are : AreStores ks (write_stores effect.write) = on_trap_stack o ks facts storable (write_stores effect.write) places bytes in
       let q : Processor = record p { regs = effect.regs; tlb = tlb } in
-      kept_behind o ks laws.store wp p.control.root m (memory_after effect.write m) (stores_of effect.write) _ (memory_stored effect.write m) are (λ clear. places)
+      kept_behind o ks laws.store wp p.control.root m (memory_after effect.write m) (write_stores effect.write) _ _ (memory_stored effect.write m) are (λ clear. places)
       (cr0_kept wp effect.act p.regs q (memory_after effect.write m) keeps.act_is (behind p m tlb effect ready pass done are) keeps.cr0_is
       (λ clear. let point : IsGatePoint (record p { regs = effect.regs; control = record p.control { cr0 = cr0_after effect.act p.control.cr0 } }) = keeps.window clear in
       record { offset = point.offset; stands = record { supervisor = point.stands.supervisor; runs = point.stands.runs; rip = point.stands.rip; point = point.stands.point; holds = point.stands.holds } }))
 
   -- with WP set the write goes to frames that may be stored to
-  set_stores : (p : Processor) (m : List ℕ) (effect : Effect) → IsMade p m effect → wp_of p.control.cr0 ≡ true → AreStores ks (stores_of effect.write)
+  set_stores : (p : Processor) (m : List ℕ) (effect : Effect) → IsMade p m effect → wp_of p.control.cr0 ≡ true → AreStores ks (write_stores effect.write)
   set_stores p m effect done set =
       write_cases (AreStores ks) (IsGranted (view_of m p.control p.regs.cpl) (respects o ks) (length m)) effect.write done.granted (no_stores ks)
-      (λ w granted. write_stores laws o ks (view_of m p.control p.regs.cpl) (length m) w granted set)
+      (λ w granted. granted_stores laws o ks (view_of m p.control p.regs.cpl) (length m) w granted set)
 
   -- any instruction with WP set
   pub set_kept : (p : Processor) (m : List ℕ) (tlb after : Translations) (it : Fetched) (effect : Effect) → IsReady o ks p m → AllPass (respects o ks) tlb → AllPass (respects o ks) after → IsWellFormed it.instr
       → wp_of p.control.cr0 ≡ true → p.halted ≡ false → (p.regs.cpl ≡ 0 → is_protected it.instr.op ≡ true → IsLoad p.regs.rip it)
       → (effect_of it.instr it.size p.regs p.control m tlb).answer ≡ Ok effect
       → Kept o ks true p.control.root m (acted effect.act p.regs (record p { regs = effect.regs; tlb = after }) (memory_after effect.write m))
+      (effect_stores (Ok effect) p m after)
   set_kept p m tlb after it effect ready pass pass_after formed set runs loads is =
       let done : IsMade p m effect = made p m tlb it effect ready pass formed is in
-      let are : AreStores ks (stores_of effect.write) = set_stores p m effect done set in
+      let are : AreStores ks (write_stores effect.write) = set_stores p m effect done set in
       let q : Processor = record p { regs = effect.regs; tlb = after } in
       let now : IsReady o ks q (memory_after effect.write m) = behind p m after effect ready pass_after done are in
-      kept_behind o ks laws.store true p.control.root m (memory_after effect.write m) (stores_of effect.write) _ (memory_stored effect.write m) are (λ never. absurd (false≢true (sym never)))
+      kept_behind o ks laws.store true p.control.root m (memory_after effect.write m) (write_stores effect.write) _ _ (memory_stored effect.write m) are (λ never. absurd (false≢true (sym never)))
       (by_op (is_protected it.instr.op) refl now)
     where
       by_op : (b : Bool) → is_protected it.instr.op ≡ b → IsReady o ks (record p { regs = effect.regs; tlb = after }) (memory_after effect.write m)
           → Kept o ks true p.control.root (memory_after effect.write m) (acted effect.act p.regs (record p { regs = effect.regs; tlb = after }) (memory_after effect.write m))
+          (act_stores effect.act p.regs (record p { regs = effect.regs; tlb = after }) (memory_after effect.write m))
       by_op false calm now =
           act_kept o ks facts storable true effect.act p.regs (record p { regs = effect.regs; tlb = after }) (memory_after effect.write m)
           (ok_at (λ (e : Effect). LoadsNothing e.act) _ effect is

@@ -40,6 +40,7 @@ pub mod Instructions
 pub mod Pending
 pub mod TurnKept
 pub mod StatesKept
+pub mod RefutedStates
 pub mod Assembly
 pub mod LooseLeaves
 pub mod BodyKept

@@ -22,18 +22,18 @@ pub record IsReady (o : Opening) (ks : List Kind) (p : Processor) (m : List ℕ)
   pub scene : IsScene o ks m p.control
   pub pass : AllPass (respects o ks) p.tlb
 
--- what a turn keeps, over the root and the memory m before it; where WP was clear before, it stores on the trap stack alone
-pub record Kept (o : Opening) (ks : List Kind) (wp : Bool) (root : ℕ) (m : List ℕ) (t : Turned) : Type 0 where
+-- what a turn keeps that makes these stores, over the root and the memory m before it; where WP was clear before, it stores
+-- on the trap stack alone
+pub record Kept (o : Opening) (ks : List Kind) (wp : Bool) (root : ℕ) (m : List ℕ) (t : Turned) (ws : List (ℕ × ℕ)) : Type 0 where
   pub control : IsControlled t.processor
   pub same_root : t.processor.control.root ≡ root
   pub pass : AllPass (respects o ks) t.processor.tlb
   pub window : wp_of t.processor.control.cr0 ≡ false → IsGatePoint t.processor
   pub runs : t.stepped ≢ stepped.Shutdown
   pub shows : IsShown (shown_by_turn t.stepped)
-  pub stores : List (ℕ × ℕ)
-  pub memory_is : t.memory ≡ stored m stores
-  pub are : AreStores ks stores
-  pub places : wp ≡ false → All (λ w. w.0 / 4096 ≡ 3) stores
+  pub memory_is : t.memory ≡ stored m ws
+  pub are : AreStores ks ws
+  pub places : wp ≡ false → All (λ w. w.0 / 4096 ≡ 3) ws
 
 -- no stores
 pub no_stores : (ks : List Kind) → AreStores ks []
@@ -47,27 +47,26 @@ unfolding stored
 stored_none m = refl
 
 -- a turn behind stores
-pub kept_behind : (o : Opening) (ks : List Kind) (laws : StoreLaws) (wp : Bool) (root : ℕ) (m after : List ℕ) (ws : List (ℕ × ℕ)) (t : Turned) → after ≡ stored m ws → AreStores ks ws
-    → (wp ≡ false → All (λ w. w.0 / 4096 ≡ 3) ws) → Kept o ks wp root after t → Kept o ks wp root m t
-kept_behind o ks laws wp root m after ws t is are in_trap kept = record {
+pub kept_behind : (o : Opening) (ks : List Kind) (laws : StoreLaws) (wp : Bool) (root : ℕ) (m after : List ℕ) (ws more : List (ℕ × ℕ)) (t : Turned) → after ≡ stored m ws → AreStores ks ws
+    → (wp ≡ false → All (λ w. w.0 / 4096 ≡ 3) ws) → Kept o ks wp root after t more → Kept o ks wp root m t (ws ++ more)
+kept_behind o ks laws wp root m after ws more t is are in_trap kept = record {
   control = kept.control;
   same_root = kept.same_root;
   pass = kept.pass;
   window = kept.window;
   runs = kept.runs;
   shows = kept.shows;
-  stores = ws ++ kept.stores;
-  memory_is = kept.memory_is ∙ ap (λ (x : List ℕ). stored x kept.stores) is ∙ sym (laws.append m ws kept.stores);
+  memory_is = kept.memory_is ∙ ap (λ (x : List ℕ). stored x more) is ∙ sym (laws.append m ws more);
   are = record {
-    places = All-append (λ (w : ℕ × ℕ). is_storable (kind_of ks (w.0 / 4096)) ≡ true) ws kept.stores are.places kept.are.places;
-    bytes = All-append (λ (w : ℕ × ℕ). w.1 < 256) ws kept.stores are.bytes kept.are.bytes;
+    places = All-append (λ (w : ℕ × ℕ). is_storable (kind_of ks (w.0 / 4096)) ≡ true) ws more are.places kept.are.places;
+    bytes = All-append (λ (w : ℕ × ℕ). w.1 < 256) ws more are.bytes kept.are.bytes;
   };
-  places = λ clear. All-append (λ (w : ℕ × ℕ). w.0 / 4096 ≡ 3) ws kept.stores (in_trap clear) (kept.places clear);
+  places = λ clear. All-append (λ (w : ℕ × ℕ). w.0 / 4096 ≡ 3) ws more (in_trap clear) (kept.places clear);
 }
 
 -- a turn that leaves this processor, and memory as it is
 pub ran_kept : (o : Opening) (ks : List Kind) (wp : Bool) (p : Processor) (m : List ℕ) → IsReady o ks p m → (wp_of p.control.cr0 ≡ false → IsGatePoint p)
-    → Kept o ks wp p.control.root m (ran p m)
+    → Kept o ks wp p.control.root m (ran p m) []
 ran_kept o ks wp p m ready point = record {
   control = ready.control;
   same_root = refl;
@@ -75,7 +74,6 @@ ran_kept o ks wp p m ready point = record {
   window = point;
   runs = λ e. absurd (cc);
   shows = tt;
-  stores = [];
   memory_is = sym (stored_none m);
   are = no_stores ks;
   places = λ clear. All-nil (λ (w : ℕ × ℕ). w.0 / 4096 ≡ 3);

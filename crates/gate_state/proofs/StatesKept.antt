@@ -2,7 +2,6 @@
 use Rattle.std.proofs.Common.{◌≡◌, ◌≢◌, ℕ, ◌+◌, ◌-◌, ◌*◌, ◌/◌, ◌%◌, ◌^◌, ◌<◌, Bool, true, false, List, length, All, refl, sym, ap, subst, ◌∙◌, arith, inl, inr}
 use Rattle.std.specs.Prelude.{IfSome, Option, None, not, ◌==◌, ◌&&◌}
 use Rattle.std.proofs.lemmas.Bool.{and_parts, false≢true}
-use Rattle.std.proofs.lemmas.List.Elements.{All-weaker}
 use Rattle.nk_bits.specs.declared.kind.Kind.{Kind}
 use Rattle.nk_bits.specs.declared.kind.Kind.TheVariants.{Trap}
 use Rattle.nk_bits.specs.declared.leaf.Leaf.{Leaf}
@@ -10,7 +9,7 @@ use Rattle.nk_bits.specs.Accesses.{smep_of, wp_of}
 use Rattle.nk_bits.specs.Kinds.{is_storable, kind_of}
 use Rattle.nk_bits.specs.Paging.{is_canonical, page_of, walk}
 use Rattle.nk_bits.specs.Translations.{IsLive, Translations}
-use Rattle.phys_mem.specs.Memory.{byte_at, entry_in, stored}
+use Rattle.phys_mem.specs.Memory.{entry_in, stored}
 use Rattle.irq_plan.specs.declared.event.What.{What}
 use Rattle.irq_plan.specs.declared.event.What.TheVariants.{Irq, Drop, Fill}
 use Rattle.irq_plan.specs.PlannedEvents.{IsPlannable}
@@ -18,6 +17,7 @@ use Rattle.page_desc.specs.PageTables.{HoldsSoundTables}
 use Rattle.nk_body.specs.NestedRecord.{AreBooks, Books, nested_in}
 use Rattle.cpu_step.specs.declared.stepped.Stepped.TheVariants as stepped
 use Rattle.cpu_step.specs.Processor.{IsSound}
+use Rattle.cpu_step.specs.TurnStores.{turn_stores}
 use Rattle.cpu_step.specs.Turns.{enters_body, is_at_body, turned}
 use Rattle.gate_state.specs.AnyVector.{DeliversAny}
 use Rattle.gate_state.specs.GateWindow.{IsGatePoint}
@@ -70,7 +70,10 @@ module _ (laws : LowerLaws) (o : Opening) (admitted : IsAdmitted o) where
 
   -- a turn
   module _ (s : MachineState) (guarded : IsGuarded o s) (facts : TurnFacts o s.kinds) (takes : TakesTurn s.processor) where
-    kept : Kept o s.kinds (wp_of s.processor.control.cr0) s.processor.control.root s.memory (turned s.processor s.memory)
+    abbrev made : List (ℕ × ℕ)
+    made = turn_stores s.processor s.memory
+
+    kept : Kept o s.kinds (wp_of s.processor.control.cr0) s.processor.control.root s.memory (turned s.processor s.memory) made
     kept = turn_kept laws o s.kinds (scenes_of s.kinds guarded.kinds) facts (stack_storable s.kinds guarded.kinds) s.processor s.memory (ready s guarded) takes.no_body takes.runs guarded.window
 
     pub turn_guarded : IsGuarded o (after_turn s)
@@ -79,9 +82,9 @@ module _ (laws : LowerLaws) (o : Opening) (admitted : IsAdmitted o) where
       control = kept.control;
       kinds = guarded.kinds;
       tables =
-          let after : ((turn_of s).processor.control.root, (turn_of s).memory) ≡ (s.processor.control.root, stored s.memory kept.stores) = λ i. (kept.same_root i, kept.memory_is i) in
-          subst (λ (x : ℕ × List ℕ). HoldsSoundTables s.kinds x.0 x.1) (sym after) (laws.table.sound_stays s.kinds s.processor.control.root s.memory kept.stores guarded.tables kept.are.places);
-      memory = subst (IsHeld o s.kinds) (sym kept.memory_is) ((scenes_of s.kinds guarded.kinds).held_stored s.memory kept.stores admitted guarded.kinds guarded.memory kept.are);
+          let after : ((turn_of s).processor.control.root, (turn_of s).memory) ≡ (s.processor.control.root, stored s.memory made) = λ i. (kept.same_root i, kept.memory_is i) in
+          subst (λ (x : ℕ × List ℕ). HoldsSoundTables s.kinds x.0 x.1) (sym after) (laws.table.sound_stays s.kinds s.processor.control.root s.memory made guarded.tables kept.are.places);
+      memory = subst (IsHeld o s.kinds) (sym kept.memory_is) ((scenes_of s.kinds guarded.kinds).held_stored s.memory made admitted guarded.kinds guarded.memory kept.are);
       ledger = guarded.ledger;
       next = omega (arith, guarded.next);
       translations = kept.pass;
@@ -93,14 +96,14 @@ module _ (laws : LowerLaws) (o : Opening) (admitted : IsAdmitted o) where
     turn_stays =
         ap (λ (root : ℕ). nested_in s.kinds root s.ledger (turn_of s).memory) kept.same_root
         ∙ ap (nested_in s.kinds s.processor.control.root s.ledger) kept.memory_is
-        ∙ laws.table.nested_stays s.kinds s.processor.control.root s.ledger s.memory kept.stores guarded.tables.handler kept.are.places
+        ∙ laws.table.nested_stays s.kinds s.processor.control.root s.ledger s.memory made guarded.tables.handler kept.are.places
 
     pub turn_books : (books : Books) → books.frames.kinds ≡ s.kinds → AreBooks books s.memory → AreBooks books (after_turn s).memory
     unfolding after_turn
     turn_books books same are =
         subst (AreBooks books) (sym kept.memory_is)
-        (laws.table.books_stay books s.memory kept.stores are
-        (subst (λ (ks : List Kind). All (λ w. is_storable (kind_of ks (w.0 / 4096)) ≡ true) kept.stores) (sym same) kept.are.places))
+        (laws.table.books_stay books s.memory made are
+        (subst (λ (ks : List Kind). All (λ w. is_storable (kind_of ks (w.0 / 4096)) ≡ true) made) (sym same) kept.are.places))
 
     pub turn_runs : (turn_of s).stepped ≢ stepped.Shutdown
     turn_runs = kept.runs
@@ -108,11 +111,8 @@ module _ (laws : LowerLaws) (o : Opening) (admitted : IsAdmitted o) where
     pub turn_shows : IsShown (shown_by_turn (turn_of s).stepped)
     turn_shows = kept.shows
 
-    pub turn_places : wp_of s.processor.control.cr0 ≡ false → (place : ℕ) → place / 4096 ≢ 3 → byte_at (turn_of s).memory place ≡ byte_at s.memory place
-    turn_places clear place other =
-        ap (λ (m : List ℕ). byte_at m place) kept.memory_is
-        ∙ laws.store.byte_elsewhere s.memory kept.stores place
-        (All-weaker (λ (w : ℕ × ℕ). w.0 / 4096 ≡ 3) (λ (w : ℕ × ℕ). w.0 ≢ place) (λ w at same. other (ap (λ n. n / 4096) (sym same) ∙ at)) kept.stores (kept.places clear))
+    pub turn_places : wp_of s.processor.control.cr0 ≡ false → All (λ store. store.0 / 4096 ≡ 3) made
+    turn_places = kept.places
 
   -- another pending set, and other translations
   with_event : (s : MachineState) (pending : ℕ) (tlb : Translations) → IsGuarded o s → pending < 2 ^ 16 → AllPass (respects o s.kinds) tlb

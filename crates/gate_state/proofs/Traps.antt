@@ -15,6 +15,7 @@ use Rattle.trap_unit.specs.declared.shutdown.Shut.{Shut}
 use Rattle.trap_unit.specs.TrapDelivery.{Delivered, at_handler, codes_of, delivered}
 use Rattle.cpu_step.specs.declared.stepped.Stepped.TheVariants as stepped
 use Rattle.cpu_step.specs.Processor.{Processor}
+use Rattle.cpu_step.specs.TurnStores.{fault_stores, trap_stores}
 use Rattle.cpu_step.specs.Turns.{delivery_of, raised, shown_by, trapped}
 use Rattle.gate_state.specs.GateWindow.{IsGatePoint}
 use Rattle.gate_state.specs.GuardedStates.{IsControlled}
@@ -41,8 +42,8 @@ moved_point p q r point regs halted cr0 =
 
 module _ (o : Opening) (ks : List Kind) (facts : TurnFacts o ks) (storable : is_storable (kind_of ks 3) ≡ true) where
   -- stores on the trap stack
-  pub trap_stores : (ws : List (ℕ × ℕ)) → All (λ w. w.0 / 4096 ≡ 3) ws → All (λ w. w.1 < 256) ws → AreStores ks ws
-  trap_stores ws places bytes = record {
+  pub on_trap_stack : (ws : List (ℕ × ℕ)) → All (λ w. w.0 / 4096 ≡ 3) ws → All (λ w. w.1 < 256) ws → AreStores ks ws
+  on_trap_stack ws places bytes = record {
     places = All-weaker (λ (w : ℕ × ℕ). w.0 / 4096 ≡ 3) (λ (w : ℕ × ℕ). is_storable (kind_of ks (w.0 / 4096)) ≡ true) (λ w is. ap (λ n. is_storable (kind_of ks n)) is ∙ storable) ws places;
     bytes = bytes;
   }
@@ -65,10 +66,10 @@ module _ (o : Opening) (ks : List Kind) (facts : TurnFacts o ks) (storable : is_
   pub trap_kept : (wp : Bool) (p : Processor) (m : List ℕ) (vector : ℕ) (code : Option ℕ) → IsReady o ks p m → vector < 48
       → IfSome code (λ c. c < 2 ^ 64)
       → (wp_of p.control.cr0 ≡ false → IsGatePoint (record p { regs = at_handler p.regs (0xFFFFFF8000001040 + 8 * vector) (0xFFFFFF8000004000 - 8 * (5 + length (codes_of code))) }))
-      → Kept o ks wp p.control.root m (trapped vector code p m)
+      → Kept o ks wp p.control.root m (trapped vector code p m) (trap_stores vector code p m)
   unfolding trapped
   trap_kept wp p m vector code ready few small point =
-      let it : IsDelivery o ks m p.regs vector code (delivered p.regs p.control p.tables vector code m p.tlb) = facts.delivers m p.control p.tables p.regs vector code p.tlb ready.scene ready.control.tables ready.pass few in
+      let it : IsDelivery o ks m p.regs vector code (delivered p.regs p.control p.tables vector code m p.tlb) (trap_stores vector code p m) = facts.delivers m p.control p.tables p.regs vector code p.tlb ready.scene ready.control.tables ready.pass few in
       let made : Delivered = delivered p.regs p.control p.tables vector code m p.tlb in
       record {
         control = record {
@@ -88,9 +89,8 @@ module _ (o : Opening) (ks : List Kind) (facts : TurnFacts o ks) (storable : is_
         shows =
             subst (λ (a : Result Unit Shut). IsShown (shown_by_turn (shown_by a (delivery_of vector code p))))
             (sym it.made) (delivery_shown p vector code ready.control few small);
-        stores = it.stores;
         memory_is = it.memory_is;
-        are = trap_stores it.stores it.places it.bytes;
+        are = on_trap_stack (trap_stores vector code p m) it.places it.bytes;
         places = λ clear. it.places;
       }
 
@@ -123,7 +123,7 @@ module _ (o : Opening) (ks : List Kind) (facts : TurnFacts o ks) (storable : is_
 
   -- a fault with WP set
   pub raise_kept : (wp : Bool) (p : Processor) (m : List ℕ) (it : Fault) → IsSmallFault it → IsReady o ks p m
-      → wp_of p.control.cr0 ≡ true → Kept o ks wp p.control.root m (raised it p m)
+      → wp_of p.control.cr0 ≡ true → Kept o ks wp p.control.root m (raised it p m) (fault_stores it p m)
   raise_kept wp p m fault.Divide small ready set =
       trap_kept wp p m 0 None ready (omega arith) tt (set_never (wp_of p.control.cr0) set)
   raise_kept wp p m fault.Opcode small ready set =

@@ -8,6 +8,7 @@ use Rattle.nk_bits.specs.Translations.{Translations}
 use Rattle.page_walk.specs.MemoryAccess.{view_of}
 use Rattle.gate_text.specs.GatePoints.{instruction_bytes, is_point}
 use Rattle.gate_text.specs.Listing.{gate_address}
+use Rattle.trap_unit.specs.DeliveryStores.{delivery_stores}
 use Rattle.trap_unit.specs.TrapDelivery.{at_handler, delivered, interrupt_allowed}
 use Rattle.x86_decode.specs.Conditions.{is_protected}
 use Rattle.x86_decode.specs.Reader.{decoded_of}
@@ -37,6 +38,7 @@ pub record TurnFacts (o : Opening) (ks : List Kind) : Type 0 where
   pub delivers : (m : List ℕ) (control : Control) (tables : Tables) (regs : Regs) (vector : ℕ) (code : Option ℕ) (tlb : Translations)
       → IsScene o ks m control → tables ≡ opening_tables → AllPass (respects o ks) tlb → vector < 48
       → IsDelivery o ks m regs vector code (delivered regs control tables vector code m tlb)
+      (delivery_stores regs control tables vector code m tlb)
   pub asks : (m : List ℕ) (control : Control) (tables : Tables) (cpl vector : ℕ) (tlb : Translations)
       → IsScene o ks m control → tables ≡ opening_tables → AllPass (respects o ks) tlb
       → IsAsked o ks vector (interrupt_allowed control tables cpl vector m tlb)

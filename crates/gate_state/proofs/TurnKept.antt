@@ -21,6 +21,7 @@ use Rattle.x86_regs.specs.EffectsKept.{IsSmallFault}
 use Rattle.cpu_step.specs.declared.fetch.Fetched.{Fetched}
 use Rattle.cpu_step.specs.InstructionFetch.{instruction_at}
 use Rattle.cpu_step.specs.Processor.{Processor, deliverable}
+use Rattle.cpu_step.specs.TurnStores.{body_stores, effect_stores, instruction_stores, stores_unless, turn_stores}
 use Rattle.cpu_step.specs.Turns.{enters_body, instructed, instruction_made, is_at_body, refused_body, turned, turned_by, turned_unless, woken}
 use Rattle.gate_state.specs.GateWindow.{IsAtPoint, IsGatePoint}
 use Rattle.gate_state.specs.MachineStates.{Opening}
@@ -70,6 +71,7 @@ module _ (laws : LowerLaws) (o : Opening) (ks : List Kind) (scenes : SceneLaws o
   -- an instruction with WP clear
   clear_kept : (wp : Bool) (p : Processor) (m : List ℕ) → IsReady o ks p m → wp_of p.control.cr0 ≡ false → IsGatePoint p → is_at_body p.regs ≡ false
       → Kept o ks wp p.control.root m (turned_by (instruction_made p m).answer p m (instruction_made p m).tlb)
+      (effect_stores (instruction_made p m).answer p m (instruction_made p m).tlb)
   clear_kept wp p m ready clear point away =
       let gate : IsGateInstruction p m = gate_instruction p m ready point away in
       let fetched : Outcome Fault Fetched = instruction_at m (view_of m p.control p.regs.cpl) p.regs.rip p.tlb in
@@ -80,14 +82,14 @@ module _ (laws : LowerLaws) (o : Opening) (ks : List Kind) (scenes : SceneLaws o
       let outcome : Outcome Fault Effect = effect_of it.instr it.size p.regs p.control m fetched.tlb in
       let pass : AllPass (respects o ks) outcome.tlb = laws.effect.translations it.instr it.size p.regs p.control m fetched.tlb (respects o ks) formed ready.control.registers (scenes.walked m p.control p.regs.cpl ready.scene) after in
       let done : IsMade laws o ks scenes facts storable p m it_makes.0 = made laws o ks scenes facts storable p m fetched.tlb it it_makes.0 ready after formed it_makes.1 in
-      subst (λ (x : Outcome Fault Effect). Kept o ks wp p.control.root m (turned_by x.answer p m x.tlb)) (sym (made_from p m it gate.found))
-      (subst (λ (a : Result Effect Fault). Kept o ks wp p.control.root m (turned_by a p m outcome.tlb)) (sym it_makes.1)
+      subst (λ (x : Outcome Fault Effect). Kept o ks wp p.control.root m (turned_by x.answer p m x.tlb) (effect_stores x.answer p m x.tlb)) (sym (made_from p m it gate.found))
+      (subst (λ (a : Result Effect Fault). Kept o ks wp p.control.root m (turned_by a p m outcome.tlb) (effect_stores a p m outcome.tlb)) (sym it_makes.1)
       (window_kept laws o ks scenes facts storable p m outcome.tlb it_makes.0 ready pass done it_makes.2 wp))
 
   -- an instruction with WP set, by what its fetch and its effect answer
   fetched_kept : (p : Processor) (m : List ℕ) (fetched : Outcome Fault Fetched) → IsReady o ks p m → wp_of p.control.cr0 ≡ true → p.halted ≡ false
       → fetched ≡ instruction_at m (view_of m p.control p.regs.cpl) p.regs.rip p.tlb → (answer : Result Fetched Fault) → fetched.answer ≡ answer
-      → let x : Outcome Fault Effect = then_by answer fetched.tlb (λ x after. effect_of x.instr x.size p.regs p.control m after) in Kept o ks true p.control.root m (turned_by x.answer p m x.tlb)
+      → let x : Outcome Fault Effect = then_by answer fetched.tlb (λ x after. effect_of x.instr x.size p.regs p.control m after) in Kept o ks true p.control.root m (turned_by x.answer p m x.tlb) (effect_stores x.answer p m x.tlb)
   fetched_kept p m fetched ready set runs same (Err it) is =
       raise_kept o ks facts storable true (record p { tlb = fetched.tlb }) m it
       (IfErr-at_err IsSmallFault is
@@ -105,6 +107,7 @@ module _ (laws : LowerLaws) (o : Opening) (ks : List Kind) (scenes : SceneLaws o
       by_answer : (answer : Result Effect Fault) → (effect_of it.instr it.size p.regs p.control m fetched.tlb).answer ≡ answer → AllPass (respects o ks) fetched.tlb → AllPass (respects o ks) (effect_of it.instr it.size p.regs p.control m fetched.tlb).tlb
           → (instruction_at m (view_of m p.control p.regs.cpl) p.regs.rip p.tlb).answer ≡ Ok it → IsWellFormed it.instr
           → Kept o ks true p.control.root m (turned_by answer p m (effect_of it.instr it.size p.regs p.control m fetched.tlb).tlb)
+          (effect_stores answer p m (effect_of it.instr it.size p.regs p.control m fetched.tlb).tlb)
       by_answer (Err f) made_is after pass found formed =
           raise_kept o ks facts storable true (record p { tlb = (effect_of it.instr it.size p.regs p.control m fetched.tlb).tlb }) m f
           (IfErr-at_err IsSmallFault made_is
@@ -117,12 +120,13 @@ module _ (laws : LowerLaws) (o : Opening) (ks : List Kind) (scenes : SceneLaws o
 
   -- an instruction, or the fault at the body's place
   instructed_kept : (p : Processor) (m : List ℕ) → IsReady o ks p m → enters_body p ≡ false → p.halted ≡ false → (wp_of p.control.cr0 ≡ false → IsGatePoint p)
-      → Kept o ks (wp_of p.control.cr0) p.control.root m (instructed p m)
-  unfolding instructed
+      → Kept o ks (wp_of p.control.cr0) p.control.root m (instructed p m) (instruction_stores p m)
+  unfolding instructed instruction_stores
   instructed_kept p m ready no_body runs point = by_place (is_at_body p.regs) refl (wp_of p.control.cr0) refl
     where
       by_place : (b : Bool) → is_at_body p.regs ≡ b → (wp : Bool) → wp_of p.control.cr0 ≡ wp
           → Kept o ks (wp_of p.control.cr0) p.control.root m (if b then refused_body p m else turned_by (instruction_made p m).answer p m (instruction_made p m).tlb)
+          (if b then body_stores p m else effect_stores (instruction_made p m).answer p m (instruction_made p m).tlb)
       by_place true at true set =
           raise_kept o ks facts storable (wp_of p.control.cr0) (record p { tlb = faulted p.tlb 0xFFFFFF8000004 }) m
           (fault.Page 3 0xFFFFFF8000004FF8) (omega arith, omega arith)
@@ -130,7 +134,8 @@ module _ (laws : LowerLaws) (o : Opening) (ks : List Kind) (scenes : SceneLaws o
       by_place true at false clear =
           absurd (false≢true (sym no_body ∙ and_from (is_at_body p.regs) (not (wp_of p.control.cr0)) at (ap not clear)))
       by_place false away true set =
-          subst (λ (w : Bool). Kept o ks w p.control.root m (turned_by (instruction_made p m).answer p m (instruction_made p m).tlb)) (sym set)
+          subst (λ (w : Bool). Kept o ks w p.control.root m (turned_by (instruction_made p m).answer p m (instruction_made p m).tlb)
+          (effect_stores (instruction_made p m).answer p m (instruction_made p m).tlb)) (sym set)
           (fetched_kept p m (instruction_at m (view_of m p.control p.regs.cpl) p.regs.rip p.tlb) ready set runs refl (instruction_at m (view_of m p.control p.regs.cpl) p.regs.rip p.tlb).answer refl)
       by_place false away false clear = clear_kept (wp_of p.control.cr0) p m ready clear (point clear) away
 
@@ -169,15 +174,15 @@ module _ (laws : LowerLaws) (o : Opening) (ks : List Kind) (scenes : SceneLaws o
   }
 
   pub turn_kept : (p : Processor) (m : List ℕ) → IsReady o ks p m → enters_body p ≡ false → waits p ≡ false → (wp_of p.control.cr0 ≡ false → IsGatePoint p)
-      → Kept o ks (wp_of p.control.cr0) p.control.root m (turned p m)
-  unfolding turned
+      → Kept o ks (wp_of p.control.cr0) p.control.root m (turned p m) (turn_stores p m)
+  unfolding turned turn_stores
   turn_kept p m ready no_body runs point = by_vector (deliverable p) refl
     where
       awake_if : (h : Bool) → h && true ≡ false → h ≡ false
       awake_if true is = absurd (false≢true (sym is))
       awake_if false is = refl
 
-      by_vector : (vector : Option ℕ) → deliverable p ≡ vector → Kept o ks (wp_of p.control.cr0) p.control.root m (turned_unless vector p m)
+      by_vector : (vector : Option ℕ) → deliverable p ≡ vector → Kept o ks (wp_of p.control.cr0) p.control.root m (turned_unless vector p m) (stores_unless vector p m)
       by_vector (Some vector) is =
           let bounds : (32 ≤ vector) × (vector < 48) = vector_bounds p vector ready.control.pending is in
           trap_kept o ks facts storable (wp_of p.control.cr0) (woken vector p) m vector None

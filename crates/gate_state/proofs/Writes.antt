@@ -109,9 +109,9 @@ module _ (laws : LowerLaws) where
       second_places false is = no_stores_left P (w.width - first_part w.va w.width) w.target.second (w.value / 256 ^ first_part w.va w.width) (part_whole w.va w.width is)
 
   -- with WP set, a write goes to frames that may be stored to
-  pub write_stores : (o : Opening) (ks : List Kind) (view : View) (size : ℕ) (w : Write) → IsGranted view (respects o ks) size w → view.wp ≡ true
+  pub granted_stores : (o : Opening) (ks : List Kind) (view : View) (size : ℕ) (w : Write) → IsGranted view (respects o ks) size w → view.wp ≡ true
       → AreStores ks (stores_at w.va w.width w.target w.value)
-  write_stores o ks view size w granted set = record {
+  granted_stores o ks view size w granted set = record {
     places = granted_places view (respects o ks) size w granted (λ f. is_storable (kind_of ks f) ≡ true)
         (λ page leaf pass serves at. writable_storable laws o ks page leaf pass (write_needs leaf view.cpl view.wp view.smep set serves));
     bytes = stores_bytes laws w.va w.width w.target w.value;

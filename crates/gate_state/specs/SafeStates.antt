@@ -1,9 +1,9 @@
 -- What is safe of a state: what the nested kernel guards can't be changed from outside it.
-use Rattle.std.specs.Prelude.{◌≡◌, ◌≢◌, ℕ, ◌/◌, false, true, None, Ok}
+use Rattle.std.specs.Prelude.{◌≡◌, ◌≢◌, ℕ, ◌/◌, All, false, true, None, Ok}
 use Rattle.nk_bits.specs.declared.leaf.Leaf.{Leaf}
 use Rattle.nk_bits.specs.Accesses.{wp_of}
 use Rattle.nk_bits.specs.Translations.{IsLive}
-use Rattle.phys_mem.specs.Memory.{byte_at, entry_in}
+use Rattle.phys_mem.specs.Memory.{entry_in}
 use Rattle.page_walk.specs.MemoryAccess.{view_of}
 use Rattle.x86_decode.specs.Reader.{decoded_of}
 use Rattle.x86_decode.specs.declared.instruction.Decoded.TheVariants.{Whole}
@@ -11,6 +11,7 @@ use Rattle.cpu_step.specs.declared.fetch.Fetched.{Fetched}
 use Rattle.cpu_step.specs.declared.stepped.Stepped.TheVariants as stepped
 use Rattle.cpu_step.specs.InstructionFetch.{instruction_at}
 use Rattle.cpu_step.specs.Processor.{Processor, deliverable}
+use Rattle.cpu_step.specs.TurnStores.{turn_stores}
 use Rattle.cpu_step.specs.Turns.{enters_body}
 use Rattle.gate_text.specs.GatePoints.{instruction_bytes}
 use Rattle.gate_state.specs.GateWindow.{IsAtPoint}
@@ -42,8 +43,8 @@ pub record IsSafe (o : Opening) (s : MachineState) : Type 0 where
   pub respected : (page : ℕ) (leaf : Leaf)
       → IsLive (entry_in s.memory) (length s.memory / 4096) s.processor.control.root s.processor.tlb page leaf
       → respects o s.kinds (page, leaf) ≡ true
-  -- with WP clear, a turn changes no byte but those of the trap stack, frame 3
+  -- with WP clear, each byte that a turn stores lies in the trap stack, frame 3
   pub stores : TakesTurn s.processor → wp_of s.processor.control.cr0 ≡ false
-      → (place : ℕ) → place / 4096 ≢ 3 → byte_at (turn_of s).memory place ≡ byte_at s.memory place
+      → All (λ store. store.0 / 4096 ≡ 3) (turn_stores s.processor s.memory)
   -- no turn shuts the machine down
   pub runs : TakesTurn s.processor → (turn_of s).stepped ≢ stepped.Shutdown

@@ -1,4 +1,5 @@
 mod DeliveryLaws
+mod StoresMade
 mod WorkedDeliveries
 mod WorkedGates
 mod WorkedReturns

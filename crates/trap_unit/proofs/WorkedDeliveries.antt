@@ -11,6 +11,7 @@ use Rattle.x86_alu.specs.Flags.{with_flag}
 use Rattle.x86_regs.specs.declared.delivery.Tables.{Tables}
 use Rattle.x86_regs.specs.declared.registers.Regs.{Regs}
 use Rattle.nk_bits.specs.Outcomes.{answered}
+use Rattle.trap_unit.specs.DeliveryStores.{delivery_stores, push_stores}
 use Rattle.trap_unit.specs.TrapDelivery.{delivered, entry_found, gate_read, interrupt_allowed, pushed, shut}
 
 -- the bytes of 64-bit words, least significant first
@@ -85,6 +86,16 @@ third_push_faults :
     }
 unfolding delivered entry_found gate_read pushed accessed completed reached crosses has_canonical_bytes first_part number_at stores stored wp_of smep_of with_flag walk entry_in is_missing is_present page_index
 third_push_faults = refl
+
+-- the stores of the first and of the last of these: six words, the code lowest; and the two words of the pushes made
+stores_are :
+    (delivery_stores (regs 0x7008 0x401234 0x246 3 0x23) control tables 0 (Some 5) (memory 0xFFFFFF8000000088 blank) kept
+    ≡ stores 8 0x78 0x23 ++ stores 8 0x70 0x7008 ++ stores 8 0x68 0x246 ++ stores 8 0x60 0x1B ++ stores 8 0x58 0x401234
+    ++ stores 8 0x50 5) ×
+    (delivery_stores (regs 0x7008 0x401234 0x246 3 0x23) control tables 0 None (memory 0xFFFFFF8000000010 blank) kept
+    ≡ stores 8 8 0x23 ++ stores 8 0 0x7008)
+unfolding delivery_stores push_stores entry_found gate_read pushed accessed completed reached crosses has_canonical_bytes first_part number_at stores stored wp_of smep_of walk entry_in is_missing is_present page_index
+stores_are = (refl, refl)
 
 -- gate 1 passes the limit, and nothing is read
 gate_is_past_the_limit : (m : List ℕ) (tlb : Translations) →

@@ -6,12 +6,15 @@ ghost use Rattle.nk_bits.specs.Translations.{Translations};
 ghost use Rattle.x86_regs.specs.declared.delivery.Frame.{Frame};
 ghost use Rattle.x86_regs.specs.declared.delivery.Tables.{Tables};
 ghost use Rattle.x86_regs.specs.declared.registers.Regs.{Regs};
+ghost use Rattle.phys_mem.specs.Memory.{stored};
+ghost use Rattle.trap_unit.specs.DeliveryStores.{delivery_stores};
 ghost use Rattle.trap_unit.specs.TrapDelivery.{delivered};
 ghost use Rattle.trap_unit.specs.TrapReturn.{returned};
 
 use phys_mem::memory_law;
 
-/// A delivery ends at CPL 0, or shuts the machine down and leaves the registers; memory keeps its size.
+/// A delivery ends at CPL 0, or shuts the machine down and leaves the registers; memory is that after its stores, and
+/// keeps its size.
 pub fn delivery_law()
     ensures supervisor { (regs : Regs) (control : Control) (tables : Tables) (vector : ℕ) (code : Option ℕ) (m : List ℕ)
         (tlb : Translations) → let it = delivered regs control tables vector code m tlb in
@@ -19,6 +22,9 @@ pub fn delivery_law()
     ensures shut { (regs : Regs) (control : Control) (tables : Tables) (vector : ℕ) (code : Option ℕ) (m : List ℕ)
         (tlb : Translations) → let it = delivered regs control tables vector code m tlb in
         OnErr it.answer (it.regs ≡ regs) }
+    ensures stores { (regs : Regs) (control : Control) (tables : Tables) (vector : ℕ) (code : Option ℕ) (m : List ℕ)
+        (tlb : Translations) → (delivered regs control tables vector code m tlb).memory
+        ≡ stored m (delivery_stores regs control tables vector code m tlb) }
     ensures length { (regs : Regs) (control : Control) (tables : Tables) (vector : ℕ) (code : Option ℕ) (m : List ℕ)
         (tlb : Translations) → length (delivered regs control tables vector code m tlb).memory ≡ length m }
 {

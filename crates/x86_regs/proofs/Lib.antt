@@ -1,4 +1,5 @@
 mod CalmActs
+mod ConditionTable
 mod EffectLaws
 mod GrantedAccesses
 mod GrantedEffects

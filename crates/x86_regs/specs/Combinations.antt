@@ -1,5 +1,5 @@
 -- What operations make of the values of their operands, which are numbers of the width: results, flags, conditions.
-use Rattle.std.specs.Prelude.{ℕ, ◌+◌, ◌-◌, ◌*◌, ◌/◌, ◌%◌, ◌^◌, Bool, true, false, not, ◌||◌, ◌==◌, if◌then◌else◌, bit_and}
+use Rattle.std.specs.Prelude.{ℕ, ◌+◌, ◌-◌, ◌*◌, ◌/◌, ◌%◌, ◌^◌, Bool, true, false, not, ◌||◌, ◌&&◌, ◌==◌, if◌then◌else◌, List, [], ◌∷◌, slice_index_or, bit_and}
 use Rattle.x86_decode.specs.declared.operation.Op.{Op}
 use Rattle.x86_decode.specs.declared.operation.Op.TheVariants as op
 use Rattle.x86_alu.specs.declared.answers.Out.{Out}
@@ -21,20 +21,23 @@ interrupt_flag = 9
 abbrev pub direction_flag : ℕ
 direction_flag = 10
 
--- the condition of this number stands (SDM volume 1, appendix B): each odd one is the even one below, negated
-abbrev pub even_condition : ℕ → ℕ → Bool
-even_condition pair flags =
-    if pair == 0 then bit flags overflow_flag
-    else if pair == 1 then bit flags carry_flag
-    else if pair == 2 then bit flags zero_flag
-    else if pair == 3 then bit flags carry_flag || bit flags zero_flag
-    else if pair == 4 then bit flags sign_flag
-    else if pair == 5 then bit flags parity_flag
-    else if pair == 6 then differ (bit flags sign_flag) (bit flags overflow_flag)
-    else bit flags zero_flag || differ (bit flags sign_flag) (bit flags overflow_flag)
+-- the sixteen conditions in the order of their numbers (SDM volume 1, appendix B)
+abbrev pub conditions : ℕ → List Bool
+conditions flags =
+    let overflow : Bool = bit flags overflow_flag in
+    let carry : Bool = bit flags carry_flag in
+    let zero : Bool = bit flags zero_flag in
+    let sign : Bool = bit flags sign_flag in
+    let parity : Bool = bit flags parity_flag in
+    -- O and NO; B and NB; E and NE; BE and NBE
+    overflow ∷ not overflow ∷ carry ∷ not carry ∷ zero ∷ not zero ∷ (carry || zero) ∷ (not carry && not zero)
+    -- S and NS; P and NP; L and NL; LE and NLE
+    ∷ sign ∷ not sign ∷ parity ∷ not parity ∷ differ sign overflow ∷ not (differ sign overflow)
+    ∷ (zero || differ sign overflow) ∷ (not zero && not (differ sign overflow)) ∷ []
 
+-- the condition stands that the four low bits of this number name
 unfoldable pub condition_stands : ℕ → ℕ → Bool
-condition_stands condition flags = differ (condition % 2 == 1) (even_condition (condition / 2) flags)
+condition_stands condition flags = slice_index_or (conditions flags) (condition % 16) false
 
 -- a result with its flags
 abbrev pub out : ℕ → ℕ → Out

@@ -1,8 +1,8 @@
 //! The conditions of instructions (SDM volume 1, appendix B), which are read off the flags.
 
-ghost use Rattle.std.specs.Prelude.{◌≡◌, ◌/◌, ◌<◌};
+ghost use Rattle.std.specs.Prelude.{◌≡◌, ◌*◌, ◌/◌, ◌<◌, false, slice_index_or};
 ghost use Rattle.x86_alu.specs.SignedNumbers.{bit};
-ghost use Rattle.x86_regs.specs.Combinations.{condition_stands, even_condition};
+ghost use Rattle.x86_regs.specs.Combinations.{condition_stands, conditions};
 
 use x86_alu::{CF, OF, PF, SF, ZF};
 
@@ -14,16 +14,20 @@ pub fn bit(number: u64, place: u8) -> bool
     number >> place & 1 == 1
 }
 
-/// Whether the condition of this number stands: each odd one is the even one below, negated.
+/// Whether the condition stands that the four low bits of this number name: each odd one is the even one below, negated.
 #[tactic(auto, unfolding(crate::specs::Combinations::condition_stands))]
 pub fn condition_stands(condition: u8, flags: u64) -> bool
     ensures { result ≡ condition_stands condition flags }
 {
-    (condition % 2 == 1) != even_condition(condition / 2, flags)
+    let number = condition % 16;
+    let even = even_condition(number / 2, flags);
+    (number % 2 == 1) != even
 }
 
+/// The condition of twice this number.
 fn even_condition(pair: u8, flags: u64) -> bool
-    ensures { result ≡ even_condition pair flags }
+    requires { pair < 8 }
+    ensures { result ≡ slice_index_or (conditions flags) (2 * pair) false }
 {
     match pair {
         0 => bit(flags, OF),

@@ -97,7 +97,7 @@ returns c =
         granted = c.grant_law.ensures.granted;
       };
       bound = record {
-        fetch = c.fetch_law.ensures;
+        fetch = c.fetch_law.ensures.small;
         fault = c.bound_law.ensures.fault;
         act = c.bound_law.ensures.act;
       };

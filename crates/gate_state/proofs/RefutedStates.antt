@@ -1,0 +1,95 @@
+-- States that are not safe, each named by the sentence that it guards.
+use Rattle.std.proofs.Common.{◌≡◌, ◌≢◌, ℕ, suc, zero, ◌+◌, ◌/◌, ◌%◌, ◌++◌, true, false, List, [], ◌∷◌, All, refl, subst, arith}
+use Rattle.std.specs.Prelude.{None}
+use Rattle.std.specs.Int.Count.{count_leading_zeros}
+use Rattle.std.specs.List.{Contains}
+use Rattle.std.proofs.lemmas.List.Elements.{All-contains, All-head}
+use Rattle.nk_bits.specs.declared.kind.Kind.{Kind}
+use Rattle.nk_bits.specs.Accesses.{accessed, completed, crosses, first_part, has_canonical_bytes, reached, smep_of, wp_of}
+use Rattle.phys_mem.specs.Memory.{number_at, stored, stores}
+use Rattle.trap_unit.specs.DeliveryStores.{delivery_stores, push_stores}
+use Rattle.trap_unit.specs.TrapDelivery.{delivered, entry_found, gate_read, pushed}
+use Rattle.cpu_step.specs.Processor.{Processor, deliverable}
+use Rattle.cpu_step.specs.TurnStores.{turn_stores}
+use Rattle.cpu_step.specs.Turns.{trapped, turned}
+use Rattle.nk_body.specs.NestedRecord.{Ledger}
+use Rattle.gate_text.specs.GatePoints.{is_point}
+use Rattle.gate_text.specs.Listing.{gate_address}
+use Rattle.gate_state.specs.MachineStates.{MachineState, Opening}
+use Rattle.gate_state.specs.SafeStates.{IsGateInstruction, IsSafe, TakesTurn}
+
+-- with WP clear, a turn that stores a byte outside frame 3 isn't safe, whatever stood at that place
+outside_store : (o : Opening) (s : MachineState) (place byte : ℕ) → TakesTurn s.processor → wp_of s.processor.control.cr0 ≡ false
+    → Contains (turn_stores s.processor s.memory) (place, byte) → place / 4096 ≢ 3 → IsSafe o s → ⊥
+outside_store o s place byte takes clear stores outside safe =
+    outside (All-contains (λ (w : ℕ × ℕ). w.0 / 4096 ≡ 3) (turn_stores s.processor s.memory) (place, byte) (safe.stores takes clear) stores)
+
+-- with WP clear, a processor that is to take an instruction at no gate point isn't safe
+off_the_gates : (o : Opening) (s : MachineState) → TakesTurn s.processor → wp_of s.processor.control.cr0 ≡ false
+    → deliverable s.processor ≡ None
+    → ((offset : ℕ) → is_point offset ≡ true → s.processor.regs.rip ≢ gate_address + offset) → IsSafe o s → ⊥
+off_the_gates o s takes clear none off safe =
+    let it : IsGateInstruction s.processor s.memory = safe.gates takes clear none in
+    off it.offset it.point.point it.point.rip
+
+-- with WP clear, a user that is to take an instruction isn't safe, wherever it stands
+users_instruction : (o : Opening) (s : MachineState) → TakesTurn s.processor → wp_of s.processor.control.cr0 ≡ false
+    → deliverable s.processor ≡ None → s.processor.regs.cpl ≡ 3 → IsSafe o s → ⊥
+users_instruction o s takes clear none user safe =
+    let it : IsGateInstruction s.processor s.memory = safe.gates takes clear none in
+    absurd (omega (arith, user, it.point.supervisor))
+
+-- the bytes of 64-bit words, least significant first
+abbrev bytes_of : ℕ → ℕ → List ℕ
+bytes_of zero word = []
+bytes_of (suc n) word = (word % 256) ∷ bytes_of n (word / 256)
+
+abbrev words : List ℕ → List ℕ
+words [] = []
+words (word ∷ rest) = bytes_of 8 word ++ words rest
+
+-- a user whose vector 32 is due, with WP clear; gate 32 stands at the first byte of memory, IST1 in its seventh word
+abbrev user : Processor
+user = record {
+  regs = record {
+    general = 0 ∷ 1 ∷ 2 ∷ 3 ∷ 0x7008 ∷ 5 ∷ 6 ∷ 7 ∷ 8 ∷ 9 ∷ 10 ∷ 11 ∷ 12 ∷ 13 ∷ 14 ∷ 15 ∷ [];
+    rip = 0x401234;
+    flags = 0x246;
+    cpl = 3;
+    ss = 0x23;
+  };
+  control = record { cr0 = 0x80000001; cr2 = 0; root = 5; cr4 = 0x100020; efer = 0xD00 };
+  tables = record { idt = 0xFFFFFF7FFFFFFE00; limit = 527; tss = 0xFFFFFF800000000C };
+  tlb = (0xFFFFFF8000000, record { frame = 0; rights = record { can_write = true; user = false; exec = false } }) ∷ [];
+  input = [];
+  pending = 1;
+  shielded = false;
+  halted = false;
+}
+
+-- memory in which the frame of that delivery stands already
+abbrev memory : List ℕ
+memory = words (0x00008E0100081040 ∷ 0xFFFFFF80 ∷ 0 ∷ 0 ∷ 0 ∷ 0 ∷ 0xFFFFFF8000000088 ∷ 0 ∷ 0 ∷ 0 ∷ 0
+    ∷ 0x401234 ∷ 0x1B ∷ 0x246 ∷ 0x7008 ∷ 0x23 ∷ [])
+
+-- its turn changes no byte
+same_memory : (turned user memory).memory ≡ memory
+unfolding turned trapped delivered entry_found gate_read pushed accessed completed reached crosses has_canonical_bytes first_part number_at stores stored wp_of smep_of count_leading_zeros
+same_memory = refl
+
+-- but stores the 40 bytes of its frame in the first frame of memory, SS's least byte first
+abbrev later : List (ℕ × ℕ)
+later = stores 7 0x79 0 ++ stores 8 0x70 0x7008 ++ stores 8 0x68 0x246 ++ stores 8 0x60 0x1B ++ stores 8 0x58 0x401234
+
+stores_in_frame_0 : turn_stores user memory ≡ (0x78, 0x23) ∷ later
+unfolding turn_stores delivery_stores push_stores entry_found gate_read pushed accessed completed reached crosses has_canonical_bytes first_part number_at stores stored wp_of smep_of count_leading_zeros
+stores_in_frame_0 = refl
+
+-- with WP clear, a delivery that stores the bytes that stood in frame 0 isn't safe, though no byte changes
+equal_bytes : (o : Opening) (kinds : List Kind) (ledger : Ledger) (turns taken : ℕ)
+    → IsSafe o (record { processor = user; memory = memory; kinds = kinds; ledger = ledger; turns = turns; taken = taken }) → ⊥
+unfolding wp_of
+equal_bytes o kinds ledger turns taken safe =
+    let all = subst (All (λ (w : ℕ × ℕ). w.0 / 4096 ≡ 3)) stores_in_frame_0 (safe.stores (record { no_body = refl; runs = refl }) refl) in
+    let first : 0x78 / 4096 ≡ 3 = All-head (λ (w : ℕ × ℕ). w.0 / 4096 ≡ 3) (0x78, 0x23) later all in
+    absurd (omega (arith, first))
