@@ -171,6 +171,7 @@ impl Shelf for MemShelf {
         ensures bytes { HoldsBytes (file_of self.old.files) name.now }
         ensures never_falls { NeverFalls (count_of self.old) (count_of self.new) }
         ensures only_at { OnlyAt (file_of self.old.files) (count_of self.old) (count_of self.new) name.now }
+        ensures counts_stay { result ≢ Err FetchFault.Failed → count_of self.new ≡ count_of self.old }
         ensures failed { result ≡ Err FetchFault.Failed → Rose (count_of self.old) (count_of self.new) name.now }
         ensures at_most { IfOk result (λ bytes. vec_len bytes ≤ most) }
         ensures whole { IfOk result (λ bytes. IsFile (file_of self.old.files) name.now bytes.items) }

@@ -1,5 +1,5 @@
 //! Files under names.
-ghost use Rattle.std.specs.Prelude.{◌≡◌, ℕ, ◌≤◌, List, Option, IfOk, vec_len};
+ghost use Rattle.std.specs.Prelude.{◌≡◌, ◌≢◌, ℕ, ◌≤◌, List, Option, IfOk, vec_len};
 ghost use Rattle.nk_host.specs.FaultCounts.{NeverFalls, OnlyAt, Rose};
 ghost use Rattle.nk_host.specs.Files.{HoldsBytes, IsFile, IsLonger};
 ghost use Rattle.nk_host.specs.Told.{IfTold};
@@ -27,6 +27,7 @@ pub trait Shelf {
         ensures never_falls { NeverFalls (faults self.old) (faults self.new) }
         ensures only_at { IfTold (files self.old)
             (λ held. OnlyAt held (faults self.old) (faults self.new) name.now) }
+        ensures counts_stay { result ≢ Err FetchFault.Failed → faults self.new ≡ faults self.old }
         ensures failed { result ≡ Err FetchFault.Failed → Rose (faults self.old) (faults self.new) name.now }
 
         // The answer.
