@@ -2,3 +2,4 @@ pub mod Passed
 pub mod MovedOut
 pub mod Places
 pub mod InReads
+pub mod RefutedShelves

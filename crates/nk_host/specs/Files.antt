@@ -1,6 +1,6 @@
--- What a shelf that tells its files answers to a fetch. Files are a function from a name's bytes to the file's, None
--- where no file is held.
-use Rattle.std.specs.Prelude.{◌≡◌, ℕ, ◌<◌, List, length, Option, Some, IsSomeAnd}
+-- What a shelf that tells its files answers to a fetch, and that what it tells are bytes. Files are a function from a
+-- name's bytes to the file's, None where no file is held.
+use Rattle.std.specs.Prelude.{◌≡◌, ℕ, ◌<◌, List, length, slice_index, Option, Some, IfSome, IsSomeAnd}
 
 -- the bytes are the whole file of the name
 abbrev pub IsFile : (List ℕ → Option (List ℕ)) → List ℕ → List ℕ → Type 0
@@ -9,3 +9,11 @@ IsFile files name bytes = files name ≡ Some bytes
 -- a file is held under the name, and it has more bytes than `most`
 abbrev pub IsLonger : (List ℕ → Option (List ℕ)) → List ℕ → ℕ → Type 0
 IsLonger files name most = IsSomeAnd (files name) (λ file. most < length file)
+
+-- each element of the file is a byte
+abbrev pub IsFileOfBytes : List ℕ → Type 0
+IsFileOfBytes file = (i : ℕ) → slice_index file i < 256
+
+-- the file of the name, where one is held, is made of bytes
+abbrev pub HoldsBytes : (List ℕ → Option (List ℕ)) → List ℕ → Type 0
+HoldsBytes files name = IfSome (files name) IsFileOfBytes

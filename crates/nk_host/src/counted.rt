@@ -1,5 +1,5 @@
 //! A reader or a writer whose faults are counted. Such a writer is a sink.
-ghost use Rattle.std.specs.Prelude.{◌≡◌, ◌≢◌, ◌<◌, ◌≤◌, [], length, take, IfOk, OnErr, IfErr};
+ghost use Rattle.std.specs.Prelude.{◌≡◌, ◌≢◌, ◌<◌, ◌≤◌, [], length, take, IfOk, OnOk, OnErr, IfErr};
 ghost use Rattle.std.specs.Io.KnownBytes.{Appends, Keeps, ReadConsumes};
 ghost use Rattle.nk_host.specs.FaultCounts.{RoseTo, raised};
 
@@ -45,6 +45,7 @@ impl<F: Read> Counted<F> {
         ensures bytes { ReadConsumes (F.remaining self.old.inner) (F.remaining self.new.inner) result block.new }
         ensures never_falls { self.old.faults ≤ self.new.faults }
         ensures failed { OnErr result (RoseTo self.old.faults self.new.faults) }
+        ensures kept { OnOk result (self.new.faults ≡ self.old.faults) }
         ensures only { IfErr result (λ fault. fault ≡ FetchFault.Failed) }
     {
         match self.inner.read(block) {

@@ -1,7 +1,7 @@
 //! A shelf in memory.
 ghost use Rattle.std.specs.Prelude.{◌≡◌, ◌≢◌, ℕ, ◌+◌, ◌≤◌, ◌<◌, ◌↔◌, List, [], map, length, replicate, Option, IfOk, IsTrue, IsFalse, Some, slice_set, position, ◌-◌, ◌^◌, vec_len};
 ghost use Rattle.std.specs.Option.{option_copied};
-ghost use Rattle.nk_host.specs.Files.{IsFile, IsLonger};
+ghost use Rattle.nk_host.specs.Files.{HoldsBytes, IsFile, IsFileOfBytes, IsLonger};
 ghost use Rattle.std.specs.Str.{bytes_eq};
 ghost use Rattle.std.specs.String.{string_bytes};
 ghost use Rattle.nk_host.specs.Attempts.{is_due};
@@ -59,6 +59,11 @@ fn no_faults(alloc: Global, len: usize) -> Result<Vec<u64>, NoMemory>
 {
     vec![in alloc; 0; len].map_err(|_| NoMemory)
 }
+
+// Each element of a slice of bytes is a byte.
+fn are_bytes(file: &[u8])
+    ensures { IsFileOfBytes file.now }
+{}
 
 // A copy of the file, where it has at most `most` bytes.
 fn copy_of(alloc: Global, file: &[u8], most: u64) -> Result<Vec<u8>, FetchFault>
@@ -121,14 +126,18 @@ impl MemShelf {
     }
 
     fn file(&self, name: &str) -> Option<&[u8]>
-        ensures { option_copied result ≡ file_of self.now.files name.now }
+        ensures held { option_copied result ≡ file_of self.now.files name.now }
+        ensures bytes { HoldsBytes (file_of self.now.files) name.now }
     {
         let place = place_of_name(&self.held, name)?;
-        Some(&self.held[place].1)
+        let file: &[u8] = &self.held[place].1;
+        are_bytes(file);
+        Some(file)
     }
 
     fn fetch_next(&mut self, alloc: Global, name: &str, most: u64) -> Result<Vec<u8>, FetchFault>
         ensures after { self.new ≡ after_fetch self.old name.now }
+        ensures bytes { HoldsBytes (file_of self.old.files) name.now }
         ensures failed { result ≡ Err FetchFault.Failed ↔ IsTrue (fetch_fails self.old name.now) }
         ensures longer { result ≡ Err FetchFault.Longer
             ↔ IsFalse (fetch_fails self.old name.now) × IsLonger (file_of self.old.files) name.now most }
@@ -159,8 +168,10 @@ impl Shelf for MemShelf {
     /// longer, or it is given, or there is no memory for it.
     fn fetch(&mut self, alloc: Global, name: &str, most: u64) -> Result<Vec<u8>, FetchFault>
         ensures files_stay { Some (file_of self.new.files) ≡ Some (file_of self.old.files) }
+        ensures bytes { HoldsBytes (file_of self.old.files) name.now }
         ensures never_falls { NeverFalls (count_of self.old) (count_of self.new) }
         ensures only_at { OnlyAt (file_of self.old.files) (count_of self.old) (count_of self.new) name.now }
+        ensures counts_stay { result ≢ Err FetchFault.Failed → count_of self.new ≡ count_of self.old }
         ensures failed { result ≡ Err FetchFault.Failed → Rose (count_of self.old) (count_of self.new) name.now }
         ensures at_most { IfOk result (λ bytes. vec_len bytes ≤ most) }
         ensures whole { IfOk result (λ bytes. IsFile (file_of self.old.files) name.now bytes.items) }

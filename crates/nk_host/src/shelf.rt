@@ -1,7 +1,7 @@
 //! Files under names.
-ghost use Rattle.std.specs.Prelude.{◌≡◌, ℕ, ◌≤◌, List, Option, IfOk, vec_len};
+ghost use Rattle.std.specs.Prelude.{◌≡◌, ◌≢◌, ℕ, ◌≤◌, List, Option, IfOk, vec_len};
 ghost use Rattle.nk_host.specs.FaultCounts.{NeverFalls, OnlyAt, Rose};
-ghost use Rattle.nk_host.specs.Files.{IsFile, IsLonger};
+ghost use Rattle.nk_host.specs.Files.{HoldsBytes, IsFile, IsLonger};
 ghost use Rattle.nk_host.specs.Told.{IfTold};
 
 use crate::FetchFault;
@@ -20,10 +20,14 @@ pub trait Shelf {
     fn fetch(&mut self, alloc: Global, name: &str, most: u64) -> Result<Vec<u8>, FetchFault>
         ensures files_stay { files self.new ≡ files self.old }
 
+        // What is told is bytes, whatever the fetch answers.
+        ensures bytes { IfTold (files self.old) (λ held. HoldsBytes held name.now) }
+
         // The counts.
         ensures never_falls { NeverFalls (faults self.old) (faults self.new) }
         ensures only_at { IfTold (files self.old)
             (λ held. OnlyAt held (faults self.old) (faults self.new) name.now) }
+        ensures counts_stay { result ≢ Err FetchFault.Failed → faults self.new ≡ faults self.old }
         ensures failed { result ≡ Err FetchFault.Failed → Rose (faults self.old) (faults self.new) name.now }
 
         // The answer.

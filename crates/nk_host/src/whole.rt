@@ -24,6 +24,7 @@ pub(crate) fn read_whole<F: Read>(
     ensures at_most { IfOk result (λ bytes. vec_len bytes ≤ most) }
     ensures longer { result ≡ Err FetchFault.Longer → HadMore (F.remaining from.old.inner) most }
     ensures failed { result ≡ Err FetchFault.Failed → RoseTo from.old.faults from.new.faults }
+    ensures kept { result ≢ Err FetchFault.Failed → from.new.faults ≡ from.old.faults }
     ensures never_falls { from.old.faults ≤ from.new.faults }
     ensures one_past { GivesAtMost (F.remaining from.old.inner) (F.remaining from.new.inner) (most + 1) }
 {
@@ -61,6 +62,7 @@ fn read_more<F: Read>(
     ensures at_most { GivesAtMost (F.remaining from.old.inner) (F.remaining from.new.inner) (length block.old) }
     ensures not_longer { IfErr result (λ fault. fault ≢ FetchFault.Longer) }
     ensures failed { result ≡ Err FetchFault.Failed → RoseTo from.old.faults from.new.faults }
+    ensures kept { result ≢ Err FetchFault.Failed → from.new.faults ≡ from.old.faults }
     ensures never_falls { from.old.faults ≤ from.new.faults }
 {
     let count = from.read(block)?;

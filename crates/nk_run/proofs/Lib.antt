@@ -6,6 +6,7 @@ pub mod Rows
 pub mod RunRows
 pub mod Promises
 pub mod Runs
+pub mod RunEnds
 pub mod JournalOutcomes
 pub mod SafeRuns
 pub mod Moves

@@ -17,9 +17,10 @@ use Rattle.nk_run.specs.CommandLine.{command_of, name_in}
 use Rattle.nk_run.specs.Lines.{longest_file}
 use Rattle.nk_run.specs.Witness.{Change, Files, ShelfState, Witness}
 use Rattle.nk_run.specs.Outcome.{Answer, Verdict, passes, decided, first_verdict, checks_of, text_of, outcome, outcome_of, fetched, formed, clean, journaled, made_checks, opened, opening_in, planned, replay_in, roomy, file_in}
-use Rattle.nk_run.specs.Clauses.{HasJournal, HasOutside, HasSafeRun, IsComplete, IsCutByCount, IsCutWritten, IsDoable, IsDone, IsFaultless, IsGoodImage, IsGoodJournal, IsGoodPlan, IsOutside, IsReplayedWhereRun, IsSafeWhereRun, IsStatus, IsText, IsUnreadByCount, IsUnreadWritten, IsUsage, IsUsageAlone, IsWantWritten, MaySay, Promises, TookAll, TookPrefix}
+use Rattle.nk_run.specs.Clauses.{HasEnd, HasJournal, HasOutside, HasSafeRun, IsComplete, IsCutByCount, IsCutWritten, IsDoable, IsDone, IsFaultless, IsGoodImage, IsGoodJournal, IsGoodPlan, IsOutside, IsStatus, IsText, IsUnreadByCount, IsUnreadWritten, IsUsage, IsUsageAlone, IsWantWritten, MaySay, Promises, TookAll, TookPrefix}
+use Rattle.nk_host.specs.Told.{IfTold}
 use Rattle.nk_run.proofs.Told.{if_told, told_at}
-use Rattle.nk_run.specs.Replies.{CommandSays, IsAnswered, IsWritten, Says, SaysUsage}
+use Rattle.nk_run.specs.Replies.{CommandSays, IsAnswered, IsWritten, ReadsBytes, Says, SaysUsage}
 
 some_and : {A : Type 0} (o : Option A) (P : A → Type 0) → IsSomeAnd o P → (x : A) × (o ≡ Some x) × P x
 some_and None P h = absurd h
@@ -304,23 +305,28 @@ module _ (seen : Witness) (status : ℕ) (text : List ℕ) (result : ℕ) where
   done says written =
       if_told seen.shelf.before.files _ (λ files e wanted none. done_with files wanted (faultless none files e says written))
 
--- where the checks of a run pass, the run is safe
-run_safe : (seen : Witness) → ((words : List (List ℕ)) (files : Files) (command : Command) → command_of words ≡ Some command → HasSafeRun command words files)
-    → IsSafeWhereRun seen
-run_safe seen law =
-    if_told seen.shelf.before.files _ (λ files e. if_some (command_of seen.words) (λ command. HasSafeRun command seen.words files) (law seen.words files))
+-- what is told of the image that a run reads is bytes
+read_bytes : (seen : Witness) → IfSome (command_of seen.words) (λ command. ReadsBytes command seen.words seen.shelf.before.files)
+    → (files : Files) → seen.shelf.before.files ≡ Some files → (command : Command) → command_of seen.words ≡ Some command
+    → ReadsBytes command seen.words (Some files)
+read_bytes seen bytes files e command asked =
+    let P : Option Command → Type 0 = λ o. IfSome o (λ command. ReadsBytes command seen.words seen.shelf.before.files) in
+    subst (ReadsBytes command seen.words) e (subst P asked bytes)
 
--- and its text is a journal
-run_replayed : (seen : Witness) → ((words : List (List ℕ)) (files : Files) (command : Command) → command_of words ≡ Some command → HasJournal command words files)
-    → IsReplayedWhereRun seen
-run_replayed seen law =
-    if_told seen.shelf.before.files _ (λ files e. if_some (command_of seen.words) (λ command. HasJournal command seen.words files) (law seen.words files))
+-- what holds of each command, where files are told
+of_command : (seen : Witness) (P : Command → Files → Type 0)
+    → ((files : Files) → seen.shelf.before.files ≡ Some files → (command : Command) → command_of seen.words ≡ Some command → P command files)
+    → IfTold seen.shelf.before.files (λ files. IfSome (command_of seen.words) (λ command. P command files))
+of_command seen P law =
+    if_told seen.shelf.before.files _ (λ files e. if_some (command_of seen.words) (λ command. P command files) (law files e))
 
 pub promised : (seen : Witness) (result : ℕ)
-    → ((words : List (List ℕ)) (files : Files) (command : Command) → command_of words ≡ Some command → HasSafeRun command words files)
-    → ((words : List (List ℕ)) (files : Files) (command : Command) → command_of words ≡ Some command → HasJournal command words files)
+    → ((words : List (List ℕ)) (files : Files) (command : Command) → HasEnd command words files)
+    → ((words : List (List ℕ)) (files : Files) (command : Command) → command_of words ≡ Some command → ReadsBytes command words (Some files) → HasSafeRun command words files)
+    → ((words : List (List ℕ)) (files : Files) (command : Command) → command_of words ≡ Some command → ReadsBytes command words (Some files) → HasJournal command words files)
+    → IfSome (command_of seen.words) (λ command. ReadsBytes command seen.words seen.shelf.before.files)
     → IsAnswered seen result → Promises seen result
-promised seen result law again r = record {
+promised seen result ended law again bytes r = record {
   status_range = status_range seen r.status r.text result r.says r.written;
   usage = usage seen r.status r.text result r.says r.written;
   usage_alone = usage_alone seen r.status r.text result r.says r.written;
@@ -334,6 +340,9 @@ promised seen result law again r = record {
   files_stay = r.files_stay;
   complete = complete seen r.status r.text result r.says r.written;
   done = done seen r.status r.text result r.says r.written;
-  run_safe = run_safe seen law;
-  run_replayed = run_replayed seen again;
+  run_ends = of_command seen (λ command files. HasEnd command seen.words files) (λ files e command asked. ended seen.words files command);
+  run_safe = of_command seen (λ command files. HasSafeRun command seen.words files)
+      (λ files e command asked. law seen.words files command asked (read_bytes seen bytes files e command asked));
+  run_replayed = of_command seen (λ command files. HasJournal command seen.words files)
+      (λ files e command asked. again seen.words files command asked (read_bytes seen bytes files e command asked));
 }

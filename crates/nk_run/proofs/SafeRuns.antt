@@ -1,7 +1,8 @@
 -- Where the checks of a run pass, the image is admitted and has room, and the plan is in form: the run is safe.
-use Rattle.std.proofs.Common.{◌≡◌, ℕ, ◌≤◌, Bool, true, false, inl, inr, List, [], ◌∷◌, length, Option, Some, None, Result, Ok, Err, refl, sym, ap, ◌∙◌, arith}
+use Rattle.std.proofs.Common.{◌≡◌, ℕ, ◌≤◌, Bool, true, false, inl, inr, List, [], ◌∷◌, length, Option, Some, None, Result, Ok, Err, IfSome, refl, sym, ap, ◌∙◌, arith, lit<}
 use Rattle.std.specs.Prelude.{if◌then◌else◌, ◌&&◌, nat_le, unwrap_or}
 use Rattle.std.proofs.lemmas.Bool.{and_parts, cases_Bool, cases_lt, leb-true, lt-ltb}
+use Rattle.nk_host.specs.Files.{IsFileOfBytes}
 use Rattle.elf_image.specs.declared.fault.ImageFault.{ImageFault}
 use Rattle.elf_image.specs.Pages.{IsPageList, pages_of}
 use Rattle.elf_image.specs.Rows.{first_fault}
@@ -22,12 +23,13 @@ use Rattle.std.specs.Option.{option_map}
 use Rattle.nk_run.specs.declared.command_line.Command.{Command}
 use Rattle.nk_run.specs.declared.command_line.Command.TheVariants.{Scan, Map, Run, Replay, Make, Work}
 use Rattle.nk_run.specs.declared.command_line.Role.TheVariants.{Image, Input, Plan}
-use Rattle.nk_run.specs.Clauses.{HasJournal, HasSafeRun, IsFileOfBytes, IsGoodImage, IsSafeRun}
+use Rattle.nk_run.specs.Clauses.{HasJournal, HasSafeRun, IsGoodImage, IsSafeRun}
 use Rattle.nk_run.specs.CommandLine.{command_of, map_with, name_in, run_with}
 use Rattle.nk_run.specs.NumberWords.{address_of, bounded, decimal_within, is_least_long, is_numeral}
 use Rattle.nk_run.specs.JournalLaw.{IsReplayedRun}
 use Rattle.nk_run.specs.Lines.{longest_file}
 use Rattle.nk_run.specs.Outcome.{Answer, checks_of, clean, ends, events_in, fetched, file_in, first_verdict, formed, opening_in, passes, planned, roomy}
+use Rattle.nk_run.specs.Replies.{ReadsBytes}
 use Rattle.nk_run.specs.Witness.{Files}
 use Rattle.nk_run.proofs.JournalOutcomes.{journal_of}
 use Rattle.nk_run.proofs.Rows.{both_pass}
@@ -154,6 +156,11 @@ held_within (Some b) e =
     chosen true answer h e = cc
     chosen false answer h e = cc
 
+-- the bytes of a file, where one is held
+held_bytes : (file : Option (List ℕ)) → IfSome file IsFileOfBytes → IsFileOfBytes (unwrap_or file [])
+held_bytes None bytes = λ i. lit< tt
+held_bytes (Some b) bytes = bytes
+
 -- what the checks of a run admit: the image, whose opening has room, and a plan in form
 record IsChecked (files : Files) (words : List (List ℕ)) (frames : ℕ) : Type 0 where
   good : IsGoodImage (file_in files words Image)
@@ -192,26 +199,28 @@ module _ (pages_hold : (b : List ℕ) → first_fault b ≡ None → IsPageList 
       }
 
   pub safe_where_run : ((o : Opening) (input : List ℕ) (plan : List Event) → IsAdmitted o → IsPlan plan → IsSafeRun plan o input)
-      → (words : List (List ℕ)) (files : Files) (command : Command) → command_of words ≡ Some command → HasSafeRun command words files
-  safe_where_run law words files Scan asked = tt
-  safe_where_run law words files (Map frames va) asked = tt
-  safe_where_run law words files (Replay frames) asked = tt
-  safe_where_run law words files (Make number) asked = tt
-  safe_where_run law words files (Work number) asked = tt
-  safe_where_run law words files (Run steps frames) asked = λ bytes passed.
-      let it = checked_run words files steps frames (run_within words steps frames asked) bytes passed in
+      → (words : List (List ℕ)) (files : Files) (command : Command) → command_of words ≡ Some command → ReadsBytes command words (Some files)
+      → HasSafeRun command words files
+  safe_where_run law words files Scan asked bytes = tt
+  safe_where_run law words files (Map frames va) asked bytes = tt
+  safe_where_run law words files (Replay frames) asked bytes = tt
+  safe_where_run law words files (Make number) asked bytes = tt
+  safe_where_run law words files (Work number) asked bytes = tt
+  safe_where_run law words files (Run steps frames) asked bytes = λ passed.
+      let it = checked_run words files steps frames (run_within words steps frames asked) (held_bytes (files (name_in words Image)) bytes) passed in
       law (opening_in files words frames) (file_in files words Input) (events_in (plan_of (file_in files words Plan))) it.admitted it.planned_are
 
   pub replayed_where_run : ((o : Opening) (input : List ℕ) (plan : List Event) (steps : ℕ) → IsAdmitted o → IsPlan plan → steps ≤ 4294967296 → IsReplayedRun o input plan steps)
-      → (words : List (List ℕ)) (files : Files) (command : Command) → command_of words ≡ Some command → HasJournal command words files
-  replayed_where_run law words files Scan asked = tt
-  replayed_where_run law words files (Map frames va) asked = tt
-  replayed_where_run law words files (Replay frames) asked = tt
-  replayed_where_run law words files (Make number) asked = tt
-  replayed_where_run law words files (Work number) asked = tt
-  replayed_where_run law words files (Run steps frames) asked = λ bytes passed.
+      → (words : List (List ℕ)) (files : Files) (command : Command) → command_of words ≡ Some command → ReadsBytes command words (Some files)
+      → HasJournal command words files
+  replayed_where_run law words files Scan asked bytes = tt
+  replayed_where_run law words files (Map frames va) asked bytes = tt
+  replayed_where_run law words files (Replay frames) asked bytes = tt
+  replayed_where_run law words files (Make number) asked bytes = tt
+  replayed_where_run law words files (Work number) asked bytes = tt
+  replayed_where_run law words files (Run steps frames) asked bytes = λ passed.
       let within = run_within words steps frames asked in
-      let it = checked_run words files steps frames within bytes passed in
+      let it = checked_run words files steps frames within (held_bytes (files (name_in words Image)) bytes) passed in
       journal_of (opening_in files words frames) (file_in files words Input) (events_in (plan_of (file_in files words Plan))) steps
       it.good it.admitted.layout.room
       (law (opening_in files words frames) (file_in files words Input) (events_in (plan_of (file_in files words Plan))) steps it.admitted it.planned_are within.turns)

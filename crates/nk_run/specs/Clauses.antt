@@ -1,6 +1,6 @@
 -- What the top call promises, in the order of the record `Promises` at the end: each promise is over what the call saw
 -- and its status.
-use Rattle.std.specs.Prelude.{◌≡◌, ℕ, ◌<◌, ◌≤◌, ◌⊎◌, List, length, slice_index, None, MatchOption, IfSome, IsSomeAnd, IsOk, ⊤}
+use Rattle.std.specs.Prelude.{◌≡◌, ℕ, ◌<◌, ◌≤◌, ◌⊎◌, List, [], length, None, MatchOption, IfSome, IsSomeAnd, IsOk, ⊤}
 use Rattle.std.specs.Io.KnownBytes.{Appends}
 use Rattle.nk_host.specs.FaultCounts.{Rose, RoseTo}
 use Rattle.nk_host.specs.Taken.{AppendsPrefix}
@@ -26,6 +26,7 @@ use Rattle.nk_run.specs.declared.command_line.Role.TheVariants.{Image, Input, Pl
 use Rattle.nk_run.specs.CommandLine.{command_of, name_in, IsAsked}
 use Rattle.nk_run.specs.JournalLaw.{IsJournal}
 use Rattle.nk_run.specs.Lines.{longest_file, no_memory_line, unread_line, usage_line}
+use Rattle.nk_run.specs.RunStates.{EndsAfter, run_length}
 use Rattle.nk_run.specs.Witness.{Change, Files, ShelfState, SinkState, Witness}
 use Rattle.nk_run.specs.Outcome.{checks_of, events_in, file_in, first_verdict, opened, opening_in, outcome, passes, IsReached}
 
@@ -184,15 +185,10 @@ pub record IsSafeRun (plan : List Event) (o : Opening) (input : List ℕ) : Type
   pub called : (n k : ℕ) → IsCalling (state plan (opening_state o input) n).processor
       → IsCalledThrough plan (state plan (opening_state o input) n) k
 
--- a file holds bytes
-abbrev pub IsFileOfBytes : List ℕ → Type 0
-IsFileOfBytes b = (i : ℕ) → slice_index b i < 256
-
 -- where the checks of a run pass, the run is safe
 abbrev pub HasSafeRun : Command → List (List ℕ) → Files → Type 0
 HasSafeRun (Run steps frames) words files =
-    IsFileOfBytes (file_in files words Image)
-    → first_verdict (checks_of (Run steps frames) files words) ≡ passes
+    first_verdict (checks_of (Run steps frames) files words) ≡ passes
     → IsSafeRun (events_in (plan_of (file_in files words Plan))) (opening_in files words frames) (file_in files words Input)
 HasSafeRun _ words files = ⊤
 
@@ -203,14 +199,28 @@ IsSafeWhereRun seen = IfTold seen.shelf.before.files (λ files.
 -- where the checks of a run pass, its text is a journal of it
 abbrev pub HasJournal : Command → List (List ℕ) → Files → Type 0
 HasJournal (Run steps frames) words files =
-    IsFileOfBytes (file_in files words Image)
-    → first_verdict (checks_of (Run steps frames) files words) ≡ passes
+    first_verdict (checks_of (Run steps frames) files words) ≡ passes
     → IsJournal (opening_in files words frames) (file_in files words Input) (events_in (plan_of (file_in files words Plan))) steps
 HasJournal _ words files = ⊤
 
 abbrev pub IsReplayedWhereRun : Witness → Type 0
 IsReplayedWhereRun seen = IfTold seen.shelf.before.files (λ files.
     IfSome (command_of seen.words) (λ command. HasJournal command seen.words files))
+
+-- a run takes as many steps as its length says, and the state after them is the first at which it ends
+abbrev pub HasEnd : Command → List (List ℕ) → Files → Type 0
+HasEnd (Run steps frames) words files =
+    let plan = events_in (plan_of (file_in files words Plan)) in
+    let first = opening_state (opening_in files words frames) (file_in files words Input) in
+    EndsAfter (run_length steps plan first) steps plan first
+HasEnd (Work number) words files =
+    let first = opening_state (record { image = image_of_number number; frames = 4096 }) [] in
+    EndsAfter (run_length 2000000 [] first) 2000000 [] first
+HasEnd _ words files = ⊤
+
+abbrev pub IsEndedWhereRun : Witness → Type 0
+IsEndedWhereRun seen = IfTold seen.shelf.before.files (λ files.
+    IfSome (command_of seen.words) (λ command. HasEnd command seen.words files))
 
 pub record Promises (seen : Witness) (status : ℕ) : Type 0 where
   pub status_range : status ≤ 7
@@ -230,7 +240,9 @@ pub record Promises (seen : Witness) (status : ℕ) : Type 0 where
   -- without a fault of the outside the work is done, if memory is given
   pub complete : IsComplete seen status
   pub done : IsDone seen status
-  -- the run whose text is written is safe in each of its states
+  -- the run whose text is written goes on to the first state at which it ends
+  pub run_ends : IsEndedWhereRun seen
+  -- it is safe in each of its states
   pub run_safe : IsSafeWhereRun seen
   -- and its text is a journal: `replay` of it finds each line right, and shows the run's closing section
   pub run_replayed : IsReplayedWhereRun seen

@@ -1,17 +1,21 @@
 -- What the top call says, and how it is written.
-use Rattle.std.specs.Prelude.{◌≡◌, ◌≢◌, ℕ, ◌*◌, Bool, true, ◌<◌, ◌≤◌, ◌⊎◌, List, length, Option, None, Some, Result, IsSome}
+use Rattle.std.specs.Prelude.{◌≡◌, ◌≢◌, ℕ, ◌*◌, Bool, true, ◌<◌, ◌≤◌, ◌⊎◌, List, length, Option, None, Some, Result, IsSome, ⊤}
 use Rattle.std.specs.List.{list_any}
 use Rattle.nk_bits.specs.declared.leaf.Leaf.{Leaf}
 use Rattle.irq_plan.specs.declared.event.Event.{Event}
+use Rattle.nk_host.specs.Files.{HoldsBytes}
 use Rattle.nk_host.specs.Told.{IfTold}
 use Rattle.byte_scanner.specs.FirstFound.{first_found}
 use Rattle.boot_map.specs.Division.{Division, IsLayout}
 use Rattle.nk_body.specs.NestedRecord.{AreBooks, Books, nested_by}
 use Rattle.gate_state.specs.MachineOpening.{opening_state}
 use Rattle.report_text.specs.ClosingSection.{section}
+use Rattle.nk_run.specs.declared.command_line.Command.{Command}
+use Rattle.nk_run.specs.declared.command_line.Command.TheVariants.{Run}
 use Rattle.nk_run.specs.declared.command_line.Role.{Role}
+use Rattle.nk_run.specs.declared.command_line.Role.TheVariants.{Image}
 use Rattle.nk_run.specs.declared.count.Tally.{Tally}
-use Rattle.nk_run.specs.CommandLine.{command_of, is_same}
+use Rattle.nk_run.specs.CommandLine.{command_of, is_same, name_in}
 use Rattle.nk_run.specs.Lines.{no_memory_line, unread_line, usage_line, walk_line}
 use Rattle.nk_run.specs.Witness.{Change, Files, ShelfState, SinkState, Witness}
 use Rattle.nk_run.specs.Outcome.{Check, Verdict, ends, decided, first_verdict, outcome, worked, IsReached}
@@ -79,6 +83,15 @@ pub record IsAnswered (seen : Witness) (result : ℕ) : Type 0 where
   pub says : Says seen.words seen.shelf status text
   pub written : IsWritten seen.sink status text result
   pub files_stay : AreKept seen
+
+-- where files are told, what is told of the file of a role is bytes
+abbrev pub TellsBytes : List (List ℕ) → Option Files → Role → Type 0
+TellsBytes words told role = IfTold told (λ files. HoldsBytes files (name_in words role))
+
+-- and so it is of the image that a run reads
+abbrev pub ReadsBytes : Command → List (List ℕ) → Option Files → Type 0
+ReadsBytes (Run steps frames) words told = TellsBytes words told Image
+ReadsBytes _ words told = ⊤
 
 -- The first steps of a command: a reply with which it stops before its work begins.
 

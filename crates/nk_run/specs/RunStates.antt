@@ -1,5 +1,5 @@
 -- A run: why it ends, how many steps it takes, and its text. Its states are those of the machine.
-use Rattle.std.specs.Prelude.{ℕ, zero, suc, ◌+◌, ◌-◌, ◌==◌, Bool, true, false, if◌then◌else◌, List, [], ◌++◌, length, Option, None, Some}
+use Rattle.std.specs.Prelude.{◌≡◌, ℕ, zero, suc, ◌+◌, ◌-◌, ◌<◌, ◌==◌, Bool, true, false, if◌then◌else◌, List, [], ◌++◌, length, Option, None, Some, IsSome}
 use Rattle.irq_plan.specs.declared.event.Event.{Event}
 use Rattle.gate_state.specs.declared.moves.Move.{Move}
 use Rattle.gate_state.specs.declared.moves.Move.TheVariants as move
@@ -33,6 +33,11 @@ steps_within (suc most) steps plan s =
 -- each step takes a turn or an event
 unfoldable pub run_length : ℕ → List Event → MachineState → ℕ
 run_length steps plan s = steps_within ((steps - s.turns) + (length plan - s.taken)) steps plan s
+
+-- a run from a state ends after n steps, and not after fewer
+pub record EndsAfter (n steps : ℕ) (plan : List Event) (s : MachineState) : Type 0 where
+  pub there : IsSome (ending_at steps plan (state plan s n))
+  pub not_before : (k : ℕ) → k < n → ending_at steps plan (state plan s k) ≡ None
 
 -- what a step shows: a byte of the console, a delivery, or a call
 abbrev pub shown : Seen → List ℕ

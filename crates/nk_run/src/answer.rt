@@ -1,10 +1,11 @@
 //! What the words ask for, done over the shelf's files and written to the sink.
-ghost use Rattle.std.specs.Prelude.{◌≡◌, map};
+ghost use Rattle.std.specs.Prelude.{◌≡◌, map, IfSome};
 ghost use Rattle.std.specs.String.{string_bytes};
+ghost use Rattle.nk_run.specs.CommandLine.{command_of};
 ghost use Rattle.nk_run.specs.Lines.{usage_line};
 ghost use Rattle.nk_run.specs.Witness.{shelf_change, sink_change};
 ghost use Rattle.nk_run.specs.ReplyText.{bytes_of};
-ghost use Rattle.nk_run.specs.Replies.{IsAnswered};
+ghost use Rattle.nk_run.specs.Replies.{IsAnswered, ReadsBytes};
 
 use crate::command_line::Command;
 use crate::lines::usage_line;
@@ -36,7 +37,9 @@ pub(crate) fn answer<S: Shelf, O: Sink>(
     shelf: &mut S,
     sink: &mut O,
 ) -> u8
-    ensures { IsAnswered (record {
+    ensures bytes { let names = map string_bytes words.now in
+        IfSome (command_of names) (λ command. ReadsBytes command names (S.files shelf.old)) }
+    ensures answered { IsAnswered (record {
       words = map string_bytes words.now;
       shelf = shelf_change S.files S.faults shelf.old shelf.new;
       sink = sink_change O.taken O.faults sink.old sink.new;

@@ -9,7 +9,7 @@ ghost use Rattle.nk_run.specs.CommandLine.{name_in, word_place};
 ghost use Rattle.nk_run.specs.Witness.{shelf_change};
 ghost use Rattle.nk_run.specs.Outcome.{fetched, formed, clean, first_verdict, form_checks, image_checks, file_in, passes};
 ghost use Rattle.nk_run.specs.ReplyText.{bytes_of};
-ghost use Rattle.nk_run.specs.Replies.{RefusesBy, Stops};
+ghost use Rattle.nk_run.specs.Replies.{RefusesBy, Stops, TellsBytes};
 
 use crate::command_line::Role;
 use crate::lines::{image_line, longer_line, protected_line, unread_line};
@@ -32,6 +32,7 @@ pub(crate) fn fetch<S: Shelf>(
     requires { word_place role < length words.now }
     ensures files_stay { S.files shelf.new ≡ S.files shelf.old }
     ensures never_falls { NeverFalls (S.faults shelf.old) (S.faults shelf.new) }
+    ensures bytes { TellsBytes (map string_bytes words.now) (S.files shelf.old) role }
     ensures fetched { let names = map string_bytes words.now in MatchResult result
         (λ bytes. IfTold (S.files shelf.old) (λ files.
         (files (name_in names role) ≡ Some bytes.items)
@@ -100,6 +101,7 @@ pub(crate) fn open<S: Shelf>(alloc: Global, words: &[String], shelf: &mut S) -> 
     requires { word_place Role.Image < length words.now }
     ensures files_stay { S.files shelf.new ≡ S.files shelf.old }
     ensures never_falls { NeverFalls (S.faults shelf.old) (S.faults shelf.new) }
+    ensures bytes { TellsBytes (map string_bytes words.now) (S.files shelf.old) Role.Image }
     ensures clean { IfOk result (λ image. first_found image ≡ None) }
     ensures opened { let names = map string_bytes words.now in MatchResult result
         (λ image. IfTold (S.files shelf.old) (λ files. (image ≡ file_in files names Role.Image)

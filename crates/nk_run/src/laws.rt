@@ -4,11 +4,13 @@ ghost use Rattle.std.specs.Prelude.{◌≡◌, ◌≤◌, ℕ, List, Some};
 ghost use Rattle.irq_plan.specs.declared.event.Event.{Event};
 ghost use Rattle.irq_plan.specs.PlannedEvents.{IsPlan};
 ghost use Rattle.gate_state.specs.GuardedStates.{IsAdmitted};
-ghost use Rattle.gate_state.specs.MachineStates.{Opening};
+ghost use Rattle.gate_state.specs.MachineStates.{MachineState, Opening};
 ghost use Rattle.nk_run.specs.declared.command_line.Command.{Command};
 ghost use Rattle.nk_run.specs.CommandLine.{command_of};
-ghost use Rattle.nk_run.specs.Clauses.{HasJournal, HasSafeRun};
+ghost use Rattle.nk_run.specs.Clauses.{HasEnd, HasJournal, HasSafeRun};
 ghost use Rattle.nk_run.specs.JournalLaw.{IsReplayedRun};
+ghost use Rattle.nk_run.specs.Replies.{ReadsBytes};
+ghost use Rattle.nk_run.specs.RunStates.{EndsAfter, run_length};
 ghost use Rattle.nk_run.specs.Witness.{Files};
 
 use boot_map::opening_kinds_law;
@@ -19,18 +21,29 @@ use irq_plan::plan_law;
 use phys_mem::{frame_law, memory_law};
 use vmmu::accepted_law;
 
-/// Where the checks of a run pass, the run is safe in each of its states, and its text is a journal of its calls.
+/// Where the checks of a run pass, the run is safe in each of its states, and its text is a journal of its calls; and each
+/// run goes on to the first state at which it ends.
 pub(crate) fn run_law()
     ensures safe { (words : List (List ℕ)) (files : Files) (command : Command) → command_of words ≡ Some command
-        → HasSafeRun command words files }
+        → ReadsBytes command words (Some files) → HasSafeRun command words files }
     ensures replayed { (words : List (List ℕ)) (files : Files) (command : Command) → command_of words ≡ Some command
-        → HasJournal command words files }
+        → ReadsBytes command words (Some files) → HasJournal command words files }
+    ensures ended { (words : List (List ℕ)) (files : Files) (command : Command) → HasEnd command words files }
 {
     pages_law();
     clean_law();
     plan_law();
     safety_law();
     journal_law();
+    length_law();
+}
+
+/// As many steps as a run's length says are taken: the state after them is the first at which it ends.
+fn length_law()
+    ensures { (steps : ℕ) (plan : List Event) (s : MachineState) → s.turns ≤ steps
+        → EndsAfter (run_length steps plan s) steps plan s }
+{
+    moves_law();
 }
 
 /// A replay of a run's text finds each line right, and ends with the run's own closing section, but for bytes of

@@ -10,7 +10,7 @@ ghost use Rattle.nk_run.specs.CommandLine.{command_of, word_count, IsBounded};
 ghost use Rattle.nk_run.specs.Witness.{shelf_change, sink_change};
 ghost use Rattle.nk_run.specs.Outcome.{file_in, first_verdict, passes, roomy, run_checks};
 ghost use Rattle.nk_run.specs.ReplyText.{bytes_of};
-ghost use Rattle.nk_run.specs.Replies.{CommandSays, IsAnswered, IsReady, RefusesBy, StopsIn};
+ghost use Rattle.nk_run.specs.Replies.{CommandSays, IsAnswered, IsReady, RefusesBy, StopsIn, TellsBytes};
 
 use crate::command_line::{Command, Role};
 use crate::drive::drive;
@@ -43,6 +43,7 @@ struct Ready {
 fn hold<S: Shelf>(alloc: Global, words: &[String], shelf: &mut S) -> Result<Held, Reply>
     requires { 3 < length words.now }
     ensures files_stay { S.files shelf.new ≡ S.files shelf.old }
+    ensures bytes { TellsBytes (map string_bytes words.now) (S.files shelf.old) Role.Image }
     ensures held { let names = map string_bytes words.now in MatchResult result
         (λ held. (first_found held.image ≡ None)
         × IfTold (S.files shelf.old) (λ files. (held.image ≡ file_in files names Role.Image)
@@ -74,6 +75,7 @@ fn make_ready<S: Shelf>(
     requires count { length words.now ≡ word_count (Command.Run steps frames) }
     requires bounds { IsBounded (Command.Run steps frames) }
     ensures files_stay { S.files shelf.new ≡ S.files shelf.old }
+    ensures bytes { TellsBytes (map string_bytes words.now) (S.files shelf.old) Role.Image }
     ensures ready { let names = map string_bytes words.now in MatchResult result
         (λ it. IsReady names (S.files shelf.old) steps frames it.image it.layout it.outside.input.items it.outside.plan)
         (λ reply. CommandSays names (shelf_change S.files S.faults shelf.old shelf.new)
@@ -106,7 +108,8 @@ pub(crate) fn run<S: Shelf, O: Sink>(
     requires asked { command_of (map string_bytes words.now) ≡ Some (Command.Run steps frames) }
     requires count { length words.now ≡ word_count (Command.Run steps frames) }
     requires bounds { IsBounded (Command.Run steps frames) }
-    ensures { IsAnswered (record {
+    ensures bytes { TellsBytes (map string_bytes words.now) (S.files shelf.old) Role.Image }
+    ensures answered { IsAnswered (record {
       words = map string_bytes words.now;
       shelf = shelf_change S.files S.faults shelf.old shelf.new;
       sink = sink_change O.taken O.faults sink.old sink.new;

@@ -1,5 +1,6 @@
 use Rattle.gate_state.specs.MachineOpening.{opening_state}
 use Rattle.gate_state.specs.MachineSteps.{state}
+use Rattle.nk_run.proofs.RunEnds.{ended_where_run}
 use Rattle.nk_run.proofs.SafeRuns.{replayed_where_run, safe_where_run}
 use Rattle.nk_run.proofs.laws.run_law.Goals as goal
 
@@ -17,3 +18,6 @@ returns-clause-safe c =
 
 pub returns-clause-replayed : goal.returns-clause-replayed
 returns-clause-replayed c = replayed_where_run c.pages_law.ensures c.clean_law.ensures c.plan_law.ensures c.journal_law.ensures
+
+pub returns-clause-ended : goal.returns-clause-ended
+returns-clause-ended c = ended_where_run c.length_law.ensures

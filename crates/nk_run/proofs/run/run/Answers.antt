@@ -8,8 +8,8 @@ use Rattle.nk_run.proofs.RunRows.{ran_says}
 use Rattle.nk_run.proofs.Runs.{text_begun}
 use Rattle.nk_run.proofs.run.run.Goals as goal
 
-pub returns-in-Err : goal.returns-in-Err
-returns-in-Err g c = record {
+pub returns-in-Err-clause-answered : goal.returns-in-Err-clause-answered
+returns-in-Err-clause-answered g c = record {
   status = _;
   text = _;
   says = inr c.in-Err.ensures.ready;
@@ -20,8 +20,8 @@ returns-in-Err g c = record {
 pub drive-requires-clause-opening : goal.drive-requires-clause-opening
 drive-requires-clause-opening g c = c.in-Some.ensures.opening
 
-pub returns-in-Some : goal.returns-in-Some
-returns-in-Some g c =
+pub returns-in-Some-clause-answered : goal.returns-in-Some-clause-answered
+returns-in-Some-clause-answered g c =
     let ready = c.in-Ok.ready in
     let it = c.in-Ok.ensures.ready in
     let o : Opening = record { image = ready.image; frames = c.args.frames } in
