@@ -9,6 +9,7 @@ pub mod FreedBook
 pub mod KeptRows
 pub mod ListEdits
 pub mod MarkedBook
+pub mod OnceFrames
 pub mod PageRanges
 pub mod PoolFrames
 pub mod PoolPlaces

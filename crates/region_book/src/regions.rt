@@ -1,7 +1,8 @@
 //! The book of regions, and the calls on it.
 
-ghost use Rattle.std.specs.Prelude.{◌≡◌, ◌<◌, ◌≤◌, ◌+◌, ◌-◌, ◌*◌, ◌/◌, ◌^◌, ◌==◌, ◌&&◌, ◌||◌, not, filter, nat_le, nat_lt, slice_index_or, slice_set, All, IfNone, IfOk, IfSome, IsSome, List, Bool, OnErr, OnOk, Some, None, [], length, option_map, replicate, slice_get, slice_index, false, true, vec_capacity, take};
+ghost use Rattle.std.specs.Prelude.{◌≡◌, ◌<◌, ◌≤◌, ℕ, ◌+◌, ◌-◌, ◌*◌, ◌/◌, ◌^◌, ◌==◌, ◌&&◌, ◌||◌, not, filter, nat_le, nat_lt, slice_index_or, slice_set, All, IfNone, IfOk, IfSome, IsSome, List, Bool, OnErr, OnOk, Some, None, [], length, option_map, replicate, slice_get, slice_index, false, true, vec_capacity, take};
 ghost use Rattle.phys_mem.specs.Memory.{byte_at, entry_in, stored};
+ghost use Rattle.nk_bits.specs.Kinds.{is_data, kind_of};
 ghost use Rattle.nk_bits.specs.Rules.{rule_of};
 ghost use Rattle.region_book.specs.RegionCalls.{added, alloc_rule, declare_rule, fits_in, frames_from, free_rule, freed, guarded, is_policy, is_taken, mapped, page_region, pool_region, room};
 ghost use Rattle.region_book.specs.RegionRecords.{IsBook, byte_place, is_written_in, marked, pool_start, region_of, region_stores, shown, with_region};
@@ -196,7 +197,8 @@ impl Regions {
         move_tail(&mut self.rows, i, offset + count);
     }
 
-    /// Makes the frames of a range of pages a protected region, with the bytes that stand there.
+    /// Makes the frames of a range of pages a protected region, with the bytes that stand there. The frames of live regions
+    /// and of the pool don't hold data, so none of them is declared.
     pub fn declare(
         &mut self,
         frames: &mut Frames,
@@ -210,6 +212,8 @@ impl Regions {
         requires next { self.old.next < 2 ^ 63 }
         requires root { 4096 * root < length mem.now }
         requires frames { length mem.now ≡ 4096 * length frames.old.kinds }
+        requires regions { All (λ r. All (λ f. is_data (kind_of frames.old.kinds f) ≡ false) r.frames) self.old.regions }
+        requires pool { (f : ℕ) → 10 ≤ f → f < 26 → is_data (kind_of frames.old.kinds f) ≡ false }
         ensures judged { rule_of result ≡ declare_rule self.old frames.old.kinds (slice_index frames.old.loose)
             (mapped (entry_in mem.now) (length mem.now / 4096) root) va size policy }
         ensures refused { OnErr result ((self.new ≡ self.old) × (frames.new ≡ frames.old)) }
