@@ -3,6 +3,7 @@ pub mod BitTests
 pub mod BookBits
 pub mod BookRows
 pub mod ByteBits
+pub mod BytePlaces
 pub mod DeclaredRegions
 pub mod Found
 pub mod FreedBook
@@ -14,6 +15,7 @@ pub mod PageRanges
 pub mod PoolFrames
 pub mod PoolPlaces
 pub mod PoolRegions
+pub mod RefutedBooks
 pub mod RegionReads
 pub mod RowPlaces
 pub mod RowStores
