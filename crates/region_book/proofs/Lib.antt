@@ -7,6 +7,7 @@ pub mod BytePlaces
 pub mod DeclaredRegions
 pub mod Found
 pub mod FreedBook
+pub mod GuardedKinds
 pub mod KeptRows
 pub mod ListEdits
 pub mod MarkedBook

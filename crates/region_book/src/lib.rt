@@ -20,7 +20,7 @@ mod regions;
 // What follows from the definitions.
 mod laws;
 
-pub use laws::apart_law;
+pub use laws::{apart_law, declared_law};
 pub use regions::{Granted, NoMemory, Region, Regions};
 
 #[cfg(test)]

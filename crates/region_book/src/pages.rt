@@ -225,7 +225,6 @@ pub(crate) fn judge_declare(
 }
 
 /// Makes the frames guarded.
-#[tactic(auto, unfolding(crate::specs::RegionCalls::guarded))]
 pub(crate) fn guard(frames: &mut Frames, pages: &Pages)
     requires count { pages.now.count ≤ 16 }
     requires within { All (λ f. f < length frames.old.kinds) (take pages.now.count pages.now.frames) }
