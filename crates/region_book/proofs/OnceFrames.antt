@@ -1,11 +1,10 @@
 -- Frames that stand once, and the test for two places that hold the same one.
-use Rattle.std.proofs.Common.{◌≡◌, ◌≢◌, ℕ, ◌+◌, ◌<◌, ◌≤◌, Bool, true, false, ◌==◌, List, length, length-take-le, take, arith, sym, ◌∙◌, inl, inr, slice_index, slice_index_or}
+use Rattle.std.proofs.Common.{◌≡◌, ◌≢◌, ℕ, ◌<◌, Bool, true, false, ◌==◌, List, length, length-take-le, take, arith, sym, ◌∙◌, inl, inr, slice_index}
 use Rattle.std.specs.List.{list_any, range_with_len}
 use Rattle.std.proofs.lemmas.Bool.{cases_Bool, eq-eqb, eqb-true, false≢true}
 use Rattle.std.proofs.lemmas.Bool.Decides.{eqb_tells}
 use Rattle.std.proofs.lemmas.List.{get_or_default, get_or-take}
 use Rattle.std.proofs.lemmas.List.Folds.{Any-from_list_any, list_any_at}
-use Rattle.std.proofs.lemmas.List.FromFn.{get_or-range_with_len}
 use Rattle.region_book.specs.RegionCalls.{has_twice}
 use Rattle.region_book.specs.RegionRecords.{IsEachOnce}
 use Rattle.region_book.proofs.BitTests.{each_in_run, none_in_run}

@@ -1,5 +1,5 @@
 -- Books of regions that are not sound.
-use Rattle.std.proofs.Common.{◌≡◌, ℕ, ◌+◌, ◌<◌, ◌≤◌, true, false, List, [], ◌∷◌, length, arith, refl, sym, ◌∙◌, inl, inr}
+use Rattle.std.proofs.Common.{◌≡◌, ℕ, ◌+◌, ◌<◌, ◌≤◌, true, false, [], ◌∷◌, length, arith, sym, ◌∙◌, inl, inr}
 use Rattle.std.specs.Prelude.{slice_index}
 use Rattle.std.specs.List.{Contains, sum_by}
 use Rattle.region_book.specs.RegionRecords.{Book, IsBook, IsRegion, Region, pages_of_region, pool_start}

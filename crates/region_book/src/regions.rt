@@ -161,9 +161,10 @@ impl Regions {
         }
     }
 
-    /// Whether a byte of the range was written before.
+    /// Whether a byte of the range was written before; none is in an empty one.
     pub fn written(&self, id: u64, offset: u32, length: u32) -> bool
-        requires { fits_in self.now id offset length ≡ true }
+        requires live { IsSome (region_of self.now id) }
+        requires within { IfSome (region_of self.now id) (λ r. offset + length ≤ r.size) }
         ensures { IfSome (region_of self.now id) (λ r. result ≡ is_written_in r offset length) }
     {
         let row = self.rows[live_at(&self.rows, id)];
@@ -173,7 +174,8 @@ impl Regions {
     /// Writes bytes in a region from an offset on, and marks them as written; the tail of an append-only region moves behind them.
     pub fn mark(&mut self, mem: &mut PhysMem, id: u64, offset: u32, bytes: &[u8])
         requires book { IsBook self.old }
-        requires fits { fits_in self.old id offset (length bytes.now) ≡ true }
+        requires live { IsSome (region_of self.old id) }
+        requires within { IfSome (region_of self.old id) (λ r. offset + length bytes.now ≤ r.size) }
         requires frames { IfSome (region_of self.old id) (λ r. All (λ f. 4096 * f + 4096 ≤ length mem.old) r.frames) }
         ensures marked { IfSome (region_of self.old id) (λ r. self.new ≡ with_region self.old (marked r offset (length bytes.now))) }
         ensures memory { IfSome (region_of self.old id) (λ r. mem.new ≡ stored mem.old (region_stores r offset bytes.now)) }
@@ -187,7 +189,8 @@ impl Regions {
     // Marks a range as written.
     fn mark_range(&mut self, id: u64, offset: u32, count: u32)
         requires book { IsBook self.old }
-        requires fits { fits_in self.old id offset count ≡ true }
+        requires live { IsSome (region_of self.old id) }
+        requires within { IfSome (region_of self.old id) (λ r. offset + count ≤ r.size) }
         ensures marked { IfSome (region_of self.old id) (λ r. self.new ≡ with_region self.old (marked r offset count)) }
         ensures book { IsBook self.new }
     {
