@@ -13,7 +13,7 @@ use Rattle.region_book.specs.RegionCalls.{guarded}
 abbrev among : ℕ → List ℕ → Bool
 among f frames = list_any (λ g. g == f) frames
 
-pub guarded_count : (kinds : List Kind) (frames : List ℕ) → length (guarded kinds frames) ≡ length kinds
+guarded_count : (kinds : List Kind) (frames : List ℕ) → length (guarded kinds frames) ≡ length kinds
 unfolding guarded
 guarded_count kinds frames =
     length-map-range_with_len (λ f. if among f frames then Guarded else kind_of kinds f) 0 (length kinds)
@@ -25,10 +25,6 @@ unfolding guarded
 kind_there kinds frames f d below =
     get_or-map-range_with_len (λ f. if among f frames then Guarded else kind_of kinds f) 0 (length kinds) f f d below
     (omega arith)
-
-pub guarded_kind : (kinds : List Kind) (frames : List ℕ) (f : ℕ) → f < length kinds →
-    kind_of (guarded kinds frames) f ≡ (if among f frames then Guarded else kind_of kinds f)
-guarded_kind kinds frames f below = kind_there kinds frames f Hidden below
 
 pub guarded_none : (kinds : List Kind) → guarded kinds [] ≡ kinds
 guarded_none kinds =

@@ -1,12 +1,10 @@
 //! What follows from the definitions for those who say what a call on regions leaves: each byte of a live region has a place
 //! of its own, and the frames of a declaration stand once and become guarded.
 
-ghost use Rattle.std.specs.Prelude.{◌≡◌, ◌≢◌, ◌==◌, ◌<◌, ◌≤◌, ℕ, ◌+◌, List, [], ◌∷◌, Some, false, if◌then◌else◌, length, slice_set};
-ghost use Rattle.std.specs.List.{list_any};
+ghost use Rattle.std.specs.Prelude.{◌≡◌, ◌≢◌, ◌<◌, ◌≤◌, ℕ, ◌+◌, List, [], ◌∷◌, Some, false, length, slice_set};
 ghost use Rattle.phys_mem.specs.Memory.{byte_at, stored};
 ghost use Rattle.nk_bits.specs.declared.kind.Kind.{Kind};
 ghost use Rattle.nk_bits.specs.declared.kind.Kind.TheVariants.{Guarded};
-ghost use Rattle.nk_bits.specs.Kinds.{kind_of};
 ghost use Rattle.region_book.specs.RegionCalls.{guarded, has_twice};
 ghost use Rattle.region_book.specs.RegionRecords.{Book, IsBook, IsEachOnce, Region, byte_place, region_of, region_stores};
 
@@ -31,9 +29,6 @@ pub fn apart_law()
 /// and those that are guarded one after the other are guarded together.
 pub fn declared_law()
     ensures once { (frames : List ℕ) → has_twice frames ≡ false → IsEachOnce frames }
-    ensures count { (kinds : List Kind) (frames : List ℕ) → length (guarded kinds frames) ≡ length kinds }
-    ensures kind { (kinds : List Kind) (frames : List ℕ) (f : ℕ) → f < length kinds → kind_of (guarded kinds frames) f
-        ≡ (if list_any (λ g. g == f) frames then Guarded else kind_of kinds f) }
     ensures none { (kinds : List Kind) → guarded kinds [] ≡ kinds }
     ensures more { (kinds : List Kind) (f : ℕ) (frames : List ℕ)
         → guarded kinds (f ∷ frames) ≡ guarded (slice_set kinds f Guarded) frames }
