@@ -7,14 +7,14 @@ use Rattle.std.proofs.lemmas.List.Elements.{All-weaker}
 use Rattle.std.proofs.Math.Nat.{mod-eq_of_lt}
 use Rattle.nk_bits.specs.declared.call.CallWords.{CallWords}
 use Rattle.nk_bits.specs.declared.kind.Kind.{Kind}
-use Rattle.nk_bits.specs.declared.kind.Kind.TheVariants.{Data, Fixed, Guarded, Hidden, Table}
+use Rattle.nk_bits.specs.declared.kind.Kind.TheVariants.{Data, Fixed, Guarded}
 use Rattle.nk_bits.specs.declared.rule.Rule.{Rule}
 use Rattle.nk_bits.specs.Kinds.{is_data, is_guarded, kind_of, level_of}
-use Rattle.phys_mem.specs.Memory.{byte_at, entry_in, frame_zeroed, number_at, stored, stores}
+use Rattle.phys_mem.specs.Memory.{byte_at, frame_zeroed, number_at, stored, stores}
 use Rattle.page_desc.specs.PageTables.{HoldsSoundTables, Tables, loose_of}
-use Rattle.policy_book.specs.PolicyRules.{book_written, log_written, stores_written}
-use Rattle.region_book.specs.RegionCalls.{guarded, room}
-use Rattle.region_book.specs.RegionRecords.{region_of}
+use Rattle.policy_book.specs.PolicyRules.{stores_written}
+use Rattle.region_book.specs.RegionCalls.{guarded}
+use Rattle.region_book.specs.RegionRecords.{IsEachOnce, region_of}
 use Rattle.vmmu.specs.AcceptedCalls.{IsDeclarable, IsRemovable, IsWritable}
 use Rattle.vmmu.specs.TableCalls.{declare_rule, declared, entry_rule, entry_written, memory_declared, memory_removed, memory_written, remove_rule, removed, root_loaded, root_rule}
 use Rattle.nk_body.specs.CallLeft.{IsCalled, left_in, memory_left}
@@ -188,7 +188,8 @@ module _ (laws : LowerLaws) (kinds : List Kind) (root : ℕ) (ledger : Ledger) (
       let facts = declare_facts ledger.book kinds (loose_of nk.tables) (mapped_by nk) call.a call.b call.c rule in
       let fs : List ℕ = facts.0 in
       let inside : All (λ f. f < length kinds) fs = free_inside kinds fs facts.2.free in
-      let guards = guarded_sound laws.guard root m fs kinds sound facts.2.distinct
+      let once : IsEachOnce fs = laws.guard.once fs facts.2.distinct in
+      let guards = guarded_sound laws.guard root m fs kinds sound once
       (λ k d below. (facts.2.free k d below, sym (laws.store.loose kinds root m _ sound) ∙ facts.2.none k d below)) in
       both (with_pages nk call stand (Some fs)) m
       (made_is nk call source stand ∙ number_6 call.number _ _ _ _ _ _ _ _ _ _ number ∙ ap (with_pages nk call stand) facts.1)
@@ -201,7 +202,7 @@ module _ (laws : LowerLaws) (kinds : List Kind) (root : ℕ) (ledger : Ledger) (
           ledger = (with_pages nk call stand (Some fs)).ledger;
         };
         holds = guards.0;
-        keeps = kept_pages kinds ledger is_called.keeps (loose_of nk.tables) call.a call.b call.c fs facts.2
+        keeps = kept_pages kinds ledger is_called.keeps (loose_of nk.tables) call.a call.b call.c fs facts.2 once
             (frames_count (mapped_by nk) (call.b / 4096) (call.a / 4096) fs facts.1);
       })
 

@@ -1,26 +1,25 @@
 -- Frames of data with no loose leaf, one after another, become guarded.
-use Rattle.std.proofs.Common.{◌≡◌, ◌≢◌, ℕ, zero, suc, ◌+◌, ◌*◌, ◌/◌, ◌<◌, ◌≤◌, Bool, true, false, not, ◌&&◌, ◌||◌, List, [], ◌∷◌, length, arith, refl, sym, ap, ◌∙◌, subst, inl, inr}
+use Rattle.std.proofs.Common.{◌≡◌, ◌≢◌, ℕ, zero, suc, ◌+◌, ◌/◌, ◌<◌, Bool, true, false, not, ◌||◌, List, [], ◌∷◌, length, arith, refl, sym, ap, ◌∙◌, subst, inl, inr}
 use Rattle.std.specs.Prelude.{slice_set, slice_index_or, ◌==◌, nat_le, nat_lt, All, Option, Some, None, Result, Ok, Err, if◌then◌else◌}
 use Rattle.std.specs.List.{list_any}
-use Rattle.std.proofs.lemmas.Bool.{cases_Bool, eq-eqb, false≢true, or_parts}
-use Rattle.std.proofs.lemmas.Bool.Decides.{eqb_tells}
+use Rattle.std.proofs.lemmas.Bool.{cases_lt, eq-eqb, ne_eqb}
 use Rattle.std.proofs.lemmas.Option.{same_Some}
-use Rattle.std.proofs.lemmas.List.{get_or-set_other, get_or-set_same, length-set}
-use Rattle.std.proofs.lemmas.List.Elements.{All-cons, All-nil}
-use Rattle.std.proofs.lemmas.List.Folds.{list_any_at}
+use Rattle.std.proofs.lemmas.List.{get_or-set_other, get_or_past}
+use Rattle.std.proofs.lemmas.List.Elements.{All-cons, All-nil, All-weaker}
+use Rattle.std.proofs.lemmas.List.Folds.{list_any_at, list_any_none}
+use Rattle.std.proofs.lemmas.List.FromFn.{get_or-map-range_with_len, length-map-range_with_len}
 use Rattle.nk_bits.specs.declared.kind.Kind.{Kind}
 use Rattle.nk_bits.specs.declared.kind.Kind.TheVariants.{Data, Guarded, Hidden}
 use Rattle.nk_bits.specs.declared.leaf.Leaf.{Leaf}
-use Rattle.nk_bits.specs.declared.rule.Rule.{Rule}
 use Rattle.nk_bits.specs.declared.rule.Rule.TheVariants.{BadPolicy, BadRange, NoRoom, NotData, StillLoose, TooManyRegions}
 use Rattle.nk_bits.specs.Kinds.{is_data, kind_of}
 use Rattle.nk_bits.specs.Paging.{is_canonical_page, walk}
-use Rattle.phys_mem.specs.Memory.{byte_at, entry_in}
+use Rattle.phys_mem.specs.Memory.{entry_in}
 use Rattle.page_desc.specs.FrameCounts.{loose_in}
 use Rattle.page_desc.specs.FrameDescriptors.{Descriptors}
 use Rattle.page_desc.specs.PageTables.{AreDescribed, HoldsSoundTables, tables_in, value_in}
 use Rattle.region_book.specs.RegionCalls.{declare_rule, else_rule, frames_from, frames_rule, guarded, has_twice, is_bad_range, is_policy, joined, leaf_frame, mapped}
-use Rattle.region_book.specs.RegionRecords.{Book}
+use Rattle.region_book.specs.RegionRecords.{Book, IsEachOnce}
 use Rattle.nk_body.proofs.LowerLaws.{GuardLaws, WalkLaws}
 
 -- the frame is in the list
@@ -30,39 +29,23 @@ among f fs = list_any (λ g. g == f) fs
 pub among_each : (fs : List ℕ) → All (λ f. among f fs ≡ true) fs
 among_each fs k d below = list_any_at (λ g. g == slice_index_or fs k d) fs k d below (eq-eqb _ _ refl)
 
-apart_each : (f : ℕ) (fs : List ℕ) → among f fs ≡ false → All (λ g. g ≢ f) fs
-apart_each f [] none = All-nil (λ g. g ≢ f)
-apart_each f (g ∷ fs) none =
-    let parts = or_parts (g == f) (among f fs) none in
-    All-cons (λ g. g ≢ f) g fs (λ same. false≢true (sym parts.0 ∙ eq-eqb g f same)) (apart_each f fs parts.1)
-
 pub length_guarded : (fs : List ℕ) (kinds : List Kind) → length (guarded kinds fs) ≡ length kinds
 unfolding guarded
-length_guarded [] kinds = refl
-length_guarded (f ∷ fs) kinds = length_guarded fs (slice_set kinds f Guarded) ∙ length-set kinds f Guarded
+length_guarded fs kinds = length-map-range_with_len (λ f. if among f fs then Guarded else kind_of kinds f) 0 (length kinds)
 
 -- the kind of each frame
 pub kind_guarded : (fs : List ℕ) (kinds : List Kind) (f : ℕ) → All (λ g. g < length kinds) fs
     → kind_of (guarded kinds fs) f ≡ (if among f fs then Guarded else kind_of kinds f)
 unfolding guarded
-kind_guarded [] kinds f inside = refl
-kind_guarded (g ∷ fs) kinds f inside =
-    kind_guarded fs (slice_set kinds g Guarded) f
-    (λ k d below. let was = inside (suc k) d (omega (arith, below)) in omega (arith, was, length-set kinds g Guarded))
-    ∙ elim (eqb_tells g f) [
-      | inl same ↦
-          let here : kind_of (slice_set kinds g Guarded) f ≡ Guarded =
-          ap (kind_of (slice_set kinds g Guarded)) (sym same.1) ∙ get_or-set_same kinds g Guarded Hidden (inside 0 g (omega arith)) in
-          ap (λ k. if among f fs then Guarded else k) here ∙ both (among f fs)
-          ∙ sym (ap (λ b. if b || among f fs then Guarded else kind_of kinds f) same.0)
-      | inr apart ↦
-          ap (λ k. if among f fs then Guarded else k) (get_or-set_other kinds g f Guarded Hidden (λ same. apart.1 (sym same)))
-          ∙ sym (ap (λ b. if b || among f fs then Guarded else kind_of kinds f) apart.0)
-    ]
-  where
-    both : (b : Bool) → (if b then Guarded else Guarded) ≡ Guarded
-    both true = refl
-    both false = refl
+kind_guarded fs kinds f inside = elim (cases_lt f (length kinds)) [
+  | inl there ↦
+      get_or-map-range_with_len (λ f. if among f fs then Guarded else kind_of kinds f) 0 (length kinds) f f Hidden there (omega arith)
+  | inr past ↦
+      let none : among f fs ≡ false = list_any_none (λ g. g == f) fs
+      (All-weaker (λ g. g < length kinds) (λ g. (g == f) ≡ false) (λ g below. ne_eqb g f (λ same. omega (arith, below, past, same))) fs inside) in
+      get_or_past (guarded kinds fs) f Hidden (omega (arith, past, length_guarded fs kinds))
+      ∙ sym (ap (λ b. if b then Guarded else kind_of kinds f) none ∙ get_or_past kinds f Hidden past)
+]
 
 -- frames that are guarded, or become so
 pub guarded_stays : (fs : List ℕ) (kinds : List Kind) (f : ℕ) → All (λ g. g < length kinds) fs → kind_of kinds f ≡ Guarded
@@ -84,35 +67,45 @@ AreFree m kinds fs = All (λ f. (kind_of kinds f ≡ Data) × (loose_in kinds (e
 
 -- the tables stand, and the descriptors
 module _ (laws : GuardLaws) (root : ℕ) (m : List ℕ) where
-  free_later : (kinds : List Kind) (f : ℕ) (fs : List ℕ) → HoldsSoundTables kinds root m → kind_of kinds f ≡ Data → among f fs ≡ false
+  free_later : (kinds : List Kind) (f : ℕ) (fs : List ℕ) → HoldsSoundTables kinds root m → kind_of kinds f ≡ Data → All (λ g. f ≢ g) fs
       → AreFree m kinds fs → AreFree m (slice_set kinds f Guarded) fs
   free_later kinds f fs sound was apart free k d below =
       let g : ℕ = slice_index_or fs k d in (
-        get_or-set_other kinds f g Guarded Hidden (apart_each f fs apart k d below) ∙ (free k d below).0,
+        get_or-set_other kinds f g Guarded Hidden (λ same. apart k d below (sym same)) ∙ (free k d below).0,
         laws.loose kinds root f g m sound was ∙ (free k d below).1,
       )
 
-  pub guarded_sound : (fs : List ℕ) (kinds : List Kind) → HoldsSoundTables kinds root m → has_twice fs ≡ false → AreFree m kinds fs
+  -- the first of frames that stand once is none of the others
+  apart_first : (f : ℕ) (fs : List ℕ) → IsEachOnce (f ∷ fs) → All (λ g. f ≢ g) fs
+  apart_first f fs once k d below = once 0 (suc k) d (omega arith) (omega (arith, below))
+
+  once_later : (f : ℕ) (fs : List ℕ) → IsEachOnce (f ∷ fs) → IsEachOnce fs
+  once_later f fs once i j d low below = once (suc i) (suc j) d (omega (arith, low)) (omega (arith, below))
+
+  pub guarded_sound : (fs : List ℕ) (kinds : List Kind) → HoldsSoundTables kinds root m → IsEachOnce fs → AreFree m kinds fs
       → HoldsSoundTables (guarded kinds fs) root m
       × (tables_in (guarded kinds fs) root m ≡ record (tables_in kinds root m) { kinds = guarded kinds fs })
-  unfolding guarded has_twice
-  guarded_sound [] kinds sound distinct free = (sound, refl)
-  guarded_sound (f ∷ fs) kinds sound distinct free =
-      let parts = or_parts (among f fs) (has_twice fs) distinct in
+  guarded_sound [] kinds sound once free =
+      subst (λ ks. HoldsSoundTables ks root m × (tables_in ks root m ≡ record (tables_in kinds root m) { kinds = ks }))
+      (sym (laws.none kinds)) (sound, refl)
+  guarded_sound (f ∷ fs) kinds sound once free =
       let here = free 0 f (omega arith) in
-      let later = guarded_sound fs (slice_set kinds f Guarded) (laws.sound kinds root f m sound here.0 here.1) parts.1
-      (free_later kinds f fs sound here.0 parts.0 (λ k d below. free (suc k) d (omega (arith, below)))) in
+      let later = guarded_sound fs (slice_set kinds f Guarded) (laws.sound kinds root f m sound here.0 here.1) (once_later f fs once)
+      (free_later kinds f fs sound here.0 (apart_first f fs once) (λ k d below. free (suc k) d (omega (arith, below)))) in
+      subst (λ ks. HoldsSoundTables ks root m × (tables_in ks root m ≡ record (tables_in kinds root m) { kinds = ks }))
+      (sym (laws.more kinds f fs))
       (later.0, later.1 ∙ (λ i. record (laws.tables kinds root f m sound here.0 i) { kinds = guarded (slice_set kinds f Guarded) fs }))
 
-  pub guarded_described : (fs : List ℕ) (d : Descriptors) → AreDescribed d root m → has_twice fs ≡ false → AreFree m d.kinds fs
+  pub guarded_described : (fs : List ℕ) (d : Descriptors) → AreDescribed d root m → IsEachOnce fs → AreFree m d.kinds fs
       → AreDescribed (record d { kinds = guarded d.kinds fs }) root m
-  unfolding guarded has_twice
-  guarded_described [] d are distinct free = are
-  guarded_described (f ∷ fs) d are distinct free =
-      let parts = or_parts (among f fs) (has_twice fs) distinct in
+  guarded_described [] d are once free =
+      subst (λ ks. AreDescribed (record d { kinds = ks }) root m) (sym (laws.none d.kinds)) are
+  guarded_described (f ∷ fs) d are once free =
       let here = free 0 f (omega arith) in
-      guarded_described fs (record d { kinds = slice_set d.kinds f Guarded }) (laws.described d root f m are here.0 here.1) parts.1
-      (free_later d.kinds f fs are.sound here.0 parts.0 (λ k e below. free (suc k) e (omega (arith, below))))
+      subst (λ ks. AreDescribed (record d { kinds = ks }) root m) (sym (laws.more d.kinds f fs))
+      (guarded_described fs (record d { kinds = slice_set d.kinds f Guarded }) (laws.described d root f m are here.0 here.1)
+      (once_later f fs once)
+      (free_later d.kinds f fs are.sound here.0 (apart_first f fs once) (λ k e below. free (suc k) e (omega (arith, below)))))
 
 -- what holds of the frame of each page that is mapped
 module _ (at : ℕ → Option ℕ) (P : ℕ → Type 0) (each : (page f : ℕ) → at page ≡ Some f → P f) where

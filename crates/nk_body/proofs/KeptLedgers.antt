@@ -1,23 +1,23 @@
 -- The ledger stays sound, its regions in guarded frames, over each call on regions.
-use Rattle.std.proofs.Common.{◌≡◌, ◌≢◌, ◌⊎◌, ℕ, suc, ◌+◌, ◌-◌, ◌*◌, ◌/◌, ◌%◌, ◌<◌, ◌≤◌, Bool, true, false, not, ◌&&◌, List, [], ◌∷◌, ◌++◌, length, arith, refl, sym, ap, ◌∙◌, subst, inl, inr}
+use Rattle.std.proofs.Common.{◌≡◌, ◌⊎◌, ℕ, ◌+◌, ◌-◌, ◌*◌, ◌/◌, ◌%◌, ◌<◌, ◌≤◌, Bool, true, false, not, ◌&&◌, List, [], ◌∷◌, length, arith, refl, sym, ap, ◌∙◌, subst, inl, inr}
 use Rattle.std.specs.Prelude.{slice_index_or, ◌==◌, nat_lt, All, Option, Some, None, if◌then◌else◌}
 use Rattle.std.specs.List.{list_any, range_with_len}
-use Rattle.std.proofs.lemmas.Bool.{and_cases, false≢true, ltb-false, or_parts}
+use Rattle.std.proofs.lemmas.Bool.{and_cases, cases_lt, false≢true, ltb-false, or_parts}
 use Rattle.std.proofs.lemmas.List.{length-replicate}
 use Rattle.std.proofs.lemmas.List.Elements.{All-cons, All-filter, All-nil, All-push, All-weaker}
 use Rattle.std.proofs.lemmas.List.FromFn.{length-range_with_len}
 use Rattle.nk_bits.specs.declared.kind.Kind.{Kind}
 use Rattle.nk_bits.specs.declared.kind.Kind.TheVariants.{Data, Guarded}
-use Rattle.nk_bits.specs.Kinds.{kind_of}
+use Rattle.nk_bits.specs.Kinds.{is_data, kind_of}
 use Rattle.policy_book.specs.PolicyRules.{book_by, book_written, log_by, log_written, policy_rule}
-use Rattle.region_book.specs.RegionCalls.{added, freed, guarded, is_taken, meets, page_region, pool_region, room}
-use Rattle.region_book.specs.RegionRecords.{Book, IsApart, IsBook, IsRegion, Region, marked, pool_start, region_of, with_region}
-use Rattle.write_log.specs.LogRecords.{LogRecord, log_size, logged, room_of}
+use Rattle.region_book.specs.RegionCalls.{added, freed, guarded, meets, page_region, pool_region, room}
+use Rattle.region_book.specs.RegionRecords.{IsApart, IsEachOnce, IsRegion, Region, pool_start, region_of}
+use Rattle.write_log.specs.LogRecords.{log_size, logged}
 use Rattle.nk_body.specs.NestedRecord.{IsKept, Ledger}
 use Rattle.nk_body.proofs.GuardedFrames.{guarded_stays, guarded_there}
 use Rattle.nk_body.proofs.RegionFrames.{in_memory, run_below}
 use Rattle.nk_body.proofs.RegionRules.{IsAllocable, IsDeclarable, logged_size, policy_room, room_facts}
-use Rattle.nk_body.proofs.SoundBooks.{added_sound, after, removed_sound, written_frames, written_sound}
+use Rattle.nk_body.proofs.SoundBooks.{added_sound, removed_sound, written_frames, written_sound}
 
 -- the frames of a region are guarded
 abbrev pub AreGuarded : List Kind → Region → Type 0
@@ -59,9 +59,12 @@ module _ (kinds : List Kind) (ledger : Ledger) (kept : IsKept kinds ledger) wher
         }
 
     apart : All (λ old. IsApart old region) ledger.book.regions
-    apart k d below old_pooled pooled =
-        go (slice_index_or ledger.book.regions k d) old_pooled (kept.book.each k d below)
-        (none_meets (λ r. r.pooled && meets p size (r.first - pool_start) r.size) ledger.book.regions (room_facts ledger.book.regions size p found).1 k d below)
+    apart k d below = record {
+      pool = λ old_pooled pooled.
+          go (slice_index_or ledger.book.regions k d) old_pooled (kept.book.each k d below)
+          (none_meets (λ r. r.pooled && meets p size (r.first - pool_start) r.size) ledger.book.regions (room_facts ledger.book.regions size p found).1 k d below);
+      pages = λ old_declared declared. absurd (false≢true (sym declared));
+    }
       where
         go : (old : Region) → old.pooled ≡ true → IsRegion ledger.book.next old → (old.pooled && meets p size (old.first - pool_start) old.size) ≡ false
             → (old.first + old.size ≤ pool_start + p) ⊎ (pool_start + p + size ≤ old.first)
@@ -93,7 +96,11 @@ module _ (kinds : List Kind) (ledger : Ledger) (kept : IsKept kinds ledger) wher
 
   -- pages are declared
   module _ (loose : ℕ → ℕ) (address size policy : ℕ) (fs : List ℕ) (is : IsDeclarable ledger.book kinds loose size policy fs)
-      (count : length fs ≡ size / 4096) where
+      (once : IsEachOnce fs) (count : length fs ≡ size / 4096) where
+    -- a frame of data is none that is guarded
+    not_free : (f : ℕ) → kind_of kinds f ≡ Guarded → kind_of kinds f ≡ Data → ⊥
+    not_free f guards free = false≢true (ap is_data (sym guards ∙ free))
+
     pub all_inside : All (λ f. f < length kinds) fs
     all_inside = All-weaker (λ f. kind_of kinds f ≡ Data) (λ f. f < length kinds) (λ f free. in_memory kinds f Data refl free) fs is.free
 
@@ -107,13 +114,31 @@ module _ (kinds : List Kind) (ledger : Ledger) (kept : IsKept kinds ledger) wher
       tail = omega arith;
       held = omega (arith, is.whole, count);
       pooled = λ e. absurd (false≢true e);
-      declared = λ e. (refl, omega (arith, is.whole, count));
+      declared = λ e. (refl, omega (arith, is.whole, count), once, aside);
+    }
+      where
+        aside : All (λ f. (f < 10) ⊎ (26 ≤ f)) fs
+        aside k d below =
+            let f : ℕ = slice_index_or fs k d in
+            elim (cases_lt f 10) [
+              | inl before ↦ inl before
+              | inr from ↦ elim (cases_lt f 26) [
+                | inl within ↦ absurd (not_free f (kept.pool f from within) (is.free k d below))
+                | inr behind ↦ inr behind
+              ]
+            ]
+
+    pages_apart : All (λ old. IsApart old (page_region ledger.book address size policy fs)) ledger.book.regions
+    pages_apart k d below = record {
+      pool = λ old_pooled pooled. absurd (false≢true pooled);
+      pages = λ old_declared declared i f i_below j g j_below same.
+          not_free (slice_index_or fs j g) (ap (kind_of kinds) (sym same) ∙ kept.frames k d below i f i_below) (is.free j g j_below);
     }
 
     pub kept_pages : IsKept (guarded kinds fs) (record ledger { book = added ledger.book (page_region ledger.book address size policy fs) (length fs) })
     kept_pages = record {
       book = added_sound ledger.book kept.book (page_region ledger.book address size policy fs) (length fs) is.few refl pages_is_region
-          (λ k d below old_pooled pooled. absurd (false≢true pooled)) refl is.pages;
+          pages_apart refl is.pages;
       frames = All-push (AreGuarded (guarded kinds fs)) ledger.book.regions (page_region ledger.book address size policy fs)
           (All-weaker (AreGuarded kinds) (AreGuarded (guarded kinds fs))
           (λ r all. All-weaker (λ f. kind_of kinds f ≡ Guarded) (λ f. kind_of (guarded kinds fs) f ≡ Guarded)

@@ -1,5 +1,5 @@
 -- What is used of the laws of the crates below.
-use Rattle.std.proofs.Common.{◌≡◌, ◌≢◌, ◌⊎◌, ℕ, ◌+◌, ◌*◌, ◌/◌, ◌%◌, ◌^◌, ◌<◌, ◌≤◌, true, List, length, All}
+use Rattle.std.proofs.Common.{◌≡◌, ◌≢◌, ◌⊎◌, ℕ, ◌+◌, ◌*◌, ◌/◌, ◌%◌, ◌^◌, ◌<◌, ◌≤◌, false, true, List, [], ◌∷◌, length, All}
 use Rattle.std.specs.Prelude.{slice_set, None, Ok}
 use Rattle.nk_bits.specs.declared.kind.Kind.{Kind}
 use Rattle.nk_bits.specs.declared.kind.Kind.TheVariants.{Data, Guarded}
@@ -10,6 +10,8 @@ use Rattle.phys_mem.specs.Memory.{IsBytes, byte_at, entry_in, frame_zeroed, numb
 use Rattle.page_desc.specs.FrameCounts.{loose_in}
 use Rattle.page_desc.specs.FrameDescriptors.{Descriptors}
 use Rattle.page_desc.specs.PageTables.{AreDescribed, HoldsSoundTables, Tables, is_unguarded, loose_of, tables_in, value_in}
+use Rattle.region_book.specs.RegionCalls.{guarded, has_twice}
+use Rattle.region_book.specs.RegionRecords.{IsEachOnce}
 use Rattle.vmmu.specs.AcceptedCalls.{IsDeclarable, IsRemovable, IsRoot, IsWritable}
 use Rattle.vmmu.specs.TableCalls.{declare_rule, declared, entry_rule, entry_written, memory_declared, memory_removed, memory_written, remove_rule, removed, root_loaded, root_rule}
 
@@ -72,6 +74,9 @@ pub record GuardLaws : Type 0 where
       → loose_in (slice_set kinds f Guarded) (entry_in m) frame ≡ loose_in kinds (entry_in m) frame
   pub described : (d : Descriptors) (root f : ℕ) (m : List ℕ) → AreDescribed d root m → kind_of d.kinds f ≡ Data
       → loose_in d.kinds (entry_in m) f ≡ 0 → AreDescribed (record d { kinds = slice_set d.kinds f Guarded }) root m
+  pub once : (fs : List ℕ) → has_twice fs ≡ false → IsEachOnce fs
+  pub none : (kinds : List Kind) → guarded kinds [] ≡ kinds
+  pub more : (kinds : List Kind) (f : ℕ) (fs : List ℕ) → guarded kinds (f ∷ fs) ≡ guarded (slice_set kinds f Guarded) fs
 
 pub record WalkLaws : Type 0 where
   pub same : (kinds : List Kind) (root page : ℕ) (m : List ℕ) → HoldsSoundTables kinds root m

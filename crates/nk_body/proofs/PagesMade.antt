@@ -1,6 +1,6 @@
 -- What a call leaves that declares pages, from what the part that makes it says.
-use Rattle.std.proofs.Common.{◌≡◌, ℕ, ◌+◌, ◌*◌, ◌/◌, ◌<◌, List, length, arith, refl, sym, ap, subst, ◌∙◌}
-use Rattle.std.specs.Prelude.{slice_index, All, IfSome, OnErr, OnOk, Result, Ok, Err, Option, None, Some}
+use Rattle.std.proofs.Common.{◌≡◌, ℕ, ◌/◌, ◌<◌, List, length, arith, refl, sym, ap, subst, ◌∙◌}
+use Rattle.std.specs.Prelude.{slice_index, IfSome, OnErr, OnOk, Result, Ok, Err, Option, None, Some}
 use Rattle.phys_mem.specs.Memory.{entry_in}
 use Rattle.nk_bits.specs.declared.call.CallWords.{CallWords}
 use Rattle.nk_bits.specs.declared.kind.Kind.{Kind}
@@ -9,12 +9,12 @@ use Rattle.page_desc.specs.FrameCounts.{loose_in}
 use Rattle.page_desc.specs.FrameDescriptors.{Descriptors}
 use Rattle.page_desc.specs.PageTables.{AreDescribed, HoldsSoundTables, loose_of, tables_in}
 use Rattle.region_book.specs.RegionCalls.{added, declare_rule, frames_from, guarded, mapped, page_region}
-use Rattle.region_book.specs.RegionRecords.{Book}
+use Rattle.region_book.specs.RegionRecords.{Book, IsEachOnce}
 use Rattle.nk_bits.specs.Rules.{rule_of}
 use Rattle.vmmu.specs.declared.tables.Tables4.{Tables4}
 use Rattle.write_log.specs.LogRecords.{LogRecord}
 use Rattle.nk_body.specs.CallMade.{IsMade}
-use Rattle.nk_body.specs.CallRules.{Sourced, mapped_by, stand_of, verdict, with_pages}
+use Rattle.nk_body.specs.CallRules.{Sourced, mapped_by, stand_of, with_pages}
 use Rattle.nk_body.specs.NestedRecord.{AreBooks, Books, IsKept, Nested, nested_by}
 use Rattle.nk_body.proofs.CallNumbers.{declaring_rule, made_is, number_6, verdict_is, written_6}
 use Rattle.nk_body.proofs.CallsMade.{accepted_made, books_of, refused_made}
@@ -71,6 +71,7 @@ module _ (guard : GuardLaws) (walks : WalkLaws) (loose : LooseLaw) (t : Tables4)
       let facts = declare_facts book kinds (loose_of nk.tables) (mapped_by nk) call.a call.b call.c none in
       let fs : List ℕ = facts.0 in
       let is : IsDeclarable book kinds (loose_of nk.tables) call.b call.c fs = facts.2 in
+      let once : IsEachOnce fs = guard.once fs is.distinct in
       let found : frames_from by_memory (call.a / 4096) (call.b / 4096) ≡ Some fs =
       ap (λ at. frames_from at (call.a / 4096) (call.b / 4096)) same_map ∙ facts.1 in
       let becomes : (after ≡ added book (page_region book call.a call.b call.c fs) (length fs)) × (frames ≡ record t.frames { kinds = guarded kinds fs }) =
@@ -84,7 +85,7 @@ module _ (guard : GuardLaws) (walks : WalkLaws) (loose : LooseLaw) (t : Tables4)
       (made_is nk call source _ ∙ number_6 call.number _ _ _ _ _ _ _ _ _ _ number ∙ ap (with_pages nk call (stand_of nk call m)) facts.1)
       (written_6 nk call source m number)
       (ap (λ (d : Descriptors). d.kinds) becomes.1) refl are.trap (λ i. record { book = becomes.0 i; log = log }) refl
-      (subst (λ d. AreDescribed d t.root m) (sym becomes.1) (guarded_described guard t.root m fs t.frames are.described is.distinct free))
+      (subst (λ d. AreDescribed d t.root m) (sym becomes.1) (guarded_described guard t.root m fs t.frames are.described once free))
       (subst (λ (it : List Kind × Book). IsKept it.0 (record { book = it.1; log = log })) (λ i. (ap (λ (d : Descriptors). d.kinds) (sym becomes.1) i, sym becomes.0 i))
-      (kept_pages kinds before.ledger are.kept (loose_of nk.tables) call.a call.b call.c fs is
+      (kept_pages kinds before.ledger are.kept (loose_of nk.tables) call.a call.b call.c fs is once
       (frames_count (mapped_by nk) (call.b / 4096) (call.a / 4096) fs facts.1)))

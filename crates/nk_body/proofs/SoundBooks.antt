@@ -1,8 +1,8 @@
 -- A sound book of regions stays sound where a region is added, one is let go, and a range of one was written.
-use Rattle.std.proofs.Common.{◌≡◌, ◌⊎◌, ℕ, suc, ◌+◌, ◌-◌, ◌*◌, ◌/◌, ◌%◌, ◌<◌, ◌≤◌, Bool, true, false, not, ◌&&◌, ◌||◌, ◌==◌, nat_le, nat_lt, List, [], ◌∷◌, ◌++◌, length, map, arith, refl, sym, ap, ◌∙◌, subst, inl, inr, slice_index_or}
-use Rattle.std.specs.Prelude.{All, AllPairs, Option, Some, None, cond, filter, if◌then◌else◌}
-use Rattle.std.specs.List.{find, range_with_len, sum_by}
-use Rattle.std.proofs.lemmas.Bool.{cases_Bool, cases_order, eqb-true, false≢true, not-false}
+use Rattle.std.proofs.Common.{◌≡◌, ◌≢◌, ◌⊎◌, ℕ, suc, ◌+◌, ◌<◌, ◌≤◌, Bool, true, false, not, ◌==◌, List, [], ◌∷◌, length, map, arith, refl, sym, ap, ◌∙◌, subst, inl, inr, slice_index_or}
+use Rattle.std.specs.Prelude.{All, AllPairs, Some, cond, filter, if◌then◌else◌}
+use Rattle.std.specs.List.{sum_by}
+use Rattle.std.proofs.lemmas.Bool.{cases_order, eqb-true, not-false}
 use Rattle.std.proofs.lemmas.List.{get_or-map, length-map, length_push}
 use Rattle.std.proofs.lemmas.List.Elements.{All-filter, All-push, All-weaker}
 use Rattle.std.proofs.lemmas.List.FromFn.{length-map-range_with_len}
@@ -177,10 +177,16 @@ module _ (book : Book) (sound : IsBook book) where
     }
       where
         still_apart : (x y u v : Region) → IsAfter book.next x u → IsAfter book.next y v → IsApart x y → IsApart u v
-        still_apart x y u v one other apart pooled_one pooled_other =
-            subst (λ (it : (ℕ × ℕ) × (ℕ × ℕ)). (it.0.0 + it.0.1 ≤ it.1.0) ⊎ (it.1.0 + it.1.1 ≤ it.0.0))
-            (λ i. ((sym one.first i, sym one.size i), (sym other.first i, sym other.size i)))
-            (apart (sym one.pooled ∙ pooled_one) (sym other.pooled ∙ pooled_other))
+        still_apart x y u v one other apart = record {
+          pool = λ pooled_one pooled_other.
+              subst (λ (it : (ℕ × ℕ) × (ℕ × ℕ)). (it.0.0 + it.0.1 ≤ it.1.0) ⊎ (it.1.0 + it.1.1 ≤ it.0.0))
+              (λ i. ((sym one.first i, sym one.size i), (sym other.first i, sym other.size i)))
+              (apart.pool (sym one.pooled ∙ pooled_one) (sym other.pooled ∙ pooled_other));
+          pages = λ declared_one declared_other.
+              subst (λ (it : List ℕ × List ℕ). All (λ f. All (λ g. f ≢ g) it.1) it.0)
+              (λ i. (sym one.frames i, sym other.frames i))
+              (apart.pages (sym one.pooled ∙ declared_one) (sym other.pooled ∙ declared_other));
+        }
 
     pub written_frames : (P : List ℕ → Type 0) → All (λ x. P x.frames) book.regions → All (λ x. P x.frames) (map after book.regions)
     written_frames P all = mapped (λ x. P x.frames) (λ x. P x.frames) (λ x y is holds. subst P (sym is.frames) holds) all

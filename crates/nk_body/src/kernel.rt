@@ -22,7 +22,7 @@ use elf_image::Image;
 use nk_bits::{Answer, CallWords, Kind, Rule, canonical, walk_law};
 use page_desc::{Frames, guarded_law, page_tables_law, record_walk_law};
 use phys_mem::{PhysMem, memory_law};
-use region_book::Regions;
+use region_book::{Regions, declared_law};
 use std::alloc::{AllocError, Global};
 use std::marker::Model;
 use vmmu::{Tables4, accepted_law};
@@ -269,6 +269,7 @@ impl Kernel {
         page_tables_law();
         record_walk_law();
         guarded_law();
+        declared_law();
         walk_law();
         let root = self.tables.root;
         let frames = &mut self.tables.frames;

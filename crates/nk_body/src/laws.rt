@@ -22,6 +22,7 @@ use boot_map::{held_law, opening_entries_law, opening_kinds_law};
 use nk_bits::walk_law;
 use page_desc::{guarded_law, page_tables_law, record_walk_law, sound_law};
 use phys_mem::{frame_law, memory_law};
+use region_book::declared_law;
 use vmmu::{accepted_law, table_calls_law};
 
 /// Memory after a call stands for the record that the call makes, whose tables are sound and whose regions lie in guarded
@@ -45,6 +46,7 @@ pub fn call_law()
     table_calls_law();
     accepted_law();
     guarded_law();
+    declared_law();
     record_walk_law();
     walk_law();
 }
@@ -97,6 +99,7 @@ pub fn call_leaves_law()
     table_calls_law();
     accepted_law();
     guarded_law();
+    declared_law();
     record_walk_law();
     walk_law();
 }

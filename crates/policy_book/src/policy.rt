@@ -1,17 +1,17 @@
 //! Writing in a region.
 
-ghost use Rattle.std.specs.Prelude.{◌≡◌, ◌==◌, ◌+◌, ◌*◌, ◌<◌, ◌≤◌, All, IfSome, OnErr, OnOk, None, Some, length, true};
+ghost use Rattle.std.specs.Prelude.{◌≡◌, ◌≢◌, ◌==◌, ℕ, ◌+◌, ◌*◌, ◌<◌, ◌≤◌, All, IfSome, OnErr, OnOk, None, Some, length, true};
 ghost use Rattle.std.specs.Option.{option_map};
-ghost use Rattle.phys_mem.specs.Memory.{stored};
+ghost use Rattle.phys_mem.specs.Memory.{byte_at, stored};
 ghost use Rattle.nk_bits.specs.Rules.{rule_of};
 ghost use Rattle.policy_book.specs.PolicyRules.{book_written, log_written, policy_of, stores_written, write_rule};
 ghost use Rattle.region_book.specs.RegionCalls.{fits_in};
-ghost use Rattle.region_book.specs.RegionRecords.{IsBook, region_of, shown};
+ghost use Rattle.region_book.specs.RegionRecords.{IsBook, byte_place, region_of, shown};
 ghost use Rattle.write_log.specs.LogRecords.{log_size};
 
 use nk_bits::Rule;
 use phys_mem::PhysMem;
-use region_book::{Region, Regions};
+use region_book::{Region, Regions, apart_law};
 use write_log::Log;
 
 const WRITE_ONCE: u8 = 1;
@@ -25,7 +25,8 @@ const WRITE_LOG: u8 = 4;
 /// How many bytes of the log a record takes beside its own.
 const RECORD: u64 = 24;
 
-/// Writes bytes in the live region of an identifier, from an offset on, where its policy admits that.
+/// Writes bytes in the live region of an identifier, from an offset on, where its policy admits that. All other live regions
+/// keep their bytes.
 pub fn write(
     regions: &mut Regions,
     log: &mut Log,
@@ -42,9 +43,12 @@ pub fn write(
     ensures book { OnOk result (regions.new ≡ book_written regions.old id offset (length bytes.now)) }
     ensures log { OnOk result (log.new ≡ log_written regions.old log.old id offset bytes.now) }
     ensures memory { OnOk result (mem.new ≡ stored mem.old (stores_written regions.old id offset bytes.now)) }
+    ensures others { (other b : ℕ) → id ≢ other → IfSome (region_of regions.old other) (λ q. b < q.size
+        → byte_at mem.new (byte_place q b) ≡ byte_at mem.old (byte_place q b)) }
     ensures sound { IsBook regions.new }
     ensures room { log_size log.new ≤ 65536 }
 {
+    apart_law();
     if let Some(rule) = judge(regions, log, id, offset, bytes.len() as u64) {
         return Err(rule);
     }

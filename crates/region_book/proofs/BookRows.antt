@@ -1,11 +1,9 @@
 -- The regions of a book by its rows: the one of an identifier, and which of its bytes were written.
-use Rattle.std.proofs.Common.{◌≡◌, ℕ, ◌+◌, ◌<◌, ◌≤◌, Bool, true, false, ◌==◌, nat_le, List, [], ◌∷◌, map, arith, refl, sym, ap, ◌∙◌, subst, slice_index_or}
+use Rattle.std.proofs.Common.{◌≡◌, ℕ, ◌+◌, ◌<◌, ◌≤◌, Bool, true, false, ◌==◌, List, [], ◌∷◌, map, arith, refl, sym, ap, ◌∙◌, subst, slice_index_or}
 use Rattle.std.specs.Prelude.{Option, Some, None, IfNone, IsSome, cond, option_map}
 use Rattle.std.specs.List.{find, list_any, range_with_len}
-use Rattle.std.proofs.lemmas.Bool.{and_parts, leb-true}
 use Rattle.std.proofs.lemmas.List.FromFn.{get_or-map-range_with_len}
 use Rattle.region_book.specs.declared.row.Row.{Row}
-use Rattle.region_book.specs.RegionCalls.{fits_region}
 use Rattle.region_book.specs.RegionRecords.{Book, Region, is_written_in, region_of}
 use Rattle.region_book.specs.RegionRows.{bit_in, bits_from, book_of, first_bit, region_at, row_of}
 use Rattle.region_book.proofs.BitTests.{same_in_runs}
@@ -36,21 +34,9 @@ pub is_located : (o : Option ℕ) (none : Type 0) → IfNone o none → (none �
 is_located None none is live = absurd (live is)
 is_located (Some i) none is live = refl
 
-pub fits_not_none : (o : Option Region) (offset count : ℕ) → fits_region o offset count ≡ true → o ≡ None → ⊥
-fits_not_none o offset count fits none =
-    let no : false ≡ true = ap (λ o. fits_region o offset count) (sym none) ∙ fits in cc
-
 pub live_not_none : (o : Option Region) → IsSome o → o ≡ None → ⊥
 live_not_none o live none =
     let no : IsSome {T = Region} None = subst IsSome none live in cc
-
--- the range lies in the region that was found
-pub fits_within : (o : Option Region) (r : Region) (offset count : ℕ) → fits_region o offset count ≡ true → o ≡ Some r →
-    (1 ≤ count) × (offset + count ≤ r.size)
-fits_within o r offset count fits is =
-    let parts = and_parts (nat_le 1 count) (nat_le (offset + count) r.size)
-    (ap (λ o. fits_region o offset count) (sym is) ∙ fits) in
-    (leb-true 1 count parts.0, leb-true (offset + count) r.size parts.1)
 
 -- which bytes were written
 pub written_at : (bits : List ℕ) (first count k : ℕ) → k < count →

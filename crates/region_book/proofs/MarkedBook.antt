@@ -1,14 +1,13 @@
 -- The book after a range of a region was marked, by its rows and bits.
-use Rattle.std.proofs.Common.{◌≡◌, ℕ, ◌+◌, ◌<◌, ◌≤◌, true, ◌||◌, List, length, map, set, arith, sym, ap, ◌∙◌, subst, slice_index_or}
+use Rattle.std.proofs.Common.{◌≡◌, ℕ, ◌+◌, ◌<◌, ◌≤◌, ◌||◌, List, length, map, set, arith, sym, ap, ◌∙◌, subst, slice_index_or}
 use Rattle.std.specs.Prelude.{Some, IfSome}
 use Rattle.std.proofs.lemmas.List.{get_or-map, length-map}
 use Rattle.region_book.specs.declared.row.Row.{Row}
-use Rattle.region_book.specs.RegionCalls.{fits_in}
 use Rattle.region_book.specs.RegionRecords.{Book, IsBook, Region, marked, region_of, with_region}
 use Rattle.region_book.specs.RegionRows.{IsKept, bit_in, book_of, first_bit, in_run, moved, region_at, row_of}
 use Rattle.region_book.proofs.BookBits.{marked_regions}
-use Rattle.region_book.proofs.BookRows.{fits_within, region_found}
-use Rattle.region_book.proofs.Found.{for_some}
+use Rattle.region_book.proofs.BookRows.{region_found}
+use Rattle.region_book.proofs.Found.{for_some, of_some}
 use Rattle.region_book.proofs.SoundBooks.{marked_sound, with_marked}
 
 module _ (rows : List Row) (bits : List ℕ) (next declared : ℕ) (now : Book) (id : ℕ)
@@ -19,8 +18,10 @@ module _ (rows : List Row) (bits : List ℕ) (next declared : ℕ) (now : Book) 
   pub found : region_of now id ≡ Some (region_at bits row)
   found = region_found rows bits next declared now id view row (located row ∙ ap Some (is row))
 
-  pub range_fits : (offset count : ℕ) → fits_in now id offset count ≡ true → offset + count ≤ row.size
-  range_fits offset count fits = (fits_within (region_of now id) (region_at bits row) offset count fits found).1
+  pub range_fits : (offset count : ℕ) → IfSome (region_of now id) (λ r. offset + count ≤ r.size) →
+      offset + count ≤ row.size
+  range_fits offset count fits =
+      of_some (region_of now id) (region_at bits row) (λ r. offset + count ≤ r.size) found fits
 
   within_now : i < length (book_of rows bits next declared).regions
   within_now = omega (arith, within, length-map rows (region_at bits))
@@ -29,7 +30,7 @@ module _ (rows : List Row) (bits : List ℕ) (next declared : ℕ) (now : Book) 
   is_now d = get_or-map (region_at bits) rows i row d within ∙ ap (region_at bits) (is row)
 
   module _ (after : List ℕ) (offset count tail : ℕ) (kept : IsKept rows bits declared) (book : IsBook now)
-      (fits : fits_in now id offset count ≡ true) (tail_is : tail ≡ offset + count)
+      (fits : IfSome (region_of now id) (λ r. offset + count ≤ r.size)) (tail_is : tail ≡ offset + count)
       (each : (k : ℕ) → bit_in after k ≡ (bit_in bits k || in_run (first_bit row + offset) count k)) where
     sound : IsBook (book_of rows bits next declared)
     sound = subst IsBook (sym view) book

@@ -76,9 +76,12 @@ module _ (now : Book) (sound : IsBook now) (size policy p : ℕ) (some : 1 ≤ s
       }
 
   apart : is_taken now.regions size p ≡ false → All (λ old. IsApart old (pool_region now size policy p)) now.regions
-  apart free k d below old_pooled pooled =
-      go (slice_index_or now.regions k d) old_pooled (sound.each k d below)
-      (none_any (λ r. r.pooled && meets p size (r.first - pool_start) r.size) now.regions free k d below)
+  apart free k d below = record {
+    pool = λ old_pooled pooled.
+        go (slice_index_or now.regions k d) old_pooled (sound.each k d below)
+        (none_any (λ r. r.pooled && meets p size (r.first - pool_start) r.size) now.regions free k d below);
+    pages = λ old_declared declared. absurd (false≢true (sym declared));
+  }
     where
       go : (old : Region) → old.pooled ≡ true → IsRegion now.next old →
           (old.pooled && meets p size (old.first - pool_start) old.size) ≡ false →

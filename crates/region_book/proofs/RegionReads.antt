@@ -1,13 +1,12 @@
 -- What a region's byte and the bits of a range are, by the row that a look-up found.
-use Rattle.std.proofs.Common.{◌≡◌, ℕ, ◌+◌, ◌*◌, ◌<◌, ◌≤◌, Bool, true, ◌==◌, List, length, arith, sym, ap, ◌∙◌, subst}
+use Rattle.std.proofs.Common.{◌≡◌, ℕ, ◌+◌, ◌*◌, ◌<◌, ◌≤◌, Bool, ◌==◌, List, length, arith, sym, ap, ◌∙◌, subst}
 use Rattle.std.specs.Prelude.{All, Option, Some, IfSome}
 use Rattle.std.specs.List.{list_any, range_with_len}
 use Rattle.phys_mem.specs.Memory.{stored}
 use Rattle.region_book.specs.declared.row.Row.{Row}
-use Rattle.region_book.specs.RegionCalls.{fits_in}
 use Rattle.region_book.specs.RegionRecords.{Book, IsBook, IsRegion, Region, byte_place, is_written_in, region_of, region_stores}
 use Rattle.region_book.specs.RegionRows.{IsHeld, bit_in, first_bit, place_in, region_at, region_with, row_stores}
-use Rattle.region_book.proofs.BookRows.{fits_within, written_by_bits}
+use Rattle.region_book.proofs.BookRows.{written_by_bits}
 use Rattle.region_book.proofs.Found.{for_some, found_holds, of_some}
 use Rattle.region_book.proofs.RowPlaces.{byte_place_is, place_within, region_stores_is}
 
@@ -43,9 +42,10 @@ module _ (now : Book) (id : ℕ) (o : Option Row) (row : Row) (is : o ≡ Some r
       for_some (region_of now id) (region_with found.0 row) (λ r. byte ≡ read (byte_place r offset)) found.1
       (was ∙ ap read (sym (byte_place_is 128 row found.0 offset held_row within)))
 
-  pub bytes_within : (offset count : ℕ) → fits_in now id offset count ≡ true → offset + count ≤ row.size
-  bytes_within offset count fits =
-      (fits_within (region_of now id) (region_with found.0 row) offset count fits found.1).1
+  pub bytes_within : (offset count : ℕ) → IfSome (region_of now id) (λ r. offset + count ≤ r.size) →
+      offset + count ≤ row.size
+  bytes_within offset count within =
+      of_some (region_of now id) (region_with found.0 row) (λ r. offset + count ≤ r.size) found.1 within
 
   pub stores_are : (offset : ℕ) (bytes before after : List ℕ) → offset + length bytes ≤ row.size →
       after ≡ stored before (row_stores row offset bytes) →
@@ -55,10 +55,11 @@ module _ (now : Book) (id : ℕ) (o : Option Row) (row : Row) (is : o ≡ Some r
       (λ r. after ≡ stored before (region_stores r offset bytes)) found.1
       (was ∙ ap (stored before) (sym (region_stores_is 128 row found.0 offset bytes held_row fits)))
 
-module _ (now : Book) (id offset count : ℕ) (bits : List ℕ) (row : Row) (fits : fits_in now id offset count ≡ true)
+module _ (now : Book) (id offset count : ℕ) (bits : List ℕ) (row : Row)
+    (within : IfSome (region_of now id) (λ r. offset + count ≤ r.size))
     (found : region_of now id ≡ Some (region_at bits row)) where
-  pub range_within : (1 ≤ count) × (offset + count ≤ row.size)
-  range_within = fits_within (region_of now id) (region_at bits row) offset count fits found
+  range_within : offset + count ≤ row.size
+  range_within = of_some (region_of now id) (region_at bits row) (λ r. offset + count ≤ r.size) found within
 
   pub bits_within : (first most : ℕ) → first + row.size ≤ most → first + offset + count ≤ most
   bits_within first most whole = omega (arith, range_within)
@@ -69,4 +70,4 @@ module _ (now : Book) (id offset count : ℕ) (bits : List ℕ) (row : Row) (fit
   written_is first answer first_is was =
       for_some (region_of now id) (region_at bits row) (λ r. answer ≡ is_written_in r offset count) found
       (was ∙ ap (λ first. list_any (bit_in bits) (range_with_len (first + offset) count)) first_is
-      ∙ sym (written_by_bits bits row offset count range_within.1))
+      ∙ sym (written_by_bits bits row offset count range_within))

@@ -52,8 +52,9 @@ module _ (book : Book) (sound : IsBook book) where
               (marked_region book.next offset count r was fits) sound.each;
           rising = pairs_set (λ one other. one.id < other.id) book.regions i r
               (marked r offset count) within is sound.rising (λ z low. low) (λ z low. low);
-          apart = pairs_set IsApart book.regions i r (marked r offset count) within is sound.apart (λ z apart. apart)
-              (λ z apart. apart);
+          apart = pairs_set IsApart book.regions i r (marked r offset count) within is sound.apart
+              (λ z apart. record { pool = apart.pool; pages = apart.pages })
+              (λ z apart. record { pool = apart.pool; pages = apart.pages });
           pages = omega (arith, sound.pages, sum, ap pages_of_region (is r));
           most = sound.most;
         }

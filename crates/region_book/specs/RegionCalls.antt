@@ -1,6 +1,6 @@
 -- The calls on regions: pages are declared, a region of the pool is allocated, and freed again. Each has its rules, of which
 -- the first that is broken is the answer, and what it makes of the book.
-use Rattle.std.specs.Prelude.{ℕ, zero, suc, ◌+◌, ◌-◌, ◌*◌, ◌/◌, ◌%◌, Bool, true, false, not, ◌&&◌, ◌||◌, ◌==◌, nat_le, nat_lt, if◌then◌else◌, List, [], ◌∷◌, ◌++◌, length, map, filter, replicate, slice_set, Option, None, Some, is_none, Result, Ok, Err}
+use Rattle.std.specs.Prelude.{ℕ, zero, suc, ◌+◌, ◌-◌, ◌*◌, ◌/◌, ◌%◌, Bool, true, false, not, ◌&&◌, ◌||◌, ◌==◌, nat_le, nat_lt, if◌then◌else◌, List, [], ◌∷◌, ◌++◌, length, map, filter, replicate, slice_index, Option, None, Some, is_none, Result, Ok, Err}
 use Rattle.std.specs.List.{find, list_any, range_with_len}
 use Rattle.nk_bits.specs.declared.kind.Kind.{Kind}
 use Rattle.nk_bits.specs.declared.kind.Kind.TheVariants.{Guarded}
@@ -102,10 +102,10 @@ unfoldable pub frames_from : (ℕ → Option ℕ) → ℕ → ℕ → Option (Li
 frames_from at page zero = Some []
 frames_from at page (suc n) = joined (at page) (frames_from at (page + 1) n)
 
--- a frame stands twice in the list
+-- two places of the list hold the same frame
 unfoldable pub has_twice : List ℕ → Bool
-has_twice [] = false
-has_twice (f ∷ fs) = list_any (λ g. g == f) fs || has_twice fs
+has_twice frames =
+    list_any (λ i. list_any (λ j. slice_index frames i == slice_index frames j) (range_with_len 0 i)) (range_with_len 0 (length frames))
 
 -- the range is out of bounds, or not of whole, mapped pages of distinct frames
 abbrev pub is_bad_range : ℕ → ℕ → Bool
@@ -144,5 +144,5 @@ page_region book address size policy fs = record {
 
 -- the kinds with these frames guarded
 unfoldable pub guarded : List Kind → List ℕ → List Kind
-guarded kinds [] = kinds
-guarded kinds (f ∷ fs) = guarded (slice_set kinds f Guarded) fs
+guarded kinds frames =
+    map (λ f. if list_any (λ g. g == f) frames then Guarded else kind_of kinds f) (range_with_len 0 (length kinds))

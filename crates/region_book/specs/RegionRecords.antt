@@ -1,5 +1,5 @@
 -- Protected regions, as plain data: what each is, where its bytes stand, and what a sound book of them is.
-use Rattle.std.specs.Prelude.{◌≡◌, ◌⊎◌, ◌<◌, ◌≤◌, ℕ, ◌+◌, ◌-◌, ◌*◌, ◌/◌, ◌%◌, Bool, true, false, ◌&&◌, ◌||◌, ◌==◌, nat_le, nat_lt, if◌then◌else◌, List, [], ◌∷◌, length, map, slice_index, slice_index_or, Option, All, AllPairs}
+use Rattle.std.specs.Prelude.{◌≡◌, ◌≢◌, ◌⊎◌, ◌<◌, ◌≤◌, ℕ, ◌+◌, ◌-◌, ◌*◌, ◌/◌, ◌%◌, Bool, true, false, ◌&&◌, ◌||◌, ◌==◌, nat_le, nat_lt, if◌then◌else◌, List, [], ◌∷◌, length, map, slice_index, slice_index_or, Option, All, AllPairs}
 use Rattle.std.specs.List.{find, list_any, range_with_len, sum_by}
 use Rattle.region_book.specs.declared.regions.Region.{Region as ShownRegion}
 
@@ -62,7 +62,12 @@ marked r offset count = record r {
 abbrev pub with_region : Book → Region → Book
 with_region book r = record book { regions = map (λ other. if other.id == r.id then r else other) book.regions }
 
--- what holds of each region below a next identifier: whole frames in the pool's or in its own; written bytes and tail within
+-- each frame stands once
+abbrev pub IsEachOnce : List ℕ → Type 0
+IsEachOnce frames = AllPairs (λ f g. f ≢ g) frames
+
+-- what holds of each region below a next identifier: it is a range of the pool, in the pool's frames, or whole frames, each
+-- once and none of the pool's, which are 10 to 25; written bytes and tail within
 pub record IsRegion (next : ℕ) (r : Region) : Type 0 where
   pub least : 256 ≤ r.id
   pub below : r.id < next
@@ -74,18 +79,20 @@ pub record IsRegion (next : ℕ) (r : Region) : Type 0 where
   pub pooled : r.pooled ≡ true → (pool_start ≤ r.first) × (r.first + r.size ≤ pool_start + 65536)
       × (r.place ≡ (r.first - pool_start) % 4096)
       × (r.frames ≡ range_with_len (pool_frame + (r.first - pool_start) / 4096) ((r.place + r.size + 4095) / 4096))
-  pub declared : r.pooled ≡ false → (r.place ≡ 0) × (r.size ≡ 4096 * length r.frames)
+  pub declared : r.pooled ≡ false → (r.place ≡ 0) × (r.size ≡ 4096 * length r.frames) × IsEachOnce r.frames
+      × All (λ f. (f < 10) ⊎ (26 ≤ f)) r.frames
 
--- two regions of the pool don't meet
-abbrev pub IsApart : Region → Region → Type 0
-IsApart one other = one.pooled ≡ true → other.pooled ≡ true → (one.first + one.size ≤ other.first) ⊎ (other.first + other.size ≤ one.first)
+-- two regions of the pool don't meet, and two that were declared have no frame in common
+pub record IsApart (one other : Region) : Type 0 where
+  pub pool : one.pooled ≡ true → other.pooled ≡ true → (one.first + one.size ≤ other.first) ⊎ (other.first + other.size ≤ one.first)
+  pub pages : one.pooled ≡ false → other.pooled ≡ false → All (λ f. All (λ g. f ≢ g) other.frames) one.frames
 
 -- the pages of a region that was declared
 abbrev pub pages_of_region : Region → ℕ
 pages_of_region r = if r.pooled then 0 else length r.frames
 
--- a sound book: identifiers from 256 on rise and are below the next one, at most 256 regions live, regions of the pool lie
--- apart, and the pages that were declared are those of the regions, at most 128
+-- a sound book: identifiers from 256 on rise and are below the next one, at most 256 regions live, they lie apart, and the
+-- pages that were declared are those of the regions, at most 128
 pub record IsBook (book : Book) : Type 0 where
   pub next : 256 ≤ book.next
   pub count : length book.regions ≤ 256

@@ -17,6 +17,10 @@ mod stores;
 // The book, and the calls on it.
 mod regions;
 
+// What follows from the definitions.
+mod laws;
+
+pub use laws::{apart_law, declared_law};
 pub use regions::{Granted, NoMemory, Region, Regions};
 
 #[cfg(test)]

@@ -5,7 +5,7 @@ ghost use Rattle.std.specs.List.{list_any};
 ghost use Rattle.phys_mem.specs.Memory.{entry_in};
 ghost use Rattle.nk_bits.specs.Kinds.{is_data, kind_of};
 ghost use Rattle.region_book.specs.RegionCalls.{declare_rule, frames_from, frames_rule, guarded, has_twice, is_bad_range, is_policy, mapped};
-ghost use Rattle.region_book.specs.RegionRecords.{Book};
+ghost use Rattle.region_book.specs.RegionRecords.{Book, IsEachOnce};
 ghost use Rattle.nk_bits.specs.Rules.{rule_of};
 
 use nk_bits::{Kind, Rule, canonical};
@@ -105,15 +105,17 @@ fn contains(list: &[u16], frame: u16) -> bool
     list.iter().any(|other| *other == frame)
 }
 
-// A frame stands twice in the list.
-#[tactic(auto, unfolding(crate::specs::RegionCalls::has_twice))]
+// Two places of the list hold the same frame.
 fn has_twice(list: &[u16]) -> bool
-    ensures { result ≡ has_twice list.now }
+    ensures twice { result ≡ has_twice list.now }
+    ensures once { result ≡ false → IsEachOnce list.now }
 {
-    match list.split_first() {
-        Some((first, rest)) => contains(rest, *first) | has_twice(rest),
-        None => false,
+    for place in 0..list.len() {
+        if contains(&list[..place], list[place]) {
+            return true;
+        }
     }
+    false
 }
 
 // The frame holds data.
@@ -160,6 +162,7 @@ fn judge_frames(
         ≡ frames_rule book frames.now.kinds (slice_index frames.now.loose) policy (Some list.now) }
     ensures policy { OnOk result ((1 ≤ policy) × (policy ≤ 4)) }
     ensures room { OnOk result ((count < 256) × (declared + length list.now ≤ 128)) }
+    ensures once { OnOk result (IsEachOnce list.now) }
     ensures data { OnOk result (All (λ f. is_data (kind_of frames.now.kinds f) ≡ true) list.now) }
 {
     if has_twice(list) {
@@ -206,6 +209,7 @@ pub(crate) fn judge_declare(
     ensures policy { OnOk result ((1 ≤ policy) × (policy ≤ 4)) }
     ensures room { IfOk result (λ p. (count < 256) × (declared + p.count ≤ 128)) }
     ensures frames { IfOk result (λ p. All (λ f. f < length mem.now / 4096) (take p.count p.frames)) }
+    ensures once { IfOk result (λ p. IsEachOnce (take p.count p.frames)) }
     ensures data { IfOk result (λ p. All (λ f. is_data (kind_of frames.now.kinds f) ≡ true) (take p.count p.frames)) }
 {
     if is_bad_range(va, size) {
@@ -221,7 +225,6 @@ pub(crate) fn judge_declare(
 }
 
 /// Makes the frames guarded.
-#[tactic(auto, unfolding(crate::specs::RegionCalls::guarded))]
 pub(crate) fn guard(frames: &mut Frames, pages: &Pages)
     requires count { pages.now.count ≤ 16 }
     requires within { All (λ f. f < length frames.old.kinds) (take pages.now.count pages.now.frames) }

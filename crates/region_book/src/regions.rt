@@ -1,7 +1,8 @@
 //! The book of regions, and the calls on it.
 
-ghost use Rattle.std.specs.Prelude.{◌≡◌, ◌<◌, ◌≤◌, ◌+◌, ◌-◌, ◌*◌, ◌/◌, ◌^◌, ◌==◌, ◌&&◌, ◌||◌, not, filter, nat_le, nat_lt, slice_index_or, slice_set, All, IfNone, IfOk, IfSome, IsSome, List, Bool, OnErr, OnOk, Some, None, [], length, option_map, replicate, slice_get, slice_index, false, true, vec_capacity, take};
+ghost use Rattle.std.specs.Prelude.{◌≡◌, ◌<◌, ◌≤◌, ℕ, ◌+◌, ◌-◌, ◌*◌, ◌/◌, ◌^◌, ◌==◌, ◌&&◌, ◌||◌, not, filter, nat_le, nat_lt, slice_index_or, slice_set, All, IfNone, IfOk, IfSome, IsSome, List, Bool, OnErr, OnOk, Some, None, [], length, option_map, replicate, slice_get, slice_index, false, true, vec_capacity, take};
 ghost use Rattle.phys_mem.specs.Memory.{byte_at, entry_in, stored};
+ghost use Rattle.nk_bits.specs.Kinds.{is_data, kind_of};
 ghost use Rattle.nk_bits.specs.Rules.{rule_of};
 ghost use Rattle.region_book.specs.RegionCalls.{added, alloc_rule, declare_rule, fits_in, frames_from, free_rule, freed, guarded, is_policy, is_taken, mapped, page_region, pool_region, room};
 ghost use Rattle.region_book.specs.RegionRecords.{IsBook, byte_place, is_written_in, marked, pool_start, region_of, region_stores, shown, with_region};
@@ -160,9 +161,10 @@ impl Regions {
         }
     }
 
-    /// Whether a byte of the range was written before.
+    /// Whether a byte of the range was written before; none is in an empty one.
     pub fn written(&self, id: u64, offset: u32, length: u32) -> bool
-        requires { fits_in self.now id offset length ≡ true }
+        requires live { IsSome (region_of self.now id) }
+        requires within { IfSome (region_of self.now id) (λ r. offset + length ≤ r.size) }
         ensures { IfSome (region_of self.now id) (λ r. result ≡ is_written_in r offset length) }
     {
         let row = self.rows[live_at(&self.rows, id)];
@@ -172,7 +174,8 @@ impl Regions {
     /// Writes bytes in a region from an offset on, and marks them as written; the tail of an append-only region moves behind them.
     pub fn mark(&mut self, mem: &mut PhysMem, id: u64, offset: u32, bytes: &[u8])
         requires book { IsBook self.old }
-        requires fits { fits_in self.old id offset (length bytes.now) ≡ true }
+        requires live { IsSome (region_of self.old id) }
+        requires within { IfSome (region_of self.old id) (λ r. offset + length bytes.now ≤ r.size) }
         requires frames { IfSome (region_of self.old id) (λ r. All (λ f. 4096 * f + 4096 ≤ length mem.old) r.frames) }
         ensures marked { IfSome (region_of self.old id) (λ r. self.new ≡ with_region self.old (marked r offset (length bytes.now))) }
         ensures memory { IfSome (region_of self.old id) (λ r. mem.new ≡ stored mem.old (region_stores r offset bytes.now)) }
@@ -186,7 +189,8 @@ impl Regions {
     // Marks a range as written.
     fn mark_range(&mut self, id: u64, offset: u32, count: u32)
         requires book { IsBook self.old }
-        requires fits { fits_in self.old id offset count ≡ true }
+        requires live { IsSome (region_of self.old id) }
+        requires within { IfSome (region_of self.old id) (λ r. offset + count ≤ r.size) }
         ensures marked { IfSome (region_of self.old id) (λ r. self.new ≡ with_region self.old (marked r offset count)) }
         ensures book { IsBook self.new }
     {
@@ -196,7 +200,8 @@ impl Regions {
         move_tail(&mut self.rows, i, offset + count);
     }
 
-    /// Makes the frames of a range of pages a protected region, with the bytes that stand there.
+    /// Makes the frames of a range of pages a protected region, with the bytes that stand there. The frames of live regions
+    /// and of the pool don't hold data, so none of them is declared.
     pub fn declare(
         &mut self,
         frames: &mut Frames,
@@ -210,6 +215,8 @@ impl Regions {
         requires next { self.old.next < 2 ^ 63 }
         requires root { 4096 * root < length mem.now }
         requires frames { length mem.now ≡ 4096 * length frames.old.kinds }
+        requires regions { All (λ r. All (λ f. is_data (kind_of frames.old.kinds f) ≡ false) r.frames) self.old.regions }
+        requires pool { (f : ℕ) → 10 ≤ f → f < 26 → is_data (kind_of frames.old.kinds f) ≡ false }
         ensures judged { rule_of result ≡ declare_rule self.old frames.old.kinds (slice_index frames.old.loose)
             (mapped (entry_in mem.now) (length mem.now / 4096) root) va size policy }
         ensures refused { OnErr result ((self.new ≡ self.old) × (frames.new ≡ frames.old)) }

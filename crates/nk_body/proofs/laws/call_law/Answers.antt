@@ -41,6 +41,9 @@ returns c =
         tables = c.guarded_law.ensures.tables;
         loose = c.guarded_law.ensures.loose;
         described = c.guarded_law.ensures.described;
+        once = c.declared_law.ensures.once;
+        none = c.declared_law.ensures.none;
+        more = c.declared_law.ensures.more;
       };
       walks = record { same = c.record_walk_law.ensures; in_memory = c.walk_law.ensures.in_memory };
     }

@@ -15,5 +15,6 @@ returns-in-Ok-clause-book c =
     (take c.in-Ok.pages.count c.in-Ok.pages.frames)
     (omega (arith, c.in-Ok.ensures.size)) (omega (arith, c.in-Ok.ensures.size)) c.in-Ok.ensures.policy.0
     c.in-Ok.ensures.policy.1
-    (omega (arith, count, c.in-Ok.ensures.size)) (omega (arith, c.in-Ok.ensures.room, c.count.ensures))
-    (omega (arith, count, c.in-Ok.ensures.room, c.declared.ensures)))
+    (omega (arith, count, c.in-Ok.ensures.size)) c.in-Ok.ensures.once c.args.frames.now.kinds c.in-Ok.ensures.data
+    c.requires.pool (omega (arith, c.in-Ok.ensures.room, c.count.ensures))
+    (omega (arith, count, c.in-Ok.ensures.room, c.declared.ensures)) c.requires.regions)

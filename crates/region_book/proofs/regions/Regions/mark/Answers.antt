@@ -14,5 +14,5 @@ returns-clause-memory c =
     c.row.ensures.held
     c.args.offset c.args.bytes.now c.args.mem.now c.put.new.mem
     (bytes_within c.args.self.now c.args.id c.row.result c.unwrap-row.result c.unwrap-row.ensures c.row.ensures.some
-    c.row.ensures.held c.args.offset (length c.args.bytes.now) c.requires.fits)
+    c.row.ensures.held c.args.offset (length c.args.bytes.now) c.requires.within)
     c.put.ensures.stored

@@ -3,14 +3,14 @@ use Rattle.std.specs.Prelude.{IfSome}
 use Rattle.std.proofs.lemmas.List.{get_or_read}
 use Rattle.region_book.specs.RegionRecords.{IsBook, marked, region_of, with_region}
 use Rattle.region_book.specs.RegionRows.{IsKept, bit_in, book_of, in_run, moved}
-use Rattle.region_book.proofs.BookRows.{fits_not_none, region_missing}
+use Rattle.region_book.proofs.BookRows.{live_not_none, region_missing}
 use Rattle.region_book.proofs.KeptRows.{kept_moved}
 use Rattle.region_book.proofs.MarkedBook.{marked_book, marked_is, range_fits}
 use Rattle.region_book.proofs.regions.Regions.mark_range.Goals as goal
 
 pub live_at-i-requires : goal.live_at-i-requires
 live_at-i-requires c = λ none.
-    fits_not_none _ c.args.offset c.args.count c.requires.fits
+    live_not_none _ c.requires.live
     (region_missing c.self.inside.rows.items c.self.inside.bits.items c.self.inside.next c.self.inside.declared
     c.args.self.now c.args.id c.self.view_is none)
 
@@ -22,7 +22,7 @@ overflow_add-first_bit c =
           c.args.self.now c.args.id c.self.view_is
           c.live_at-i.result c.index.result.now c.live_at-i.ensures.within c.live_at-i.ensures.found
           (λ d. sym (get_or_read c.self.inside.rows.items c.live_at-i.result _ c.live_at-i.ensures.within
-          c.index.ensures d)) c.args.offset c.args.count c.requires.fits,
+          c.index.ensures d)) c.args.offset c.args.count c.requires.within,
     )
 
 pub set_run-requires-clause-within : goal.set_run-requires-clause-within
@@ -33,7 +33,7 @@ set_run-requires-clause-within c =
           c.args.self.now c.args.id c.self.view_is
           c.live_at-i.result c.index.result.now c.live_at-i.ensures.within c.live_at-i.ensures.found
           (λ d. sym (get_or_read c.self.inside.rows.items c.live_at-i.result _ c.live_at-i.ensures.within
-          c.index.ensures d)) c.args.offset c.args.count c.requires.fits,
+          c.index.ensures d)) c.args.offset c.args.count c.requires.within,
     )
 
 pub overflow_add-offset : goal.overflow_add-offset
@@ -44,7 +44,7 @@ overflow_add-offset c =
           c.args.self.now c.args.id c.self.view_is
           c.live_at-i.result c.index.result.now c.live_at-i.ensures.within c.live_at-i.ensures.found
           (λ d. sym (get_or_read c.self.inside.rows.items c.live_at-i.result _ c.live_at-i.ensures.within
-          c.index.ensures d)) c.args.offset c.args.count c.requires.fits,
+          c.index.ensures d)) c.args.offset c.args.count c.requires.within,
     )
 
 -- the rows after the tail moved
@@ -77,7 +77,7 @@ returns-clause-marked c =
     c.live_at-i.result c.index.result.now c.live_at-i.ensures.within c.live_at-i.ensures.found
     (λ d. sym (get_or_read c.self.inside.rows.items c.live_at-i.result _ c.live_at-i.ensures.within c.index.ensures d))
     c.set_run.new.bits.items c.args.offset c.args.count
-    (c.args.offset + c.args.count) c.self.invariant.0 c.requires.book c.requires.fits refl
+    (c.args.offset + c.args.count) c.self.invariant.0 c.requires.book c.requires.within refl
     (λ k. c.set_run.ensures.each k ∙ ap
     (λ first. bit_in c.self.inside.bits.items k || in_run
     (first + c.args.offset) c.args.count k) c.first_bit.ensures.first))
@@ -91,7 +91,7 @@ returns-clause-book c =
     c.live_at-i.result c.index.result.now c.live_at-i.ensures.within c.live_at-i.ensures.found
     (λ d. sym (get_or_read c.self.inside.rows.items c.live_at-i.result _ c.live_at-i.ensures.within c.index.ensures d))
     c.set_run.new.bits.items c.args.offset c.args.count
-    (c.args.offset + c.args.count) c.self.invariant.0 c.requires.book c.requires.fits refl
+    (c.args.offset + c.args.count) c.self.invariant.0 c.requires.book c.requires.within refl
     (λ k. c.set_run.ensures.each k ∙ ap
     (λ first. bit_in c.self.inside.bits.items k || in_run
     (first + c.args.offset) c.args.count k) c.first_bit.ensures.first))

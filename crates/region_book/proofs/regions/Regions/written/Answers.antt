@@ -1,12 +1,12 @@
 use Rattle.std.proofs.Common.{arith, ap, sym, ◌∙◌}
 use Rattle.std.specs.Prelude.{Some}
-use Rattle.region_book.proofs.BookRows.{fits_not_none, region_found, region_missing}
+use Rattle.region_book.proofs.BookRows.{live_not_none, region_found, region_missing}
 use Rattle.region_book.proofs.RegionReads.{bits_within, written_is}
 use Rattle.region_book.proofs.regions.Regions.written.Goals as goal
 
 pub live_at-requires : goal.live_at-requires
 live_at-requires c = λ none.
-    fits_not_none _ c.args.offset c.args.length c.requires
+    live_not_none _ c.requires.live
     (region_missing c.self.inside.rows.items c.self.inside.bits.items c.self.inside.next c.self.inside.declared
     c.args.self.now c.args.id c.self.view_is none)
 
@@ -18,7 +18,7 @@ overflow_add-first_bit c =
     omega (
       arith,
       bits_within c.args.self.now c.args.id c.args.offset c.args.length c.self.inside.bits.items
-          c.index.result.now c.requires found c.first_bit.result 589824 c.first_bit.ensures.within,
+          c.index.result.now c.requires.within found c.first_bit.result 589824 c.first_bit.ensures.within,
     )
 
 pub any_set-requires-clause-within : goal.any_set-requires-clause-within
@@ -27,7 +27,7 @@ any_set-requires-clause-within c =
     c.args.self.now c.args.id c.self.view_is c.index.result.now
     (c.live_at.ensures.found c.index.result.now ∙ ap Some (sym c.index.ensures)) in
     bits_within c.args.self.now c.args.id c.args.offset c.args.length c.self.inside.bits.items c.index.result.now
-    c.requires found c.first_bit.result 589824 c.first_bit.ensures.within
+    c.requires.within found c.first_bit.result 589824 c.first_bit.ensures.within
 
 pub returns : goal.returns
 returns c =
@@ -35,4 +35,4 @@ returns c =
     c.args.self.now c.args.id c.self.view_is c.index.result.now
     (c.live_at.ensures.found c.index.result.now ∙ ap Some (sym c.index.ensures)) in
     written_is c.args.self.now c.args.id c.args.offset c.args.length c.self.inside.bits.items c.index.result.now
-    c.requires found c.first_bit.result _ c.first_bit.ensures.first c.any_set.ensures
+    c.requires.within found c.first_bit.result _ c.first_bit.ensures.first c.any_set.ensures

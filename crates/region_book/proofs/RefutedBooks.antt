@@ -1,0 +1,31 @@
+-- Books of regions that are not sound.
+use Rattle.std.proofs.Common.{◌≡◌, ℕ, ◌+◌, ◌<◌, ◌≤◌, true, false, [], ◌∷◌, length, arith, sym, ◌∙◌, inl, inr}
+use Rattle.std.specs.Prelude.{slice_index}
+use Rattle.std.specs.List.{Contains, sum_by}
+use Rattle.region_book.specs.RegionRecords.{Book, IsBook, IsRegion, Region, pages_of_region, pool_start}
+
+pub two_declared_regions_share_no_frame : (one other : Region) (next declared f : ℕ) → one.pooled ≡ false →
+    other.pooled ≡ false → Contains one.frames f → Contains other.frames f →
+    IsBook (record { regions = one ∷ other ∷ []; next = next; declared = declared }) → ⊥
+two_declared_regions_share_no_frame one other next declared f one_is other_is in_one in_other book =
+    (book.apart 0 1 one (omega arith) (omega arith)).pages one_is other_is in_one.0 f in_one.1 in_other.0 f in_other.1
+    (in_one.2 ∙ sym in_other.2)
+
+module _ (next : ℕ) (r : Region) where
+  pub declared_region_has_no_frame_twice : (i j : ℕ) → r.pooled ≡ false → i < j → j < length r.frames →
+      slice_index r.frames i ≡ slice_index r.frames j → IsRegion next r → ⊥
+  declared_region_has_no_frame_twice i j declared low below same is = (is.declared declared).2 i j 0 low below same
+
+  pub declared_region_has_no_frame_of_the_pool : (f : ℕ) → r.pooled ≡ false → 10 ≤ f → f < 26 → Contains r.frames f →
+      IsRegion next r → ⊥
+  declared_region_has_no_frame_of_the_pool f declared least most there is =
+      elim ((is.declared declared).3 there.0 f there.1) [
+        | inl before ↦ omega (arith, before, there.2, least)
+        | inr behind ↦ omega (arith, behind, there.2, most)
+      ]
+
+  pub region_of_the_pool_passes_no_end : r.pooled ≡ true → pool_start + 65536 < r.first + r.size → IsRegion next r → ⊥
+  region_of_the_pool_passes_no_end pooled past is = omega (arith, (is.pooled pooled).1, past)
+
+pub no_129_pages_are_declared : (book : Book) → sum_by pages_of_region book.regions ≡ 129 → IsBook book → ⊥
+no_129_pages_are_declared book pages is = omega (arith, pages, is.pages, is.most)
