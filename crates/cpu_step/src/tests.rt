@@ -23,7 +23,6 @@ use crate::{Cpu, Stepped};
 use nk_bits::{Control, Delivery};
 use phys_mem::{NoMemory, PhysMem};
 use std::alloc::Global;
-use std::process::Abort;
 use x86_regs::{RSP, Regs, Tables, with_register};
 
 /// The number of RBX.
@@ -302,9 +301,4 @@ fn turn(alloc: Global, bytes: &[u8], before: &Regs) -> Option<After> {
         return None;
     };
     turned(&mut cpu, &mut mem)
-}
-
-/// The turn leaves this.
-fn compare(rt: &impl Abort, alloc: Global, bytes: &[u8], before: &Regs, expected: After) {
-    assert_eq!(rt; turn(alloc, bytes, before), Some(expected), "{bytes:?}");
 }

@@ -64,3 +64,4 @@ pub mod CallThroughBody
 pub mod CallThroughBack
 pub mod CallThroughMoves
 pub mod CallThrough
+mod WorkedOpening

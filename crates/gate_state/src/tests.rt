@@ -4,6 +4,7 @@
 mod attacks;
 mod calls;
 mod jumps;
+mod opening;
 mod regions;
 
 ghost use Rattle.std.specs.Prelude.{◌≡◌, IfSome, None};

@@ -7,4 +7,5 @@ mod TableFunctions
 mod TranslationLaws
 mod WalkLaws
 mod WorkedAccesses
+mod WorkedRights
 mod WorkedValues

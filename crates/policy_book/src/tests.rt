@@ -379,6 +379,18 @@ fn the_first_broken_rule_answers(rt: HostRuntime) {
     assert_eq!(rt; play(rt.alloc(), &LETTERS, &BOTH), 12);
 }
 
+/// A step with another answer is found, at its place.
+const WRONG: [Step; 3] = [
+    Step::Alloc(8, 1, 256),
+    Step::Write(256, 0, 0, 8, 24),
+    Step::Stored(0xA000, 97),
+];
+
+#[test]
+fn a_wrong_answer_is_found(rt: HostRuntime) {
+    assert_eq!(rt; play(rt.alloc(), &LETTERS, &WRONG), 1);
+}
+
 /// A new region in the place of one that was let go has nothing written.
 const ANEW: [Step; 9] = [
     Step::Alloc(16, 1, 256),

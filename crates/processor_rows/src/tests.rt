@@ -8,7 +8,7 @@ use std::alloc::Global;
 use std::fmt::Write;
 
 /// A line, and what the comparison tells of it: a line for each difference, or why the line is out of form.
-const TOLD: [(&str, &str); 25] = [
+const TOLD: [(&str, &str); 27] = [
     // ADD AL, CL of 1 and FF: 0, with CF, PF, AF and ZF
     ("00c8 r0=1 r1=ff > r0=0 f=257", ""),
     ("00c8 r0=1 r1=ff > r0=0 f=246 u=11", ""),
@@ -17,6 +17,9 @@ const TOLD: [(&str, &str); 25] = [
         "00c8 r0=1 r1=ff > r0=0 r2=0 f=257",
         "wanted r2=0, found 2726252423222120\n",
     ),
+    // the first register and the last
+    ("90 r0=1 > r0=2", "wanted r0=2, found 1\n"),
+    ("90 rf=1 > rf=2", "wanted rf=2, found 1\n"),
     ("00c8 r0=1 r1=ff > r0=0 f=256", "wanted f=256, found 257\n"),
     (
         "00c8 r0=1 r1=ff > r0=0 f=256 u=10",

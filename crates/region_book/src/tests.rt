@@ -166,6 +166,18 @@ fn count_answered(regions: &mut Regions, mem: &mut PhysMem, steps: &[Step]) -> u
     steps.len()
 }
 
+/// A step with another answer is found, at its place.
+const WRONG: [Step; 3] = [
+    Step::Alloc(65536, 1, Ok((256, 0))),
+    Step::Alloc(1, 1, Err(Rule::BadRange)),
+    Step::Free(256, Ok(())),
+];
+
+#[test]
+fn a_wrong_answer_is_found(rt: HostRuntime) {
+    assert_eq!(rt; play(rt.alloc(), &WRONG), 1);
+}
+
 const WHOLE_POOL: [Step; 9] = [
     Step::Alloc(65536, 1, Ok((256, 0))),
     Step::Alloc(1, 1, Err(Rule::NoRoom)),

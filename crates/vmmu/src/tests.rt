@@ -123,6 +123,23 @@ fn load(mem: &PhysMem, at: u64) -> u64 {
     }
 }
 
+/// A call with another answer is found, at its place.
+const WRONG: [(Call, u64); 3] = [
+    (Call::Declare(1, 16), 2),
+    (Call::Declare(0, 14), 4),
+    (Call::Declare(1, 2), 4),
+];
+
+#[test]
+fn a_wrong_answer_is_found(rt: HostRuntime) -> Result<(), Fail> {
+    let Opening {
+        mut tables,
+        mut mem,
+    } = open(rt.alloc())?;
+    assert_eq!(rt; play(&mut tables, &mut mem, &WRONG), 1);
+    Ok(())
+}
+
 const DECLARED: [(Call, u64); 21] = [
     // Frames outside memory, levels, kinds, a leaf of the kernel slot that is loose.
     (Call::Declare(1, 16), 2),

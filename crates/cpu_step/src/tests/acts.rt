@@ -1,6 +1,6 @@
 //! What instructions ask of the processor (SDM volume 2, each instruction's page; volume 3, 2.5 and 6.8.3).
 
-use super::{After, CONTROL, REGS, TABLES, compare, delivered, ran, with};
+use super::{After, CONTROL, REGS, TABLES, delivered, ran, turn, with};
 use crate::Stepped;
 use nk_bits::Control;
 use x86_regs::{RAX, Regs, Tables};
@@ -20,24 +20,21 @@ fn ports(rt: HostRuntime) {
         stepped: Stepped::Console(0x41),
         ..ran(&REGS, 2)
     };
-    compare(&rt, alloc, b"\xE6\xE9", &REGS, console);
-    compare(&rt, alloc, b"\xE6\xE8", &REGS, ran(&REGS, 2));
+    assert_eq!(rt; turn(alloc, b"\xE6\xE9", &REGS), Some(console));
+    assert_eq!(rt; turn(alloc, b"\xE6\xE8", &REGS), Some(ran(&REGS, 2)));
     // out dx, al, where DX is 10
-    compare(&rt, alloc, b"\xEE", &REGS, ran(&REGS, 1));
-    compare(
-        &rt,
-        alloc,
-        b"\xE4\xEA",
-        &with(&REGS, RAX, 0x1234),
-        ran(&with(&REGS, RAX, 0x1231), 2),
+    assert_eq!(rt; turn(alloc, b"\xEE", &REGS), Some(ran(&REGS, 1)));
+    assert_eq!(rt;
+        turn(alloc, b"\xE4\xEA", &with(&REGS, RAX, 0x1234)),
+        Some(ran(&with(&REGS, RAX, 0x1231), 2))
     );
-    compare(&rt, alloc, b"\xE4\xEB", &REGS, ran(&with(&REGS, RAX, 1), 2));
-    compare(
-        &rt,
-        alloc,
-        b"\xE4\xE9",
-        &REGS,
-        ran(&with(&REGS, RAX, 0xFF), 2),
+    assert_eq!(rt;
+        turn(alloc, b"\xE4\xEB", &REGS),
+        Some(ran(&with(&REGS, RAX, 1), 2))
+    );
+    assert_eq!(rt;
+        turn(alloc, b"\xE4\xE9", &REGS),
+        Some(ran(&with(&REGS, RAX, 0xFF), 2))
     );
 }
 
@@ -48,7 +45,7 @@ fn halt_and_shield(rt: HostRuntime) {
         halted: true,
         ..ran(&REGS, 1)
     };
-    compare(&rt, alloc, b"\xF4", &REGS, halted);
+    assert_eq!(rt; turn(alloc, b"\xF4", &REGS), Some(halted));
     let enabled = Regs {
         flags: 0x202,
         ..REGS
@@ -57,9 +54,9 @@ fn halt_and_shield(rt: HostRuntime) {
         shielded: true,
         ..ran(&enabled, 1)
     };
-    compare(&rt, alloc, b"\xFB", &REGS, shielded);
-    compare(&rt, alloc, b"\xFB", &enabled, ran(&enabled, 1));
-    compare(&rt, alloc, b"\xFA", &enabled, ran(&REGS, 1));
+    assert_eq!(rt; turn(alloc, b"\xFB", &REGS), Some(shielded));
+    assert_eq!(rt; turn(alloc, b"\xFB", &enabled), Some(ran(&enabled, 1)));
+    assert_eq!(rt; turn(alloc, b"\xFA", &enabled), Some(ran(&REGS, 1)));
 }
 
 /// MOV to CR0, CR2, CR3 and CR4 from RAX; CR0 keeps PE, WP, NW, CD and PG.
@@ -71,76 +68,58 @@ fn control_registers(rt: HostRuntime) {
         cr0: 0xE001_0001,
         ..CONTROL
     };
-    compare(&rt, alloc, b"\x0F\x22\xC0", &wide, loaded(&wide, 3, kept));
+    assert_eq!(rt;
+        turn(alloc, b"\x0F\x22\xC0", &wide),
+        Some(loaded(&wide, 3, kept))
+    );
     let open = with(&REGS, RAX, 0x8000_0011);
     let without_wp = Control {
         cr0: 0x8000_0001,
         ..CONTROL
     };
-    compare(
-        &rt,
-        alloc,
-        b"\x0F\x22\xC0",
-        &open,
-        loaded(&open, 3, without_wp),
+    assert_eq!(rt;
+        turn(alloc, b"\x0F\x22\xC0", &open),
+        Some(loaded(&open, 3, without_wp))
     );
     let unpaged = with(&REGS, RAX, 0x1_0001);
-    compare(
-        &rt,
-        alloc,
-        b"\x0F\x22\xC0",
-        &unpaged,
-        delivered(&unpaged, 13, Some(0)),
+    assert_eq!(rt;
+        turn(alloc, b"\x0F\x22\xC0", &unpaged),
+        Some(delivered(&unpaged, 13, Some(0)))
     );
     let address = with(&REGS, RAX, 0x8877_6655_4433_2211);
     let faulted = Control {
         cr2: 0x8877_6655_4433_2211,
         ..CONTROL
     };
-    compare(
-        &rt,
-        alloc,
-        b"\x0F\x22\xD0",
-        &address,
-        loaded(&address, 3, faulted),
+    assert_eq!(rt;
+        turn(alloc, b"\x0F\x22\xD0", &address),
+        Some(loaded(&address, 3, faulted))
     );
     let third = with(&REGS, RAX, 0x9FFF);
-    compare(
-        &rt,
-        alloc,
-        b"\x0F\x22\xD8",
-        &third,
-        loaded(&third, 3, Control { root: 9, ..CONTROL }),
+    assert_eq!(rt;
+        turn(alloc, b"\x0F\x22\xD8", &third),
+        Some(loaded(&third, 3, Control { root: 9, ..CONTROL }))
     );
     let tenth = with(&REGS, RAX, 0xA000);
-    compare(
-        &rt,
-        alloc,
-        b"\x0F\x22\xD8",
-        &tenth,
-        delivered(&tenth, 13, Some(0)),
+    assert_eq!(rt;
+        turn(alloc, b"\x0F\x22\xD8", &tenth),
+        Some(delivered(&tenth, 13, Some(0)))
     );
     let plain = with(&REGS, RAX, 0x20);
-    compare(
-        &rt,
-        alloc,
-        b"\x0F\x22\xE0",
-        &plain,
-        loaded(
+    assert_eq!(rt;
+        turn(alloc, b"\x0F\x22\xE0", &plain),
+        Some(loaded(
             &plain,
             3,
             Control {
                 cr4: 0x20,
                 ..CONTROL
             },
-        ),
+        ))
     );
-    compare(
-        &rt,
-        alloc,
-        b"\x0F\x20\xD8",
-        &REGS,
-        ran(&with(&REGS, RAX, 0x1000), 3),
+    assert_eq!(rt;
+        turn(alloc, b"\x0F\x20\xD8", &REGS),
+        Some(ran(&with(&REGS, RAX, 0x1000), 3))
     );
 }
 
@@ -156,5 +135,5 @@ fn descriptor_table(rt: HostRuntime) {
         tables,
         ..ran(&REGS, 3)
     };
-    compare(&rt, rt.alloc(), b"\x0F\x01\x1B", &REGS, loaded);
+    assert_eq!(rt; turn(rt.alloc(), b"\x0F\x01\x1B", &REGS), Some(loaded));
 }

@@ -1,8 +1,8 @@
 //! Faults, delivered with their codes (SDM volume 3, 6.13 and 6.15).
 
 use super::{
-    After, CONTROL, RBX, REGS, TABLES, USER, compare, cpu, delivered, memory, page_fault, put,
-    turned, with,
+    After, CONTROL, RBX, REGS, TABLES, USER, cpu, delivered, memory, page_fault, put, turn, turned,
+    with,
 };
 use crate::Stepped;
 use nk_bits::{Control, Delivery};
@@ -34,7 +34,7 @@ fn undefined_opcode_of_the_user(rt: HostRuntime) {
         halted: false,
         frame: [0, 0x6000, 0x1B, 0x202, 0x7800, 0x23],
     };
-    compare(&rt, rt.alloc(), b"\x0F\x0B", &USER, after);
+    assert_eq!(rt; turn(rt.alloc(), b"\x0F\x0B", &USER), Some(after));
 }
 
 /// A load of page 2 at CPL 0: CR2 is its address, and the code 0 is pushed last.
@@ -66,7 +66,7 @@ fn page_fault_of_the_supervisor(rt: HostRuntime) {
         halted: false,
         frame: [0, 0, 8, 2, 0x1800, 0x10],
     };
-    compare(&rt, rt.alloc(), b"\x8B\x03", &lost, after);
+    assert_eq!(rt; turn(rt.alloc(), b"\x8B\x03", &lost), Some(after));
 }
 
 /// div ecx; UD2; LOCK NOP; bytes that begin nothing.
@@ -74,9 +74,12 @@ fn page_fault_of_the_supervisor(rt: HostRuntime) {
 fn faults_without_a_code(rt: HostRuntime) {
     let alloc = rt.alloc();
     let zero = with(&REGS, RCX, 0);
-    compare(&rt, alloc, b"\xF7\xF1", &zero, delivered(&zero, 0, None));
+    assert_eq!(rt;
+        turn(alloc, b"\xF7\xF1", &zero),
+        Some(delivered(&zero, 0, None))
+    );
     for code in [&b"\x0F\x0B"[..], b"\xF0\x90", b"\x64\x90"] {
-        compare(&rt, alloc, code, &REGS, delivered(&REGS, 6, None));
+        assert_eq!(rt; turn(alloc, code, &REGS), Some(delivered(&REGS, 6, None)));
     }
 }
 
@@ -85,21 +88,34 @@ fn faults_without_a_code(rt: HostRuntime) {
 fn faults_with_a_code(rt: HostRuntime) {
     let alloc = rt.alloc();
     let deep = with(&REGS, RSP, 0x8000_0000_0001);
-    compare(&rt, alloc, b"\x50", &deep, delivered(&deep, 12, Some(0)));
+    assert_eq!(rt;
+        turn(alloc, b"\x50", &deep),
+        Some(delivered(&deep, 12, Some(0)))
+    );
     let far = with(&REGS, RBX, 0x8000_0000_0000);
-    compare(&rt, alloc, b"\x8B\x03", &far, delivered(&far, 13, Some(0)));
-    compare(&rt, alloc, b"\xFF\xE3", &far, delivered(&far, 13, Some(0)));
+    assert_eq!(rt;
+        turn(alloc, b"\x8B\x03", &far),
+        Some(delivered(&far, 13, Some(0)))
+    );
+    assert_eq!(rt;
+        turn(alloc, b"\xFF\xE3", &far),
+        Some(delivered(&far, 13, Some(0)))
+    );
     let lost = Regs {
         rip: 0x8000_0000_0000,
         ..REGS
     };
-    compare(&rt, alloc, b"\x90", &lost, delivered(&lost, 13, Some(0)));
-    compare(
-        &rt,
-        alloc,
-        b"\x66\x66\x66\x66\x66\x66\x66\x66\x66\x66\x66\x66\x66\x66\x66\x90",
-        &REGS,
-        delivered(&REGS, 13, Some(0)),
+    assert_eq!(rt;
+        turn(alloc, b"\x90", &lost),
+        Some(delivered(&lost, 13, Some(0)))
+    );
+    assert_eq!(rt;
+        turn(
+            alloc,
+            b"\x66\x66\x66\x66\x66\x66\x66\x66\x66\x66\x66\x66\x66\x66\x66\x90",
+            &REGS
+        ),
+        Some(delivered(&REGS, 13, Some(0)))
     );
 }
 
@@ -109,10 +125,19 @@ fn faults_with_a_code(rt: HostRuntime) {
 fn codes_of_data_faults(rt: HostRuntime) {
     let alloc = rt.alloc();
     let low = with(&REGS, RSP, 0x2004);
-    compare(&rt, alloc, b"\x50", &low, page_fault(&low, 2, 0x2000));
+    assert_eq!(rt;
+        turn(alloc, b"\x50", &low),
+        Some(page_fault(&low, 2, 0x2000))
+    );
     let kept = with(&REGS, RBX, 0x8000);
-    compare(&rt, alloc, b"\x89\x03", &kept, page_fault(&kept, 3, 0x8000));
-    compare(&rt, alloc, b"\x8B\x03", &USER, page_fault(&USER, 5, 0x1010));
+    assert_eq!(rt;
+        turn(alloc, b"\x89\x03", &kept),
+        Some(page_fault(&kept, 3, 0x8000))
+    );
+    assert_eq!(rt;
+        turn(alloc, b"\x8B\x03", &USER),
+        Some(page_fault(&USER, 5, 0x1010))
+    );
 }
 
 /// The code of a page fault of a fetch has bit 4: from page 2, from data, from the supervisor's page at CPL 3, from the
@@ -144,12 +169,9 @@ fn codes_of_fetch_faults(rt: HostRuntime) {
             0x11,
         ),
     ] {
-        compare(
-            &rt,
-            alloc,
-            b"\x90",
-            &before,
-            page_fault(&before, code, before.rip),
+        assert_eq!(rt;
+            turn(alloc, b"\x90", &before),
+            Some(page_fault(&before, code, before.rip))
         );
     }
 }

@@ -3,7 +3,6 @@
 use super::{CONTROL, REGS, cpu, memory, put};
 use crate::fetch::{code_on_page, fetch_by_bytes, is_on_page};
 use std::alloc::Global;
-use std::process::Abort;
 use x86_decode::Decoded;
 use x86_regs::{Fault, Regs};
 
@@ -34,21 +33,6 @@ fn size_at(alloc: Global, place: u64, bytes: &[u8], rip: u64) -> Option<Result<u
     }
 }
 
-fn compare(
-    rt: &impl Abort,
-    alloc: Global,
-    place: u64,
-    bytes: &[u8],
-    rip: u64,
-    expected: Result<u8, Fault>,
-) {
-    assert_eq!(rt;
-        size_at(alloc, place, bytes, rip),
-        Some(expected),
-        "{bytes:?}"
-    );
-}
-
 fn page(code: u64, address: u64) -> Result<u8, Fault> {
     Err(Fault::Page { code, address })
 }
@@ -56,42 +40,47 @@ fn page(code: u64, address: u64) -> Result<u8, Fault> {
 #[test]
 fn lengths(rt: HostRuntime) {
     let alloc = rt.alloc();
-    compare(&rt, alloc, 0x8000, b"\xF4", 0, Ok(1));
-    compare(
-        &rt,
-        alloc,
-        0x8000,
-        b"\x48\xC7\xC0\x0F\x22\xC0\x00",
-        0,
-        Ok(7),
+    assert_eq!(rt; size_at(alloc, 0x8000, b"\xF4", 0), Some(Ok(1)));
+    assert_eq!(rt;
+        size_at(alloc, 0x8000, b"\x48\xC7\xC0\x0F\x22\xC0\x00", 0),
+        Some(Ok(7))
     );
-    compare(
-        &rt,
-        alloc,
-        0x8000,
-        b"\x48\xB8\x01\x02\x03\x04\x05\x06\x07\x08",
-        0,
-        Ok(10),
+    assert_eq!(rt;
+        size_at(
+            alloc,
+            0x8000,
+            b"\x48\xB8\x01\x02\x03\x04\x05\x06\x07\x08",
+            0
+        ),
+        Some(Ok(10))
     );
     // fourteen prefix bytes and NOP; fifteen prefix bytes
-    compare(
-        &rt,
-        alloc,
-        0x8000,
-        b"\x66\x66\x66\x66\x66\x66\x66\x66\x66\x66\x66\x66\x66\x66\x90",
-        0,
-        Ok(15),
+    assert_eq!(rt;
+        size_at(
+            alloc,
+            0x8000,
+            b"\x66\x66\x66\x66\x66\x66\x66\x66\x66\x66\x66\x66\x66\x66\x90",
+            0
+        ),
+        Some(Ok(15))
     );
-    compare(
-        &rt,
-        alloc,
-        0x8000,
-        b"\x66\x66\x66\x66\x66\x66\x66\x66\x66\x66\x66\x66\x66\x66\x66\x90",
-        0,
-        Err(Fault::General(0)),
+    assert_eq!(rt;
+        size_at(
+            alloc,
+            0x8000,
+            b"\x66\x66\x66\x66\x66\x66\x66\x66\x66\x66\x66\x66\x66\x66\x66\x90",
+            0
+        ),
+        Some(Err(Fault::General(0)))
     );
-    compare(&rt, alloc, 0x8000, b"\x64", 0, Err(Fault::Opcode));
-    compare(&rt, alloc, 0x8000, b"\x0F\x01\xD8", 0, Err(Fault::Opcode));
+    assert_eq!(rt;
+        size_at(alloc, 0x8000, b"\x64", 0),
+        Some(Err(Fault::Opcode))
+    );
+    assert_eq!(rt;
+        size_at(alloc, 0x8000, b"\x0F\x01\xD8", 0),
+        Some(Err(Fault::Opcode))
+    );
 }
 
 /// An instruction that ends with its page needs no other page; one that goes on faults at the next page's first byte, and
@@ -99,52 +88,57 @@ fn lengths(rt: HostRuntime) {
 #[test]
 fn page_ends(rt: HostRuntime) {
     let alloc = rt.alloc();
-    compare(&rt, alloc, 0x8FFF, b"\xF4", 0xFFF, Ok(1));
-    compare(
-        &rt,
-        alloc,
-        0x8FFA,
-        b"\x05\x01\x02\x03\x04\xF4",
-        0xFFA,
-        Ok(5),
+    assert_eq!(rt; size_at(alloc, 0x8FFF, b"\xF4", 0xFFF), Some(Ok(1)));
+    assert_eq!(rt;
+        size_at(alloc, 0x8FFA, b"\x05\x01\x02\x03\x04\xF4", 0xFFA),
+        Some(Ok(5))
     );
     // page 1 is present, page 5 isn't
-    compare(&rt, alloc, 0x8FFF, b"\x48", 0xFFF, page(0x11, 0x1000));
-    compare(
-        &rt,
-        alloc,
-        0x8FFC,
-        b"\xB8\x01\x02\x03",
-        0xFFC,
-        page(0x11, 0x1000),
+    assert_eq!(rt;
+        size_at(alloc, 0x8FFF, b"\x48", 0xFFF),
+        Some(page(0x11, 0x1000))
     );
-    compare(&rt, alloc, 0x8FFF, b"\x64", 0xFFF, Err(Fault::Opcode));
-    compare(&rt, alloc, 0x6FFE, b"\x0F\x22", 0x4FFE, page(0x10, 0x5000));
+    assert_eq!(rt;
+        size_at(alloc, 0x8FFC, b"\xB8\x01\x02\x03", 0xFFC),
+        Some(page(0x11, 0x1000))
+    );
+    assert_eq!(rt;
+        size_at(alloc, 0x8FFF, b"\x64", 0xFFF),
+        Some(Err(Fault::Opcode))
+    );
+    assert_eq!(rt;
+        size_at(alloc, 0x6FFE, b"\x0F\x22", 0x4FFE),
+        Some(page(0x10, 0x5000))
+    );
     // page 4 follows page 3, though frame 6 stands before frame 7
-    compare(&rt, alloc, 0x7FFE, b"\x0F\x01", 0x3FFE, Err(Fault::Opcode));
-    compare(&rt, alloc, 0x7FFF, b"\x04", 0x3FFF, Ok(2));
-    compare(&rt, alloc, 0x6000, b"\x0F\xAE\xE8", 0x4000, Ok(3));
+    assert_eq!(rt;
+        size_at(alloc, 0x7FFE, b"\x0F\x01", 0x3FFE),
+        Some(Err(Fault::Opcode))
+    );
+    assert_eq!(rt; size_at(alloc, 0x7FFF, b"\x04", 0x3FFF), Some(Ok(2)));
+    assert_eq!(rt;
+        size_at(alloc, 0x6000, b"\x0F\xAE\xE8", 0x4000),
+        Some(Ok(3))
+    );
 }
 
 #[test]
 fn pages_that_are_not_executed(rt: HostRuntime) {
     let alloc = rt.alloc();
-    compare(&rt, alloc, 0x9000, b"\x90", 0x1000, page(0x11, 0x1000));
-    compare(&rt, alloc, 0x9000, b"\x90", 0x2345, page(0x10, 0x2345));
-    compare(
-        &rt,
-        alloc,
-        0x9000,
-        b"\x90",
-        0x8000_0000_0000,
-        Err(Fault::General(0)),
+    assert_eq!(rt;
+        size_at(alloc, 0x9000, b"\x90", 0x1000),
+        Some(page(0x11, 0x1000))
     );
-    compare(
-        &rt,
-        alloc,
-        0x9000,
-        b"\x90",
-        0xFFFF_8000_0000_0000,
-        page(0x10, 0xFFFF_8000_0000_0000),
+    assert_eq!(rt;
+        size_at(alloc, 0x9000, b"\x90", 0x2345),
+        Some(page(0x10, 0x2345))
+    );
+    assert_eq!(rt;
+        size_at(alloc, 0x9000, b"\x90", 0x8000_0000_0000),
+        Some(Err(Fault::General(0)))
+    );
+    assert_eq!(rt;
+        size_at(alloc, 0x9000, b"\x90", 0xFFFF_8000_0000_0000),
+        Some(page(0x10, 0xFFFF_8000_0000_0000))
     );
 }

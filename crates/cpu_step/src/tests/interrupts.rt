@@ -1,6 +1,6 @@
 //! INT3 and INT n (SDM volume 2, INT n/INTO/INT3/INT1; volume 3, 6.12.1.2). The code of #GP for the vector n is 8 n + 2.
 
-use super::{After, REGS, USER, compare, cpu, delivered, memory, put, turned};
+use super::{After, REGS, USER, cpu, delivered, memory, put, turn, turned};
 use crate::Stepped;
 use nk_bits::Delivery;
 use std::test::Fail;
@@ -11,38 +11,44 @@ use x86_regs::Regs;
 fn allowed(rt: HostRuntime) {
     let alloc = rt.alloc();
     let behind = Regs { rip: 1, ..REGS };
-    compare(&rt, alloc, b"\xCC", &REGS, delivered(&behind, 3, None));
+    assert_eq!(rt;
+        turn(alloc, b"\xCC", &REGS),
+        Some(delivered(&behind, 3, None))
+    );
     let behind = Regs { rip: 2, ..REGS };
-    compare(&rt, alloc, b"\xCD\x20", &REGS, delivered(&behind, 32, None));
+    assert_eq!(rt;
+        turn(alloc, b"\xCD\x20", &REGS),
+        Some(delivered(&behind, 32, None))
+    );
     let behind = Regs {
         rip: 0x6001,
         ..USER
     };
-    compare(&rt, alloc, b"\xCC", &USER, delivered(&behind, 3, None));
+    assert_eq!(rt;
+        turn(alloc, b"\xCC", &USER),
+        Some(delivered(&behind, 3, None))
+    );
     let behind = Regs {
         rip: 0x6002,
         ..USER
     };
-    compare(&rt, alloc, b"\xCD\x2F", &USER, delivered(&behind, 47, None));
+    assert_eq!(rt;
+        turn(alloc, b"\xCD\x2F", &USER),
+        Some(delivered(&behind, 47, None))
+    );
 }
 
 /// INT 32 and INT 13 at CPL 3: #GP is delivered in their place, and RIP is theirs.
 #[test]
 fn refused_by_level(rt: HostRuntime) {
     let alloc = rt.alloc();
-    compare(
-        &rt,
-        alloc,
-        b"\xCD\x20",
-        &USER,
-        delivered(&USER, 13, Some(258)),
+    assert_eq!(rt;
+        turn(alloc, b"\xCD\x20", &USER),
+        Some(delivered(&USER, 13, Some(258)))
     );
-    compare(
-        &rt,
-        alloc,
-        b"\xCD\x0D",
-        &USER,
-        delivered(&USER, 13, Some(106)),
+    assert_eq!(rt;
+        turn(alloc, b"\xCD\x0D", &USER),
+        Some(delivered(&USER, 13, Some(106)))
     );
 }
 
@@ -50,33 +56,27 @@ fn refused_by_level(rt: HostRuntime) {
 #[test]
 fn refused_by_limit(rt: HostRuntime) {
     let alloc = rt.alloc();
-    compare(
-        &rt,
-        alloc,
-        b"\xCD\x30",
-        &REGS,
-        delivered(&REGS, 13, Some(386)),
+    assert_eq!(rt;
+        turn(alloc, b"\xCD\x30", &REGS),
+        Some(delivered(&REGS, 13, Some(386)))
     );
-    compare(
-        &rt,
-        alloc,
-        b"\xCD\xFF",
-        &USER,
-        delivered(&USER, 13, Some(2042)),
+    assert_eq!(rt;
+        turn(alloc, b"\xCD\xFF", &USER),
+        Some(delivered(&USER, 13, Some(2042)))
     );
     let behind = Regs { rip: 2, ..REGS };
-    compare(&rt, alloc, b"\xCD\x2F", &REGS, delivered(&behind, 47, None));
+    assert_eq!(rt;
+        turn(alloc, b"\xCD\x2F", &REGS),
+        Some(delivered(&behind, 47, None))
+    );
 }
 
 /// LOCK before INT3 raises #UD.
 #[test]
 fn locked(rt: HostRuntime) {
-    compare(
-        &rt,
-        rt.alloc(),
-        b"\xF0\xCC",
-        &REGS,
-        delivered(&REGS, 6, None),
+    assert_eq!(rt;
+        turn(rt.alloc(), b"\xF0\xCC", &REGS),
+        Some(delivered(&REGS, 6, None))
     );
 }
 

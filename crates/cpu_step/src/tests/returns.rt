@@ -2,7 +2,6 @@
 
 use super::{After, REGS, USER, cpu, delivered, memory, put, ran, turned};
 use std::alloc::Global;
-use std::process::Abort;
 use std::test::Fail;
 use x86_regs::{RSP, Regs, with_register};
 
@@ -29,10 +28,6 @@ fn returned(alloc: Global, before: &Regs, frame: &[u64; 5]) -> Option<After> {
     turned(&mut cpu, &mut mem)
 }
 
-fn compare(rt: &impl Abort, alloc: Global, before: &Regs, frame: &[u64; 5], expected: After) {
-    assert_eq!(rt; returned(alloc, before, frame), Some(expected), "{frame:?}");
-}
-
 /// The registers behind a return to this place.
 fn at(before: &Regs, rip: u64, rsp: u64, flags: u64, cpl: u8, ss: u16) -> After {
     let regs = Regs {
@@ -49,28 +44,19 @@ fn at(before: &Regs, rip: u64, rsp: u64, flags: u64, cpl: u8, ss: u16) -> After 
 #[test]
 fn from_the_supervisor(rt: HostRuntime) {
     let alloc = rt.alloc();
-    compare(
-        &rt,
-        alloc,
-        &REGS,
-        &TO_USER,
-        at(&REGS, 0x6008, 0x7900, 0x202, 3, 0x23),
+    assert_eq!(rt;
+        returned(alloc, &REGS, &TO_USER),
+        Some(at(&REGS, 0x6008, 0x7900, 0x202, 3, 0x23))
     );
     let to_itself = [0x40, 0xFFFF_0008, 0xFFFF_FFFF, 0x1700, 0x2_0010];
-    compare(
-        &rt,
-        alloc,
-        &REGS,
-        &to_itself,
-        at(&REGS, 0x40, 0x1700, 0xED7, 0, 0x10),
+    assert_eq!(rt;
+        returned(alloc, &REGS, &to_itself),
+        Some(at(&REGS, 0x40, 0x1700, 0xED7, 0, 0x10))
     );
     let null = [0xFFFF_8000_0000_0000, 8, 0, 0, 0];
-    compare(
-        &rt,
-        alloc,
-        &REGS,
-        &null,
-        at(&REGS, 0xFFFF_8000_0000_0000, 0, 2, 0, 0),
+    assert_eq!(rt;
+        returned(alloc, &REGS, &null),
+        Some(at(&REGS, 0xFFFF_8000_0000_0000, 0, 2, 0, 0))
     );
 }
 
@@ -79,20 +65,14 @@ fn from_the_supervisor(rt: HostRuntime) {
 fn from_the_user(rt: HostRuntime) {
     let alloc = rt.alloc();
     let masked = [0x6008, 0x1B, 0x41, 0x7900, 0x23];
-    compare(
-        &rt,
-        alloc,
-        &USER,
-        &masked,
-        at(&USER, 0x6008, 0x7900, 0x243, 3, 0x23),
+    assert_eq!(rt;
+        returned(alloc, &USER, &masked),
+        Some(at(&USER, 0x6008, 0x7900, 0x243, 3, 0x23))
     );
     let quiet = Regs { flags: 2, ..USER };
-    compare(
-        &rt,
-        alloc,
-        &quiet,
-        &TO_USER,
-        at(&quiet, 0x6008, 0x7900, 2, 3, 0x23),
+    assert_eq!(rt;
+        returned(alloc, &quiet, &TO_USER),
+        Some(at(&quiet, 0x6008, 0x7900, 2, 3, 0x23))
     );
 }
 
@@ -101,21 +81,21 @@ fn from_the_user(rt: HostRuntime) {
 fn refused(rt: HostRuntime) {
     let alloc = rt.alloc();
     let fault = delivered(&REGS, 13, Some(0));
-    compare(&rt, alloc, &REGS, &[0x40, 0x1B, 2, 0x1700, 0x10], fault);
-    compare(&rt, alloc, &REGS, &[0x40, 8, 2, 0x1700, 0x23], fault);
-    compare(
-        &rt,
-        alloc,
-        &REGS,
-        &[0x8000_0000_0000, 8, 2, 0x1700, 0x10],
-        fault,
+    assert_eq!(rt;
+        returned(alloc, &REGS, &[0x40, 0x1B, 2, 0x1700, 0x10]),
+        Some(fault)
     );
-    compare(
-        &rt,
-        alloc,
-        &USER,
-        &[0x40, 8, 2, 0x1700, 0x10],
-        delivered(&USER, 13, Some(0)),
+    assert_eq!(rt;
+        returned(alloc, &REGS, &[0x40, 8, 2, 0x1700, 0x23]),
+        Some(fault)
+    );
+    assert_eq!(rt;
+        returned(alloc, &REGS, &[0x8000_0000_0000, 8, 2, 0x1700, 0x10]),
+        Some(fault)
+    );
+    assert_eq!(rt;
+        returned(alloc, &USER, &[0x40, 8, 2, 0x1700, 0x10]),
+        Some(delivered(&USER, 13, Some(0)))
     );
 }
 
