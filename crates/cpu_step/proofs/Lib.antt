@@ -2,6 +2,7 @@ pub mod FetchFaults
 pub mod Fetches
 pub mod LongerCode
 pub mod PageFetches
+pub mod PendingVectors
 pub mod StoresOfTurns
 pub mod TurnLemmas
 pub mod WordBytes

@@ -5,11 +5,10 @@ ghost use Rattle.irq_plan.specs.PlannedEvents.{IsPlannable};
 ghost use Rattle.cpu_step.specs.EventsTaken.{event_taken};
 ghost use Rattle.cpu_step.specs.Processor.{IsSound};
 
-use crate::processor::Cpu;
+use crate::processor::{Cpu, with_pending};
 use irq_plan::What;
 use page_walk::walk;
 use phys_mem::PhysMem;
-use x86_alu::with_flag;
 
 impl Cpu {
     /// Takes an event of a plan: a vector is pending, the translation of a page goes, or the one comes that a walk
@@ -21,7 +20,7 @@ impl Cpu {
         ensures sound { IsSound (length mem.now) self.new }
     {
         match what {
-            What::Irq(vector) => self.pending = with_flag(self.pending, vector - 32, true),
+            What::Irq(vector) => self.pending = with_pending(self.pending, vector, true),
             What::Drop(page) => self.drop_page(page / 4096),
             What::Fill(page) => self.fill(mem, page),
         }

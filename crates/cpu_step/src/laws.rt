@@ -1,16 +1,17 @@
 //! What follows from the definitions, for those who say what a turn of the machine shows.
 
-ghost use Rattle.std.specs.Prelude.{◌≡◌, ◌≤◌, ℕ, List, IfErr, length};
+ghost use Rattle.std.specs.Prelude.{◌≡◌, ◌≤◌, ◌<◌, ◌^◌, ℕ, Bool, List, IfErr, Some, length};
 ghost use Rattle.nk_bits.specs.Accesses.{View};
 ghost use Rattle.nk_bits.specs.Translations.{Translations};
 ghost use Rattle.phys_mem.specs.Memory.{stored};
+ghost use Rattle.x86_alu.specs.Flags.{with_flag};
 ghost use Rattle.x86_decode.specs.declared.instruction.Decoded.{Decoded};
 ghost use Rattle.x86_decode.specs.Decoding.{Decodes};
 ghost use Rattle.x86_decode.specs.Reader.{decoded_of};
 ghost use Rattle.x86_decode.specs.Spelling.{AreBytes};
 ghost use Rattle.x86_regs.specs.EffectsKept.{IsSmallFault};
 ghost use Rattle.cpu_step.specs.InstructionFetch.{instruction_at};
-ghost use Rattle.cpu_step.specs.Processor.{Processor};
+ghost use Rattle.cpu_step.specs.Processor.{Processor, deliverable};
 ghost use Rattle.cpu_step.specs.TurnStores.{turn_stores};
 ghost use Rattle.cpu_step.specs.Turns.{turned};
 
@@ -33,6 +34,14 @@ pub fn fetch_law()
     bound_law();
     decoding_law();
 }
+
+/// Of sixteen pending vectors the one that is deliverable is 32 to 47, and sixteen are left where one waits or no longer.
+pub fn pending_law()
+    ensures left { (pending place : ℕ) (waits : Bool) → pending < 2 ^ 16 → place < 16
+        → with_flag place waits pending < 2 ^ 16 }
+    ensures vector { (p : Processor) (vector : ℕ) → p.pending < 2 ^ 16 → deliverable p ≡ Some vector
+        → (32 ≤ vector) × (vector < 48) }
+{}
 
 /// Memory after a turn is memory after the turn's stores.
 pub fn turn_stores_law()

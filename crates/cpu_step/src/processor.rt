@@ -1,7 +1,8 @@
 //! The processor between two turns.
 
-ghost use Rattle.std.specs.Prelude.{◌≡◌, ◌≤◌, ◌<◌, IfOk, IfSome};
+ghost use Rattle.std.specs.Prelude.{◌≡◌, ◌≤◌, ◌<◌, ◌-◌, IfOk, IfSome};
 ghost use Rattle.std.specs.Borrow.{sem};
+ghost use Rattle.x86_alu.specs.Flags.{with_flag};
 ghost use Rattle.x86_regs.specs.Operands.{with_register};
 ghost use Rattle.cpu_step.specs.Processor.{deliverable, highest_pending, started};
 ghost use Rattle.cpu_step.specs.Turns.{woken};
@@ -28,7 +29,7 @@ pub struct Cpu {
     pub(crate) tlb: Tlb,
     pub(crate) ports: Ports,
     /// Bit v - 32 is set where the maskable vector v, 32 to 47, is pending.
-    pub(crate) pending: u64,
+    pub(crate) pending: u16,
     /// The next instruction is shielded from interrupts.
     pub(crate) shielded: bool,
     pub(crate) halted: bool,
@@ -88,7 +89,7 @@ impl Cpu {
     /// The vector that is to be delivered before the next instruction.
     pub fn deliverable(&self) -> Option<u8>
         ensures vector { result ≡ deliverable self.now }
-        ensures bounds { IfSome result (λ vector. (32 ≤ vector) × (vector < 96)) }
+        ensures bounds { IfSome result (λ vector. (32 ≤ vector) × (vector < 48)) }
     {
         if bit(self.regs.flags, IF) && !self.shielded {
             highest_pending(self.pending)
@@ -99,10 +100,10 @@ impl Cpu {
 
     /// The vector that is delivered waits no longer, and the processor is awake.
     pub(crate) fn wake(&mut self, vector: u8)
-        requires { (32 ≤ vector) × (vector < 96) }
+        requires { (32 ≤ vector) × (vector < 48) }
         ensures { self.new ≡ woken vector self.old }
     {
-        self.pending = with_flag(self.pending, vector - 32, false);
+        self.pending = with_pending(self.pending, vector, false);
         self.halted = false;
     }
 
@@ -167,14 +168,23 @@ impl Cpu {
     }
 }
 
+/// The pending vectors, of which this one waits now, or no longer.
+pub(crate) fn with_pending(pending: u16, vector: u8, waits: bool) -> u16
+    requires { (32 ≤ vector) × (vector < 48) }
+    ensures { result ≡ with_flag (vector - 32) waits pending }
+{
+    with_flag(u64::from(pending), vector - 32, waits) as u16
+}
+
 /// The highest pending vector, 32 to 47.
-fn highest_pending(pending: u64) -> Option<u8>
+fn highest_pending(pending: u16) -> Option<u8>
     ensures vector { result ≡ highest_pending pending }
-    ensures bounds { IfSome result (λ vector. (32 ≤ vector) × (vector < 96)) }
+    ensures bounds { IfSome result (λ vector. (32 ≤ vector) × (vector < 48)) }
 {
     if pending == 0 {
         None
     } else {
-        Some(32 + scan_bit(false, 64, pending, 0).value as u8)
+        let place = scan_bit(false, 64, u64::from(pending), 0).value;
+        Some(32 + place as u8)
     }
 }

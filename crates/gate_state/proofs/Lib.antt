@@ -37,7 +37,6 @@ pub mod Traps
 pub mod Acts
 pub mod Writes
 pub mod Instructions
-pub mod Pending
 pub mod TurnKept
 pub mod StatesKept
 pub mod RefutedStates

@@ -1,5 +1,5 @@
 -- What is used of the laws of the crates below, as one record a subject.
-use Rattle.std.specs.Prelude.{◌≡◌, ◌≢◌, ◌⊎◌, ℕ, ◌+◌, ◌*◌, ◌/◌, ◌%◌, ◌^◌, ◌<◌, ◌≤◌, ◌==◌, ◌++◌, Bool, true, false, List, length, slice_index, slice_get, drop, All, IfErr, IfOk, IfSome, Ok}
+use Rattle.std.specs.Prelude.{◌≡◌, ◌≢◌, ◌⊎◌, ℕ, ◌+◌, ◌*◌, ◌/◌, ◌%◌, ◌^◌, ◌<◌, ◌≤◌, ◌==◌, ◌++◌, Bool, true, false, List, length, slice_index, slice_get, drop, All, IfErr, IfOk, IfSome, Ok, Some}
 use Rattle.std.specs.List.{list_any, list_all}
 use Rattle.std.specs.Result.{result_ok}
 use Rattle.decode_fields.specs.Prefixes.{is_prefix, prefix_bytes}
@@ -47,6 +47,7 @@ use Rattle.x86_regs.specs.declared.registers.Regs.{Regs}
 use Rattle.x86_regs.specs.Effects.{effect_of}
 use Rattle.x86_regs.specs.EffectsKept.{AreRegisters, IsGranted, IsSmallAct, IsSmallFault, LoadsNothing}
 use Rattle.cpu_step.specs.InstructionFetch.{instruction_at}
+use Rattle.cpu_step.specs.Processor.{Processor, deliverable}
 
 -- a test holds of each translation kept
 abbrev pub AllPass : (ℕ × Leaf → Bool) → Translations → Type 0
@@ -221,6 +222,11 @@ pub record BoundLaws : Type 0 where
   pub act : (i : Instr) (size : ℕ) (regs : Regs) (control : Control) (m : List ℕ) (tlb : Translations)
       → IfOk (effect_of i size regs control m tlb).answer (λ effect. IsSmallAct effect.act)
 
+-- of sixteen pending vectors: what is left where one waits or no longer, and the one that is delivered
+pub record PendingLaws : Type 0 where
+  pub left : (pending place : ℕ) (waits : Bool) → pending < 2 ^ 16 → place < 16 → with_flag place waits pending < 2 ^ 16
+  pub vector : (p : Processor) (vector : ℕ) → p.pending < 2 ^ 16 → deliverable p ≡ Some vector → (32 ≤ vector) × (vector < 48)
+
 pub record LowerLaws : Type 0 where
   pub access : AccessLaws
   pub kind : KindLaws
@@ -232,3 +238,4 @@ pub record LowerLaws : Type 0 where
   pub flag : FlagLaws
   pub effect : EffectLaws
   pub bound : BoundLaws
+  pub pending : PendingLaws

@@ -28,7 +28,6 @@ use Rattle.gate_state.specs.RespectedKinds.{respects}
 use Rattle.gate_state.specs.SafeStates.{IsSafe, TakesTurn}
 use Rattle.gate_state.specs.ShownSteps.{IsShown}
 use Rattle.gate_state.proofs.LowerLaws.{AllPass, LowerLaws}
-use Rattle.gate_state.proofs.Pending.{pending_changed}
 use Rattle.gate_state.proofs.Ready.{IsReady, Kept}
 use Rattle.gate_state.proofs.Scene.{SceneLaws}
 use Rattle.gate_state.proofs.SceneProofs.{scene_laws}
@@ -139,7 +138,7 @@ module _ (laws : LowerLaws) (o : Opening) (admitted : IsAdmitted o) where
   }
 
   pub event_guarded : (s : MachineState) (what : What) → IsPlannable what → IsGuarded o s → IsGuarded o (after_event what s)
-  event_guarded s (Irq vector) plannable guarded = with_event s _ s.processor.tlb guarded (pending_changed s.processor.pending (vector - 32) true guarded.control.pending (omega (arith, plannable))) guarded.translations
+  event_guarded s (Irq vector) plannable guarded = with_event s _ s.processor.tlb guarded (laws.pending.left s.processor.pending (vector - 32) true guarded.control.pending (omega (arith, plannable))) guarded.translations
   event_guarded s (Drop page) plannable guarded = with_event s s.processor.pending _ guarded guarded.control.pending (dropped_keep (λ (pair : ℕ × Leaf). respects o s.kinds pair ≡ true) s.processor.tlb (page_of page) guarded.translations)
   event_guarded s (Fill page) plannable guarded =
       let canonical : is_canonical page ≡ true = (and_parts (is_canonical page) (page % 4096 == 0) plannable).0 in

@@ -29,7 +29,6 @@ use Rattle.gate_state.specs.MachineSteps.{waits}
 use Rattle.gate_state.specs.RespectedKinds.{respects}
 use Rattle.gate_state.specs.SafeStates.{IsGateInstruction}
 use Rattle.gate_state.proofs.LowerLaws.{AllPass, LowerLaws}
-use Rattle.gate_state.proofs.Pending.{pending_changed, vector_bounds}
 use Rattle.gate_state.proofs.Ready.{IsReady, Kept}
 use Rattle.gate_state.proofs.Scene.{SceneLaws}
 use Rattle.gate_state.proofs.Acts.{with_translations}
@@ -167,7 +166,7 @@ module _ (laws : LowerLaws) (o : Opening) (ks : List Kind) (scenes : SceneLaws o
       tables = ready.control.tables;
       cpl = ready.control.cpl;
       registers = ready.control.registers;
-      pending = pending_changed p.pending (vector - 32) false ready.control.pending few;
+      pending = laws.pending.left p.pending (vector - 32) false ready.control.pending few;
     };
     scene = ready.scene;
     pass = ready.pass;
@@ -184,7 +183,7 @@ module _ (laws : LowerLaws) (o : Opening) (ks : List Kind) (scenes : SceneLaws o
 
       by_vector : (vector : Option ℕ) → deliverable p ≡ vector → Kept o ks (wp_of p.control.cr0) p.control.root m (turned_unless vector p m) (stores_unless vector p m)
       by_vector (Some vector) is =
-          let bounds : (32 ≤ vector) × (vector < 48) = vector_bounds p vector ready.control.pending is in
+          let bounds : (32 ≤ vector) × (vector < 48) = laws.pending.vector p vector ready.control.pending is in
           trap_kept o ks facts storable (wp_of p.control.cr0) (woken vector p) m vector None
           (awake p m vector ready (omega (arith, bounds))) bounds.1 tt
           (λ clear. facts.handler_point (woken vector p) vector bounds.0 bounds.1 ready.control.registers refl)

@@ -22,7 +22,7 @@ ghost use Rattle.gate_state.specs.StepsTaken.{Counts};
 use boot_map::{
     opening_bytes_law, opening_entries_law, opening_kinds_law, slot_law, slot_leaf_law,
 };
-use cpu_step::fetch_law;
+use cpu_step::{fetch_law, pending_law};
 use decode_fields::{longer_law, prefixes_law};
 use elf_image::entry_law;
 use gate_text::listing_law;
@@ -88,6 +88,7 @@ pub(crate) fn steps_law()
     grant_law();
     bound_law();
     fetch_law();
+    pending_law();
     entry_law();
     call_law();
     call_leaves_law();

@@ -101,6 +101,10 @@ returns c =
         fault = c.bound_law.ensures.fault;
         act = c.bound_law.ensures.act;
       };
+      pending = record {
+        left = c.pending_law.ensures.left;
+        vector = c.pending_law.ensures.vector;
+      };
     } in
     let facts : (o : Opening) (s : MachineState) → IsAdmitted o → IsGuarded o s → TurnFacts o s.kinds =
     λ o s admitted guarded. turn_facts laws o s.kinds (scene_laws laws o s.kinds admitted guarded.kinds) in

@@ -49,6 +49,10 @@ scanned_below n some small = choice (n == 0) refl
     choice true is = omega arith
     choice false is = greatest_below n some small
 
+-- the highest of sixteen vectors
+pub highest_bounds : (pending : ℕ) → pending < 2 ^ 16 → pending ≢ 0 → 32 + scanned false pending < 48
+highest_bounds pending small some = omega (arith, scanned_below pending some small)
+
 -- the vector that is delivered
 pub vector_bounds : (p : Processor) (vector : ℕ) → p.pending < 2 ^ 16 → deliverable p ≡ Some vector → (32 ≤ vector) × (vector < 48)
 vector_bounds p vector small is = may (bit p.regs.flags interrupt_flag && not p.shielded) is
