@@ -21,3 +21,4 @@ pub mod CallChanges
 pub mod CallRecords
 pub mod CallAnswers
 pub mod ServedCalls
+mod RefutedLedgers

@@ -4,3 +4,4 @@ pub mod SourceLemmas
 pub mod WantedBytes
 mod WorkedLines
 mod WorkedReplays
+mod RefutedLines

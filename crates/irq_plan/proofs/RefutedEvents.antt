@@ -1,0 +1,25 @@
+-- What is no event of a plan, and no plan.
+use Rattle.std.proofs.Common.{◌≡◌, ℕ, ◌+◌, ◌^◌, ◌<◌, ◌≤◌, List, [], ◌∷◌, arith}
+use Rattle.std.proofs.lemmas.Bool.{false≢true}
+use Rattle.irq_plan.specs.declared.event.Event.{Event}
+use Rattle.irq_plan.specs.declared.event.What.{What}
+use Rattle.irq_plan.specs.declared.event.What.TheVariants.{Irq, Drop, Fill}
+use Rattle.irq_plan.specs.PlannedEvents.{IsEvent, IsPlan, IsPlannable}
+
+-- an event that is due after 2^32 + 1 turns
+late : (what : What) → IsEvent (record { due = 4294967297; what = what }) → ⊥
+late what is = let due = is.due in omega arith
+
+-- vector 31, which isn't an interrupt's from outside, and 48, which has no gate
+too_low : IsPlannable (Irq 31) → ⊥
+too_low is = let low = is.0 in omega arith
+
+too_high : IsPlannable (Irq 48) → ⊥
+too_high is = let high = is.1 in omega arith
+
+-- an address inside a page, and one between the canonical halves
+inside : IsPlannable (Drop 0x1001) → ⊥
+inside is = false≢true is
+
+between : IsPlannable (Fill 0x800000000000) → ⊥
+between is = false≢true is
