@@ -308,6 +308,35 @@ fn orders_the_pages_of_segments(rt: HostRuntime) -> Result<(), Fail> {
     Ok(())
 }
 
+/// 64 segments of 128 pages each, one behind the other: the most headers and the most pages.
+#[test]
+fn loads_the_most_segments_and_pages(rt: HostRuntime) -> Result<(), Fail> {
+    let mut file = halting(&rt, rt.alloc())?;
+    change(&rt, &mut file, (56, 2, 64));
+    for i in 0..64 {
+        let header = 64 + 56 * i;
+        let address = HOME + 0x8_0000 * i as u64;
+        for (place, size, value) in [
+            (0, 4, 1),
+            (4, 4, 5),
+            (8, 8, 4096),
+            (16, 8, address),
+            (32, 8, 1),
+            (40, 8, 0x8_0000),
+        ] {
+            change(&rt, &mut file, (header + place, size, value));
+        }
+    }
+    let image = Image::read(file).ok().expect(&rt, "the file is in form");
+    assert_eq!(rt; image.pages(), 8192);
+    assert_eq!(rt; image.executable_pages(), 8192);
+    for i in [0, 127, 128, 8191] {
+        assert!(rt; i < image.pages());
+        assert_eq!(rt; image.page(i).va, HOME + 4096 * u64::from(i));
+    }
+    Ok(())
+}
+
 #[test]
 fn numbers_and_names_faults(rt: HostRuntime) {
     for (kind, number, name) in [

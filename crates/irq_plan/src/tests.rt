@@ -123,16 +123,16 @@ fn events_come_in_order(rt: HostRuntime) {
 #[test]
 fn many_lines_are_read(rt: HostRuntime) -> Result<(), Fail> {
     let mut text = Vec::new(rt.alloc());
-    for _ in 0..300 {
+    for _ in 0..20_000 {
         text.extend_from_slice(b"7 irq 32\n")?;
     }
     let plan = Plan::read(rt.alloc(), &text)?;
-    assert_eq!(rt; plan.len(), 300);
-    assert_eq!(rt; plan.event(299), at(7, What::Irq(32)));
+    assert_eq!(rt; plan.len(), 20_000);
+    assert_eq!(rt; plan.event(19_999), at(7, What::Irq(32)));
     text.extend_from_slice(b"6 irq 32\n")?;
     match Plan::read(rt.alloc(), &text) {
         Ok(_) => assert!(rt; false, "its last number falls"),
-        Err(fault) => assert_eq!(rt; fault, PlanFault::Line(301)),
+        Err(fault) => assert_eq!(rt; fault, PlanFault::Line(20_001)),
     }
     Ok(())
 }
