@@ -1,2 +1,4 @@
 pub mod FieldBytes
 pub mod ImagePlaces
+pub mod MadeFields
+pub mod MadeRows
