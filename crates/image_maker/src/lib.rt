@@ -18,9 +18,11 @@ mod text;
 mod record;
 mod script;
 
-// The whole file.
+// The whole file, and what holds of it.
 mod image;
+mod laws;
 #[cfg(test)]
 mod tests;
 
 pub use image::{NoMemory, make_image};
+pub use laws::made_image_law;

@@ -3,11 +3,11 @@ use Rattle.nk_run.proofs.laws.run_law.Goals as goal
 
 pub returns-clause-safe : goal.returns-clause-safe
 returns-clause-safe c =
-    safe_where_run c.pages_law.ensures c.clean_law.ensures c.plan_law.ensures (λ o input plan admitted planned_are. record {
+    safe_where_run c.pages_law.ensures c.clean_law.ensures.clean c.plan_law.ensures (λ o input plan admitted planned_are. record {
       safe = λ k. c.safety_law.ensures.safe o input plan k admitted planned_are;
       nested = λ k. c.safety_law.ensures.nested o input plan k admitted planned_are;
       called = λ n k. c.safety_law.ensures.called o input plan n k admitted planned_are;
     })
 
 pub returns-clause-replayed : goal.returns-clause-replayed
-returns-clause-replayed c = replayed_where_run c.pages_law.ensures c.clean_law.ensures c.plan_law.ensures c.journal_law.ensures
+returns-clause-replayed c = replayed_where_run c.pages_law.ensures c.clean_law.ensures.clean c.plan_law.ensures c.journal_law.ensures
