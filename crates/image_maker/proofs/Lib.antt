@@ -5,3 +5,4 @@ pub mod MadeFields
 pub mod MadeImages
 pub mod MadeRoom
 pub mod MadeRows
+pub mod RefutedImages

@@ -1,11 +1,11 @@
 -- The code of a file that begins with the headers of the image of a number: the page of the text, and nothing else.
-use Rattle.std.proofs.Common.{◌≡◌, ℕ, ◌+◌, ◌-◌, ◌/◌, ◌<◌, ◌≤◌, Bool, true, false, ◌&&◌, List, Option, Some, None, find, inl, inr, refl, sym, ap, ◌∙◌, arith}
+use Rattle.std.proofs.Common.{◌≡◌, ℕ, ◌+◌, ◌-◌, ◌/◌, ◌<◌, ◌≤◌, true, false, ◌&&◌, List, Option, Some, None, find, inl, inr, refl, sym, ap, ◌∙◌, arith}
 use Rattle.std.specs.Prelude.{nat_eq, nat_lt, slice_index, ⊤}
 use Rattle.std.specs.List.{list_any}
-use Rattle.std.proofs.lemmas.Bool.{agree_below, agree_below_at, and_from, and_left, and_right, cases_eq, cases_lt, cond-false, cond-true, cond_both, false≢true, le-leb, le-ltb, lt-leb, lt-ltb, or_from}
+use Rattle.std.proofs.lemmas.Bool.{agree_below, agree_below_at, and_from, and_left, and_right, cases_eq, cases_lt, cond-true, cond_both, false≢true, le-leb, le-ltb, lt-leb, lt-ltb, or_from}
 use Rattle.decode_fields.specs.Protected.{is_protected_at, length_of_bytes}
 use Rattle.elf_image.specs.declared.program_header.ProgramHeader.{ProgramHeader}
-use Rattle.elf_image.specs.Elf.{has_flag, pf_x, segments}
+use Rattle.elf_image.specs.Elf.{has_flag, pf_x}
 use Rattle.elf_image.specs.Segments.{loads, touches}
 use Rattle.elf_image.specs.Pages.{byte_from, byte_of, is_executable}
 use Rattle.byte_scanner.specs.ImageCode.{code_at}

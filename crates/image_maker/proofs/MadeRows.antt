@@ -1,5 +1,5 @@
 -- The thirteen rows of the form, over a file that begins with the headers of the image of a number.
-use Rattle.std.proofs.Common.{◌≡◌, ℕ, ◌+◌, ◌*◌, ◌<◌, ◌≤◌, Bool, true, false, List, [], ◌∷◌, Option, Some, None, filter, length, map, refl, sym, ap, ◌∙◌, arith, below_more, below_none}
+use Rattle.std.proofs.Common.{◌≡◌, ℕ, ◌+◌, ◌*◌, ◌<◌, ◌≤◌, true, false, List, [], ◌∷◌, Option, Some, None, filter, length, map, refl, ap, ◌∙◌, arith, below_more, below_none}
 use Rattle.std.specs.Prelude.{is_none, nat_lt, slice_index}
 use Rattle.std.specs.List.{range_with_len}
 use Rattle.std.proofs.lemmas.Bool.{agree_below, agree_below_at, le-ltb, lt-ltb}
@@ -7,7 +7,7 @@ use Rattle.elf_image.specs.declared.fault.ImageFault.{ImageFault}
 use Rattle.elf_image.specs.declared.program_header.ProgramHeader.{ProgramHeader}
 use Rattle.elf_image.specs.Elf.{e_entry, e_machine, e_phentsize, e_phnum, e_phoff, e_type, field_at, is_segment, program_header_at, segments}
 use Rattle.elf_image.specs.Rows.{file_fault, first_fault, has_magic, or_later, segment_fault, whole_fault, wrong_class, wrong_table}
-use Rattle.image_maker.specs.MadeImage.{byte_of, data_len, image_byte, image_len, script_pages}
+use Rattle.image_maker.specs.MadeImage.{byte_of, data_len, image_byte, script_pages}
 use Rattle.image_maker.proofs.MadeFields.{HasHeaders, field_is, literal_field}
 
 -- the segments of the image, whose script has so many pages
