@@ -20,6 +20,12 @@ find_none : (p : ℕ → Bool) (a n : ℕ) → ((x : ℕ) → p x ≡ false) →
 find_none p a zero h = refl
 find_none p a (suc n) h = rw (h a) (find_none p (a + 1) n h)
 
+-- where no encoding stands at an address of the code, none is found
+pub unfound : (b : List ℕ) → ((a : ℕ) → is_protected_at (code_at b) a ≡ false) → first_found b ≡ None
+unfolding first_found
+unfound b nowhere =
+    ap (option_map (λ at. found_with (code_at b) at at)) (find_none (is_protected_at (code_at b)) home_start (home_end - home_start) nowhere)
+
 find_first : (p : ℕ → Bool) (a n x : ℕ) → a ≤ x → x < a + n → p x ≡ true → ((y : ℕ) → y < x → p y ≡ false) → find p (range_with_len a n) ≡ Some x
 find_first p a zero x low high here below = absurd (omega arith)
 find_first p a (suc n) x low high here below =
@@ -107,8 +113,7 @@ module _ (b : List ℕ) (pages : IsPageList b (pages_of b)) where
         ap (λ (f : Found). Some f) first.is ∙ sym (ap (option_map (λ at. found_with (code_at b) at at)) least)
 
   pub none_is : ((i : ℕ) → i < length (pages_of b) → IsClean (code_at b) (4096 * get_or (pages_of b) i 0)) → None ≡ first_found b
-  unfolding first_found
-  none_is clean = sym (ap (option_map (λ at. found_with (code_at b) at at)) (find_none (is_protected_at (code_at b)) home_start (home_end - home_start) (nowhere clean)))
+  none_is clean = sym (unfound b (nowhere clean))
 
   -- where no encoding is found, none stands anywhere in the code
   pub clean_everywhere : first_found b ≡ None → (va : ℕ) → is_protected_at (code_at b) va ≡ false

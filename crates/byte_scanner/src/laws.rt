@@ -9,10 +9,12 @@ ghost use Rattle.byte_scanner.specs.LeastPlace.{IsNowhere};
 use elf_image::Image;
 
 /// Of every file whose pages are an image's: where no protected encoding is found, none stands at any address of its code.
-#[tactic(auto, using(crate::proofs::AllPages::clean_everywhere))]
+/// Of every file: where none stands at any address of its code, none is found.
+#[tactic(auto, using(crate::proofs::AllPages::clean_everywhere, crate::proofs::AllPages::unfound))]
 pub fn clean_law()
-    ensures { (b : List ℕ) → IsPageList b (pages_of b) → first_found b ≡ None
+    ensures clean { (b : List ℕ) → IsPageList b (pages_of b) → first_found b ≡ None
         → IsNowhere (code_at b) }
+    ensures unfound { (b : List ℕ) → IsNowhere (code_at b) → first_found b ≡ None }
 {}
 
 /// The same of an image that is at hand.

@@ -1,2 +1,8 @@
 pub mod FieldBytes
 pub mod ImagePlaces
+pub mod MadeCode
+pub mod MadeFields
+pub mod MadeImages
+pub mod MadeRoom
+pub mod MadeRows
+pub mod RefutedImages

@@ -9,14 +9,13 @@ use Rattle.irq_plan.specs.PlanFile.{plan_of}
 use Rattle.boot_map.specs.Division.{need}
 use Rattle.gate_state.specs.MachineStates.{Opening}
 use Rattle.replay_core.specs.ReplayedCalls.{replay_of}
-use Rattle.image_maker.specs.MadeImage.{image_of_number}
 use Rattle.nk_run.specs.declared.command_line.Command.{Command}
 use Rattle.nk_run.specs.declared.command_line.Command.TheVariants.{Scan, Map, Run, Replay, Make, Work}
 use Rattle.nk_run.specs.declared.command_line.Role.TheVariants.{Image, Input, Plan, Journal}
 use Rattle.nk_run.specs.CommandLine.{command_of, name_in}
 use Rattle.nk_run.specs.Lines.{longest_file}
 use Rattle.nk_run.specs.Witness.{Change, Files, ShelfState, Witness}
-use Rattle.nk_run.specs.Outcome.{Answer, Verdict, passes, decided, first_verdict, checks_of, text_of, outcome, outcome_of, fetched, formed, clean, journaled, made_checks, opened, opening_in, planned, replay_in, roomy, file_in}
+use Rattle.nk_run.specs.Outcome.{Answer, Verdict, passes, decided, first_verdict, checks_of, text_of, outcome, outcome_of, fetched, formed, clean, journaled, opened, opening_in, planned, replay_in, roomy, file_in}
 use Rattle.nk_run.specs.Clauses.{HasEnd, HasJournal, HasOutside, HasSafeRun, IsComplete, IsCutByCount, IsCutWritten, IsDoable, IsDone, IsFaultless, IsGoodImage, IsGoodJournal, IsGoodPlan, IsOutside, IsStatus, IsText, IsUnreadByCount, IsUnreadWritten, IsUsage, IsUsageAlone, IsWantWritten, MaySay, Promises, TookAll, TookPrefix}
 use Rattle.nk_host.specs.Told.{IfTold}
 use Rattle.nk_run.proofs.Told.{if_told, told_at}
@@ -106,10 +105,6 @@ module _ (words : List (List ℕ)) (files : Files) (image : List ℕ) (held : fi
   replay_passes frames room given =
       rw (fetch_passes, form_passes, code_passes, journal_passes (opening_in files words frames) given, room_passes frames room, journal_right frames given) refl
 
--- and so those on an image that is made
-made_passes : (image : List ℕ) → IsGoodImage image → need image 4096 ≤ 4096 → first_verdict (made_checks image) ≡ passes
-made_passes image good room = rw (good.formed, good.clean, le-leb (need image 4096) 4096 room) refl
-
 -- where what the words ask for can be done, all checks pass
 checks_pass : (words : List (List ℕ)) (files : Files) (command : Command) → IsDoable command words files
     → first_verdict (checks_of command files words) ≡ passes
@@ -124,7 +119,7 @@ checks_pass words files (Replay frames) doable =
     let (image, held, good) = some_and (files (name_in words Image)) _ doable.0 in
     replay_passes words files image held good.0 frames good.1 doable.1
 checks_pass words files (Make number) doable = refl
-checks_pass words files (Work number) doable = made_passes (image_of_number number) doable.0 doable.1
+checks_pass words files (Work number) doable = refl
 
 pub outcome_good : (words : List (List ℕ)) (files : Files) (command : Command) → command_of words ≡ Some command
     → IsDoable command words files → outcome words files ≡ Some (record { status = 0; text = text_of command files words })

@@ -217,15 +217,6 @@ module _ (words : List (List ℕ)) (command : Command) (asked : command_of words
       → IfTold shelf.before.files (λ files. outcome words files ≡ Some (record { status = status; text = text })) → CommandSays words shelf status text
   outcome_says shelf status text own is = inr (inr (record { asked = some_is (command_of words) _ asked; outcome_is = is; own = own }))
 
-  -- the row refused
-  pub row_refuses : (shelf : Change ShelfState) (number status : ℕ) (text : List ℕ) (verdict : Verdict)
-      → (number ≡ 0) ⊎ ((number ≡ 1) ⊎ (number ≡ 6)) → ((files : Files) (it : Answer) → verdict ≡ ends it → first_verdict (row files) ≡ ends it)
-      → RefusesBy number verdict status text → CommandSays words shelf status text
-  row_refuses shelf number status text verdict kinds ends_so (inl want) = wants_says shelf status text want
-  row_refuses shelf number status text verdict kinds ends_so (inr (ended, is)) =
-      outcome_says shelf status text (own_number number status kinds is) (if_told shelf.before.files _ (λ files e.
-      row_ended files (record { status = status; text = text }) (ends_so files (record { status = status; text = text }) ended)))
-
   -- the row passed, and then a check refused
   pub later_says : (shelf : Change ShelfState) (number status : ℕ) (text : List ℕ) (verdict : Verdict)
       → (number ≡ 0) ⊎ ((number ≡ 1) ⊎ (number ≡ 6))

@@ -1,5 +1,5 @@
 -- What the checks of a run, of a replay and of a made image say of their outcomes.
-use Rattle.std.proofs.Common.{◌≡◌, ℕ, inl, inr, List, [], ◌∷◌, ◌++◌, Option, None, Some, Ok, Result, refl, sym, ap, subst, ◌∙◌}
+use Rattle.std.proofs.Common.{◌≡◌, ℕ, inl, inr, List, [], ◌∷◌, Option, None, Some, Ok, Result, refl, sym, ap, ◌∙◌}
 use Rattle.nk_host.specs.Told.{IfTold}
 use Rattle.irq_plan.specs.declared.event.Event.{Event}
 use Rattle.irq_plan.specs.PlanFile.{plan_of}
@@ -12,11 +12,11 @@ use Rattle.image_maker.specs.MadeImage.{image_of_number}
 use Rattle.nk_run.specs.declared.command_line.Command.TheVariants.{Make, Replay as ReplayCommand, Run, Work}
 use Rattle.nk_run.specs.declared.command_line.Role.TheVariants.{Image, Input, Journal, Plan}
 use Rattle.nk_run.specs.CommandLine.{command_of, roles_of}
-use Rattle.nk_run.specs.Outcome.{Answer, Check, Verdict, ends, events_in, file_in, first_verdict, form_checks, journal_checks, journaled, opened, opening_in, outcome, passes, replay_in, roomy, run_checks, test, unless_ended, worked}
+use Rattle.nk_run.specs.Outcome.{Answer, Check, Verdict, ends, events_in, file_in, first_verdict, journal_checks, journaled, opened, opening_in, outcome, passes, replay_in, roomy, run_checks, test, unless_ended, worked}
 use Rattle.nk_run.specs.Replies.{CommandSays, IsWant, RefusesBy, StopsIn}
 use Rattle.nk_run.specs.RunStates.{run_text}
 use Rattle.nk_run.specs.Witness.{Change, Files, ShelfState}
-use Rattle.nk_run.proofs.Rows.{all_says, later_says, outcome_says, own_zero, row_refuses, row_says, wants_says}
+use Rattle.nk_run.proofs.Rows.{all_says, later_says, outcome_says, own_zero, row_says, wants_says}
 use Rattle.nk_run.proofs.Told.{if_told, told_at}
 
 last_ends : (v later : Verdict) (it : Answer) → v ≡ ends it → unless_ended v later ≡ ends it
@@ -158,50 +158,24 @@ module _ (words : List (List ℕ)) (frames : ℕ) (asked : command_of words ≡ 
         ∙ ap (λ (r : Replay). Some (record { status = 0; text = section (file_in files words Image) frames r.made.nested })) (replay_is files e)
         ∙ ap (λ (b : List ℕ). Some (record { status = 0; text = section b frames (replay_of journal (opened (record { image = image; frames = frames }))).made.nested })) (sym given.0))
 
--- A made image.
+-- A made image needs no check.
 module _ (words : List (List ℕ)) (number : ℕ) (asked : command_of words ≡ Some (Work number)) where
-  abbrev work_row : Files → List Check
-  work_row files = form_checks (image_of_number number)
+  work_is : (image : List ℕ) → image ≡ image_of_number number → (files : Files)
+      → outcome words files ≡ Some (record { status = 0; text = worked image })
+  work_is image made files =
+      all_says words (Work number) asked (λ files. []) (λ files. []) (λ files. refl) files refl refl
+      ∙ ap (λ (b : List ℕ). Some (record { status = 0; text = worked b })) (sym made)
 
-  abbrev work_later : Files → List Check
-  work_later files = test (roomy (need (image_of_number number) 4096) 4096) ∷ []
-
-  pub work_says : (shelf : Change ShelfState) (text : List ℕ)
-      → ((files : Files) → outcome words files ≡ Some (record { status = 0; text = text })) → CommandSays words shelf 0 text
-  work_says shelf text is =
-      outcome_says words (Work number) asked work_row work_later (λ files. refl) shelf 0 text own_zero
-      (if_told shelf.before.files _ (λ files e. is files))
+  pub work_says : (image : List ℕ) → image ≡ image_of_number number → (shelf : Change ShelfState)
+      → CommandSays words shelf 0 (worked image)
+  work_says image made shelf =
+      outcome_says words (Work number) asked (λ files. []) (λ files. []) (λ files. refl) shelf 0 (worked image) own_zero
+      (if_told shelf.before.files _ (λ files e. work_is image made files))
 
   pub work_wants : (shelf : Change ShelfState) (status : ℕ) (text : List ℕ) → IsWant status text → CommandSays words shelf status text
-  work_wants = wants_says words (Work number) asked work_row work_later (λ files. refl)
+  work_wants = wants_says words (Work number) asked (λ files. []) (λ files. []) (λ files. refl)
 
-  module _ (image : List ℕ) (made : image ≡ image_of_number number) where
-    pub work_form_says : (shelf : Change ShelfState) (status : ℕ) (text : List ℕ)
-        → RefusesBy 1 (first_verdict (form_checks image)) status text → CommandSays words shelf status text
-    work_form_says shelf status text refuses =
-        row_refuses words (Work number) asked work_row work_later (λ files. refl)
-        shelf 1 status text (first_verdict (form_checks image)) (inr (inl refl))
-        (λ files it is. ap (λ (b : List ℕ). first_verdict (form_checks b)) (sym made) ∙ is) refuses
-
-    pub work_room_says : first_verdict (form_checks image) ≡ passes → (shelf : Change ShelfState) (status : ℕ) (text : List ℕ)
-        → RefusesBy 1 (roomy (need image 4096) 4096) status text → CommandSays words shelf status text
-    work_room_says formed shelf status text refuses =
-        later_says words (Work number) asked work_row work_later (λ files. refl)
-        shelf 1 status text (roomy (need image 4096) 4096) (inr (inl refl))
-        (if_told shelf.before.files _ (λ files e. (
-          ap (λ (b : List ℕ). first_verdict (form_checks b)) (sym made) ∙ formed,
-          λ it is. last_ends _ passes it (ap (λ (b : List ℕ). roomy (need b 4096) 4096) (sym made) ∙ is),
-        ))) refuses
-
-    pub workable : first_verdict (form_checks image) ≡ passes → roomy (need image 4096) 4096 ≡ passes
-        → (files : Files) → outcome words files ≡ Some (record { status = 0; text = worked image })
-    workable formed fits files =
-        all_says words (Work number) asked work_row work_later (λ files. refl) files
-        (ap (λ (b : List ℕ). first_verdict (form_checks b)) (sym made) ∙ formed)
-        (ap (λ (b : List ℕ). unless_ended (roomy (need b 4096) 4096) passes) (sym made) ∙ ap (λ (v : Verdict). unless_ended v passes) fits)
-        ∙ ap (λ (b : List ℕ). Some (record { status = 0; text = worked b })) (sym made)
-
--- Making an image needs no check.
+-- Nor does making one.
 pub make_says : (words : List (List ℕ)) (number : ℕ) → command_of words ≡ Some (Make number) → (shelf : Change ShelfState)
     → CommandSays words shelf 0 (image_of_number number)
 make_says words number asked shelf =

@@ -17,7 +17,6 @@ use Rattle.gate_state.specs.MachineOpening.{opening_state}
 use Rattle.gate_state.specs.MachineStates.{Opening, nested_of}
 use Rattle.gate_state.specs.MachineSteps.{calls, made_by_all, state}
 use Rattle.replay_core.specs.ReplayedCalls.{replay_of}
-use Rattle.image_maker.specs.MadeImage.{image_of_number}
 use Rattle.gate_state.specs.SafeStates.{IsSafe}
 use Rattle.nk_run.specs.declared.command_line.Command.{Command}
 use Rattle.nk_run.specs.declared.command_line.Command.TheVariants.{Scan, Map, Run, Replay, Make, Work}
@@ -162,7 +161,7 @@ IsDoable (Replay frames) words files =
     HasImage words files (HasRoom frames)
     × IsSomeAnd (files (name_in words Journal)) (IsGoodJournal (opening_in files words frames))
 IsDoable (Make number) words files = ⊤
-IsDoable (Work number) words files = IsGoodImage (image_of_number number) × HasRoom 4096 (image_of_number number)
+IsDoable (Work number) words files = ⊤
 
 -- what can be done is done: without a fault the status is 0, or that of want of memory
 abbrev pub IsDone : Witness → ℕ → Type 0

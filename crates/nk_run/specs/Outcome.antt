@@ -149,11 +149,7 @@ abbrev pub journaled : Option ℕ → Verdict
 journaled None = passes
 journaled (Some number) = ends (record { status = 6; text = journal_line number })
 
--- the checks on an image that is made, which are those on one that is read, and what `work` runs: 2,000,000 turns at most, in
--- 4,096 frames, without input or events
-abbrev pub made_checks : List ℕ → List Check
-made_checks image = form_checks image ++ test (roomy (need image 4096) 4096) ∷ []
-
+-- what `work` runs of an image that is made: 2,000,000 turns at most, in 4,096 frames, without input or events
 abbrev pub worked : List ℕ → List ℕ
 worked image = work_text 2000000 [] (opening_state (record { image = image; frames = 4096 }) [])
 
@@ -170,7 +166,7 @@ checks_of (Replay frames) files words =
     ∷ test (journaled (replay_in files words frames).bad)
     ∷ []
 checks_of (Make number) files words = []
-checks_of (Work number) files words = made_checks (image_of_number number)
+checks_of (Work number) files words = []
 
 abbrev pub text_of : Command → Files → List (List ℕ) → List ℕ
 text_of Scan files words =

@@ -12,13 +12,14 @@ use Rattle.gate_state.specs.MachineOpening.{opening_state}
 use Rattle.report_text.specs.ClosingSection.{section}
 use Rattle.nk_run.specs.declared.command_line.Command.{Command}
 use Rattle.nk_run.specs.declared.command_line.Command.TheVariants.{Run}
+use Rattle.image_maker.specs.MadeImage.{image_of_number}
 use Rattle.nk_run.specs.declared.command_line.Role.{Role}
 use Rattle.nk_run.specs.declared.command_line.Role.TheVariants.{Image}
 use Rattle.nk_run.specs.declared.count.Tally.{Tally}
 use Rattle.nk_run.specs.CommandLine.{command_of, is_same, name_in}
 use Rattle.nk_run.specs.Lines.{no_memory_line, unread_line, usage_line, walk_line}
 use Rattle.nk_run.specs.Witness.{Change, Files, ShelfState, SinkState, Witness}
-use Rattle.nk_run.specs.Outcome.{Check, Verdict, ends, decided, first_verdict, outcome, worked, IsReached}
+use Rattle.nk_run.specs.Outcome.{Check, Verdict, ends, decided, first_verdict, outcome, IsReached}
 use Rattle.nk_run.specs.RunStates.{run_text}
 use Rattle.nk_run.specs.Clauses.{AreKept, IsUnread, NameRose, SinkRose, TookAll, TookPrefix}
 
@@ -172,12 +173,12 @@ pub record IsReplayedFrom (words : List (List ℕ)) (told : Option Files) (frame
     text = section image layout.frames (nested_by books memory);
   }))
 
--- a run of a made image may begin: it has its layout, and the summary of the run is the outcome's text
-pub record IsWorkable (words : List (List ℕ)) (image : List ℕ) (layout : Division) : Type 0 where
+-- a run of the image of a number may begin: it was made, holds no protected encoding, and has its layout in 4,096 frames
+pub record IsWorkable (number : ℕ) (image : List ℕ) (layout : Division) : Type 0 where
+  pub made : image ≡ image_of_number number
+  pub clean : first_found image ≡ None
   pub layout_is : IsLayout image layout
   pub frames_are : layout.frames ≡ 4096
-  pub clean : first_found image ≡ None
-  pub outcome_is : (files : Files) → outcome words files ≡ Some (record { status = 0; text = worked image })
 
 -- one more can be counted of each
 pub record CanCount (t : Tally) : Type 0 where

@@ -80,7 +80,7 @@ fn admit(alloc: Global, image: &Image) -> Option<Reply>
 }
 
 /// The image that the file is, or the reply to its first fault, else to the first protected encoding in its code.
-pub(crate) fn judge(alloc: Global, bytes: Vec<u8>) -> Result<Image, Reply>
+fn judge(alloc: Global, bytes: Vec<u8>) -> Result<Image, Reply>
     ensures clean { IfOk result (λ image. first_found image ≡ None) }
     ensures judged { MatchResult result
         (λ image. (image ≡ bytes.items) × (first_verdict (form_checks bytes.items) ≡ passes))

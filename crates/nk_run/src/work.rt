@@ -1,20 +1,18 @@
 //! The command `work NUMBER`: the image of a number is made and run, and what the run showed is counted.
-ghost use Rattle.std.specs.Prelude.{◌≡◌, [], map, IfSome, MatchResult, Some};
+ghost use Rattle.std.specs.Prelude.{◌≡◌, ◌≤◌, [], map, IfSome, Some};
 ghost use Rattle.std.specs.String.{string_bytes};
 ghost use Rattle.nk_run.specs.CommandLine.{command_of, IsBounded};
-ghost use Rattle.nk_run.specs.ReplyText.{bytes_of};
-ghost use Rattle.nk_run.specs.Replies.{CommandSays, IsAnswered, IsWorkable};
+ghost use Rattle.nk_run.specs.Replies.{IsAnswered, IsWorkable};
 ghost use Rattle.nk_run.specs.Witness.{Change, ShelfState, sink_change};
 
 use crate::command_line::Command;
 use crate::count::count;
-use crate::image::judge;
-use crate::opening::{begin, divide};
-use crate::reply::{Reply, want};
+use crate::opening::begin;
+use crate::reply::want;
 use boot_map::Layout;
 use elf_image::Image;
 use gate_state::Machine;
-use image_maker::make_image;
+use image_maker::{made_image_law, make_image};
 use irq_plan::Plan;
 use nk_host::Sink;
 use std::alloc::Global;
@@ -29,25 +27,24 @@ struct Ready {
     layout: Layout,
 }
 
-/// What the run begins from, or the reply where it doesn't.
-fn make_ready(alloc: Global, words: &[String], number: u64) -> Result<Ready, Reply>
-    requires asked { command_of (map string_bytes words.now) ≡ Some (Command.Work number) }
-    requires bounds { IsBounded (Command.Work number) }
-    ensures { let names = map string_bytes words.now in MatchResult result
-        (λ it. IsWorkable names it.image it.layout)
-        (λ reply. (shelf : Change ShelfState) → CommandSays names shelf reply.status (bytes_of reply.line)) }
+/// What the run begins from, None where there is no memory for it.
+fn make_ready(alloc: Global, number: u64) -> Option<Ready>
+    requires least { 1 ≤ number }
+    requires most { number ≤ 100 }
+    ensures { IfSome result (λ it. IsWorkable number it.image it.layout) }
 {
     let file = match make_image(alloc, number) {
         Ok(file) => file,
-        Err(_) => return Err(want()),
+        Err(_) => return None,
     };
-    let image = match judge(alloc, file) {
+    made_image_law();
+    let image = match Image::read(file) {
         Ok(image) => image,
-        Err(reply) => return Err(reply),
+        Err(_) => unreachable!(),
     };
-    match divide(alloc, &image, FRAMES) {
-        Ok(layout) => Ok(Ready { image, layout }),
-        Err(reply) => Err(reply),
+    match Layout::of(&image, FRAMES) {
+        Ok(layout) => Some(Ready { image, layout }),
+        Err(_) => unreachable!(),
     }
 }
 
@@ -71,11 +68,10 @@ pub(crate) fn work<O: Sink>(alloc: Global, words: &[String], number: u64, sink: 
       sink = sink_change O.taken O.faults sink.old sink.new;
     }) result }
 {
-    let ready = match make_ready(alloc, words, number) {
-        Ok(ready) => ready,
-        Err(reply) => return reply.write(sink),
+    let Ready { image, layout } = match make_ready(alloc, number) {
+        Some(ready) => ready,
+        None => return want().write(sink),
     };
-    let Ready { image, layout } = ready;
     let plan = match quiet(alloc) {
         Some(plan) => plan,
         None => return want().write(sink),

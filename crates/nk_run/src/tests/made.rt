@@ -27,21 +27,6 @@ fn an_image_is_made_whole(rt: HostRuntime) -> Result<(), Fail> {
     Ok(())
 }
 
-/// So `work` comes to its first turn for each number.
-#[test]
-fn each_made_image_is_admitted_and_has_room(rt: HostRuntime) -> Result<(), Fail> {
-    let alloc = rt.alloc();
-    for number in 1..101 {
-        let word = format!(in alloc; "{number}")?;
-        let Ran { status: _, text } = give(alloc, &["make", word.as_str()])?;
-        let files = vec![in alloc; (String::from_str(alloc, NAME)?, text)]?;
-        let words = ["map", NAME, "4096", "ffffffff80000000"];
-        let ran = run_over(alloc, &words, files, &[], &[], 0)?;
-        assert_eq!(rt; ran.status, 0, "{number}");
-    }
-    Ok(())
-}
-
 #[test]
 fn a_made_image_goes_out_in_pieces(rt: HostRuntime) -> Result<(), Fail> {
     let alloc = rt.alloc();

@@ -6,7 +6,7 @@ use Rattle.nk_run.proofs.laws.run_law.Goals as goal
 
 pub returns-clause-safe : goal.returns-clause-safe
 returns-clause-safe c =
-    safe_where_run c.pages_law.ensures c.clean_law.ensures c.plan_law.ensures (λ o input plan admitted planned_are. record {
+    safe_where_run c.pages_law.ensures c.clean_law.ensures.clean c.plan_law.ensures (λ o input plan admitted planned_are. record {
       safe = λ k. c.safety_law.ensures.safe o input plan k admitted planned_are;
       guarded = λ k. c.safety_law.ensures.guarded o input plan k admitted planned_are;
       delivers = λ k.
@@ -17,7 +17,7 @@ returns-clause-safe c =
     })
 
 pub returns-clause-replayed : goal.returns-clause-replayed
-returns-clause-replayed c = replayed_where_run c.pages_law.ensures c.clean_law.ensures c.plan_law.ensures c.journal_law.ensures
+returns-clause-replayed c = replayed_where_run c.pages_law.ensures c.clean_law.ensures.clean c.plan_law.ensures c.journal_law.ensures
 
 pub returns-clause-ended : goal.returns-clause-ended
 returns-clause-ended c = ended_where_run c.length_law.ensures

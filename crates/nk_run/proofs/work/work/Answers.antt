@@ -11,19 +11,19 @@ use Rattle.nk_run.proofs.work.work.Goals as goal
 
 pub returns-in-Some-begin : goal.returns-in-Some-begin
 returns-in-Some-begin g c = λ shelf same.
-    let image = c.in-Ok.ready.image in
-    let frames = c.in-Ok.ready.layout.frames in
-    let it = c.in-Ok.ensures in
-    let text : work_text 2000000 c.in-Some.plan c.in-Some-begin.machine.state ≡ worked image =
-    ap (λ (s : MachineState). work_text 2000000 c.in-Some.plan s) c.in-Some-begin.ensures.state
+    let image = c.in-Some.ready.image in
+    let frames = c.in-Some.ready.layout.frames in
+    let it = c.in-Some.ensures in
+    let text : work_text 2000000 c.in-Some-quiet.plan c.in-Some-begin.machine.state ≡ worked image =
+    ap (λ (s : MachineState). work_text 2000000 c.in-Some-quiet.plan s) c.in-Some-begin.ensures.state
     ∙ ap (λ (plan : List Event). work_text 2000000 plan
-    (opening_state (record { image = image; frames = frames }) c.new.result.items)) c.in-Some.ensures
+    (opening_state (record { image = image; frames = frames }) c.new.result.items)) c.in-Some-quiet.ensures
     ∙ ap (λ (input : List ℕ). work_text 2000000 [] (opening_state (record { image = image; frames = frames }) input)) c.new.ensures.items
     ∙ ap (λ (n : ℕ). work_text 2000000 [] (opening_state (record { image = image; frames = n }) [])) it.frames_are in
     record {
       status = 0;
       text = worked image;
-      says = inr (work_says _ c.args.number c.requires.asked shelf (worked image) it.outcome_is);
+      says = inr (work_says _ c.args.number c.requires.asked image it.made shelf);
       written = subst (λ l. IsWritten (sink_change g.O.Sink.taken g.O.Sink.faults c.args.sink.now c.count.new.sink) 0 l c.count.result)
           text c.count.ensures.written;
       files_stay = same;
