@@ -5,7 +5,6 @@ use Rattle.nk_bits.specs.declared.kind.Kind.TheVariants.{Data}
 use Rattle.nk_bits.specs.Kinds.{kind_of}
 use Rattle.phys_mem.specs.Memory.{byte_at}
 use Rattle.page_desc.specs.PageTables.{is_table}
-use Rattle.region_book.specs.RegionCalls.{has_twice}
 use Rattle.region_book.specs.RegionRecords.{Region}
 use Rattle.nk_body.specs.NestedRecord.{Nested}
 
@@ -21,20 +20,17 @@ place_at r at = (r.place + at) % 4096
 abbrev pub left : (ℕ → Bool) → (ℕ → ℕ → ℕ) → ℕ → ℕ → ℕ
 left tabled opened f offset = if tabled f then 0 else opened f offset
 
--- of a declared region the frames are its own and stand once, and of its bytes those that were written are the run's
-pub record IsTold (opened : ℕ → ℕ → ℕ) (tabled : ℕ → Bool) (owner : ℕ → ℕ) (run held : ℕ → ℕ → ℕ)
-    (r : Region) : Type 0 where
-  pub owned : All (λ f. owner f ≡ r.id) r.frames
-  pub distinct : has_twice r.frames ≡ false
+-- of the bytes of a declared region those that were written are the run's
+pub record IsTold (opened : ℕ → ℕ → ℕ) (tabled : ℕ → Bool) (run held : ℕ → ℕ → ℕ) (r : Region) : Type 0 where
   pub bytes : (at : ℕ) → at < r.size → held (frame_at r at) (place_at r at)
       ≡ (if slice_index_or r.written at false then run (frame_at r at) (place_at r at)
       else left tabled opened (frame_at r at) (place_at r at))
 
-abbrev pub IfDeclared : (ℕ → ℕ → ℕ) → (ℕ → Bool) → (ℕ → ℕ) → (ℕ → ℕ → ℕ) → (ℕ → ℕ → ℕ) → Region → Type 0
-IfDeclared opened tabled owner run held r = r.pooled ≡ false → IsTold opened tabled owner run held r
+abbrev pub IfDeclared : (ℕ → ℕ → ℕ) → (ℕ → Bool) → (ℕ → ℕ → ℕ) → (ℕ → ℕ → ℕ) → Region → Type 0
+IfDeclared opened tabled run held r = r.pooled ≡ false → IsTold opened tabled run held r
 
-abbrev pub AreTold : (ℕ → ℕ → ℕ) → (ℕ → Bool) → (ℕ → ℕ) → (ℕ → ℕ → ℕ) → (ℕ → ℕ → ℕ) → List Region → Type 0
-AreTold opened tabled owner run held regions = All (IfDeclared opened tabled owner run held) regions
+abbrev pub AreTold : (ℕ → ℕ → ℕ) → (ℕ → Bool) → (ℕ → ℕ → ℕ) → (ℕ → ℕ → ℕ) → List Region → Type 0
+AreTold opened tabled run held regions = All (IfDeclared opened tabled run held) regions
 
 -- the bytes of guarded frames and the memory of a replay, beside the record of the run: frames of data are left alone,
 -- page tables were page tables, the pool is the run's, and so is what was written of declared regions
@@ -45,6 +41,4 @@ pub record IsBeside (opened : ℕ → ℕ → ℕ) (tabled : ℕ → Bool) (nk :
       → byte_at m (4096 * f + offset) ≡ left tabled opened f offset
   pub tables : (f : ℕ) → is_table (kind_of nk.tables.kinds f) ≡ true → tabled f ≡ true
   pub pool : (f offset : ℕ) → 10 ≤ f → f < 26 → offset < 4096 → held f offset ≡ nk.held f offset
-  pub owner : ℕ → ℕ
-  pub unowned : (f : ℕ) → 10 ≤ f → f < 26 → owner f ≡ 0
-  pub regions : AreTold opened tabled owner nk.held held nk.ledger.book.regions
+  pub regions : AreTold opened tabled nk.held held nk.ledger.book.regions

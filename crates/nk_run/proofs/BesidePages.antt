@@ -38,14 +38,11 @@ module _ (opened : ℕ → ℕ → ℕ) (tabled : ℕ → Bool) (nk : Nested) (h
     abbrev held_after : ℕ → ℕ → ℕ
     held_after f offset = if among f fs then stand f offset else held f offset
 
-    abbrev owner_after : ℕ → ℕ
-    owner_after f = if among f fs then book.next else beside.owner f
-
     not_among : (f : ℕ) → kind_of kinds f ≡ Guarded → among f fs ≡ false
     not_among f other =
         list_any_none (λ g. g == f) fs
         (All-weaker (λ g. kind_of kinds g ≡ Data) (λ g. (g == f) ≡ false)
-        (λ g free. ne_eqb g f (λ same. guarded_data (sym other ∙ ap (kind_of kinds) (sym same) ∙ free))) fs is.free)
+        (λ g free. ne_eqb g f (λ same. guarded_data (sym other ∙ ap (kind_of kinds) (sym same) ∙ free))) fs is)
 
     all_among : All (λ f. among f fs ≡ true) fs
     all_among k d below = list_any_at (λ g. g == slice_index_or fs k d) fs k d below
@@ -53,16 +50,12 @@ module _ (opened : ℕ → ℕ → ℕ) (tabled : ℕ → Bool) (nk : Nested) (h
 
     inside : All (λ f. f < length kinds) fs
     inside = All-weaker (λ f. kind_of kinds f ≡ Data) (λ f. f < length kinds)
-        (λ f free. in_memory kinds f free) fs is.free
+        (λ f free. in_memory kinds f free) fs is
 
     -- the regions that were there
     old_told : (q : Region) → IsRegion book.next q → All (λ f. kind_of kinds f ≡ Guarded) q.frames
-        → IsTold opened tabled beside.owner nk.held held q → IsTold opened tabled owner_after run_after held_after q
+        → IsTold opened tabled nk.held held q → IsTold opened tabled run_after held_after q
     old_told q was guards told = record {
-      owned = λ k d below.
-          let f : ℕ = slice_index_or q.frames k d in
-          cond-false (among f fs) book.next (beside.owner f) (not_among f (guards k d below)) ∙ told.owned k d below;
-      distinct = told.distinct;
       bytes = λ at within.
           let f : ℕ = frame_at q at in
           let out : among f fs ≡ false = not_among f
@@ -74,17 +67,14 @@ module _ (opened : ℕ → ℕ → ℕ) (tabled : ℕ → Bool) (nk : Nested) (h
     }
 
     -- the new one: nothing was written of it
-    new_told : IsTold opened tabled owner_after run_after held_after pages
+    new_told : IsTold opened tabled run_after held_after pages
     new_told = record {
-      owned = λ k d below. cond-true (among (slice_index_or fs k d) fs) book.next (beside.owner (slice_index_or fs k d))
-          (all_among k d below);
-      distinct = is.distinct;
       bytes = λ at within.
           let f : ℕ = frame_at pages at in
           let offset : ℕ = place_at pages at in
           let there : among f fs ≡ true = frame_holds (λ f. among f fs ≡ true) next pages region all_among at within in
           let free : kind_of kinds f ≡ Data = frame_holds (λ f. kind_of kinds f
-          ≡ Data) next pages region is.free at within in
+          ≡ Data) next pages region is at within in
           cond-true (among f fs) (stand f offset) (held f offset) there
           ∙ stands f offset there (omega arith)
           ∙ beside.free f offset free (omega arith)
@@ -121,11 +111,8 @@ module _ (opened : ℕ → ℕ → ℕ) (tabled : ℕ → Bool) (nk : Nested) (h
           cond-false (among f fs) (stand f offset) (held f offset) out
           ∙ beside.pool f offset least most within
           ∙ sym (cond-false (among f fs) (run_stand f offset) (nk.held f offset) out);
-      owner = owner_after;
-      unowned = λ f least most. cond-false (among f fs) book.next (beside.owner f)
-          (not_among f (kept.pool f least most)) ∙ beside.unowned f least most;
       regions = All-push (λ q. q.pooled ≡ false
-          → IsTold opened tabled owner_after run_after held_after q) book.regions pages
+          → IsTold opened tabled run_after held_after q) book.regions pages
           (λ k d below declared. old_told (slice_index_or book.regions k d) (kept.book.each k d below)
           (kept.frames k d below) (beside.regions k d below declared))
           (λ declared. new_told);

@@ -1,8 +1,8 @@
 -- A replay beside a run, over the calls on regions.
-use Rattle.std.proofs.Common.{◌≡◌, ◌≢◌, ℕ, ◌+◌, ◌/◌, ◌<◌, ◌≤◌, Bool, true, false, not, ◌&&◌, ◌||◌, List, length, All, inl, inr, refl, sym, ap, subst, ◌∙◌, arith}
-use Rattle.std.specs.Prelude.{◌==◌, nat_le, nat_lt, replicate, if◌then◌else◌, slice_index_or}
+use Rattle.std.proofs.Common.{◌≡◌, ◌≢◌, ◌⊎◌, ℕ, ◌+◌, ◌/◌, ◌<◌, ◌≤◌, Bool, true, false, not, ◌&&◌, ◌||◌, List, length, All, inl, inr, refl, sym, ap, subst, ◌∙◌, arith}
+use Rattle.std.specs.Prelude.{◌==◌, nat_le, nat_lt, replicate, Some, if◌then◌else◌, slice_index_or}
 use Rattle.std.proofs.Math.Bool.{or-false}
-use Rattle.std.proofs.lemmas.Bool.{and_from, and_parts, cases_Bool, eqb-false, false≢true, le-leb, leb-true, lt-ltb, ltb-true, or_right}
+use Rattle.std.proofs.lemmas.Bool.{and_from, and_parts, eqb-false, false≢true, le-leb, leb-true, lt-ltb, ltb-true, or_right}
 use Rattle.std.proofs.lemmas.List.{get_or-map, length-map, length-replicate}
 use Rattle.std.proofs.lemmas.List.Elements.{All-filter, All-push, All-weaker}
 use Rattle.std.proofs.lemmas.List.FromFn.{get_or-map-range_with_len}
@@ -11,7 +11,7 @@ use Rattle.nk_bits.specs.declared.kind.Kind.TheVariants.{Data, Guarded}
 use Rattle.nk_bits.specs.Kinds.{kind_of}
 use Rattle.phys_mem.specs.Memory.{stored}
 use Rattle.region_book.specs.RegionCalls.{added, freed, pool_region}
-use Rattle.region_book.specs.RegionRecords.{Book, IsRegion, Region, byte_place, marked, region_stores, with_region}
+use Rattle.region_book.specs.RegionRecords.{Book, IsRegion, Region, byte_place, marked, region_of, region_stores, with_region}
 use Rattle.nk_body.specs.CallRules.{puts}
 use Rattle.nk_body.specs.NestedRecord.{IsKept, Ledger, Nested}
 use Rattle.write_log.specs.LogRecords.{LogRecord}
@@ -20,7 +20,7 @@ use Rattle.nk_run.proofs.BesideTables.{spared}
 use Rattle.nk_run.proofs.GuardedKinds.{guarded_data}
 use Rattle.nk_run.proofs.HeldPuts.{hits, puts_alike, puts_hit, puts_missed}
 use Rattle.nk_run.proofs.LawsBelow.{ByteLaws}
-use Rattle.nk_run.proofs.RegionPlaces.{frame_holds, frame_pooled, same_byte, stores_all, stores_hit, stores_miss}
+use Rattle.nk_run.proofs.RegionPlaces.{found_id, frame_holds, frame_pooled, stores_all, stores_hit, stores_miss}
 
 module _ (laws : ByteLaws) (opened : ℕ → ℕ → ℕ) (tabled : ℕ → Bool) (nk : Nested) (held : ℕ → ℕ → ℕ) (m : List ℕ)
     (beside : IsBeside opened tabled nk held m) (kept : IsKept nk.tables.kinds nk.ledger) where
@@ -38,9 +38,7 @@ module _ (laws : ByteLaws) (opened : ℕ → ℕ → ℕ) (tabled : ℕ → Bool
     free = beside.free;
     tables = beside.tables;
     pool = beside.pool;
-    owner = beside.owner;
-    unowned = beside.unowned;
-    regions = All-filter (λ r. not (r.id == id)) (IfDeclared opened tabled beside.owner nk.held held) book.regions
+    regions = All-filter (λ r. not (r.id == id)) (IfDeclared opened tabled nk.held held) book.regions
         beside.regions;
   }
 
@@ -52,7 +50,7 @@ module _ (laws : ByteLaws) (opened : ℕ → ℕ → ℕ) (tabled : ℕ → Bool
     abbrev held_after : ℕ → ℕ → ℕ
     held_after = puts held ws
 
-    stored_beside : (after : Ledger) → AreTold opened tabled beside.owner run_after held_after after.book.regions
+    stored_beside : (after : Ledger) → AreTold opened tabled run_after held_after after.book.regions
         → IsBeside opened tabled (record nk { held = run_after; ledger = after }) held_after (stored m ws)
     stored_beside after regions = record {
       size = laws.size m ws ∙ beside.size;
@@ -63,17 +61,13 @@ module _ (laws : ByteLaws) (opened : ℕ → ℕ → ℕ) (tabled : ℕ → Bool
           ∙ beside.free f offset free inside;
       tables = beside.tables;
       pool = λ f offset least most inside. puts_alike ws held nk.held f offset (beside.pool f offset least most inside);
-      owner = beside.owner;
-      unowned = beside.unowned;
       regions = regions;
     }
 
     -- a region that no store hits
     missed_told : (r : Region) → ((at : ℕ) → at < r.size → hits (byte_place r at) ws ≡ false)
-        → IsTold opened tabled beside.owner nk.held held r → IsTold opened tabled beside.owner run_after held_after r
+        → IsTold opened tabled nk.held held r → IsTold opened tabled run_after held_after r
     missed_told r missed told = record {
-      owned = told.owned;
-      distinct = told.distinct;
       bytes = λ at inside.
           puts_missed ws held (frame_at r at) (place_at r at) (missed at inside)
           ∙ told.bytes at inside
@@ -96,35 +90,33 @@ module _ (laws : ByteLaws) (opened : ℕ → ℕ → ℕ) (tabled : ℕ → Bool
         ap (kind_of kinds) frame ∙ frame_holds (λ f. kind_of kinds f ≡ Guarded) next r region guards k
         (omega (arith, most, fits)))
 
-    -- no store hits a region to which none of these frames belong
-    apart_told : (q : Region) → IsRegion book.next q → IsTold opened tabled beside.owner nk.held held q
-        → ((k : ℕ) → k < r.size → beside.owner (frame_at r k) ≢ q.id)
-        → IsTold opened tabled beside.owner (puts nk.held ws) (puts held ws) q
-    apart_told q is told apart =
+    -- no store hits a region whose bytes stand apart
+    apart_told : (q : Region) → IsTold opened tabled nk.held held q
+        → ((k at : ℕ) → k < r.size → at < q.size → byte_place r k ≢ byte_place q at)
+        → IsTold opened tabled (puts nk.held ws) (puts held ws) q
+    apart_told q told apart =
         missed_told ws in_guarded q
         (λ at inside. stores_miss r (byte_place q at) offset bytes
-        (λ k least most same.
-        let frame : frame_at r k ≡ frame_at q at = omega (arith, same) in
-        apart k (omega (arith, most, fits))
-        (ap beside.owner frame ∙ frame_holds (λ f. beside.owner f ≡ q.id) book.next q is told.owned at inside)))
-        told
+        (λ k least most. apart k at (omega (arith, most, fits)) inside)) told
 
     -- a region of the pool
-    pool_told : r.pooled ≡ true → AreTold opened tabled beside.owner (puts nk.held ws) (puts held ws) book.regions
+    pool_told : r.pooled ≡ true → AreTold opened tabled (puts nk.held ws) (puts held ws) book.regions
     pool_told pooled k d below declared =
         let q : Region = slice_index_or book.regions k d in
         let is : IsRegion book.next q = kept.book.each k d below in
-        apart_told q is (beside.regions k d below declared)
-        (λ at inside same.
-        let frame = frame_pooled next r region pooled at inside in
-        omega (arith, same, beside.unowned (frame_at r at) frame.0 frame.1, is.least))
+        apart_told q (beside.regions k d below declared)
+        (λ k at within inside same.
+        let pool = frame_pooled next r region pooled k within in
+        let frame : frame_at r k ≡ frame_at q at = omega (arith, same) in
+        elim (frame_holds (λ f. (f < 10) ⊎ (26 ≤ f)) book.next q is (is.declared declared).3 at inside) [
+          | inl before ↦ omega (arith, pool.0, frame, before)
+          | inr behind ↦ omega (arith, pool.1, frame, behind)
+        ])
 
     -- the region itself, where it was declared
-    marked_told : r.pooled ≡ false → IsTold opened tabled beside.owner nk.held held r
-        → IsTold opened tabled beside.owner (puts nk.held ws) (puts held ws) (marked r offset (length bytes))
-    marked_told declared told = record {
-      owned = told.owned;
-      distinct = told.distinct;
+    marked_told : (id : ℕ) → region_of book id ≡ Some r → IsTold opened tabled nk.held held r
+        → IsTold opened tabled (puts nk.held ws) (puts held ws) (marked r offset (length bytes))
+    marked_told id found told = record {
       bytes = bytes_told;
     }
       where
@@ -132,11 +124,9 @@ module _ (laws : ByteLaws) (opened : ℕ → ℕ → ℕ) (tabled : ℕ → Bool
             → hits (byte_place r k) ws ≡ false
         out_of_range k inside out =
             stores_miss r (byte_place r k) offset bytes
-            (λ j least most same.
-            let at : j ≡ k = same_byte next r region declared told.distinct j k
-            (omega (arith, most, fits)) inside same in
-            false≢true (sym out ∙ and_from (nat_le offset k) _ (le-leb offset k (omega (arith, at, least)))
-            (lt-ltb k _ (omega (arith, at, most)))))
+            (λ j least most. laws.regions.within book id j k r kept.book found (omega (arith, most, fits)) inside
+            (λ at. false≢true (sym out ∙ and_from (nat_le offset k) _ (le-leb offset k (omega (arith, at, least)))
+            (lt-ltb k _ (omega (arith, at, most))))))
 
         by_range : (k : ℕ) → k < r.size → (was b : Bool) → (nat_le offset k && nat_lt k (offset + length bytes)) ≡ b
             → slice_index_or r.written k false ≡ was
@@ -173,29 +163,24 @@ module _ (laws : ByteLaws) (opened : ℕ → ℕ → ℕ) (tabled : ℕ → Bool
             0 r.size k k false inside (omega arith)))
 
     -- a write
-    module _ (told : IfDeclared opened tabled beside.owner nk.held held r) (log : List LogRecord) where
+    module _ (id : ℕ) (found : region_of book id ≡ Some r) (told : IfDeclared opened tabled nk.held held r)
+        (log : List LogRecord) where
       abbrev after : Region → Region
       after old = if old.id == r.id then marked r offset (length bytes) else old
 
-      other_told : (q : Region) → (q.id == r.id) ≡ false → IsRegion book.next q
-          → IsTold opened tabled beside.owner nk.held held q
-          → IsTold opened tabled beside.owner (puts nk.held ws) (puts held ws) q
-      other_told q other is was = elim (cases_Bool r.pooled) [
-        | inl pooled ↦ apart_told q is was (λ k inside same.
-            let frame = frame_pooled next r region pooled k inside in
-            omega (arith, same, beside.unowned (frame_at r k) frame.0 frame.1, is.least))
-        | inr declared ↦ apart_told q is was (λ k inside same.
-            eqb-false q.id r.id other
-            (sym same ∙ frame_holds (λ f. beside.owner f ≡ r.id) next r region (told declared).owned k inside))
-      ]
+      other_told : (q : Region) → (q.id == r.id) ≡ false → region_of book q.id ≡ Some q
+          → IsTold opened tabled nk.held held q → IsTold opened tabled (puts nk.held ws) (puts held ws) q
+      other_told q other q_found was =
+          apart_told q was
+          (λ k at. laws.regions.between book id q.id k at r q kept.book
+          (λ same. eqb-false q.id r.id other (sym same ∙ sym (found_id book id r found))) found q_found)
 
-      after_told : (q : Region) (b : Bool) → (q.id == r.id) ≡ b → IsRegion book.next q
-          → IfDeclared opened tabled beside.owner nk.held held q
+      after_told : (q : Region) (b : Bool) → (q.id == r.id) ≡ b → region_of book q.id ≡ Some q
+          → IfDeclared opened tabled nk.held held q
           → (if b then marked r offset (length bytes) else q).pooled ≡ false
-          → IsTold opened tabled beside.owner (puts nk.held ws) (puts held ws)
-          (if b then marked r offset (length bytes) else q)
-      after_told q true same is was declared = marked_told declared (told declared)
-      after_told q false other is was declared = other_told q other is (was declared)
+          → IsTold opened tabled (puts nk.held ws) (puts held ws) (if b then marked r offset (length bytes) else q)
+      after_told q true same q_found was declared = marked_told id found (told declared)
+      after_told q false other q_found was declared = other_told q other q_found (was declared)
 
       abbrev ledger_after : Ledger
       ledger_after = record { book = with_region book (marked r offset (length bytes)); log = log }
@@ -207,9 +192,9 @@ module _ (laws : ByteLaws) (opened : ℕ → ℕ → ℕ) (tabled : ℕ → Bool
           (λ k d below.
           let short : k < length book.regions = omega (arith, below, length-map book.regions after) in
           let q : Region = slice_index_or book.regions k d in
-          subst (IfDeclared opened tabled beside.owner (puts nk.held ws) (puts held ws))
+          subst (IfDeclared opened tabled (puts nk.held ws) (puts held ws))
           (sym (get_or-map after book.regions k d d short))
-          (after_told q (q.id == r.id) refl (kept.book.each k d short) (beside.regions k d short)))
+          (after_told q (q.id == r.id) refl (laws.regions.listed book k d kept.book short) (beside.regions k d short)))
 
   -- a new region of the pool
   abbrev with_added : Region → Ledger
@@ -226,6 +211,6 @@ module _ (laws : ByteLaws) (opened : ℕ → ℕ → ℕ) (tabled : ℕ → Bool
       let ws = region_stores r 0 zeros in
       let fits : 0 + length zeros ≤ r.size = omega (arith, length-replicate {A = ℕ} size 0) in
       stored_beside ws (in_guarded next r region guards 0 zeros fits) (with_added r)
-      (All-push (IfDeclared opened tabled beside.owner (puts nk.held ws) (puts held ws)) book.regions r
+      (All-push (IfDeclared opened tabled (puts nk.held ws) (puts held ws)) book.regions r
       (pool_told next r region guards 0 zeros fits refl)
       (λ declared. absurd (false≢true (sym declared))))

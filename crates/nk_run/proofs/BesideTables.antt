@@ -52,8 +52,6 @@ module _ (laws : ByteLaws) (opened : ℕ → ℕ → ℕ) (tabled : ℕ → Bool
     free = λ f offset free inside. same f offset free inside ∙ beside.free f offset free inside;
     tables = beside.tables;
     pool = beside.pool;
-    owner = beside.owner;
-    unowned = beside.unowned;
     regions = beside.regions;
   }
 
@@ -107,8 +105,6 @@ module _ (laws : ByteLaws) (opened : ℕ → ℕ → ℕ) (tabled : ℕ → Bool
     free = free;
     tables = tables;
     pool = beside.pool;
-    owner = beside.owner;
-    unowned = beside.unowned;
     regions = beside.regions;
   }
     where
@@ -169,10 +165,8 @@ module _ (laws : ByteLaws) (opened : ℕ → ℕ → ℕ) (tabled : ℕ → Bool
     other_frame f guarded same = guarded_data (sym guarded ∙ ap (kind_of kinds) same ∙ is.free)
 
     still_told : (r : Region) → IsRegion nk.ledger.book.next r → All (λ f. kind_of kinds f ≡ Guarded) r.frames
-        → IsTold opened tabled beside.owner nk.held held r → IsTold opened also beside.owner nk.held held r
+        → IsTold opened tabled nk.held held r → IsTold opened also nk.held held r
     still_told r region guarded told = record {
-      owned = told.owned;
-      distinct = told.distinct;
       bytes = λ at inside. told.bytes at inside
           ∙ ap (λ b. if slice_index_or r.written at false then nk.held (frame_at r at) (place_at r at) else b)
           (left_same (frame_at r at) (place_at r at)
@@ -200,8 +194,6 @@ module _ (laws : ByteLaws) (opened : ℕ → ℕ → ℕ) (tabled : ℕ → Bool
             (beside.tables f (sym (ap is_table (kind_there frame (Table level) f apart)) ∙ table))
       ];
       pool = beside.pool;
-      owner = beside.owner;
-      unowned = beside.unowned;
       regions = λ k d below declared.
           still_told (slice_index_or nk.ledger.book.regions k d) (kept.book.each k d below) (kept.frames k d below)
           (beside.regions k d below declared);

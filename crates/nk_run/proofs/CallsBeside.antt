@@ -237,8 +237,8 @@ module _ (bytes : ByteLaws) (accepted : AcceptedLaws) (opened : ℕ → ℕ → 
           (found_holds (IsRegion nk.ledger.book.next) nk.ledger.book call.a r at kept.book.each)
           (found_holds (λ r. All (λ f. kind_of nk.tables.kinds f ≡ Guarded) r.frames) nk.ledger.book call.a r at
           kept.frames)
-          call.b (bytes_read source) (omega (arith, fits, short))
-          (found_holds (IfDeclared opened tabled beside.owner nk.held held) nk.ledger.book call.a r at beside.regions)
+          call.b (bytes_read source) (omega (arith, fits, short)) call.a at
+          (found_holds (IfDeclared opened tabled nk.held held) nk.ledger.book call.a r at beside.regions)
           (log_by nk.ledger.log (Some r) call.b (bytes_read source)))
 
   pub call_beside : Goal

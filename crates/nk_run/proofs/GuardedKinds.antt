@@ -1,11 +1,12 @@
 -- Frames of data that become guarded, and what a call that declares pages is.
-use Rattle.std.proofs.Common.{◌≡◌, ℕ, suc, ◌+◌, ◌/◌, ◌<◌, Bool, true, false, not, ◌||◌, List, [], ◌∷◌, length, All, inl, inr, refl, sym, ap, ◌∙◌, arith}
-use Rattle.std.specs.Prelude.{◌==◌, nat_le, nat_lt, Option, None, Some, if◌then◌else◌, slice_set}
+use Rattle.std.proofs.Common.{◌≡◌, ℕ, ◌+◌, ◌/◌, ◌<◌, Bool, true, false, not, List, [], ◌∷◌, length, All, inl, inr, refl, sym, ap, ◌∙◌, arith}
+use Rattle.std.specs.Prelude.{◌==◌, nat_le, nat_lt, Option, None, Some, if◌then◌else◌}
 use Rattle.std.specs.List.{list_any}
-use Rattle.std.proofs.lemmas.Bool.{cases_lt, false≢true, or_parts}
-use Rattle.std.proofs.lemmas.Bool.Decides.{eqb_tells}
-use Rattle.std.proofs.lemmas.List.{get_or-set_other, get_or-set_same, get_or_past, length-set}
-use Rattle.std.proofs.lemmas.List.Elements.{All-cons, All-nil}
+use Rattle.std.proofs.lemmas.Bool.{cases_lt, false≢true, ne_eqb, or_parts}
+use Rattle.std.proofs.lemmas.List.{get_or_past}
+use Rattle.std.proofs.lemmas.List.Elements.{All-cons, All-nil, All-weaker}
+use Rattle.std.proofs.lemmas.List.Folds.{list_any_none}
+use Rattle.std.proofs.lemmas.List.FromFn.{get_or-map-range_with_len, length-map-range_with_len}
 use Rattle.nk_bits.specs.declared.kind.Kind.{Kind}
 use Rattle.nk_bits.specs.declared.kind.Kind.TheVariants.{Data, Guarded, Hidden}
 use Rattle.nk_bits.specs.declared.rule.Rule.{Rule}
@@ -29,38 +30,28 @@ in_memory kinds f free = elim (cases_lt f (length kinds)) [
 
 pub length_guarded : (fs : List ℕ) (kinds : List Kind) → length (guarded kinds fs) ≡ length kinds
 unfolding guarded
-length_guarded [] kinds = refl
-length_guarded (f ∷ fs) kinds = length_guarded fs (slice_set kinds f Guarded) ∙ length-set kinds f Guarded
+length_guarded fs kinds =
+    length-map-range_with_len (λ f. if among f fs then Guarded else kind_of kinds f) 0 (length kinds)
 
 -- the kind of each frame
 pub kind_guarded : (fs : List ℕ) (kinds : List Kind) (f : ℕ) → All (λ g. g < length kinds) fs
     → kind_of (guarded kinds fs) f ≡ (if among f fs then Guarded else kind_of kinds f)
 unfolding guarded
-kind_guarded [] kinds f inside = refl
-kind_guarded (g ∷ fs) kinds f inside =
-    kind_guarded fs (slice_set kinds g Guarded) f
-    (λ k d below. let was = inside (suc k) d (omega (arith, below)) in omega (arith, was, length-set kinds g Guarded))
-    ∙ elim (eqb_tells g f) [
-      | inl same ↦
-          ap (λ k. if among f fs then Guarded else k)
-          (ap (kind_of (slice_set kinds g Guarded)) (sym same.1)
-          ∙ get_or-set_same kinds g Guarded Hidden (inside 0 g (omega arith)))
-          ∙ both (among f fs)
-          ∙ sym (ap (λ b. if b || among f fs then Guarded else kind_of kinds f) same.0)
-      | inr apart ↦
-          ap (λ k. if among f fs then Guarded else k)
-          (get_or-set_other kinds g f Guarded Hidden (λ same. apart.1 (sym same)))
-          ∙ sym (ap (λ b. if b || among f fs then Guarded else kind_of kinds f) apart.0)
-    ]
-  where
-    both : (b : Bool) → (if b then Guarded else Guarded) ≡ Guarded
-    both true = refl
-    both false = refl
+kind_guarded fs kinds f inside = elim (cases_lt f (length kinds)) [
+  | inl there ↦
+      get_or-map-range_with_len (λ f. if among f fs then Guarded else kind_of kinds f) 0 (length kinds) f f Hidden
+      there (omega arith)
+  | inr past ↦
+      let none : among f fs ≡ false = list_any_none (λ g. g == f) fs
+      (All-weaker (λ g. g < length kinds) (λ g. (g == f) ≡ false)
+      (λ g below. ne_eqb g f (λ same. omega (arith, below, past, same))) fs inside) in
+      get_or_past (guarded kinds fs) f Hidden (omega (arith, past, length_guarded fs kinds))
+      ∙ sym (ap (λ b. if b then Guarded else kind_of kinds f) none ∙ get_or_past kinds f Hidden past)
+]
 
--- frames of data that stand once
-pub record AreFree (kinds : List Kind) (fs : List ℕ) : Type 0 where
-  pub distinct : has_twice fs ≡ false
-  pub free : All (λ f. kind_of kinds f ≡ Data) fs
+-- frames of data
+abbrev pub AreFree : List Kind → List ℕ → Type 0
+AreFree kinds fs = All (λ f. kind_of kinds f ≡ Data) fs
 
 else_none : (b : Bool) (rule : Rule) (later : Option Rule) → else_rule b rule later ≡ None
     → (b ≡ false) × (later ≡ None)
@@ -88,7 +79,7 @@ module _ (book : Book) (kinds : List Kind) (loose : ℕ → ℕ) (at : ℕ → O
       let c = else_none (nat_le 256 (length book.regions)) TooManyRegions _ b.1 in
       let d = else_none (nat_lt 128 (book.declared + length fs)) NoRoom _ c.1 in
       let e = else_none (list_any (λ f. not (is_data (kind_of kinds f))) fs) NotData _ d.1 in
-      (fs, refl, record { distinct = a.0; free = all_free kinds fs e.0 })
+      (fs, refl, all_free kinds fs e.0)
 
   pub pages_free : declare_rule book kinds loose at address size policy ≡ None
       → (fs : List ℕ) × (frames_from at (address / 4096) (size / 4096) ≡ Some fs) × AreFree kinds fs

@@ -48,8 +48,6 @@ module _ (o : Opening) (count : length (kinds o.image o.frames) ≡ o.frames)
     free = free_bytes;
     tables = were_tables;
     pool = λ f offset least most inside. refl;
-    owner = λ f. 0;
-    unowned = λ f least most. refl;
-    regions = All-nil (λ (r : Region). r.pooled ≡ false → IsTold (opened o) (was_table o []) (λ f. 0)
+    regions = All-nil (λ (r : Region). r.pooled ≡ false → IsTold (opened o) (was_table o [])
         (nested_of (opening_state o input)).held (nested_of (opening_state o input)).held r);
   }

@@ -1,13 +1,13 @@
 -- Where the bytes of regions stand.
-use Rattle.std.proofs.Common.{◌≡◌, ◌≢◌, ℕ, zero, suc, ◌+◌, ◌-◌, ◌/◌, ◌%◌, ◌<◌, ◌≤◌, true, false, List, [], ◌∷◌, length, All, inl, inr, refl, sym, ap, subst, ◌∙◌, arith}
+use Rattle.std.proofs.Common.{◌≡◌, ◌≢◌, ℕ, ◌+◌, ◌-◌, ◌/◌, ◌<◌, ◌≤◌, true, false, List, [], ◌∷◌, length, All, inl, inr, sym, ap, subst, ◌∙◌, arith}
 use Rattle.std.specs.Prelude.{◌==◌, Some, slice_index}
-use Rattle.std.specs.List.{list_any, position_or_len}
-use Rattle.std.proofs.lemmas.Bool.{cases_lt, eq-eqb, false≢true, ne_eqb, or_left, or_parts, or_right}
+use Rattle.std.specs.List.{position_or_len}
+use Rattle.std.proofs.lemmas.Bool.{cases_lt, eq-eqb, eqb-true, ne_eqb, or_left, or_right}
 use Rattle.std.proofs.lemmas.Option.{get_or_from_slice_get, slice_get_within}
 use Rattle.std.proofs.lemmas.List.Elements.{All-cons, All-nil}
-use Rattle.std.proofs.lemmas.List.Folds.{find_at, list_any_at, list_any_none}
+use Rattle.std.proofs.lemmas.List.Folds.{find_at, list_any_none}
 use Rattle.std.proofs.lemmas.List.FromFn.{get_or-range_with_len}
-use Rattle.region_book.specs.RegionCalls.{has_twice}
+use Rattle.std.proofs.lemmas.List.Sums.{passes_at_first}
 use Rattle.region_book.specs.RegionRecords.{Book, IsRegion, Region, byte_place, pool_start, region_of, region_stores}
 use Rattle.nk_run.proofs.Beside.{frame_at}
 use Rattle.nk_run.proofs.HeldPuts.{hits}
@@ -19,6 +19,14 @@ found_holds P book id r found all =
     let at = position_or_len (λ x. x.id == id) book.regions in
     let there = sym (find_at (λ x. x.id == id) book.regions) ∙ found in
     subst P (get_or_from_slice_get book.regions at r r there) (all at r (slice_get_within book.regions at r there))
+
+-- the region of an identifier has it
+pub found_id : (book : Book) (id : ℕ) (r : Region) → region_of book id ≡ Some r → r.id ≡ id
+found_id book id r found =
+    let at = position_or_len (λ x. x.id == id) book.regions in
+    let there = sym (find_at (λ x. x.id == id) book.regions) ∙ found in
+    eqb-true r.id id (ap (λ x. x.id == id) (sym (get_or_from_slice_get book.regions at r r there))
+    ∙ passes_at_first (λ x. x.id == id) book.regions r (slice_get_within book.regions at r there))
 
 -- the frame of each byte of a region is one of its frames
 pub frame_holds : (P : ℕ → Type 0) (next : ℕ) (r : Region) → IsRegion next r → All P r.frames → (at : ℕ) → at < r.size
@@ -38,38 +46,6 @@ frame_pooled next r is pooled at inside =
     ((r.place + r.size + 4095) / 4096) i 0 within in
     let fits : p + r.size ≤ 65536 = omega (arith, facts.0, facts.1) in
     (omega (arith, frame), omega (arith, frame, fits, facts.2, inside))
-
--- Frames that stand once.
-
-twice_apart : (f : ℕ) (fs : List ℕ) → has_twice (f ∷ fs) ≡ false → (j : ℕ) → j < length fs → f ≡ slice_index fs j → ⊥
-unfolding has_twice
-twice_apart f fs distinct j inside same =
-    let once = (or_parts (list_any (λ g. g == f) fs) (has_twice fs) distinct).0 in
-    false≢true (sym once ∙ list_any_at (λ g. g == f) fs j 0 inside (eq-eqb (slice_index fs j) f (sym same)))
-
-pub same_index : (fs : List ℕ) → has_twice fs ≡ false → (i j : ℕ) → i < length fs → j < length fs
-    → slice_index fs i ≡ slice_index fs j → i ≡ j
-unfolding has_twice
-same_index [] distinct i j one other same = absurd (omega arith)
-same_index (f ∷ fs) distinct zero zero one other same = refl
-same_index (f ∷ fs) distinct zero (suc j) one other same = absurd (twice_apart f fs distinct j (omega arith) same)
-same_index (f ∷ fs) distinct (suc i) zero one other same = absurd (twice_apart f fs distinct i (omega arith) (sym same))
-same_index (f ∷ fs) distinct (suc i) (suc j) one other same =
-    ap suc (same_index fs (or_parts (list_any (λ g. g == f) fs) (has_twice fs) distinct).1 i j (omega arith)
-    (omega arith) same)
-
--- so the bytes of a declared region stand apart
-pub same_byte : (next : ℕ) (r : Region) → IsRegion next r → r.pooled ≡ false → has_twice r.frames ≡ false
-    → (a b : ℕ) → a < r.size → b < r.size → byte_place r a ≡ byte_place r b → a ≡ b
-same_byte next r is declared distinct a b one other same =
-    let facts = is.declared declared in
-    let f = frame_at r a in
-    let g = frame_at r b in
-    let frames : f ≡ g = omega (arith, same) in
-    let places : (r.place + a) % 4096 ≡ (r.place + b) % 4096 = omega (arith, same) in
-    let index = same_index r.frames distinct ((r.place + a) / 4096) ((r.place + b) / 4096)
-    (omega (arith, is.held, one)) (omega (arith, is.held, other)) frames in
-    omega (arith, index, places)
 
 -- Stores in a region.
 

@@ -39,7 +39,7 @@ module _ (o : Opening) (made : List Made) (nk : Nested) (held : ℕ → ℕ → 
   also = record nk { held = held }
 
   byte_told : (r : Region) → IsRegion nk.ledger.book.next r
-      → IfDeclared (opened o) (was_table o made) beside.owner nk.held held r
+      → IfDeclared (opened o) (was_table o made) nk.held held r
       → (at : ℕ) → at < r.size → held (frame_at r at) (place_at r at) ≡ replayed_byte o made nk r at
   byte_told r is told at inside = by_pool r.pooled refl
     where
@@ -52,7 +52,7 @@ module _ (o : Opening) (made : List Made) (nk : Nested) (held : ℕ → ℕ → 
       by_pool false declared = (told declared).bytes at inside
 
   bytes_told : (r : Region) → IsRegion nk.ledger.book.next r
-      → IfDeclared (opened o) (was_table o made) beside.owner nk.held held r
+      → IfDeclared (opened o) (was_table o made) nk.held held r
       → bytes_of_region also r ≡ replayed_bytes o made nk r
   unfolding bytes_of_region replayed_bytes
   bytes_told r is told = map_same _ _ r.size 0 (λ k least most. byte_told r is told k (omega (arith, most)))

@@ -19,6 +19,7 @@ use elf_image::pages_law;
 use gate_state::{moves_law, safety_law, shown_law};
 use irq_plan::plan_law;
 use phys_mem::{frame_law, memory_law};
+use region_book::apart_law;
 use vmmu::accepted_law;
 
 /// Where the checks of a run pass, the run is safe in each of its states, and its text is a journal of its calls; and each
@@ -55,6 +56,7 @@ fn journal_law()
     memory_law();
     frame_law();
     accepted_law();
+    apart_law();
     opening_kinds_law();
     safety_law();
     shown_law();

@@ -1,12 +1,12 @@
 -- Bytes of live regions stand apart: within one region, and in two.
-use Rattle.std.proofs.Common.{◌≡◌, ◌≢◌, ◌⊎◌, ℕ, ◌+◌, ◌-◌, ◌/◌, ◌%◌, ◌<◌, ◌≤◌, true, false, ◌==◌, List, [], ◌∷◌, length, arith, sym, ap, ◌∙◌, subst, inl, inr, slice_index, slice_index_or}
+use Rattle.std.proofs.Common.{◌≡◌, ◌≢◌, ◌⊎◌, ℕ, ◌+◌, ◌-◌, ◌/◌, ◌%◌, ◌<◌, ◌≤◌, true, false, ◌==◌, List, [], ◌∷◌, length, arith, refl, sym, ap, ◌∙◌, subst, inl, inr, slice_index, slice_index_or}
 use Rattle.std.specs.Prelude.{All, Some}
-use Rattle.std.proofs.lemmas.Bool.{cases_Bool, cases_order, eqb-true}
+use Rattle.std.proofs.lemmas.Bool.{cases_Bool, cases_order, eq-eqb, eqb-true, ne_eqb}
 use Rattle.std.proofs.lemmas.List.Elements.{All-cons, All-nil}
 use Rattle.std.proofs.lemmas.List.FromFn.{get_or-range_with_len}
 use Rattle.phys_mem.specs.Memory.{byte_at, stored}
 use Rattle.region_book.specs.RegionRecords.{Book, IsApart, IsBook, IsEachOnce, IsRegion, Region, byte_place, pool_start, region_of, region_stores}
-use Rattle.region_book.proofs.Found.{found_place}
+use Rattle.region_book.proofs.Found.{find_at, found_place}
 use Rattle.region_book.proofs.RegionReads.{region_sound}
 
 -- a frame stands at one place of a list that has each once
@@ -105,6 +105,15 @@ stores_at P r offset (b ∷ bytes) each =
     (stores_at P r (offset + 1) bytes (λ k least most. each k (omega (arith, least)) (omega (arith, most))))
 
 module _ (book : Book) (sound : IsBook book) where
+  -- a region of the list is the first of its identifier
+  pub listed_region : (k : ℕ) (d : Region) → k < length book.regions →
+      region_of book (slice_index_or book.regions k d).id ≡ Some (slice_index_or book.regions k d)
+  listed_region k d below =
+      let id : ℕ = (slice_index_or book.regions k d).id in
+      find_at (λ x. x.id == id) book.regions k d below
+      (λ i before. ne_eqb _ id (λ same. omega (arith, sound.rising i k d before below, same)))
+      (eq-eqb id id refl)
+
   pub one_region : (id : ℕ) (r : Region) → region_of book id ≡ Some r → (a b : ℕ) → a < r.size → b < r.size → a ≢ b →
       byte_place r a ≢ byte_place r b
   one_region id r found a b a_within b_within apart same =

@@ -1,7 +1,7 @@
 //! What follows from the definitions for those who say what a call on regions leaves: each byte of a live region has a place
 //! of its own, and the frames of a declaration stand once and become guarded.
 
-ghost use Rattle.std.specs.Prelude.{◌≡◌, ◌≢◌, ◌<◌, ◌≤◌, ℕ, ◌+◌, List, [], ◌∷◌, Some, false, length, slice_set};
+ghost use Rattle.std.specs.Prelude.{◌≡◌, ◌≢◌, ◌<◌, ◌≤◌, ℕ, ◌+◌, List, [], ◌∷◌, Some, false, length, slice_index_or, slice_set};
 ghost use Rattle.phys_mem.specs.Memory.{byte_at, stored};
 ghost use Rattle.nk_bits.specs.declared.kind.Kind.{Kind};
 ghost use Rattle.nk_bits.specs.declared.kind.Kind.TheVariants.{Guarded};
@@ -11,7 +11,7 @@ ghost use Rattle.region_book.specs.RegionRecords.{Book, IsBook, IsEachOnce, Regi
 use phys_mem::memory_law;
 
 /// In a sound book no byte of a live region stands where another byte of it stands, nor where one of another live region
-/// does; so a write to one region leaves every byte of all others.
+/// does; so a write to one region leaves every byte of all others. Each region of the list is the one of its identifier.
 pub fn apart_law()
     ensures within { (book : Book) (id a b : ℕ) (r : Region) → IsBook book → region_of book id ≡ Some r
         → a < r.size → b < r.size → a ≢ b → byte_place r a ≢ byte_place r b }
@@ -21,6 +21,8 @@ pub fn apart_law()
     ensures stays { (book : Book) (id other offset b : ℕ) (r q : Region) (m bytes : List ℕ) → IsBook book → id ≢ other
         → region_of book id ≡ Some r → region_of book other ≡ Some q → offset + length bytes ≤ r.size → b < q.size
         → byte_at (stored m (region_stores r offset bytes)) (byte_place q b) ≡ byte_at m (byte_place q b) }
+    ensures listed { (book : Book) (k : ℕ) (d : Region) → IsBook book → k < length book.regions
+        → region_of book (slice_index_or book.regions k d).id ≡ Some (slice_index_or book.regions k d) }
 {
     memory_law();
 }

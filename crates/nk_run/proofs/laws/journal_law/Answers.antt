@@ -11,6 +11,11 @@ returns c o input plan steps admitted in_form most =
       zeroed = c.frame_law.ensures.byte_zeroed;
       zeroed_elsewhere = c.frame_law.ensures.byte_zeroed_elsewhere;
       size_zeroed = c.frame_law.ensures.length_zeroed;
+      regions = record {
+        within = c.apart_law.ensures.within;
+        between = c.apart_law.ensures.between;
+        listed = c.apart_law.ensures.listed;
+      };
     })
     (record {
       declared = c.accepted_law.ensures.declared;
