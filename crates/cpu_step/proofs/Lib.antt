@@ -5,4 +5,5 @@ pub mod PageFetches
 pub mod PendingVectors
 pub mod StoresOfTurns
 pub mod TurnLemmas
+mod WorkedTurns
 pub mod WordBytes

@@ -34,7 +34,8 @@ decided_by Short tlb more = more
 decided_by TooLong tlb more = refused (General 0) tlb
 decided_by Unknown tlb more = refused Opcode tlb
 
--- the fetch goes on behind these bytes, with at most so many more
+-- the fetch goes on behind these bytes, with at most so many more; `decoded_of` is the one answer to the bytes that the
+-- relation `Decodes` allows (`fetch_law`)
 abbrev pub fetched_from : ℕ → List ℕ → View → ℕ → List ℕ → Translations → Outcome Fault Fetched
 fetched_from zero m view rip bytes tlb = refused (General 0) tlb
 fetched_from (suc left) m view rip bytes tlb =
