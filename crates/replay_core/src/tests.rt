@@ -378,3 +378,25 @@ fn a_long_line_stops(rt: HostRuntime) -> Result<(), Fail> {
     }
     Ok(())
 }
+
+/// So many lines of a call that names the handler 0.
+fn many_calls(alloc: Global, count: usize) -> Result<Vec<u8>, AllocError> {
+    let mut text = Vec::new(alloc);
+    for _ in 0..count {
+        text.extend_from_slice(b"k 1 0 0 0 0 - 0 -\n")?;
+    }
+    Ok(text)
+}
+
+/// A journal may hold many calls: nothing but memory bounds their number.
+#[test]
+fn many_calls_are_made(rt: HostRuntime) -> Result<(), Fail> {
+    let handler = State {
+        trap: 0,
+        slot: 0,
+        ..OPENING
+    };
+    let journal = many_calls(rt.alloc(), 5_000)?;
+    assert_eq!(rt; replayed(rt.alloc(), &journal), Some((None, handler)));
+    Ok(())
+}
