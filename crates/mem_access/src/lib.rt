@@ -19,6 +19,8 @@ mod bytes;
 mod plan_tests;
 mod rights;
 #[cfg(test)]
+mod rights_tests;
+#[cfg(test)]
 mod tests;
 
 pub use access::{check_store, commit, fetch_byte, fetch_place, load, store};

@@ -13,11 +13,11 @@ unguarded_region : (kinds : List Kind) (ledger : Ledger) (r : Region) (f : ℕ) 
     → ledger.book.regions ≡ r ∷ regions → r.frames ≡ f ∷ frames → kind_of kinds f ≢ Guarded → IsKept kinds ledger → ⊥
 unguarded_region kinds ledger r f regions frames lives lies other kept =
     let each : All (λ (it : Region). All (λ g. kind_of kinds g ≡ Guarded) it.frames) (r ∷ regions) =
-        subst (λ (rs : List Region). All (λ (it : Region). All (λ g. kind_of kinds g ≡ Guarded) it.frames) rs) lives kept.frames in
+    subst (λ (rs : List Region). All (λ (it : Region). All (λ g. kind_of kinds g ≡ Guarded) it.frames) rs) lives kept.frames in
     let here : All (λ g. kind_of kinds g ≡ Guarded) r.frames =
-        All-head (λ (it : Region). All (λ g. kind_of kinds g ≡ Guarded) it.frames) r regions each in
+    All-head (λ (it : Region). All (λ g. kind_of kinds g ≡ Guarded) it.frames) r regions each in
     let all : All (λ g. kind_of kinds g ≡ Guarded) (f ∷ frames) =
-        subst (λ (fs : List ℕ). All (λ g. kind_of kinds g ≡ Guarded) fs) lies here in
+    subst (λ (fs : List ℕ). All (λ g. kind_of kinds g ≡ Guarded) fs) lies here in
     other (All-head (λ g. kind_of kinds g ≡ Guarded) f frames all)
 
 -- a frame of the pool that isn't guarded

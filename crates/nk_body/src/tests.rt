@@ -12,8 +12,9 @@ ghost use Rattle.nk_body.specs.SourceWords.{sourced_of};
 use crate::{Kernel, Source};
 use boot_map::{Layout, prepare};
 use elf_image::Image;
-use nk_bits::{Answer, CallWords, Kind};
+use nk_bits::{Answer, CallWords, Kind, canonical};
 use page_desc::Frames;
+use page_walk::walk;
 use phys_mem::PhysMem;
 use region_book::Region;
 use std::alloc::{AllocError, Global};
@@ -73,29 +74,87 @@ fn open(alloc: Global, frames: u32) -> Option<Opened>
     }
 }
 
-/// A call by its number and its first three arguments; of call 9 the last is the number of bytes, and the source's address
-/// is 0; of call 7 it is the place that the region is to have.
+/// A call by its number and its first three arguments; of call 7 the last is the place that the region is to have, of call
+/// 9 the number of bytes. A source of at most 8 bytes are the gates' first, a longer one zeros of free frames; with NOWHERE
+/// beside the number it is at address 0, where no page is mapped.
 type Row = (u64, u64, u64, u64);
+
+const NOWHERE: u64 = 1 << 63;
+
+/// The gates' text, and frame 300 in the direct map.
+const TEXT: u64 = 0xFFFF_FF80_0000_1000;
+
+const ZEROS: u64 = 0xFFFF_8000_0012_C000;
+
+fn source_of(count: u64) -> u64 {
+    if count >= NOWHERE {
+        0
+    } else if count <= 8 {
+        TEXT
+    } else {
+        ZEROS
+    }
+}
 
 fn words(call: &Row) -> CallWords {
     CallWords {
         number: call.0,
         a: call.1,
         b: call.2,
-        c: if call.0 == 9 { 0 } else { call.3 },
-        d: if call.0 == 9 { call.3 } else { 4 },
+        c: if call.0 == 9 {
+            source_of(call.3)
+        } else {
+            call.3
+        },
+        d: if call.0 == 9 { call.3 % NOWHERE } else { 4 },
     }
 }
 
+/// The byte at an address, by the walk of its page; None where no page is mapped.
+fn byte_at(mem: &PhysMem, root: u32, va: u64) -> Option<u8> {
+    if !canonical(va) || root >= mem.frames() {
+        return None;
+    }
+    let Ok(leaf) = walk(mem, root, va) else {
+        return None;
+    };
+    let at = 4096 * u64::from(leaf.frame) + va % 4096;
+    if at < 4096 * u64::from(mem.frames()) {
+        Some(mem.load8(at))
+    } else {
+        None
+    }
+}
+
+/// So many bytes from an address on; None where one can't be read, and for want of memory.
+fn bytes_at(alloc: Global, mem: &PhysMem, root: u32, va: u64, count: u64) -> Option<Vec<u8>> {
+    let mut bytes = Vec::new(alloc);
+    for offset in 0..count {
+        let Some(at) = va.checked_add(offset) else {
+            return None;
+        };
+        let Some(byte) = byte_at(mem, root, at) else {
+            return None;
+        };
+        let Ok(()) = bytes.push(byte) else {
+            return None;
+        };
+    }
+    Some(bytes)
+}
+
 /// What was read for a call that takes so many bytes.
-fn read<'s>(wanted: Option<u64>, data: &'s [u8], readable: bool) -> Source<'s>
+fn read<'s>(wanted: Option<u64>, data: &'s Option<Vec<u8>>) -> Source<'s>
     ensures { IsSourceOf wanted (sourced_of result) }
 {
-    match wanted {
-        None => Source::NotTaken,
-        Some(count) => {
-            if readable && count <= data.len() as u64 {
-                Source::Bytes(&data[..count as usize])
+    let Some(count) = wanted else {
+        return Source::NotTaken;
+    };
+    match data {
+        None => Source::Unreadable,
+        Some(bytes) => {
+            if count <= bytes.len() as u64 {
+                Source::Bytes(&bytes[..count as usize])
             } else {
                 Source::Unreadable
             }
@@ -103,13 +162,8 @@ fn read<'s>(wanted: Option<u64>, data: &'s [u8], readable: bool) -> Source<'s>
     }
 }
 
-fn serve(
-    kernel: &mut Kernel,
-    mem: &mut PhysMem,
-    call: &Row,
-    data: &[u8],
-    readable: bool,
-) -> Option<Answer>
+/// Makes a call, the source of which is read in memory.
+fn serve(alloc: Global, kernel: &mut Kernel, mem: &mut PhysMem, call: &Row) -> Option<Answer>
     requires { AreBooks kernel.old mem.old }
     ensures { AreBooks kernel.new mem.new }
 {
@@ -117,8 +171,12 @@ fn serve(
         return None;
     }
     let call = words(call);
-    let source = read(kernel.wants(&call), data, readable);
-    Some(kernel.serve(mem, &call, source))
+    let wanted = kernel.wants(&call);
+    let data = match wanted {
+        None => None,
+        Some(count) => bytes_at(alloc, mem, kernel.root(), call.c, count),
+    };
+    Some(kernel.serve(mem, &call, read(wanted, &data)))
 }
 
 /// Every translation goes where one of these is accepted; the number of a rule is at most 27.
@@ -138,14 +196,13 @@ fn answered(call: &Row, value: u64) -> Answer {
     }
 }
 
-/// Makes the calls in turn, to the first that isn't answered by the number beside it; gives how many were. The source of a
-/// call can be read, but for one that is to be answered 22.
-fn play(kernel: &mut Kernel, mem: &mut PhysMem, data: &[u8], rows: &[(Row, u64)]) -> usize
+/// Makes the calls in turn, to the first that isn't answered by the number beside it; gives how many were.
+fn play(alloc: Global, kernel: &mut Kernel, mem: &mut PhysMem, rows: &[(Row, u64)]) -> usize
     requires books { AreBooks kernel.old mem.old }
     ensures books { AreBooks kernel.new mem.new }
 {
     for (index, (call, value)) in rows.iter().enumerate() {
-        if serve(kernel, mem, call, data, *value != 22) != Some(answered(call, *value)) {
+        if serve(alloc, kernel, mem, call) != Some(answered(call, *value)) {
             return index;
         }
     }
@@ -194,16 +251,13 @@ fn seen(kernel: &Kernel, mem: &PhysMem, answered: usize) -> State {
     }
 }
 
-fn played(alloc: Global, data: &[u8], rows: &[(Row, u64)]) -> Option<State> {
+fn played(alloc: Global, rows: &[(Row, u64)]) -> Option<State> {
     let Some(mut it) = open(alloc, 512) else {
         return None;
     };
-    let answered = play(&mut it.kernel, &mut it.mem, data, rows);
+    let answered = play(alloc, &mut it.kernel, &mut it.mem, rows);
     Some(seen(&it.kernel, &it.mem, answered))
 }
-
-/// The bytes of the sources.
-const BYTES: [u8; 8] = [1, 2, 3, 4, 5, 6, 7, 8];
 
 /// The opening's leaf of frame 71: P, R/W, A, D and XD.
 const WRITABLE: u64 = 0x8000_0000_0004_7063;
@@ -242,7 +296,7 @@ const HANDLERS: [(u64, u64, u64); 7] = [
 fn a_handler_of_the_opening(rt: HostRuntime) {
     for (a, value, trap) in HANDLERS {
         assert_eq!(rt;
-            played(rt.alloc(), &BYTES, &[((1, a, 2, 3), value)]),
+            played(rt.alloc(), &[((1, a, 2, 3), value)]),
             Some(expected(1, trap, WRITABLE, Kind::Data)),
             "{a:x}"
         );
@@ -257,7 +311,7 @@ fn a_refused_call_keeps_the_handler_that_was_set(rt: HostRuntime) {
         ((10, 0x1000, 2, 3), 1),
     ];
     assert_eq!(rt;
-        played(rt.alloc(), &BYTES, &rows),
+        played(rt.alloc(), &rows),
         Some(expected(3, 0x40_1000, WRITABLE, Kind::Data))
     );
 }
@@ -314,7 +368,7 @@ const REFUSED: [(Row, u64); 42] = [
 #[test]
 fn refused_calls_change_nothing(rt: HostRuntime) {
     assert_eq!(rt;
-        played(rt.alloc(), &BYTES, &REFUSED),
+        played(rt.alloc(), &REFUSED),
         Some(expected(REFUSED.len(), HALTS, WRITABLE, Kind::Data))
     );
 }
@@ -337,11 +391,11 @@ const TABLE: [(Row, u64); 11] = [
 #[test]
 fn a_table_is_declared_and_removed(rt: HostRuntime) {
     assert_eq!(rt;
-        played(rt.alloc(), &BYTES, &TABLE),
+        played(rt.alloc(), &TABLE),
         Some(expected(TABLE.len(), HALTS, READABLE, Kind::Data))
     );
     assert_eq!(rt;
-        played(rt.alloc(), &BYTES, &TABLE[..7]),
+        played(rt.alloc(), &TABLE[..7]),
         Some(expected(7, HALTS, READABLE, Kind::Table(1)))
     );
 }
@@ -369,7 +423,7 @@ fn another_root_is_loaded(rt: HostRuntime) {
         root: 71,
         ..expected(ROOTS.len(), HALTS, READABLE, Kind::Table(4))
     };
-    assert_eq!(rt; played(rt.alloc(), &BYTES, &ROOTS), Some(left));
+    assert_eq!(rt; played(rt.alloc(), &ROOTS), Some(left));
 }
 
 /// The pool's first linear address.
@@ -381,7 +435,7 @@ const ONCE: [(Row, u64); 9] = [
     ((9, 256, 0, 4), 0),
     ((9, 256, 3, 2), 24),
     ((9, 256, 4, 2), 0),
-    ((9, 256, 6, 1), 22),
+    ((9, 256, 6, NOWHERE + 1), 22),
     ((9, 256, 6, 0), 21),
     ((9, 300, 0, 1), 19),
     ((7, 16, 5, 0), 16),
@@ -395,10 +449,10 @@ const TAIL: [(Row, u64); 9] = [
     ((9, 256, 5, 3), 0),
     ((9, 256, 8, 1), 21),
     ((9, 256, 5, 1), 25),
-    ((9, 256, 5, 1), 22),
+    ((9, 256, 5, NOWHERE + 1), 22),
     ((7, 8, 3, POOL + 16), 257),
     ((9, 257, 0, 1), 23),
-    ((9, 257, 0, 1), 22),
+    ((9, 257, 0, NOWHERE + 1), 22),
 ];
 
 /// The pool is full, and a region is let go.
@@ -431,23 +485,23 @@ fn regions_of_the_pool(rt: HostRuntime) {
     let once = State {
         next: 257,
         regions: 1,
-        pool: 0x0201_0403_0201,
+        pool: 0xFA9C_8949_FA9C,
         ..expected(ONCE.len(), HALTS, WRITABLE, Kind::Data)
     };
-    assert_eq!(rt; played(rt.alloc(), &BYTES, &ONCE), Some(once));
+    assert_eq!(rt; played(rt.alloc(), &ONCE), Some(once));
     let tail = State {
         next: 258,
         regions: 2,
-        pool: 0x0302_0105_0403_0201,
+        pool: 0x49FA_9CE2_8949_FA9C,
         ..expected(TAIL.len(), HALTS, WRITABLE, Kind::Data)
     };
-    assert_eq!(rt; played(rt.alloc(), &BYTES, &TAIL), Some(tail));
+    assert_eq!(rt; played(rt.alloc(), &TAIL), Some(tail));
     let full = State {
         next: 258,
         regions: 1,
         ..expected(FULL.len(), HALTS, WRITABLE, Kind::Data)
     };
-    assert_eq!(rt; played(rt.alloc(), &BYTES, &FULL), Some(full));
+    assert_eq!(rt; played(rt.alloc(), &FULL), Some(full));
 }
 
 #[test]
@@ -457,7 +511,7 @@ fn a_page_is_declared(rt: HostRuntime) {
         regions: 1,
         ..expected(DECLARED.len(), HALTS, READABLE, Kind::Guarded)
     };
-    assert_eq!(rt; played(rt.alloc(), &BYTES, &DECLARED), Some(left));
+    assert_eq!(rt; played(rt.alloc(), &DECLARED), Some(left));
 }
 
 /// Regions of a byte each, to the first call that isn't answered by the next identifier, and then these calls.
@@ -468,11 +522,11 @@ fn filled(alloc: Global, rows: &[(Row, u64)]) -> Option<(u64, State)> {
     let mut made = 0;
     for k in 0..300u64 {
         let row = ((7, 1, 1, POOL + 16 * k), 256 + k);
-        if play(&mut it.kernel, &mut it.mem, &BYTES, &[row]) == 1 {
+        if play(alloc, &mut it.kernel, &mut it.mem, &[row]) == 1 {
             made = k + 1;
         }
     }
-    let answered = play(&mut it.kernel, &mut it.mem, &BYTES, rows);
+    let answered = play(alloc, &mut it.kernel, &mut it.mem, rows);
     Some((made, seen(&it.kernel, &it.mem, answered)))
 }
 
@@ -503,15 +557,15 @@ fn pages_declared(alloc: Global, rows: &[(Row, u64)]) -> Option<(u64, State)> {
     let mut made = 0;
     for frame in 71..207u64 {
         let row = ((3, 70, frame, 0x8000_0000_0000_0021 + 4096 * frame), 0);
-        let _answered = play(&mut it.kernel, &mut it.mem, &BYTES, &[row]);
+        let _answered = play(alloc, &mut it.kernel, &mut it.mem, &[row]);
     }
     for k in 0..9u64 {
         let row = ((6, PAGE + 0x1_0000 * k, 0x1_0000, 2), 256 + k);
-        if play(&mut it.kernel, &mut it.mem, &BYTES, &[row]) == 1 {
+        if play(alloc, &mut it.kernel, &mut it.mem, &[row]) == 1 {
             made = k + 1;
         }
     }
-    let answered = play(&mut it.kernel, &mut it.mem, &BYTES, rows);
+    let answered = play(alloc, &mut it.kernel, &mut it.mem, rows);
     Some((made, seen(&it.kernel, &it.mem, answered)))
 }
 
@@ -529,7 +583,7 @@ fn at_most_128_pages_are_declared(rt: HostRuntime) {
         next: 265,
         regions: 9,
         records: 1,
-        pool: 0x0807_0605_0403_0201,
+        pool: 0xC020_0FE2_8949_FA9C,
         ..expected(rows.len(), HALTS, READABLE, Kind::Guarded)
     };
     assert_eq!(rt; pages_declared(rt.alloc(), &rows), Some((8, left)));
@@ -555,14 +609,10 @@ fn record(kernel: &Kernel, i: u64) -> Option<Noted> {
 }
 
 fn log_filled(alloc: Global) -> Option<Told> {
-    let mut data = Vec::new(alloc);
-    let Ok(()) = data.resize(40_000, 0x5A) else {
-        return None;
-    };
     let Some(mut it) = open(alloc, 512) else {
         return None;
     };
-    let answered = play(&mut it.kernel, &mut it.mem, &data, &LOGGED);
+    let answered = play(alloc, &mut it.kernel, &mut it.mem, &LOGGED);
     Some((
         answered,
         it.kernel.log().room(),
@@ -628,7 +678,7 @@ fn counts_stay(alloc: Global, frames: u32, rows: &[(Row, u64)]) -> Option<(usize
     let Some(mut it) = open(alloc, frames) else {
         return None;
     };
-    let answered = play(&mut it.kernel, &mut it.mem, &BYTES, rows);
+    let answered = play(alloc, &mut it.kernel, &mut it.mem, rows);
     let Ok(kinds) = kinds(alloc, &it.kernel) else {
         return None;
     };

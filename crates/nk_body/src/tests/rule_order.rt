@@ -4,7 +4,7 @@
 ghost use Rattle.std.specs.Prelude.{◌≡◌};
 
 use super::{
-    BYTES, LOGGED, PAGE, POOL, READABLE, Row, WRITABLE, filled, open, pages_declared, play,
+    LOGGED, NOWHERE, PAGE, POOL, READABLE, Row, WRITABLE, filled, open, pages_declared, play,
 };
 use std::alloc::{AllocError, Global};
 use std::test::Fail;
@@ -89,11 +89,11 @@ const WRITES: [(Row, u64); 13] = [
     ((9, 256, 0, 4), 0),
     ((9, 259, 0, 0), 19), // 21
     ((9, 256, 0, 17), 21), // 24
-    ((9, 256, 0, 1), 22), // 24
+    ((9, 256, 0, NOWHERE + 1), 22), // 24
     ((9, 257, 1, 16), 21), // 25
-    ((9, 257, 1, 1), 22), // 25
+    ((9, 257, 1, NOWHERE + 1), 22), // 25
     ((9, 258, 0, 17), 21), // 23
-    ((9, 258, 0, 1), 22), // 23
+    ((9, 258, 0, NOWHERE + 1), 22), // 23
     ((8, 256, 0, 0), 0),
     ((9, 256, 0, 17), 19), // 21
 ];
@@ -101,7 +101,7 @@ const WRITES: [(Row, u64); 13] = [
 /// The log is full.
 const LOG: [(Row, u64); 2] = [
     ((9, 256, 32_745, 1), 21), // 26
-    ((9, 256, 0, 1), 22), // 26
+    ((9, 256, 0, NOWHERE + 1), 22), // 26
 ];
 
 /// How many of the calls are answered as they should be, to the first that isn't.
@@ -109,22 +109,18 @@ fn answered(alloc: Global, rows: &[(Row, u64)]) -> Option<usize> {
     let Some(mut it) = open(alloc, 512) else {
         return None;
     };
-    Some(play(&mut it.kernel, &mut it.mem, &BYTES, rows))
+    Some(play(alloc, &mut it.kernel, &mut it.mem, rows))
 }
 
 /// How many are once the log is full.
 fn answered_with_full_log(alloc: Global, rows: &[(Row, u64)]) -> Option<usize> {
-    let mut data = Vec::new(alloc);
-    let Ok(()) = data.resize(40_000, 0x5A) else {
-        return None;
-    };
     let Some(mut it) = open(alloc, 512) else {
         return None;
     };
-    if play(&mut it.kernel, &mut it.mem, &data, &LOGGED) != LOGGED.len() {
+    if play(alloc, &mut it.kernel, &mut it.mem, &LOGGED) != LOGGED.len() {
         return None;
     }
-    Some(play(&mut it.kernel, &mut it.mem, &data, rows))
+    Some(play(alloc, &mut it.kernel, &mut it.mem, rows))
 }
 
 /// So many regions of a byte each behind eight that were declared, and then a declaration where neither a region nor a
