@@ -105,7 +105,8 @@ frames_from at page (suc n) = joined (at page) (frames_from at (page + 1) n)
 -- two places of the list hold the same frame
 unfoldable pub has_twice : List ℕ → Bool
 has_twice frames =
-    list_any (λ i. list_any (λ j. slice_index frames i == slice_index frames j) (range_with_len 0 i)) (range_with_len 0 (length frames))
+    list_any (λ i. list_any (λ j. slice_index frames i == slice_index frames j) (range_with_len 0 i))
+    (range_with_len 0 (length frames))
 
 -- the range is out of bounds, or not of whole, mapped pages of distinct frames
 abbrev pub is_bad_range : ℕ → ℕ → Bool

@@ -84,7 +84,8 @@ pub record IsRegion (next : ℕ) (r : Region) : Type 0 where
 
 -- two regions of the pool don't meet, and two that were declared have no frame in common
 pub record IsApart (one other : Region) : Type 0 where
-  pub pool : one.pooled ≡ true → other.pooled ≡ true → (one.first + one.size ≤ other.first) ⊎ (other.first + other.size ≤ one.first)
+  pub pool : one.pooled ≡ true → other.pooled ≡ true
+      → (one.first + one.size ≤ other.first) ⊎ (other.first + other.size ≤ one.first)
   pub pages : one.pooled ≡ false → other.pooled ≡ false → All (λ f. All (λ g. f ≢ g) other.frames) one.frames
 
 -- the pages of a region that was declared
