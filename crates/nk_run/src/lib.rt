@@ -1,8 +1,7 @@
 //! The top call: reads the words, fetches what they name from a shelf of files or makes it, judges the
 //! image, shows what was asked of it, runs it, or makes a run's calls again, and writes one text to a sink.
 //! Its promises are `specs/Clauses`, over the outcome of `specs/Outcome`. It touches the outside through
-//! the shelf and the sink alone; the machine's files and standard output it leaves to the program. Floor:
-//! program.
+//! the shelf and the sink alone, which `nk_program` makes those of the machine. Floor: program.
 #![tactic(auto)]
 
 // The words.
@@ -38,8 +37,12 @@ mod answer;
 mod laws;
 mod top;
 
+// The whole over the machine.
+mod program;
+
 pub use crate::command_line::{Command, Role};
 pub use crate::image::FILE_LIMIT;
+pub use crate::program::nk_program;
 pub use crate::top::nk_main;
 
 #[cfg(test)]
