@@ -1,6 +1,6 @@
 //! Regions of the pool in a memory of 32 frames. The pool's 65,536 bytes stand in frames 10 to 25, from A000 on.
 
-ghost use Rattle.std.specs.Prelude.{◌≡◌, ◌<◌, ◌≤◌, ◌+◌, ◌*◌, All, IfSome, length, true};
+ghost use Rattle.std.specs.Prelude.{◌≡◌, ◌<◌, ◌≤◌, ◌+◌, ◌*◌, All, IfSome, IsSome, length, true};
 ghost use Rattle.region_book.specs.RegionRecords.{IsBook, region_of};
 
 use crate::Regions;
@@ -99,8 +99,19 @@ fn write(regions: &mut Regions, mem: &mut PhysMem, id: u64, offset: u32, count: 
     true
 }
 
+/// Whether a range, which may be empty, ends within a live region.
+fn ends_within(regions: &Regions, id: u64, offset: u32, length: u32) -> bool
+    ensures live { result ≡ true → IsSome (region_of regions.now id) }
+    ensures within { result ≡ true → IfSome (region_of regions.now id) (λ r. offset + length ≤ r.size) }
+{
+    match regions.find(id) {
+        Some(region) => u64::from(offset) + u64::from(length) <= u64::from(region.size),
+        None => false,
+    }
+}
+
 fn written(regions: &Regions, id: u64, offset: u32, length: u32) -> bool {
-    regions.fits(id, u64::from(offset), u64::from(length)) && regions.written(id, offset, length)
+    ends_within(regions, id, offset, length) && regions.written(id, offset, length)
 }
 
 fn byte(regions: &Regions, mem: &PhysMem, id: u64, offset: u32) -> u8
@@ -213,7 +224,7 @@ fn refused_calls_take_no_identifier(rt: HostRuntime) {
 }
 
 /// Offset 16 of region 257 begins frame 11; its bit 16 is bit 4096 of all.
-const BORDERS: [Step; 28] = [
+const BORDERS: [Step; 29] = [
     Step::Alloc(4080, 1, Ok((256, 0))),
     Step::Alloc(40, 2, Ok((257, 4080))),
     Step::Write(257, 15, 2, true),
@@ -228,6 +239,7 @@ const BORDERS: [Step; 28] = [
     Step::Written(257, 0, 15, false),
     Step::Written(257, 0, 16, true),
     Step::Written(257, 16, 1, true),
+    Step::Written(257, 16, 0, false),
     Step::Written(257, 17, 23, false),
     Step::Write(257, 24, 16, true),
     Step::Written(257, 17, 7, false),
@@ -246,7 +258,7 @@ const BORDERS: [Step; 28] = [
 
 #[test]
 fn bytes_are_written_across_borders(rt: HostRuntime) {
-    assert_eq!(rt; play(rt.alloc(), &BORDERS), 28);
+    assert_eq!(rt; play(rt.alloc(), &BORDERS), 29);
 }
 
 /// A region in the place of one that was written and let go.
