@@ -295,6 +295,24 @@ fn the_machine_s_files_are_fetched(rt: HostRuntime) -> Result<(), Fail> {
     Ok(())
 }
 
+// Many blocks of reads: nothing but memory and the caller's limit bounds a file.
+#[test]
+fn a_long_file_is_fetched(rt: HostRuntime) -> Result<(), Fail> {
+    let alloc = rt.alloc();
+    let zeros = vec![in alloc; 0; 1_000_000]?;
+    fs::write(&rt, "long.tmp", zeros.as_slice())?;
+    let mut shelf = FileShelf::new(&rt);
+    let file = fetch(&mut shelf, alloc, "long.tmp", 1_000_000);
+    fs::remove_file(&rt, "long.tmp")?;
+    assert_eq!(rt; file?.as_slice(), zeros.as_slice());
+    let mut files = Vec::new(alloc);
+    files.push(named(alloc, "long", &zeros)?)?;
+    let mut held = MemShelf::new(alloc, files, Vec::new(alloc))?;
+    let file = fetch(&mut held, alloc, "long", 1_000_000)?;
+    assert_eq!(rt; file.as_slice(), zeros.as_slice());
+    Ok(())
+}
+
 #[test]
 fn standard_output_takes_bytes(rt: HostRuntime) {
     let mut out = StdSink::new(&rt);
