@@ -1,10 +1,15 @@
 //! What follows from the definitions: the invariant holds in every state of every run, and what it holds of is safe.
 
-ghost use Rattle.std.specs.Prelude.{◌≡◌, ℕ, ◌^◌, ◌<◌, List, length, false, true};
+ghost use Rattle.std.specs.Prelude.{◌≡◌, ◌⊎◌, ℕ, ◌^◌, ◌<◌, ◌≤◌, List, length, false, true};
 ghost use Rattle.irq_plan.specs.declared.event.Event.{Event};
 ghost use Rattle.irq_plan.specs.declared.event.What.{What};
 ghost use Rattle.irq_plan.specs.PlannedEvents.{IsPlan, IsPlannable};
 ghost use Rattle.nk_bits.specs.Accesses.{wp_of};
+ghost use Rattle.nk_bits.specs.EntryForms.{has_form, has_leaf_form, has_table_form};
+ghost use Rattle.nk_bits.specs.Kinds.{kind_of, level_of};
+ghost use Rattle.nk_bits.specs.Paging.{is_present};
+ghost use Rattle.phys_mem.specs.Memory.{entry_in};
+ghost use Rattle.boot_map.specs.KernelSlot.{IsNamedIn};
 ghost use Rattle.cpu_step.specs.Processor.{IsSound};
 ghost use Rattle.cpu_step.specs.Turns.{enters_body};
 ghost use Rattle.nk_body.specs.NestedRecord.{AreBooks, Books};
@@ -132,3 +137,21 @@ pub fn shown_law()
 pub fn moves_law()
     ensures { (plan : List Event) (s : MachineState) → Counts plan (move_of plan s) s (next plan s) }
 {}
+
+/// In a guarded state, as every state of every run of an admitted image is, each present entry of a page table has the
+/// form of its level: of the tables by kind, linked or not, and of the kernel slot's own. Of these frame 6 is of level 3,
+/// frames 7 and 9 are of level 2, and frame 8 and each frame that a present entry of frame 9 names are of level 1.
+pub fn entry_forms_law()
+    ensures tables { (o : Opening) (s : MachineState) (f i : ℕ) → IsAdmitted o → IsGuarded o s → i < 512
+        → 1 ≤ level_of (kind_of s.kinds f) → is_present (entry_in s.memory f i) ≡ true
+        → (level_of (kind_of s.kinds f) ≤ 4) × (has_form (level_of (kind_of s.kinds f)) (entry_in s.memory f i) ≡ true) }
+    ensures slot_links { (o : Opening) (s : MachineState) (f i : ℕ) → IsAdmitted o → IsGuarded o s → i < 512
+        → (f ≡ 6) ⊎ ((f ≡ 7) ⊎ (f ≡ 9)) → is_present (entry_in s.memory f i) ≡ true
+        → has_table_form (entry_in s.memory f i) ≡ true }
+    ensures slot_leaves { (o : Opening) (s : MachineState) (f i : ℕ) → IsAdmitted o → IsGuarded o s → i < 512
+        → (f ≡ 8) ⊎ IsNamedIn (entry_in s.memory) 9 f → is_present (entry_in s.memory f i) ≡ true
+        → has_leaf_form (entry_in s.memory f i) ≡ true }
+{
+    sound_law();
+    opening_entries_law();
+}

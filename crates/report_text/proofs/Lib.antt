@@ -7,3 +7,4 @@ pub mod LineParts
 pub mod ListedLines
 pub mod TakenUp
 pub mod LedgerLines
+mod WorkedLines
