@@ -1,7 +1,6 @@
 //! Prefixes, forms of ModRM and immediates. The bytes of a form are an assembler's, whose notation stands beside them.
 
 use super::*;
-use std::process::Abort;
 
 /// ModRM, SIB and displacement; REX; and what they name: reg, base, index, scale and displacement.
 type Form = (&'static [u8], u8, u8, Option<u8>, Option<u8>, u8, u64);
@@ -23,69 +22,75 @@ static FORMS: [Form; 13] = [
     (&[0x7C, 0x2C, 1], 0, 7, Some(4), Some(5), 1, 1),                                    // mov edi, [rsp+rbp*1+1]
 ];
 
-/// The bytes are this form to their last, and each cut of them is none.
-fn compare(rt: &impl Abort, bytes: &[u8], rex: u8, reg: u8, place: Place) {
-    assert!(rt; bytes.len() <= 15);
-    assert!(rt; (rex == 0) | ((0x40 <= rex) & (rex < 0x50)));
-    let length = bytes.len() as u8;
-    assert_eq!(rt;
-        modrm(bytes, rex),
-        Some(ModRm { reg, place, length }),
-        "{bytes:?}"
-    );
-    for size in 0..bytes.len() {
-        assert!(rt; modrm(&bytes[..size], rex) == None, "{size} of {bytes:?}");
+/// Whether the bytes are this form to their last, and each cut of them is none.
+fn is_form(bytes: &[u8], rex: u8, reg: u8, place: Place) -> bool {
+    let is_rex = (rex == 0) | ((0x40 <= rex) & (rex < 0x50));
+    if bytes.len() > 15 || !is_rex {
+        return false;
     }
+    let length = bytes.len() as u8;
+    for size in 0..bytes.len() {
+        if modrm(&bytes[..size], rex) != None {
+            return false;
+        }
+    }
+    modrm(bytes, rex) == Some(ModRm { reg, place, length })
+}
+
+/// The index of the first form that isn't so.
+fn first_wrong(forms: &[Form]) -> Option<usize> {
+    for (index, form) in forms.iter().enumerate() {
+        let (bytes, rex, reg, base, index_register, scale, disp) = *form;
+        let address = Address {
+            base,
+            index: index_register,
+            scale,
+            disp,
+            rip: false,
+        };
+        if !is_form(bytes, rex, reg, Place::Mem(address)) {
+            return Some(index);
+        }
+    }
+    None
 }
 
 #[test]
 fn base_index_scale_and_displacement(rt: HostRuntime) {
-    for (bytes, rex, reg, base, index, scale, disp) in FORMS {
-        let rip = false;
-        let address = Address {
-            base,
-            index,
-            scale,
-            disp,
-            rip,
-        };
-        compare(&rt, bytes, rex, reg, Place::Mem(address));
-    }
+    assert_eq!(rt; first_wrong(&FORMS), None);
 }
 
+/// A form that names something else is found, at its place, and so is one whose cut is a form.
 #[test]
-fn registers_and_relative_to_the_next_instruction(rt: HostRuntime) {
-    let relative = |disp: u64| Place::Mem(Address {
+fn wrong_forms_are_found(rt: HostRuntime) {
+    let right: Form = (&[0x03], 0, 0, Some(3), None, 1, 0);
+    let other: Form = (&[0x03], 0, 0, Some(2), None, 1, 0);
+    let longer: Form = (&[0x03, 0], 0, 0, Some(3), None, 1, 0);
+    assert_eq!(rt; first_wrong(&[right, other, right]), Some(1));
+    assert_eq!(rt; first_wrong(&[right, longer, right]), Some(1));
+}
+
+/// So far from the next instruction.
+fn relative(disp: u64) -> Place {
+    Place::Mem(Address {
         base: None,
         index: None,
         scale: 1,
         disp,
         rip: true,
-    });
+    })
+}
+
+#[test]
+fn registers_and_relative_to_the_next_instruction(rt: HostRuntime) {
     // mov eax, ebx; mov r15, r8; mov eax, [rip+0x12345678]; mov r10d, [rip-2], with and without REX.B
-    compare(&rt, &[0xC3], 0, 0, Place::Reg(3));
-    compare(&rt, &[0xF8], 0x4D, 15, Place::Reg(8));
-    compare(
-        &rt,
-        &[0x05, 0x78, 0x56, 0x34, 0x12],
-        0,
-        0,
-        relative(0x1234_5678),
-    );
-    compare(
-        &rt,
-        &[0x15, 0xFE, 0xFF, 0xFF, 0xFF],
-        0x44,
-        10,
-        relative(0xFFFF_FFFF_FFFF_FFFE),
-    );
-    compare(
-        &rt,
-        &[0x15, 0xFE, 0xFF, 0xFF, 0xFF],
-        0x45,
-        10,
-        relative(0xFFFF_FFFF_FFFF_FFFE),
-    );
+    assert!(rt; is_form(&[0xC3], 0, 0, Place::Reg(3)));
+    assert!(rt; is_form(&[0xF8], 0x4D, 15, Place::Reg(8)));
+    assert!(rt; is_form(&[0x05, 0x78, 0x56, 0x34, 0x12], 0, 0, relative(0x1234_5678)));
+    let below: &[u8] = &[0x15, 0xFE, 0xFF, 0xFF, 0xFF];
+    assert!(rt; is_form(below, 0x44, 10, relative(0xFFFF_FFFF_FFFF_FFFE)));
+    assert!(rt; is_form(below, 0x45, 10, relative(0xFFFF_FFFF_FFFF_FFFE)));
+    assert!(rt; !is_form(below, 0x44, 10, relative(0xFFFF_FFFE)));
 }
 
 #[test]

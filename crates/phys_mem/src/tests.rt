@@ -5,7 +5,6 @@ mod blocks;
 ghost use Rattle.std.specs.Prelude.{◌+◌, ◌≤◌, length};
 
 use super::*;
-use std::process::Abort;
 use std::test::Fail;
 
 #[test]
@@ -96,41 +95,60 @@ fn plain_store(plain: &mut [u8], at: usize, value: u64)
     }
 }
 
-fn apply(rt: &impl Abort, memory: &mut PhysMem, plain: &mut [u8], step: Step) {
-    assert_eq!(rt; 4096 * memory.frames() as usize, plain.len());
+/// Takes a step on both, if it lies inside.
+fn apply(memory: &mut PhysMem, plain: &mut [u8], step: Step) -> bool {
+    if 4096 * memory.frames() as usize != plain.len() {
+        return false;
+    }
     match step {
         Step::Byte(at, value) => {
-            assert!(rt; (at as usize) < plain.len());
+            if at as usize >= plain.len() {
+                return false;
+            }
             memory.store8(at as u64, value);
             plain[at as usize] = value;
         }
         Step::Word(at, value) => {
-            assert!(rt; at as usize + 8 <= plain.len());
+            if at as usize + 8 > plain.len() {
+                return false;
+            }
             memory.store64(at as u64, value);
             plain_store(plain, at as usize, value);
         }
         Step::Zero(frame) => {
-            assert!(rt; 4096 * frame as usize + 4096 <= plain.len());
+            if 4096 * frame as usize + 4096 > plain.len() {
+                return false;
+            }
             memory.zero_frame(frame as u32);
             for i in 0..4096 {
                 plain[4096 * frame as usize + i] = 0;
             }
         }
         Step::Lent(frame, at, value) => {
-            assert!(rt; at < 4096 && 4096 * frame as usize + 4096 <= plain.len());
+            if at >= 4096 || 4096 * frame as usize + 4096 > plain.len() {
+                return false;
+            }
             memory.frame_mut(frame as u32)[at as usize] = value;
             plain[4096 * frame as usize + at as usize] = value;
         }
     }
+    true
 }
 
-fn compare(rt: &impl Abort, memory: &PhysMem, plain: &[u8]) {
-    assert_eq!(rt; 4096 * memory.frames() as usize, plain.len());
-    for at in 0..plain.len() {
-        assert_eq!(rt; memory.load8(at as u64), plain[at]);
+/// The first place at which they differ; the length, where that isn't the same.
+fn first_other(memory: &PhysMem, plain: &[u8]) -> Option<usize> {
+    if 4096 * memory.frames() as usize != plain.len() {
+        return Some(plain.len());
     }
+    for at in 0..plain.len() {
+        if memory.load8(at as u64) != plain[at] {
+            return Some(at);
+        }
+    }
+    None
 }
 
+/// After the last step, bytes of zero are another program, which is found at the first byte that differs.
 #[test]
 fn memory_is_as_the_plain_program(rt: HostRuntime) -> Result<(), Fail> {
     let steps = [
@@ -147,8 +165,11 @@ fn memory_is_as_the_plain_program(rt: HostRuntime) -> Result<(), Fail> {
     let mut memory = PhysMem::new(rt.alloc(), 2)?;
     let mut plain = Vec::from_elem(rt.alloc(), 0u8, 8192)?;
     for step in steps {
-        apply(&rt, &mut memory, plain.as_mut_slice(), step);
-        compare(&rt, &memory, plain.as_slice());
+        assert!(rt; apply(&mut memory, plain.as_mut_slice(), step));
+        assert_eq!(rt; first_other(&memory, plain.as_slice()), None);
     }
+    let zeros = Vec::from_elem(rt.alloc(), 0u8, 8192)?;
+    assert_eq!(rt; first_other(&memory, zeros.as_slice()), Some(4089));
+    assert_eq!(rt; first_other(&memory, &zeros.as_slice()[..8191]), Some(8191));
     Ok(())
 }

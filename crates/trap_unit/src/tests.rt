@@ -12,7 +12,6 @@ use crate::{Shut, deliver};
 use nk_bits::Control;
 use phys_mem::{NoMemory, PhysMem};
 use std::alloc::Global;
-use std::process::Abort;
 use tlb_model::Tlb;
 use x86_regs::{Regs, Tables, with_register};
 
@@ -149,19 +148,7 @@ fn memory(alloc: Global) -> Result<PhysMem, NoMemory>
     Ok(mem)
 }
 
-/// From this machine, a delivery leaves what is told.
-fn compare(
-    rt: &impl Abort,
-    alloc: Global,
-    before: &Machine,
-    vector: u8,
-    code: Option<u64>,
-    after: &After,
-) {
-    assert_eq!(rt; run(alloc, before, vector, code), Some(*after));
-}
-
-/// Want of memory is None.
+/// What a delivery leaves of this machine. Want of memory is None.
 fn run(alloc: Global, before: &Machine, vector: u8, code: Option<u64>) -> Option<After> {
     let Ok(mut mem) = memory(alloc) else {
         return None;

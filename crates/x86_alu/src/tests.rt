@@ -4,10 +4,10 @@ mod products;
 mod shifts;
 mod sums;
 
+ghost use Rattle.std.specs.Prelude.{IfSome};
 ghost use Rattle.decode_fields.specs.Widths.{IsWidth};
 
 use crate::Out;
-use std::process::Abort;
 
 /// All of 64 bits.
 const ONES: u64 = u64::MAX;
@@ -22,10 +22,13 @@ fn out(value: u64, flags: u64) -> Out {
     Out { value, flags }
 }
 
-/// A row's width, in bits, which is one of the four.
-fn width_of(rt: &impl Abort, width: u8) -> u8
-    ensures { IsWidth result }
+/// A row's width, in bits, if it is one of the four.
+fn width_of(width: u8) -> Option<u8>
+    ensures { IfSome result IsWidth }
 {
-    assert!(rt; width == 8 || width == 16 || width == 32 || width == 64);
-    width
+    if width == 8 || width == 16 || width == 32 || width == 64 {
+        Some(width)
+    } else {
+        None
+    }
 }

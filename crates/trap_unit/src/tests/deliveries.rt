@@ -1,6 +1,6 @@
 //! Deliveries that are made.
 
-use super::{After, MACHINE, Machine, USER, WITHOUT_WP, at_handler, compare};
+use super::{After, MACHINE, Machine, USER, WITHOUT_WP, at_handler, run};
 
 #[test]
 fn frame_is_pushed_from_ss_to_rip(rt: HostRuntime) {
@@ -9,7 +9,7 @@ fn frame_is_pushed_from_ss_to_rip(rt: HostRuntime) {
         regs: at_handler(0xFFFF_FF80_0000_1040, 0xFFFF_FF80_0000_3FD8, 0x10),
         window: [0, 0x40_1234, 8, 0xED7, 0x40_0000_1008, 0x10],
     };
-    compare(&rt, rt.alloc(), &MACHINE, 0, None, &after);
+    assert_eq!(rt; run(rt.alloc(), &MACHINE, 0, None), Some(after));
 }
 
 #[test]
@@ -19,7 +19,7 @@ fn code_is_pushed_last(rt: HostRuntime) {
         regs: at_handler(0xFFFF_FF80_0000_10A8, 0xFFFF_FF80_0000_3FD0, 0x10),
         window: [0x1A, 0x40_1234, 8, 0xED7, 0x40_0000_1008, 0x10],
     };
-    compare(&rt, rt.alloc(), &MACHINE, 13, Some(0x1A), &after);
+    assert_eq!(rt; run(rt.alloc(), &MACHINE, 13, Some(0x1A)), Some(after));
 }
 
 #[test]
@@ -33,7 +33,7 @@ fn user_leaves_a_null_ss(rt: HostRuntime) {
         regs: at_handler(0xFFFF_FF80_0000_11B8, 0xFFFF_FF80_0000_3FD8, 0),
         window: [0, 0x40_1234, 0x1B, 0xED7, 0x40_0000_1008, 0x23],
     };
-    compare(&rt, rt.alloc(), &before, 47, None, &after);
+    assert_eq!(rt; run(rt.alloc(), &before, 47, None), Some(after));
 }
 
 #[test]
@@ -47,7 +47,7 @@ fn code_of_a_users_fault(rt: HostRuntime) {
         regs: at_handler(0xFFFF_FF80_0000_10A8, 0xFFFF_FF80_0000_3FD0, 0),
         window: [0, 0x40_1234, 0x1B, 0xED7, 0x40_0000_1008, 0x23],
     };
-    compare(&rt, rt.alloc(), &before, 13, Some(0), &after);
+    assert_eq!(rt; run(rt.alloc(), &before, 13, Some(0)), Some(after));
 }
 
 /// IST1 is FFFFFF800000400F, and then FFFFFF8000003FF8.
@@ -62,7 +62,7 @@ fn stack_is_aligned_down(rt: HostRuntime) {
         regs: at_handler(0xFFFF_FF80_0000_1040, 0xFFFF_FF80_0000_3FD8, 0x10),
         window: [0, 0x40_1234, 8, 0xED7, 0x40_0000_1008, 0x10],
     };
-    compare(&rt, rt.alloc(), &above, 0, None, &after);
+    assert_eq!(rt; run(rt.alloc(), &above, 0, None), Some(after));
     let below = Machine {
         changes: [(0x8424, 0xFFFF_FF80_0000_3FF8), (0, 0)],
         ..MACHINE
@@ -72,7 +72,7 @@ fn stack_is_aligned_down(rt: HostRuntime) {
         regs: at_handler(0xFFFF_FF80_0000_1040, 0xFFFF_FF80_0000_3FC8, 0x10),
         window: [8, 0xED7, 0x40_0000_1008, 0x10, 0, 0],
     };
-    compare(&rt, rt.alloc(), &below, 0, None, &after);
+    assert_eq!(rt; run(rt.alloc(), &below, 0, None), Some(after));
 }
 
 /// IST1 is 0.
@@ -87,7 +87,7 @@ fn pushes_wrap(rt: HostRuntime) {
         regs: at_handler(0xFFFF_FF80_0000_1040, 0xFFFF_FFFF_FFFF_FFD8, 0x10),
         window: [0, 0x40_1234, 8, 0xED7, 0x40_0000_1008, 0x10],
     };
-    compare(&rt, rt.alloc(), &before, 0, None, &after);
+    assert_eq!(rt; run(rt.alloc(), &before, 0, None), Some(after));
 }
 
 /// With WP clear the supervisor pushes to a page that isn't writable.
@@ -104,7 +104,7 @@ fn push_without_wp(rt: HostRuntime) {
         regs: at_handler(0xFFFF_FF80_0000_1040, 0xFFFF_FF80_0000_4FD8, 0x10),
         window: [0, 0x40_1234, 8, 0xED7, 0x40_0000_1008, 0x10],
     };
-    compare(&rt, rt.alloc(), &before, 0, None, &after);
+    assert_eq!(rt; run(rt.alloc(), &before, 0, None), Some(after));
 }
 
 /// Page 2 is the table of level 1, and the first push, 23, is its entry of page 1, which had none: frame 0, writable.
@@ -122,7 +122,7 @@ fn push_is_judged_over_those_before_it(rt: HostRuntime) {
         regs: at_handler(0xFFFF_FF80_0000_1040, 0xFFFF_FF80_0000_1FE8, 0),
         window: [0, 0, 0, 0x40_1234, 0x1B, 0xED7],
     };
-    compare(&rt, rt.alloc(), &before, 0, None, &after);
+    assert_eq!(rt; run(rt.alloc(), &before, 0, None), Some(after));
 }
 
 /// A gate's bits that aren't looked at, and its address in three parts.
@@ -140,5 +140,5 @@ fn gate_has_other_bits(rt: HostRuntime) {
         regs: at_handler(0xFFFF_FF80_1234_5678, 0xFFFF_FF80_0000_3FD8, 0x10),
         window: [0, 0x40_1234, 8, 0xED7, 0x40_0000_1008, 0x10],
     };
-    compare(&rt, rt.alloc(), &before, 0, None, &after);
+    assert_eq!(rt; run(rt.alloc(), &before, 0, None), Some(after));
 }

@@ -1,6 +1,6 @@
 //! Each way in which a delivery shuts the machine down.
 
-use super::{After, MACHINE, Machine, REGS, USER, WITHOUT_WP, compare, run};
+use super::{After, MACHINE, Machine, REGS, USER, WITHOUT_WP, run};
 use crate::Shut;
 use std::alloc::Global;
 use x86_regs::Tables;
@@ -95,7 +95,7 @@ fn pushes_before_a_fault_stay(rt: HostRuntime) {
         regs: USER,
         window: [0x40_0000_1008, 0x23, 0, 0, 0, 0],
     };
-    compare(&rt, rt.alloc(), &before, 0, Some(5), &after);
+    assert_eq!(rt; run(rt.alloc(), &before, 0, Some(5)), Some(after));
 }
 
 /// An absent page is so with WP clear too, and the pushes are the supervisor's at CPL 3 too.
@@ -111,7 +111,7 @@ fn page_of_the_stack_is_not_writable(rt: HostRuntime) {
         regs: REGS,
         window: [0; 6],
     };
-    compare(&rt, rt.alloc(), &absent, 0, None, &after);
+    assert_eq!(rt; run(rt.alloc(), &absent, 0, None), Some(after));
     let read_alone = Machine {
         changes: [(0x8424, 0xFFFF_FF80_0000_5000), (0, 0)],
         regs: USER,
@@ -122,5 +122,5 @@ fn page_of_the_stack_is_not_writable(rt: HostRuntime) {
         regs: USER,
         window: [0; 6],
     };
-    compare(&rt, rt.alloc(), &read_alone, 0, None, &after);
+    assert_eq!(rt; run(rt.alloc(), &read_alone, 0, None), Some(after));
 }

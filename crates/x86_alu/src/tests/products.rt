@@ -3,10 +3,15 @@
 
 use super::{MOST, ONES, TOP, out, width_of};
 use crate::{Divide, Quotient, divide, multiply};
-use std::process::Abort;
 
-/// MUL. Width in bits, a, b, the flags before; the low half, the high half, the flags.
-static PRODUCTS: [(u8, u64, u64, u64, u64, u64, u64); 20] = [
+/// Width in bits, a, b, the flags before; the low half, the high half, the flags.
+type Product = (u8, u64, u64, u64, u64, u64, u64);
+
+/// Width in bits, the dividend's halves, the divisor; the quotient and the remainder, or the divide error.
+type Division = (u8, u64, u64, u64, Option<(u64, u64)>);
+
+/// MUL.
+static PRODUCTS: [Product; 20] = [
     (8, 0, 0, 0x8d7, 0, 0, 0xd6),
     (8, 1, 0xff, 0x8d7, 0xff, 0, 0xd6),
     (8, 0x7f, 1, 2, 0x7f, 0, 2),
@@ -29,8 +34,8 @@ static PRODUCTS: [(u8, u64, u64, u64, u64, u64, u64); 20] = [
     (64, ONES, ONES, 0x8d7, 1, 0xfffffffffffffffe, 0x8d7),
 ];
 
-/// IMUL. Width in bits, a, b, the flags before; the low half, the high half, the flags.
-static SIGNED_PRODUCTS: [(u8, u64, u64, u64, u64, u64, u64); 20] = [
+/// IMUL.
+static SIGNED_PRODUCTS: [Product; 20] = [
     (8, 0, 0, 0x8d7, 0, 0, 0xd6),
     (8, 1, 0xff, 0x8d7, 0xff, 0xff, 0xd6),
     (8, 0x7f, 1, 2, 0x7f, 0, 2),
@@ -53,8 +58,8 @@ static SIGNED_PRODUCTS: [(u8, u64, u64, u64, u64, u64, u64); 20] = [
     (64, ONES, ONES, 0x8d7, 1, 0, 0xd6),
 ];
 
-/// DIV. Width in bits, the dividend's halves, the divisor; the quotient and the remainder, or the divide error.
-static QUOTIENTS: [(u8, u64, u64, u64, Option<(u64, u64)>); 32] = [
+/// DIV.
+static QUOTIENTS: [Division; 32] = [
     (8, 0, 7, 2, Some((3, 1))),
     (8, 1, 0, 1, None),
     (8, 0xff, 0xf9, 2, None),
@@ -89,8 +94,8 @@ static QUOTIENTS: [(u8, u64, u64, u64, Option<(u64, u64)>); 32] = [
     (64, 0x4000000000000000, 0, TOP, Some((TOP, 0))),
 ];
 
-/// IDIV. Width in bits, the dividend's halves, the divisor; the quotient and the remainder, or the divide error.
-static SIGNED_QUOTIENTS: [(u8, u64, u64, u64, Option<(u64, u64)>); 32] = [
+/// IDIV.
+static SIGNED_QUOTIENTS: [Division; 32] = [
     (8, 0, 7, 2, Some((3, 1))),
     (8, 1, 0, 1, None),
     (8, 0xff, 0xf9, 2, Some((0xfd, 0xff))),
@@ -151,35 +156,81 @@ static SIGNED_QUOTIENTS: [(u8, u64, u64, u64, Option<(u64, u64)>); 32] = [
 
 #[test]
 fn multiplies(rt: HostRuntime) {
-    check_multiply(&rt, false, &PRODUCTS);
-    check_multiply(&rt, true, &SIGNED_PRODUCTS);
+    assert_eq!(rt; first_wrong_product(false, &PRODUCTS), None);
+    assert_eq!(rt; first_wrong_product(true, &SIGNED_PRODUCTS), None);
 }
 
 #[test]
 fn divides(rt: HostRuntime) {
-    check_divide(&rt, false, &QUOTIENTS);
-    check_divide(&rt, true, &SIGNED_QUOTIENTS);
+    assert_eq!(rt; first_wrong_quotient(false, &QUOTIENTS), None);
+    assert_eq!(rt; first_wrong_quotient(true, &SIGNED_QUOTIENTS), None);
 }
 
-fn check_multiply(rt: &impl Abort, signed: bool, rows: &[(u8, u64, u64, u64, u64, u64, u64)]) {
-    for (width, a, b, before, low, high, flags) in rows {
-        let half = multiply(signed, false, width_of(rt, *width), *a, *b, *before);
-        assert_eq!(rt; half, out(*low, *flags), "{width}: {a:x} * {b:x}");
-        let half = multiply(signed, true, width_of(rt, *width), *a, *b, *before);
-        assert_eq!(rt; half, out(*high, *flags), "{width}: {a:x} * {b:x}");
+/// Rows with another answer, and a width that there isn't, are found, at their place.
+#[test]
+fn wrong_rows_are_found(rt: HostRuntime) {
+    let right = (8, 0x80, 0xff, 2, 0x80, 0x7f, 0x803);
+    for wrong in [
+        (8, 0x80, 0xff, 2, 0x81, 0x7f, 0x803),
+        (8, 0x80, 0xff, 2, 0x80, 0x7e, 0x803),
+        (8, 0x80, 0xff, 2, 0x80, 0x7f, 0x802),
+        (9, 0x80, 0xff, 2, 0x80, 0x7f, 0x803),
+    ] {
+        assert_eq!(rt; first_wrong_product(false, &[right, wrong, right]), Some(1));
+    }
+    let right = (8, 0, 7, 2, Some((3, 1)));
+    for wrong in [
+        (8, 0, 7, 2, Some((2, 1))),
+        (8, 0, 7, 2, Some((3, 0))),
+        (8, 0, 7, 2, None),
+        (8, 0, 7, 0, Some((3, 1))),
+        (9, 0, 7, 2, Some((3, 1))),
+    ] {
+        assert_eq!(rt;
+            first_wrong_quotient(false, &[right, wrong, right]),
+            Some(1)
+        );
     }
 }
 
-fn check_divide(rt: &impl Abort, signed: bool, rows: &[(u8, u64, u64, u64, Option<(u64, u64)>)]) {
-    for (width, high, low, by, answer) in rows {
-        let quotient = divide(signed, width_of(rt, *width), *high, *low, *by);
-        let wanted = match answer {
-            Some((value, rest)) => Ok(Quotient {
-                value: *value,
-                rest: *rest,
-            }),
-            None => Err(Divide),
-        };
-        assert_eq!(rt; quotient, wanted, "{width}: {high:x} {low:x} / {by:x}");
+/// The index of the first row that isn't so.
+fn first_wrong_product(signed: bool, rows: &[Product]) -> Option<usize> {
+    for (index, row) in rows.iter().enumerate() {
+        if !is_product(signed, row) {
+            return Some(index);
+        }
     }
+    None
+}
+
+fn is_product(signed: bool, row: &Product) -> bool {
+    let (width, a, b, before, low, high, flags) = *row;
+    let Some(width) = width_of(width) else {
+        return false;
+    };
+    let is_low = multiply(signed, false, width, a, b, before) == out(low, flags);
+    let is_high = multiply(signed, true, width, a, b, before) == out(high, flags);
+    is_low & is_high
+}
+
+/// The index of the first row that isn't so.
+fn first_wrong_quotient(signed: bool, rows: &[Division]) -> Option<usize> {
+    for (index, row) in rows.iter().enumerate() {
+        if !is_quotient(signed, row) {
+            return Some(index);
+        }
+    }
+    None
+}
+
+fn is_quotient(signed: bool, row: &Division) -> bool {
+    let (width, high, low, by, answer) = *row;
+    let Some(width) = width_of(width) else {
+        return false;
+    };
+    let wanted = match answer {
+        Some((value, rest)) => Ok(Quotient { value, rest }),
+        None => Err(Divide),
+    };
+    divide(signed, width, high, low, by) == wanted
 }

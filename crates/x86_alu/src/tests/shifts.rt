@@ -3,10 +3,15 @@
 
 use super::{ONES, TOP, out, width_of};
 use crate::{Shift, rotate, scan_bit, shift};
-use std::process::Abort;
 
-/// SHL. Width in bits, the operand, the count, the flags before; the value, the flags.
-static LEFT_SHIFTS: [(u8, u64, u8, u64, u64, u64); 28] = [
+/// Width in bits, the operand, the count, the flags before; the value, the flags.
+type Turned = (u8, u64, u8, u64, u64, u64);
+
+/// Width in bits, the operand, the flags before; the value, the flags.
+type Scanned = (u8, u64, u64, u64, u64);
+
+/// SHL.
+static LEFT_SHIFTS: [Turned; 28] = [
     (8, 1, 1, 2, 2, 2),
     (8, 1, 8, 0x8d7, 0, 0x857),
     (8, 1, 9, 2, 0, 0x46),
@@ -37,8 +42,8 @@ static LEFT_SHIFTS: [(u8, u64, u8, u64, u64, u64); 28] = [
     (64, 0x8000000000000001, 63, 2, TOP, 0x86),
 ];
 
-/// SHR. Width in bits, the operand, the count, the flags before; the value, the flags.
-static RIGHT_SHIFTS: [(u8, u64, u8, u64, u64, u64); 28] = [
+/// SHR.
+static RIGHT_SHIFTS: [Turned; 28] = [
     (8, 1, 1, 2, 0, 0x47),
     (8, 1, 8, 0x8d7, 0, 0x857),
     (8, 1, 9, 2, 0, 0x46),
@@ -69,8 +74,8 @@ static RIGHT_SHIFTS: [(u8, u64, u8, u64, u64, u64); 28] = [
     (64, 0x8000000000000001, 63, 2, 1, 2),
 ];
 
-/// SAR. Width in bits, the operand, the count, the flags before; the value, the flags.
-static SIGNED_SHIFTS: [(u8, u64, u8, u64, u64, u64); 28] = [
+/// SAR.
+static SIGNED_SHIFTS: [Turned; 28] = [
     (8, 1, 1, 2, 0, 0x47),
     (8, 1, 8, 0x8d7, 0, 0x856),
     (8, 1, 9, 2, 0, 0x46),
@@ -101,8 +106,8 @@ static SIGNED_SHIFTS: [(u8, u64, u8, u64, u64, u64); 28] = [
     (64, 0x8000000000000001, 63, 2, ONES, 0x86),
 ];
 
-/// ROL. Width in bits, the operand, the count, the flags before; the value, the flags.
-static LEFT_ROTATIONS: [(u8, u64, u8, u64, u64, u64); 24] = [
+/// ROL.
+static LEFT_ROTATIONS: [Turned; 24] = [
     (8, 1, 1, 2, 2, 2),
     (8, 1, 8, 0x8d7, 1, 0x8d7),
     (8, 0x40, 1, 2, 0x80, 0x802),
@@ -129,8 +134,8 @@ static LEFT_ROTATIONS: [(u8, u64, u8, u64, u64, u64); 24] = [
     (64, 0x8000000000000002, 63, 2, 0x4000000000000001, 3),
 ];
 
-/// ROR. Width in bits, the operand, the count, the flags before; the value, the flags.
-static RIGHT_ROTATIONS: [(u8, u64, u8, u64, u64, u64); 24] = [
+/// ROR.
+static RIGHT_ROTATIONS: [Turned; 24] = [
     (8, 1, 1, 2, 0x80, 0x803),
     (8, 1, 8, 0x8d7, 1, 0x8d6),
     (8, 0x40, 1, 2, 0x20, 2),
@@ -157,8 +162,8 @@ static RIGHT_ROTATIONS: [(u8, u64, u8, u64, u64, u64); 24] = [
     (64, 0x8000000000000002, 63, 2, 5, 2),
 ];
 
-/// BSF. Width in bits, the operand, the flags before; the value, the flags.
-static SCANS_UP: [(u8, u64, u64, u64, u64); 16] = [
+/// BSF.
+static SCANS_UP: [Scanned; 16] = [
     (8, 0, 0x8d7, 0, 0x8d7),
     (8, 1, 2, 0, 2),
     (8, 0x80, 2, 7, 2),
@@ -177,8 +182,8 @@ static SCANS_UP: [(u8, u64, u64, u64, u64); 16] = [
     (64, 0x2000000000000008, 2, 3, 2),
 ];
 
-/// BSR. Width in bits, the operand, the flags before; the value, the flags.
-static SCANS_DOWN: [(u8, u64, u64, u64, u64); 16] = [
+/// BSR.
+static SCANS_DOWN: [Scanned; 16] = [
     (8, 0, 0x8d7, 0, 0x8d7),
     (8, 1, 2, 0, 2),
     (8, 0x80, 2, 7, 2),
@@ -199,40 +204,87 @@ static SCANS_DOWN: [(u8, u64, u64, u64, u64); 16] = [
 
 #[test]
 fn shifts_bits(rt: HostRuntime) {
-    check_shift(&rt, Shift::Left, &LEFT_SHIFTS);
-    check_shift(&rt, Shift::Right, &RIGHT_SHIFTS);
-    check_shift(&rt, Shift::Signed, &SIGNED_SHIFTS);
+    assert_eq!(rt; first_wrong_shift(Shift::Left, &LEFT_SHIFTS), None);
+    assert_eq!(rt; first_wrong_shift(Shift::Right, &RIGHT_SHIFTS), None);
+    assert_eq!(rt; first_wrong_shift(Shift::Signed, &SIGNED_SHIFTS), None);
 }
 
 #[test]
 fn rotates_bits(rt: HostRuntime) {
-    check_rotate(&rt, true, &LEFT_ROTATIONS);
-    check_rotate(&rt, false, &RIGHT_ROTATIONS);
+    assert_eq!(rt; first_wrong_rotation(true, &LEFT_ROTATIONS), None);
+    assert_eq!(rt; first_wrong_rotation(false, &RIGHT_ROTATIONS), None);
 }
 
 #[test]
 fn scans_bits(rt: HostRuntime) {
-    check_scan(&rt, true, &SCANS_UP);
-    check_scan(&rt, false, &SCANS_DOWN);
+    assert_eq!(rt; first_wrong_scan(true, &SCANS_UP), None);
+    assert_eq!(rt; first_wrong_scan(false, &SCANS_DOWN), None);
 }
 
-fn check_shift(rt: &impl Abort, op: Shift, rows: &[(u8, u64, u8, u64, u64, u64)]) {
-    for (width, a, count, before, value, flags) in rows {
-        let shifted = shift(op, width_of(rt, *width), *a, *count, *before);
-        assert_eq!(rt; shifted, out(*value, *flags), "{width}: {a:x} by {count}");
-    }
+/// Rows with another value or other flags are found, at their place.
+#[test]
+fn wrong_rows_are_found(rt: HostRuntime) {
+    let right = (8, 0x81, 1, 2, 2, 0x803);
+    let value = (8, 0x81, 1, 2, 3, 0x803);
+    let flags = (8, 0x81, 1, 2, 2, 0x802);
+    assert_eq!(rt;
+        first_wrong_shift(Shift::Left, &[right, value, right]),
+        Some(1)
+    );
+    assert_eq!(rt;
+        first_wrong_shift(Shift::Left, &[right, flags, right]),
+        Some(1)
+    );
+    let right = (8, 0x82, 1, 2, 5, 0x803);
+    let value = (8, 0x82, 1, 2, 4, 0x803);
+    let flags = (8, 0x82, 1, 2, 5, 3);
+    assert_eq!(rt; first_wrong_rotation(true, &[right, value, right]), Some(1));
+    assert_eq!(rt; first_wrong_rotation(true, &[right, flags, right]), Some(1));
+    let right = (8, 0x28, 2, 3, 2);
+    let value = (8, 0x28, 2, 5, 2);
+    let flags = (8, 0x28, 2, 3, 0x42);
+    assert_eq!(rt; first_wrong_scan(true, &[right, value, right]), Some(1));
+    assert_eq!(rt; first_wrong_scan(true, &[right, flags, right]), Some(1));
 }
 
-fn check_rotate(rt: &impl Abort, left: bool, rows: &[(u8, u64, u8, u64, u64, u64)]) {
-    for (width, a, count, before, value, flags) in rows {
-        let rotated = rotate(left, width_of(rt, *width), *a, *count, *before);
-        assert_eq!(rt; rotated, out(*value, *flags), "{width}: {a:x} by {count}");
+/// The index of the first row that isn't so.
+fn first_wrong_shift(op: Shift, rows: &[Turned]) -> Option<usize> {
+    for (index, row) in rows.iter().enumerate() {
+        let (width, a, count, before, value, flags) = *row;
+        let Some(width) = width_of(width) else {
+            return Some(index);
+        };
+        if shift(op, width, a, count, before) != out(value, flags) {
+            return Some(index);
+        }
     }
+    None
 }
 
-fn check_scan(rt: &impl Abort, up: bool, rows: &[(u8, u64, u64, u64, u64)]) {
-    for (width, a, before, value, flags) in rows {
-        let found = scan_bit(up, width_of(rt, *width), *a, *before);
-        assert_eq!(rt; found, out(*value, *flags), "{width}: {a:x}");
+/// The index of the first row that isn't so.
+fn first_wrong_rotation(left: bool, rows: &[Turned]) -> Option<usize> {
+    for (index, row) in rows.iter().enumerate() {
+        let (width, a, count, before, value, flags) = *row;
+        let Some(width) = width_of(width) else {
+            return Some(index);
+        };
+        if rotate(left, width, a, count, before) != out(value, flags) {
+            return Some(index);
+        }
     }
+    None
+}
+
+/// The index of the first row that isn't so.
+fn first_wrong_scan(up: bool, rows: &[Scanned]) -> Option<usize> {
+    for (index, row) in rows.iter().enumerate() {
+        let (width, a, before, value, flags) = *row;
+        let Some(width) = width_of(width) else {
+            return Some(index);
+        };
+        if scan_bit(up, width, a, before) != out(value, flags) {
+            return Some(index);
+        }
+    }
+    None
 }

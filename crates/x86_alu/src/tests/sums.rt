@@ -3,10 +3,15 @@
 
 use super::{MOST, ONES, TOP, out, width_of};
 use crate::{Logic, add, logic, sub};
-use std::process::Abort;
 
-/// ADC, and ADD where no carry comes in. Width in bits, a, b, the carry in; the value, the flags, from flags 2.
-static SUMS: [(u8, u64, u64, bool, u64, u64); 24] = [
+/// Width in bits, a, b, the carry or borrow in; the value, the flags, from flags 2.
+type Sum = (u8, u64, u64, bool, u64, u64);
+
+/// Width in bits, a, b; the value, the flags, from all flags set.
+type Combined = (u8, u64, u64, u64, u64);
+
+/// ADC, and ADD where no carry comes in.
+static SUMS: [Sum; 24] = [
     (8, 0, 0, false, 0, 0x46),
     (8, 1, 0xff, false, 0, 0x57),
     (8, 1, 0xff, true, 1, 0x13),
@@ -33,8 +38,8 @@ static SUMS: [(u8, u64, u64, bool, u64, u64); 24] = [
     (64, TOP, ONES, true, TOP, 0x97),
 ];
 
-/// SBB, and SUB where no borrow comes in. Width in bits, a, b, the borrow in; the value, the flags, from flags 2.
-static DIFFERENCES: [(u8, u64, u64, bool, u64, u64); 24] = [
+/// SBB, and SUB where no borrow comes in.
+static DIFFERENCES: [Sum; 24] = [
     (8, 0, 0, false, 0, 0x46),
     (8, 0, 0, true, 0xff, 0x97),
     (8, 1, 0xff, false, 2, 0x13),
@@ -61,8 +66,8 @@ static DIFFERENCES: [(u8, u64, u64, bool, u64, u64); 24] = [
     (64, MOST, TOP, false, ONES, 0x887),
 ];
 
-/// AND. Width in bits, a, b; the value, the flags, from all flags set.
-static ANDS: [(u8, u64, u64, u64, u64); 12] = [
+/// AND.
+static ANDS: [Combined; 12] = [
     (8, 1, 0xff, 1, 0x12),
     (8, 0x80, 0xff, 0x80, 0x92),
     (8, 0x7f, 0x80, 0, 0x56),
@@ -77,8 +82,8 @@ static ANDS: [(u8, u64, u64, u64, u64); 12] = [
     (64, MOST, TOP, 0, 0x56),
 ];
 
-/// OR. Width in bits, a, b; the value, the flags, from all flags set.
-static ORS: [(u8, u64, u64, u64, u64); 12] = [
+/// OR.
+static ORS: [Combined; 12] = [
     (8, 1, 0xff, 0xff, 0x96),
     (8, 0x80, 0xff, 0xff, 0x96),
     (8, 0x7f, 0x80, 0xff, 0x96),
@@ -93,8 +98,8 @@ static ORS: [(u8, u64, u64, u64, u64); 12] = [
     (64, MOST, TOP, ONES, 0x96),
 ];
 
-/// XOR. Width in bits, a, b; the value, the flags, from all flags set.
-static XORS: [(u8, u64, u64, u64, u64); 12] = [
+/// XOR.
+static XORS: [Combined; 12] = [
     (8, 1, 0xff, 0xfe, 0x92),
     (8, 0x80, 0xff, 0x7f, 0x12),
     (8, 0x7f, 0x80, 0xff, 0x96),
@@ -111,25 +116,19 @@ static XORS: [(u8, u64, u64, u64, u64); 12] = [
 
 #[test]
 fn adds(rt: HostRuntime) {
-    for (width, a, b, carry, value, flags) in &SUMS {
-        let sum = add(width_of(&rt, *width), *a, *b, *carry, 2);
-        assert_eq!(rt; sum, out(*value, *flags), "{width}: {a:x} + {b:x}");
-    }
+    assert_eq!(rt; first_wrong_sum(&SUMS), None);
 }
 
 #[test]
 fn subtracts(rt: HostRuntime) {
-    for (width, a, b, borrow, value, flags) in &DIFFERENCES {
-        let difference = sub(width_of(&rt, *width), *a, *b, *borrow, 2);
-        assert_eq!(rt; difference, out(*value, *flags), "{width}: {a:x} - {b:x}");
-    }
+    assert_eq!(rt; first_wrong_difference(&DIFFERENCES), None);
 }
 
 #[test]
 fn combines_bits(rt: HostRuntime) {
-    check_logic(&rt, Logic::And, &ANDS);
-    check_logic(&rt, Logic::Or, &ORS);
-    check_logic(&rt, Logic::Xor, &XORS);
+    assert_eq!(rt; first_wrong_logic(Logic::And, &ANDS), None);
+    assert_eq!(rt; first_wrong_logic(Logic::Or, &ORS), None);
+    assert_eq!(rt; first_wrong_logic(Logic::Xor, &XORS), None);
 }
 
 /// Bits of the values above the width don't count, and the other bits of the flags word stay.
@@ -140,9 +139,70 @@ fn cuts_values(rt: HostRuntime) {
     assert_eq!(rt; sub(8, 0x100, 1, false, 2), out(0xff, 0x97));
 }
 
-fn check_logic(rt: &impl Abort, op: Logic, rows: &[(u8, u64, u64, u64, u64)]) {
-    for (width, a, b, value, flags) in rows {
-        let combined = logic(op, width_of(rt, *width), *a, *b, 0x8d7);
-        assert_eq!(rt; combined, out(*value, *flags), "{width}: {a:x}, {b:x}");
+/// Rows with another value or other flags are found, at their place.
+#[test]
+fn wrong_rows_are_found(rt: HostRuntime) {
+    let right = (8, 1, 0xff, true, 1, 0x13);
+    let value = (8, 1, 0xff, true, 0, 0x13);
+    let flags = (8, 1, 0xff, true, 1, 0x12);
+    assert_eq!(rt; first_wrong_sum(&[right, value, right]), Some(1));
+    assert_eq!(rt; first_wrong_sum(&[right, flags, right]), Some(1));
+    let right = (8, 0, 0, true, 0xff, 0x97);
+    let value = (8, 0, 0, true, 0, 0x97);
+    let flags = (8, 0, 0, true, 0xff, 0x96);
+    assert_eq!(rt; first_wrong_difference(&[right, value, right]), Some(1));
+    assert_eq!(rt; first_wrong_difference(&[right, flags, right]), Some(1));
+    let right = (8, 0x80, 0xff, 0x80, 0x92);
+    let value = (8, 0x80, 0xff, 0xff, 0x92);
+    let flags = (8, 0x80, 0xff, 0x80, 0x12);
+    assert_eq!(rt;
+        first_wrong_logic(Logic::And, &[right, value, right]),
+        Some(1)
+    );
+    assert_eq!(rt;
+        first_wrong_logic(Logic::And, &[right, flags, right]),
+        Some(1)
+    );
+}
+
+/// The index of the first row that isn't so.
+fn first_wrong_sum(rows: &[Sum]) -> Option<usize> {
+    for (index, row) in rows.iter().enumerate() {
+        let (width, a, b, carry, value, flags) = *row;
+        let Some(width) = width_of(width) else {
+            return Some(index);
+        };
+        if add(width, a, b, carry, 2) != out(value, flags) {
+            return Some(index);
+        }
     }
+    None
+}
+
+/// The index of the first row that isn't so.
+fn first_wrong_difference(rows: &[Sum]) -> Option<usize> {
+    for (index, row) in rows.iter().enumerate() {
+        let (width, a, b, borrow, value, flags) = *row;
+        let Some(width) = width_of(width) else {
+            return Some(index);
+        };
+        if sub(width, a, b, borrow, 2) != out(value, flags) {
+            return Some(index);
+        }
+    }
+    None
+}
+
+/// The index of the first row that isn't so.
+fn first_wrong_logic(op: Logic, rows: &[Combined]) -> Option<usize> {
+    for (index, row) in rows.iter().enumerate() {
+        let (width, a, b, value, flags) = *row;
+        let Some(width) = width_of(width) else {
+            return Some(index);
+        };
+        if logic(op, width, a, b, 0x8d7) != out(value, flags) {
+            return Some(index);
+        }
+    }
+    None
 }
