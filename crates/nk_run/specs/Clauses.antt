@@ -17,6 +17,7 @@ use Rattle.gate_state.specs.MachineOpening.{opening_state}
 use Rattle.gate_state.specs.MachineStates.{Opening, nested_of}
 use Rattle.gate_state.specs.MachineSteps.{calls, made_by_all, state}
 use Rattle.replay_core.specs.ReplayedCalls.{replay_of}
+use Rattle.image_maker.specs.MadeImage.{image_of_number}
 use Rattle.gate_state.specs.SafeStates.{IsSafe}
 use Rattle.nk_run.specs.declared.command_line.Command.{Command}
 use Rattle.nk_run.specs.declared.command_line.Command.TheVariants.{Scan, Map, Run, Replay, Make, Work}
