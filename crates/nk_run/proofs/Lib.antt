@@ -33,3 +33,5 @@ pub mod RunSteps
 pub mod Journals
 pub mod JournalOpening
 pub mod RunsReplayed
+mod WorkedWords
+mod RefutedPromises

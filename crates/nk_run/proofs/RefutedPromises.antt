@@ -1,0 +1,80 @@
+-- What the top call doesn't promise, each named by the sentence that it guards.
+use Rattle.std.proofs.Common.{◌≡◌, ◌≢◌, ℕ, List, ◌++◌, None, Some, Option, inl, inr, refl, sym, ap, subst, ◌∙◌, arith}
+use Rattle.std.specs.Prelude.{MatchOption, ◌⊎◌, ⊤}
+use Rattle.std.specs.Io.KnownBytes.{Appends}
+use Rattle.nk_run.specs.declared.command_line.Command.{Command}
+use Rattle.nk_run.specs.declared.command_line.Role.{Role}
+use Rattle.nk_run.specs.Clauses.{IsOutside, NameRose, Promises, SinkRose, TookAll}
+use Rattle.nk_run.specs.CommandLine.{IsAsked, command_of}
+use Rattle.nk_run.specs.Outcome.{Answer, outcome}
+use Rattle.nk_run.specs.Witness.{Files, Witness}
+use Rattle.nk_run.proofs.Told.{told_at}
+
+not_outside : (status : ℕ) → status ≡ 0 → IsOutside status → ⊥
+not_outside status e (inl unread) = absurd (omega (arith, e, unread))
+not_outside status e (inr (inl cut)) = absurd (omega (arith, e, cut))
+not_outside status e (inr (inr want)) = absurd (omega (arith, e, want))
+
+module _ (seen : Witness) where
+  -- what a sink took, where it tells it
+  appended : (text before after : List ℕ) → seen.sink.before.taken ≡ Some before → seen.sink.after.taken ≡ Some after
+      → TookAll seen.sink text → after ≡ before ++ text
+  appended text before after began ended took =
+      let first : Appends (Some before) seen.sink.after.taken text =
+      subst (λ (b : Option (List ℕ)). Appends b seen.sink.after.taken text) began took in
+      subst (λ (a : Option (List ℕ)). Appends (Some before) a text) ended first
+
+  -- there is no status 8
+  status_8 : Promises seen 8 → ⊥
+  status_8 it = absurd (omega (arith, it.status_range))
+
+  -- status 2 isn't the answer to words that have a form
+  usage_for_a_form : (command : Command) → command_of seen.words ≡ Some command → Promises seen 2 → ⊥
+  usage_for_a_form command asked it = let none = it.usage_alone refl in cc
+
+  -- words without a form aren't answered with status 0
+  formless_done : command_of seen.words ≡ None → Promises seen 0 → ⊥
+  formless_done formless it =
+      elim (it.usage formless) [
+        | inl whole ↦ absurd (omega (arith, whole.0))
+        | inr cut ↦ absurd (omega (arith, cut.0))
+      ]
+
+  -- status 3 doesn't come where no count of the name of one of the command's files rose
+  unread_without_a_fault : ((role : Role) → IsAsked seen.words role → NameRose seen.words seen.shelf role → ⊥)
+      → Promises seen 3 → ⊥
+  unread_without_a_fault quiet it =
+      let (role, asked, rose) = it.unread_by_count refl in quiet role asked rose
+
+  -- status 4 doesn't come where the sink's count didn't rise
+  cut_without_a_fault : (SinkRose seen.sink → ⊥) → Promises seen 4 → ⊥
+  cut_without_a_fault quiet it = quiet (it.cut_by_count refl)
+
+  -- no file of the shelf changes
+  changed_file : (status : ℕ) (before after : Files) (name : List ℕ) → seen.shelf.before.files ≡ Some before
+      → seen.shelf.after.files ≡ Some after → after name ≢ before name → Promises seen status → ⊥
+  changed_file status before after name told later changed it =
+      let kept : Some after ≡ Some before = sym later ∙ it.files_stay ∙ told in
+      let same : after name ≡ before name = cc in
+      changed same
+
+  -- where files are told, no other status than the outcome's comes but those of the outside
+  another_status : (status : ℕ) (files : Files) (answer : Answer) → seen.shelf.before.files ≡ Some files
+      → outcome seen.words files ≡ Some answer → (IsOutside status → ⊥) → status ≢ answer.status → Promises seen status → ⊥
+  another_status status files answer told is inside other it =
+      let P : Option Answer → Type 0 = λ a. MatchOption a (IsOutside status) (λ answer. IsOutside status ⊎ (status ≡ answer.status)) in
+      elim (subst P is (told_at seen.shelf.before.files (λ files. P (outcome seen.words files)) files told it.outcome_status)) [
+        | inl outside ↦ inside outside
+        | inr same ↦ other same
+      ]
+
+  -- status 0 doesn't come with another text than the outcome's, where files and bytes are told
+  another_text : (files : Files) (answer : Answer) (before after : List ℕ) → seen.shelf.before.files ≡ Some files
+      → outcome seen.words files ≡ Some answer → seen.sink.before.taken ≡ Some before → seen.sink.after.taken ≡ Some after
+      → after ≢ before ++ answer.text → Promises seen 0 → ⊥
+  another_text files answer before after told is began ended other it =
+      let P : Option Answer → Type 0 = λ a. MatchOption a ⊤ (λ answer. IsOutside 0 ⊎ TookAll seen.sink answer.text) in
+      elim (subst P is (told_at seen.shelf.before.files (λ files. P (outcome seen.words files)) files told it.outcome_text)) [
+        | inl outside ↦ not_outside 0 refl outside
+        | inr took ↦ other (appended answer.text before after began ended took)
+      ]

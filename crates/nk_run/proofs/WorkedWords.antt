@@ -1,0 +1,169 @@
+-- Words of the command line and lines of statuses at worked values.
+use Rattle.std.proofs.Common.{◌≡◌, ℕ, ◌-◌, ◌^◌, true, false, List, [], ◌∷◌, None, Some, Ok, Err, Option, codes, refl}
+use Rattle.std.specs.Fmt.{char_count, digits, padded_integral}
+use Rattle.hex.specs.Hex.{encode_with}
+use Rattle.nk_bits.specs.declared.leaf.Leaf.{Leaf}
+use Rattle.nk_bits.specs.declared.leaf.Rights.{Rights}
+use Rattle.report_text.specs.RunLines.{hex_16}
+use Rattle.nk_run.specs.declared.command_line.Command.{Command}
+use Rattle.nk_run.specs.declared.command_line.Command.TheVariants.{Scan, Map, Run, Replay, Make, Work}
+use Rattle.nk_run.specs.declared.command_line.Role.TheVariants.{Image, Input, Plan, Journal}
+use Rattle.nk_run.specs.CommandLine.{command_of}
+use Rattle.nk_run.specs.Lines.{admitted_line, frame_line, image_line, journal_line, longer_line, missing_line, no_memory_line, noroom_line, plan_line, protected_line, rights_text, unread_line, usage_line, walk_line}
+
+-- `scan IMAGE`, whatever the name of the file
+scans :
+    (command_of (codes "scan" ∷ codes "kernel.elf" ∷ []) ≡ Some Scan) ×
+    (command_of (codes "scan" ∷ [] ∷ []) ≡ Some Scan) ×
+    (command_of (codes "scan" ∷ []) ≡ None) ×
+    (command_of (codes "scan" ∷ codes "a" ∷ codes "b" ∷ []) ≡ None) ×
+    (command_of (codes "Scan" ∷ codes "a" ∷ []) ≡ None) ×
+    (command_of (codes "scan " ∷ codes "a" ∷ []) ≡ None) ×
+    (command_of (codes "sca" ∷ codes "a" ∷ []) ≡ None)
+scans = (refl, refl, refl, refl, refl, refl, refl)
+
+abbrev mapped : List ℕ → List ℕ → Option Command
+mapped frames va = command_of (codes "map" ∷ codes "a" ∷ frames ∷ va ∷ [])
+
+-- FRAMES is 512 to 16,384, decimal, without sign and without leading zeros
+frames :
+    (mapped (codes "512") (codes "0") ≡ Some (Map 512 0)) ×
+    (mapped (codes "16384") (codes "0") ≡ Some (Map 16384 0)) ×
+    (mapped (codes "511") (codes "0") ≡ None) ×
+    (mapped (codes "16385") (codes "0") ≡ None) ×
+    (mapped (codes "0512") (codes "0") ≡ None) ×
+    (mapped (codes "+512") (codes "0") ≡ None) ×
+    (mapped (codes "-512") (codes "0") ≡ None) ×
+    (mapped (codes " 512") (codes "0") ≡ None) ×
+    (mapped (codes "512 ") (codes "0") ≡ None) ×
+    (mapped (codes "0x200") (codes "0") ≡ None) ×
+    (mapped (codes "2ff") (codes "0") ≡ None) ×
+    (mapped [] (codes "0") ≡ None) ×
+    (mapped (codes "18446744073709552128") (codes "0") ≡ None)
+frames = (refl, refl, refl, refl, refl, refl, refl, refl, refl, refl, refl, refl, refl)
+
+-- VA has 1 to 16 hexadecimal digits of either case, and is canonical
+addresses :
+    (mapped (codes "512") (codes "ffffffff80000000") ≡ Some (Map 512 0xFFFFFFFF80000000)) ×
+    (mapped (codes "512") (codes "FFFFffff80000abc") ≡ Some (Map 512 0xFFFFFFFF80000ABC)) ×
+    (mapped (codes "512") (codes "0000000000001000") ≡ Some (Map 512 0x1000)) ×
+    (mapped (codes "512") (codes "00000000000001000") ≡ None) ×
+    (mapped (codes "512") (codes "7fffffffffff") ≡ Some (Map 512 0x7FFFFFFFFFFF)) ×
+    (mapped (codes "512") (codes "800000000000") ≡ None) ×
+    (mapped (codes "512") (codes "ffff7fffffffffff") ≡ None) ×
+    (mapped (codes "512") (codes "ffff800000000000") ≡ Some (Map 512 0xFFFF800000000000)) ×
+    (mapped (codes "512") (codes "ffffffffffffffff") ≡ Some (Map 512 0xFFFFFFFFFFFFFFFF)) ×
+    (mapped (codes "512") (codes "0x1000") ≡ None) ×
+    (mapped (codes "512") (codes "100g") ≡ None) ×
+    (mapped (codes "512") (codes "-1") ≡ None) ×
+    (mapped (codes "512") [] ≡ None)
+addresses = (refl, refl, refl, refl, refl, refl, refl, refl, refl, refl, refl, refl, refl)
+
+abbrev run_by : List ℕ → List ℕ → Option Command
+run_by steps frames = command_of (codes "run" ∷ codes "a" ∷ codes "b" ∷ codes "c" ∷ steps ∷ frames ∷ [])
+
+-- STEPS is 0 to 4,294,967,296; the words of `run` have their order
+runs :
+    (run_by (codes "0") (codes "512") ≡ Some (Run 0 512)) ×
+    (run_by (codes "4294967296") (codes "16384") ≡ Some (Run 4294967296 16384)) ×
+    (run_by (codes "4294967297") (codes "512") ≡ None) ×
+    (run_by (codes "512") (codes "2000000") ≡ None) ×
+    (run_by (codes "00") (codes "512") ≡ None) ×
+    (run_by (codes "01") (codes "512") ≡ None) ×
+    (run_by (codes "+1") (codes "512") ≡ None) ×
+    (run_by (codes "1") (codes "511") ≡ None) ×
+    (run_by (codes "1") (codes "16385") ≡ None) ×
+    (run_by [] (codes "512") ≡ None) ×
+    (command_of (codes "run" ∷ codes "a" ∷ codes "b" ∷ codes "c" ∷ codes "1" ∷ []) ≡ None) ×
+    (command_of (codes "run" ∷ codes "a" ∷ codes "b" ∷ codes "c" ∷ codes "1" ∷ codes "512" ∷ codes "d" ∷ []) ≡ None) ×
+    (command_of (codes "run" ∷ codes "a" ∷ codes "512" ∷ codes "1" ∷ []) ≡ None)
+runs = (refl, refl, refl, refl, refl, refl, refl, refl, refl, refl, refl, refl, refl)
+
+-- `replay IMAGE FRAMES JOURNAL`
+replays :
+    (command_of (codes "replay" ∷ codes "a" ∷ codes "512" ∷ codes "b" ∷ []) ≡ Some (Replay 512)) ×
+    (command_of (codes "replay" ∷ codes "a" ∷ codes "16384" ∷ codes "b" ∷ []) ≡ Some (Replay 16384)) ×
+    (command_of (codes "replay" ∷ codes "a" ∷ codes "511" ∷ codes "b" ∷ []) ≡ None) ×
+    (command_of (codes "replay" ∷ codes "a" ∷ codes "16385" ∷ codes "b" ∷ []) ≡ None) ×
+    (command_of (codes "replay" ∷ codes "a" ∷ codes "0512" ∷ codes "b" ∷ []) ≡ None) ×
+    (command_of (codes "replay" ∷ codes "a" ∷ codes "b" ∷ codes "512" ∷ []) ≡ None) ×
+    (command_of (codes "replay" ∷ codes "a" ∷ codes "512" ∷ []) ≡ None) ×
+    (command_of (codes "replays" ∷ codes "a" ∷ codes "512" ∷ codes "b" ∷ []) ≡ None)
+replays = (refl, refl, refl, refl, refl, refl, refl, refl)
+
+abbrev making : List ℕ → Option Command
+making number = command_of (codes "make" ∷ number ∷ [])
+
+abbrev working : List ℕ → Option Command
+working number = command_of (codes "work" ∷ number ∷ [])
+
+-- NUMBER is 1 to 100
+made :
+    (making (codes "1") ≡ Some (Make 1)) ×
+    (making (codes "100") ≡ Some (Make 100)) ×
+    (making (codes "0") ≡ None) ×
+    (making (codes "101") ≡ None) ×
+    (making (codes "01") ≡ None) ×
+    (making (codes "+1") ≡ None) ×
+    (making (codes "-1") ≡ None) ×
+    (making [] ≡ None) ×
+    (working (codes "1") ≡ Some (Work 1)) ×
+    (working (codes "100") ≡ Some (Work 100)) ×
+    (working (codes "0") ≡ None) ×
+    (working (codes "101") ≡ None) ×
+    (working (codes "007") ≡ None) ×
+    (working (codes "+7") ≡ None)
+made = (refl, refl, refl, refl, refl, refl, refl, refl, refl, refl, refl, refl, refl, refl)
+
+-- no other words have a form
+formless :
+    (command_of [] ≡ None) ×
+    (command_of ([] ∷ []) ≡ None) ×
+    (command_of (codes "--help" ∷ []) ≡ None) ×
+    (command_of (codes "-h" ∷ codes "a" ∷ []) ≡ None) ×
+    (command_of (codes "make" ∷ []) ≡ None) ×
+    (command_of (codes "work" ∷ codes "1" ∷ codes "2" ∷ []) ≡ None) ×
+    (command_of (codes "map" ∷ codes "a" ∷ codes "512" ∷ []) ≡ None) ×
+    (command_of (codes "map" ∷ codes "a" ∷ []) ≡ None) ×
+    (command_of (codes "scan" ∷ codes "a" ∷ codes "512" ∷ codes "0" ∷ []) ≡ None)
+formless = (refl, refl, refl, refl, refl, refl, refl, refl, refl)
+
+-- the usage line, as the formats have it
+usage : usage_line ≡ codes "usage: nkrun scan IMAGE | map IMAGE FRAMES VA | run IMAGE INPUT PLAN STEPS FRAMES | replay IMAGE FRAMES JOURNAL | make NUMBER | work NUMBER\n"
+unfolding usage_line
+usage = refl
+
+-- lines of refusals
+refusals :
+    (no_memory_line ≡ codes "no memory\n") ×
+    (unread_line Image ≡ codes "unread image\n") ×
+    (unread_line Input ≡ codes "unread input\n") ×
+    (unread_line Plan ≡ codes "unread plan\n") ×
+    (unread_line Journal ≡ codes "unread journal\n") ×
+    (longer_line Image ≡ codes "longer image 67108864\n") ×
+    (longer_line Input ≡ codes "longer input 67108864\n") ×
+    (longer_line Plan ≡ codes "longer plan 67108864\n") ×
+    (longer_line Journal ≡ codes "longer journal 67108864\n") ×
+    (plan_line 1 ≡ codes "plan line 1\n") ×
+    (journal_line 12 ≡ codes "journal line 12\n") ×
+    (noroom_line 600 512 ≡ codes "noroom 600 512\n") ×
+    (image_line 13 (codes "TooLarge") 0 ≡ codes "image 13 TooLarge 0\n") ×
+    (image_line 1 (codes "Short") 18446744073709551615 ≡ codes "image 1 Short 18446744073709551615\n") ×
+    (protected_line 0xFFFFFFFF80001FFE (0x0F ∷ 0x22 ∷ 0xC0 ∷ []) ≡ codes "protected ffffffff80001ffe 0f22c0\n")
+unfolding no_memory_line unread_line longer_line plan_line journal_line noroom_line image_line protected_line hex_16 padded_integral char_count digits encode_with
+refusals = (refl, refl, refl, refl, refl, refl, refl, refl, refl, refl, refl, refl, refl, refl, refl)
+
+abbrev rights : Rights → Leaf
+rights given = record { frame = 71; rights = given }
+
+-- lines of `scan` and of `map`
+answers :
+    (admitted_line 0xFFFFFFFF80000000 2 ≡ codes "admitted entry ffffffff80000000 pages 2\n") ×
+    (walk_line (Ok (rights (record { can_write = true; user = false; exec = false }))) ≡ codes "frame 71 rw-s\n") ×
+    (walk_line (Ok (rights (record { can_write = false; user = false; exec = true }))) ≡ codes "frame 71 r-xs\n") ×
+    (walk_line (Ok (rights (record { can_write = true; user = true; exec = true }))) ≡ codes "frame 71 rwxu\n") ×
+    (walk_line (Ok (rights (record { can_write = false; user = true; exec = false }))) ≡ codes "frame 71 r--u\n") ×
+    (walk_line (Err 4) ≡ codes "missing 4\n") ×
+    (walk_line (Err 1) ≡ codes "missing 1\n")
+unfolding admitted_line frame_line missing_line rights_text hex_16 padded_integral char_count digits
+answers = (refl, refl, refl, refl, refl, refl, refl)
