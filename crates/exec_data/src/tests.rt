@@ -13,7 +13,6 @@ use crate::{effect, is_data_form};
 use nk_bits::{Control, Target};
 use phys_mem::{NoMemory, PhysMem};
 use std::alloc::Global;
-use std::process::Abort;
 use tlb_model::Tlb;
 use x86_decode::{Decoded, decode};
 use x86_regs::{Act, Effect, Fault, RAX, Regs, Write, instr_form, with_register};
@@ -71,15 +70,17 @@ fn memory(alloc: Global) -> Result<PhysMem, NoMemory>
     Ok(mem)
 }
 
-/// From these registers, the instruction that these bytes spell has this effect.
-fn compare(
-    rt: &impl Abort,
-    alloc: Global,
-    bytes: &[u8],
-    before: &Regs,
-    after: Result<Effect, Fault>,
-) {
-    assert_eq!(rt; run(alloc, bytes, before), Some(after), "{bytes:?}");
+/// Bytes of an instruction, the registers before it, and its effect.
+type Row = (&'static [u8], Regs, Result<Effect, Fault>);
+
+/// The index of the first row whose instruction has another effect.
+fn first_wrong(alloc: Global, rows: &[Row]) -> Option<usize> {
+    for (index, (bytes, before, after)) in rows.iter().enumerate() {
+        if run(alloc, bytes, before) != Some(*after) {
+            return Some(index);
+        }
+    }
+    None
 }
 
 /// Want of memory is None, and bytes that the call doesn't take raise #GP(99) here.
@@ -173,4 +174,18 @@ fn writing(
         }),
         act: Act::Quiet,
     })
+}
+
+/// Rows with another number, another next instruction, another fault, or no instruction are found, at their place.
+#[test]
+fn wrong_rows_are_found(rt: HostRuntime) {
+    // mov eax, ecx
+    let right: Row = (b"\x89\xC8", REGS, rax(3, 2, 0x1002));
+    let number: Row = (b"\x89\xC8", REGS, rax(4, 2, 0x1002));
+    let next: Row = (b"\x89\xC8", REGS, rax(3, 2, 0x1003));
+    let faulting: Row = (b"\x89\xC8", REGS, fault(4, 0x2000));
+    let none: Row = (b"\x89", REGS, rax(3, 2, 0x1002));
+    for wrong in [number, next, faulting, none] {
+        assert_eq!(rt; first_wrong(rt.alloc(), &[right, wrong, right]), Some(1));
+    }
 }

@@ -13,7 +13,6 @@ use crate::{effect, is_flow_form};
 use nk_bits::{Control, Target};
 use phys_mem::{NoMemory, PhysMem};
 use std::alloc::Global;
-use std::process::Abort;
 use tlb_model::Tlb;
 use x86_decode::{Decoded, decode};
 use x86_regs::{Act, Effect, Fault, Regs, Write, instr_form, with_register};
@@ -65,15 +64,17 @@ fn memory(alloc: Global) -> Result<PhysMem, NoMemory>
     Ok(mem)
 }
 
-/// From these registers, the instruction that these bytes spell has this effect.
-fn compare(
-    rt: &impl Abort,
-    alloc: Global,
-    bytes: &[u8],
-    before: &Regs,
-    after: Result<Effect, Fault>,
-) {
-    assert_eq!(rt; run(alloc, bytes, before), Some(after), "{bytes:?}");
+/// Bytes of an instruction, the registers before it, and its effect.
+type Row = (&'static [u8], Regs, Result<Effect, Fault>);
+
+/// The index of the first row whose instruction has another effect.
+fn first_wrong(alloc: Global, rows: &[Row]) -> Option<usize> {
+    for (index, (bytes, before, after)) in rows.iter().enumerate() {
+        if run(alloc, bytes, before) != Some(*after) {
+            return Some(index);
+        }
+    }
+    None
 }
 
 /// Want of memory is None. No instruction of flow raises #DE, which stands for bytes that the call doesn't take.
@@ -166,4 +167,18 @@ fn pushing(regs: &Regs, rip: u64, value: u64) -> Result<Effect, Fault> {
         }),
         act: Act::Quiet,
     })
+}
+
+/// Rows with another target, another act, another fault, or no instruction are found, at their place.
+#[test]
+fn wrong_rows_are_found(rt: HostRuntime) {
+    // jmp to 12 bytes past the start
+    let right: Row = (b"\xEB\x10", REGS, going_on(&REGS, 0x1012));
+    let target: Row = (b"\xEB\x10", REGS, going_on(&REGS, 0x1010));
+    let act: Row = (b"\xEB\x10", REGS, acting(&REGS, 0x1012, Act::Halt));
+    let faulting: Row = (b"\xEB\x10", REGS, Err(Fault::General(0)));
+    let none: Row = (b"\xEB", REGS, going_on(&REGS, 0x1012));
+    for wrong in [target, act, faulting, none] {
+        assert_eq!(rt; first_wrong(rt.alloc(), &[right, wrong, right]), Some(1));
+    }
 }

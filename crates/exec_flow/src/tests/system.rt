@@ -1,156 +1,110 @@
 //! The flags, HLT, ports, control registers, tables and pages where no condition refuses them.
 
-use super::{RAX, RBX, REGS, RSP, acting, compare, going_on, pushing, user, with, with_flags};
+use super::{
+    RAX, RBX, REGS, RSP, Row, acting, first_wrong, going_on, pushing, user, with, with_flags,
+};
 use crate::system::to_control;
 use x86_regs::{Act, Fault};
 
 #[test]
 fn flags_are_pushed_whole(rt: HostRuntime) {
-    let alloc = rt.alloc();
     let all = with_flags(&REGS, 0xED7);
-    compare(&rt, alloc, b"\x9C", &all, pushing(&all, 0x1001, 0xED7));
-    compare(
-        &rt,
-        alloc,
-        b"\x9C",
-        &user(&all),
-        pushing(&user(&all), 0x1001, 0xED7),
-    );
+    let rows: &[Row] = &[
+        (b"\x9C", all, pushing(&all, 0x1001, 0xED7)),
+        (b"\x9C", user(&all), pushing(&user(&all), 0x1001, 0xED7)),
+    ];
+    assert_eq!(rt; first_wrong(rt.alloc(), rows), None);
 }
 
 /// The frame's first number is 6000, whose bits are none of the flags'.
 #[test]
 fn flags_are_popped(rt: HostRuntime) {
-    let alloc = rt.alloc();
     let all = with_flags(&REGS, 0xED7);
     let popped = with(&with_flags(&REGS, 2), RSP, 0x808);
-    compare(&rt, alloc, b"\x9D", &all, going_on(&popped, 0x1001));
-    // above CPL 0 IF stays
     let kept = with_flags(&popped, 0x202);
-    compare(
-        &rt,
-        alloc,
-        b"\x9D",
-        &user(&all),
-        going_on(&user(&kept), 0x1001),
-    );
-    // the number 246, above and at CPL 0
     let third = with(&REGS, RSP, 0x810);
     let loaded = with(&with_flags(&REGS, 0x246), RSP, 0x818);
-    compare(&rt, alloc, b"\x9D", &third, going_on(&loaded, 0x1001));
     let clear = with_flags(&loaded, 0x46);
-    compare(
-        &rt,
-        alloc,
-        b"\x9D",
-        &user(&third),
-        going_on(&user(&clear), 0x1001),
-    );
+    let rows: &[Row] = &[
+        (b"\x9D", all, going_on(&popped, 0x1001)),
+        // above CPL 0 IF stays
+        (b"\x9D", user(&all), going_on(&user(&kept), 0x1001)),
+        // the number 246, above and at CPL 0
+        (b"\x9D", third, going_on(&loaded, 0x1001)),
+        (b"\x9D", user(&third), going_on(&user(&clear), 0x1001)),
+    ];
+    assert_eq!(rt; first_wrong(rt.alloc(), rows), None);
 }
 
 #[test]
 fn interrupts_are_enabled_and_disabled(rt: HostRuntime) {
-    let alloc = rt.alloc();
     let set = with_flags(&REGS, 0x202);
-    compare(
-        &rt,
-        alloc,
-        b"\xFB",
-        &REGS,
-        acting(&set, 0x1001, Act::Enable),
-    );
-    compare(&rt, alloc, b"\xFB", &set, going_on(&set, 0x1001));
-    compare(&rt, alloc, b"\xFA", &set, going_on(&REGS, 0x1001));
-    compare(&rt, alloc, b"\xFA", &REGS, going_on(&REGS, 0x1001));
-    compare(&rt, alloc, b"\xF4", &set, acting(&set, 0x1001, Act::Halt));
+    let rows: &[Row] = &[
+        (b"\xFB", REGS, acting(&set, 0x1001, Act::Enable)),
+        (b"\xFB", set, going_on(&set, 0x1001)),
+        (b"\xFA", set, going_on(&REGS, 0x1001)),
+        (b"\xFA", REGS, going_on(&REGS, 0x1001)),
+        (b"\xF4", set, acting(&set, 0x1001, Act::Halt)),
+    ];
+    assert_eq!(rt; first_wrong(rt.alloc(), rows), None);
 }
 
 #[test]
 fn ports_have_16_bits(rt: HostRuntime) {
-    let alloc = rt.alloc();
     let regs = with(&REGS, RAX, 0x1234);
-    compare(
-        &rt,
-        alloc,
-        b"\xE4\xEB",
-        &regs,
-        acting(&regs, 0x1002, Act::In(0xEB)),
-    );
-    compare(
-        &rt,
-        alloc,
-        b"\xEC",
-        &regs,
-        acting(&regs, 0x1001, Act::In(0xEA)),
-    );
-    compare(
-        &rt,
-        alloc,
-        b"\xE6\xE9",
-        &regs,
-        acting(&regs, 0x1002, Act::Out(0x34, 0xE9)),
-    );
-    compare(
-        &rt,
-        alloc,
-        b"\xEE",
-        &regs,
-        acting(&regs, 0x1001, Act::Out(0x34, 0xEA)),
-    );
+    let rows: &[Row] = &[
+        (b"\xE4\xEB", regs, acting(&regs, 0x1002, Act::In(0xEB))),
+        (b"\xEC", regs, acting(&regs, 0x1001, Act::In(0xEA))),
+        (
+            b"\xE6\xE9",
+            regs,
+            acting(&regs, 0x1002, Act::Out(0x34, 0xE9)),
+        ),
+        (b"\xEE", regs, acting(&regs, 0x1001, Act::Out(0x34, 0xEA))),
+    ];
+    assert_eq!(rt; first_wrong(rt.alloc(), rows), None);
 }
 
 #[test]
 fn control_registers_are_read_whole(rt: HostRuntime) {
-    let alloc = rt.alloc();
     let cr0 = with(&REGS, RBX, 0x8001_0011);
-    compare(&rt, alloc, b"\x0F\x20\xC3", &REGS, going_on(&cr0, 0x1003));
     let cr2 = with(&REGS, RBX, 0x1234);
-    compare(&rt, alloc, b"\x0F\x20\xD3", &REGS, going_on(&cr2, 0x1003));
     let cr3 = with(&REGS, RBX, 0x1000);
-    compare(&rt, alloc, b"\x0F\x20\xDB", &REGS, going_on(&cr3, 0x1003));
     let cr4 = with(&REGS, RBX, 0x10_0020);
-    compare(&rt, alloc, b"\x0F\x20\xE3", &REGS, going_on(&cr4, 0x1003));
-    // mod is taken as 3
-    compare(&rt, alloc, b"\x0F\x20\x23", &REGS, going_on(&cr4, 0x1003));
+    let rows: &[Row] = &[
+        (b"\x0F\x20\xC3", REGS, going_on(&cr0, 0x1003)),
+        (b"\x0F\x20\xD3", REGS, going_on(&cr2, 0x1003)),
+        (b"\x0F\x20\xDB", REGS, going_on(&cr3, 0x1003)),
+        (b"\x0F\x20\xE3", REGS, going_on(&cr4, 0x1003)),
+        // mod is taken as 3
+        (b"\x0F\x20\x23", REGS, going_on(&cr4, 0x1003)),
+    ];
+    assert_eq!(rt; first_wrong(rt.alloc(), rows), None);
 }
 
 #[test]
 fn control_registers_are_written(rt: HostRuntime) {
-    let alloc = rt.alloc();
     let cr0 = with(&REGS, RAX, 0x8000_0001);
-    compare(
-        &rt,
-        alloc,
-        b"\x0F\x22\xC0",
-        &cr0,
-        acting(&cr0, 0x1003, Act::Cr0(0x8000_0001)),
-    );
     let cr2 = with(&REGS, RAX, u64::MAX);
-    compare(
-        &rt,
-        alloc,
-        b"\x0F\x22\xD0",
-        &cr2,
-        acting(&cr2, 0x1003, Act::Cr2(u64::MAX)),
-    );
     let cr3 = with(&REGS, RAX, 0x9FFF);
-    compare(
-        &rt,
-        alloc,
-        b"\x0F\x22\xD8",
-        &cr3,
-        acting(&cr3, 0x1003, Act::Cr3(0x9FFF)),
-    );
     let past = with(&REGS, RAX, 0xA000);
-    compare(&rt, alloc, b"\x0F\x22\xD8", &past, Err(Fault::General(0)));
     let cr4 = with(&REGS, RAX, 0x20);
-    compare(
-        &rt,
-        alloc,
-        b"\x0F\x22\xE0",
-        &cr4,
-        acting(&cr4, 0x1003, Act::Cr4(0x20)),
-    );
+    let rows: &[Row] = &[
+        (
+            b"\x0F\x22\xC0",
+            cr0,
+            acting(&cr0, 0x1003, Act::Cr0(0x8000_0001)),
+        ),
+        (
+            b"\x0F\x22\xD0",
+            cr2,
+            acting(&cr2, 0x1003, Act::Cr2(u64::MAX)),
+        ),
+        (b"\x0F\x22\xD8", cr3, acting(&cr3, 0x1003, Act::Cr3(0x9FFF))),
+        (b"\x0F\x22\xD8", past, Err(Fault::General(0))),
+        (b"\x0F\x22\xE0", cr4, acting(&cr4, 0x1003, Act::Cr4(0x20))),
+    ];
+    assert_eq!(rt; first_wrong(rt.alloc(), rows), None);
 }
 
 /// A control register, a value, and whether it is taken where memory has ten frames.
@@ -190,51 +144,45 @@ fn control_register_takes_some_values(rt: HostRuntime) {
 /// At 80E stands 0 as a limit, and behind it 246 as a base.
 #[test]
 fn table_has_a_limit_and_a_base(rt: HostRuntime) {
-    let alloc = rt.alloc();
     let regs = with(&REGS, RBX, 0x80E);
-    compare(
-        &rt,
-        alloc,
-        b"\x0F\x01\x1B",
-        &regs,
-        acting(&regs, 0x1003, Act::Idt(0x246, 0)),
-    );
-    // by RSP: the limit is 6000's two low bytes, the base its others and 1B's
-    compare(
-        &rt,
-        alloc,
-        b"\x0F\x01\x1C\x24",
-        &REGS,
-        acting(&REGS, 0x1004, Act::Idt(0x1B_0000_0000_0000, 0x6000)),
-    );
+    let rows: &[Row] = &[
+        (
+            b"\x0F\x01\x1B",
+            regs,
+            acting(&regs, 0x1003, Act::Idt(0x246, 0)),
+        ),
+        // by RSP: the limit is 6000's two low bytes, the base its others and 1B's
+        (
+            b"\x0F\x01\x1C\x24",
+            REGS,
+            acting(&REGS, 0x1004, Act::Idt(0x1B_0000_0000_0000, 0x6000)),
+        ),
+    ];
+    assert_eq!(rt; first_wrong(rt.alloc(), rows), None);
 }
 
 #[test]
 fn page_is_dropped_by_address(rt: HostRuntime) {
-    let alloc = rt.alloc();
-    compare(
-        &rt,
-        alloc,
-        b"\x0F\x01\x3B",
-        &REGS,
-        acting(&REGS, 0x1003, Act::DropPage(0)),
-    );
     let missing = with(&REGS, RBX, 0x2FFF);
-    compare(
-        &rt,
-        alloc,
-        b"\x0F\x01\x3B",
-        &missing,
-        acting(&missing, 0x1003, Act::DropPage(2)),
-    );
     let high = with(&REGS, RSP, 0xFFFF_8000_0000_0000);
-    compare(
-        &rt,
-        alloc,
-        b"\x0F\x01\x3C\x24",
-        &high,
-        acting(&high, 0x1004, Act::DropPage(0xF_FFF8_0000_0000)),
-    );
     let away = with(&REGS, RBX, 0x8000_0000_0000);
-    compare(&rt, alloc, b"\x0F\x01\x3B", &away, going_on(&away, 0x1003));
+    let rows: &[Row] = &[
+        (
+            b"\x0F\x01\x3B",
+            REGS,
+            acting(&REGS, 0x1003, Act::DropPage(0)),
+        ),
+        (
+            b"\x0F\x01\x3B",
+            missing,
+            acting(&missing, 0x1003, Act::DropPage(2)),
+        ),
+        (
+            b"\x0F\x01\x3C\x24",
+            high,
+            acting(&high, 0x1004, Act::DropPage(0xF_FFF8_0000_0000)),
+        ),
+        (b"\x0F\x01\x3B", away, going_on(&away, 0x1003)),
+    ];
+    assert_eq!(rt; first_wrong(rt.alloc(), rows), None);
 }
