@@ -64,3 +64,4 @@ pub mod CallThroughBack
 pub mod CallThroughMoves
 pub mod CallThrough
 mod WorkedOpening
+mod RefutedRecords
