@@ -26,6 +26,7 @@ pub mod ControlWord
 pub mod WindowRows
 pub mod WindowEffects
 pub mod WindowPoints
+pub mod WindowNearer
 pub mod WindowKept
 pub mod WindowSteps
 pub mod WindowPushes
