@@ -45,10 +45,12 @@ pub mod Assembly
 pub mod LooseLeaves
 pub mod BodyKept
 pub mod StatesOf
+pub mod TurnNearer
 pub mod RefutedLeaves
 pub mod OpeningBytes
 pub mod OpeningGuarded
 pub mod RunsSafe
+pub mod RunsShort
 pub mod ShownStates
 pub mod MoveLemmas
 pub mod WholeLemmas
