@@ -12,6 +12,7 @@ mod seen;
 // The machine as a run begins, and what its three states share.
 mod opening;
 mod source;
+mod turns_left;
 mod whole;
 
 // The three states.
