@@ -68,3 +68,4 @@ pub mod CallThroughMoves
 pub mod CallThrough
 mod WorkedOpening
 mod RefutedRecords
+mod RefutedRuns

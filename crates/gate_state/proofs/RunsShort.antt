@@ -40,7 +40,7 @@ one_event : (plan : List Event) (s after : MachineState) → TakesOneEvent plan 
 one_event plan s after counts same = omega (arith, counts.turns, same)
 
 -- states by number, one behind another
-state_sum : (plan : List Event) (i k : ℕ) (s : MachineState) → state plan s (i + k) ≡ state plan (state plan s i) k
+pub state_sum : (plan : List Event) (i k : ℕ) (s : MachineState) → state plan s (i + k) ≡ state plan (state plan s i) k
 unfolding state
 state_sum plan zero k s =
     let same : 0 + k ≡ k = omega arith in

@@ -8,7 +8,7 @@ use Rattle.cpu_step.specs.Processor.{Processor}
 use Rattle.gate_text.specs.GatePoints.{is_point}
 use Rattle.gate_text.specs.Listing.{gate_address}
 use Rattle.gate_state.specs.GateWindow.{IsAtPoint, is_uninterrupted, stands_on}
-use Rattle.gate_state.specs.WindowLeft.{left, left_at, turns}
+use Rattle.gate_state.specs.WindowLeft.{left, left_at, left_by}
 use Rattle.gate_state.proofs.WindowPoints.{at_points, stub_before, stub_behind}
 use Rattle.gate_state.proofs.WindowRows.{Below, from_32}
 
@@ -111,7 +111,7 @@ closer_cleared p offset next flags rip clear closer =
 abbrev pub Within : ℕ → Type 0
 Within n = (1 ≤ n) × (n ≤ 11)
 
-row_within : (clear set : ℕ) → Within clear → Within set → (interrupts : Bool) → Within (turns clear set interrupts)
+row_within : (clear set : ℕ) → Within clear → Within set → (interrupts : Bool) → Within (left_by clear set interrupts)
 row_within clear set first second false = first
 row_within clear set first second true = second
 

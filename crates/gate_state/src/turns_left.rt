@@ -4,7 +4,7 @@ ghost use Rattle.std.specs.Prelude.{◌≡◌, ◌-◌};
 ghost use Rattle.x86_alu.specs.SignedNumbers.{bit};
 ghost use Rattle.x86_regs.specs.Combinations.{interrupt_flag};
 ghost use Rattle.gate_text.specs.Listing.{gate_address};
-ghost use Rattle.gate_state.specs.WindowLeft.{left_at, turns};
+ghost use Rattle.gate_state.specs.WindowLeft.{left_at, left_by};
 
 use x86_regs::{Regs, bit};
 
@@ -27,31 +27,31 @@ fn left_at(offset: u64, interrupts: bool) -> u8
     ensures { result ≡ left_at offset interrupts }
 {
     if offset == 37 || offset == 457 {
-        turns(1, 7, interrupts)
+        left_by(1, 7, interrupts)
     } else if offset == 32 || offset == 452 {
-        turns(2, 8, interrupts)
+        left_by(2, 8, interrupts)
     } else if offset == 29 || offset == 449 {
-        turns(3, 9, interrupts)
+        left_by(3, 9, interrupts)
     } else if offset == 45 || offset == 465 {
-        turns(4, 10, interrupts)
+        left_by(4, 10, interrupts)
     } else if offset == 40 || offset == 460 {
-        turns(5, 11, interrupts)
+        left_by(5, 11, interrupts)
     } else if offset == 16 {
-        turns(6, 7, interrupts)
+        left_by(6, 7, interrupts)
     } else if offset == 17 {
-        turns(5, 5, interrupts)
+        left_by(5, 5, interrupts)
     } else if offset == 27 || offset == 448 {
-        turns(4, 4, interrupts)
+        left_by(4, 4, interrupts)
     } else if offset % 8 == 0 {
-        turns(6, 6, interrupts)
+        left_by(6, 6, interrupts)
     } else {
-        turns(5, 5, interrupts)
+        left_by(5, 5, interrupts)
     }
 }
 
 /// So many turns with IF clear, and so many with IF set.
-fn turns(clear: u8, set: u8, interrupts: bool) -> u8
-    ensures { result ≡ turns clear set interrupts }
+fn left_by(clear: u8, set: u8, interrupts: bool) -> u8
+    ensures { result ≡ left_by clear set interrupts }
 {
     if interrupts { set } else { clear }
 }
