@@ -105,10 +105,10 @@ module _ (laws : LowerLaws) (o : Opening) (ks : List Kind) (scenes : SceneLaws o
   unfolding trapped
   delivery_nearer p m vector ready low high set point =
       let it : IsDelivery o ks m p.regs vector None (delivered p.regs p.control p.tables vector None m p.tlb)
-          (trap_stores vector None (woken vector p) m) =
+      (trap_stores vector None (woken vector p) m) =
       facts.delivers m p.control p.tables p.regs vector None p.tlb ready.scene ready.control.tables ready.pass high in
       let regs : Regs = at_handler p.regs (0xFFFFFF8000001040 + 8 * vector)
-          (0xFFFFFF8000004000 - 8 * (5 + length (codes_of None))) in
+      (0xFFFFFF8000004000 - 8 * (5 + length (codes_of None))) in
       let rip : regs.rip ≡ gate_address + (64 + 8 * vector) = omega arith in
       let there : left_at (regs.rip - gate_address) (bit regs.flags interrupt_flag) ≡ 6 =
       left_there regs.rip (64 + 8 * vector) (bit regs.flags interrupt_flag) rip

@@ -65,7 +65,8 @@ all_left : Below (λ k. StubLeft (32 + k)) 16
 unfolding left_at
 all_left =
     let six : (6 ≡ 6) × (6 ≡ 6) × (5 ≡ 5) × (5 ≡ 5) = (refl, refl, refl, refl) in (
-      six, (six, (six, (six, (six, (six, (six, (six, (six, (six, (six, (six, (six, (six, (six, (six, tt)))))))))))))))
+      six,
+      (six, (six, (six, (six, (six, (six, (six, (six, (six, (six, (six, (six, (six, (six, (six, tt))))))))))))))),
     )
 
 pub stub_left : (v : ℕ) → 32 ≤ v → v < 48 → StubLeft v
@@ -125,12 +126,12 @@ pub left_within : (offset : ℕ) (set : Bool) → Within (left_at offset set)
 unfolding left_at
 left_within offset set =
     one_within set (offset == 37 || offset == 457) _ _ (row_within 1 7 (omega arith, omega arith) (omega arith, omega arith) set) (
-      one_within set (offset == 32 || offset == 452) _ _ (row_within 2 8 (omega arith, omega arith) (omega arith, omega arith) set) (
-        one_within set (offset == 29 || offset == 449) _ _ (row_within 3 9 (omega arith, omega arith) (omega arith, omega arith) set) (
-          one_within set (offset == 45 || offset == 465) _ _ (row_within 4 10 (omega arith, omega arith) (omega arith, omega arith) set) (
-            one_within set (offset == 40 || offset == 460) _ _ (row_within 5 11 (omega arith, omega arith) (omega arith, omega arith) set) (
-              one_within set (offset == 16) _ _ (row_within 6 7 (omega arith, omega arith) (omega arith, omega arith) set) (
-                one_within set (offset == 17) _ _ (row_within 5 5 (omega arith, omega arith) (omega arith, omega arith) set) (
-                  one_within set (offset == 27 || offset == 448) _ _ (row_within 4 4 (omega arith, omega arith) (omega arith, omega arith) set) (
-                    one_within set (offset % 8 == 0) _ _ (row_within 6 6 (omega arith, omega arith) (omega arith, omega arith) set)
-                    (row_within 5 5 (omega arith, omega arith) (omega arith, omega arith) set)))))))))
+    one_within set (offset == 32 || offset == 452) _ _ (row_within 2 8 (omega arith, omega arith) (omega arith, omega arith) set) (
+    one_within set (offset == 29 || offset == 449) _ _ (row_within 3 9 (omega arith, omega arith) (omega arith, omega arith) set) (
+    one_within set (offset == 45 || offset == 465) _ _ (row_within 4 10 (omega arith, omega arith) (omega arith, omega arith) set) (
+    one_within set (offset == 40 || offset == 460) _ _ (row_within 5 11 (omega arith, omega arith) (omega arith, omega arith) set) (
+    one_within set (offset == 16) _ _ (row_within 6 7 (omega arith, omega arith) (omega arith, omega arith) set) (
+    one_within set (offset == 17) _ _ (row_within 5 5 (omega arith, omega arith) (omega arith, omega arith) set) (
+    one_within set (offset == 27 || offset == 448) _ _ (row_within 4 4 (omega arith, omega arith) (omega arith, omega arith) set) (
+    one_within set (offset % 8 == 0) _ _ (row_within 6 6 (omega arith, omega arith) (omega arith, omega arith) set)
+    (row_within 5 5 (omega arith, omega arith) (omega arith, omega arith) set)))))))))

@@ -1,9 +1,9 @@
 //! How many turns are left in each state with WP clear, by runs that jump into the gates: six where a call's way is taken,
 //! and eleven where an interrupt comes as late as it can.
 
+use super::jumps::{WITHOUT_WP, program};
 use super::{NOTHING, admitted, advanced, begun, finished, interrupt};
 use crate::{Machine, OuterMachine};
-use super::jumps::{WITHOUT_WP, program};
 use boot_map::Layout;
 use irq_plan::Plan;
 use std::alloc::Global;
@@ -25,7 +25,9 @@ fn lefts(start: OuterMachine, plan: &Plan) -> [u8; 12] {
     let mut lefts = [0; 12];
     let mut states = 0;
     for _ in 0..40 {
-        if let Some(left) = left(&machine) && states < 12 {
+        if let Some(left) = left(&machine)
+            && states < 12
+        {
             lefts[states] = left;
             states += 1;
         }
