@@ -1,6 +1,6 @@
 -- With WP clear a turn sets WP or leaves fewer turns of the window, the body leaves fewer, and an event leaves as many.
 use Rattle.std.proofs.Common.{◌≡◌, ◌⊎◌, ℕ, ◌+◌, ◌-◌, ◌*◌, ◌<◌, ◌≤◌, Bool, true, false, List, length, refl, sym, ap, subst, ◌∙◌, arith, inl, inr}
-use Rattle.std.specs.Prelude.{Option, None, Some, Result, is_none, not, ◌&&◌, if◌then◌else◌}
+use Rattle.std.specs.Prelude.{Option, None, Some, Result, not, ◌&&◌, if◌then◌else◌}
 use Rattle.std.proofs.lemmas.Bool.{and_parts, cases_Bool, false≢true, not-true}
 use Rattle.irq_plan.specs.declared.event.What.{What}
 use Rattle.irq_plan.specs.declared.event.What.TheVariants.{Irq, Drop, Fill}
@@ -29,7 +29,7 @@ use Rattle.gate_state.specs.GateWindow.{IsGatePoint, holds_at, is_uninterrupted,
 use Rattle.gate_state.specs.GuardedStates.{IsAdmitted, IsGuarded}
 use Rattle.gate_state.specs.MachineOf.{IsAtBody}
 use Rattle.gate_state.specs.MachineStates.{MachineState, Opening}
-use Rattle.gate_state.specs.MachineSteps.{after_event, after_turn, served, waits}
+use Rattle.gate_state.specs.MachineSteps.{after_event, after_turn, served}
 use Rattle.gate_state.specs.SafeStates.{IsGateInstruction, TakesTurn}
 use Rattle.gate_state.specs.WindowLeft.{IsNearer, left, left_at}
 use Rattle.gate_state.proofs.BodyKept.{body_stands}
@@ -65,8 +65,49 @@ module _ (p : Processor) (set : bit p.regs.flags interrupt_flag ≡ true) where
   many_left : (offset : ℕ) → is_point offset ≡ true → holds_at offset p ≡ true → 6 < left_at offset true
   unfolding left_at
   many_left offset point holds =
-      at_points (λ (offset : ℕ). holds_at offset p ≡ true → 6 < left_at offset true)
-      ((λ at. omega arith), ((λ at. never at), ((λ at. never_stacked 0xFFFFFF8000005000 at), ((λ at. omega arith), ((λ at. omega arith), ((λ at. omega arith), ((λ at. omega arith), ((λ at. omega arith), ((λ at. never_stacked 0xFFFFFF8000003FD0 at), ((λ at. omega arith), ((λ at. omega arith), ((λ at. omega arith), ((λ at. omega arith), ((λ at. omega arith), tt))))))))))))))
+      at_points (λ (offset : ℕ). holds_at offset p ≡ true → 6 < left_at offset true) (
+        (λ at. omega arith),
+        (
+          (λ at. never at),
+          (
+            (λ at. never_stacked 0xFFFFFF8000005000 at),
+            (
+              (λ at. omega arith),
+              (
+                (λ at. omega arith),
+                (
+                  (λ at. omega arith),
+                  (
+                    (λ at. omega arith),
+                    (
+                      (λ at. omega arith),
+                      (
+                        (λ at. never_stacked 0xFFFFFF8000003FD0 at),
+                        (
+                          (λ at. omega arith),
+                          (
+                            (λ at. omega arith),
+                            (
+                              (λ at. omega arith),
+                              (
+                                (λ at. omega arith),
+                                (
+                                  (λ at. omega arith),
+                                  tt,
+                                ),
+                              ),
+                            ),
+                          ),
+                        ),
+                      ),
+                    ),
+                  ),
+                ),
+              ),
+            ),
+          ),
+        ),
+      )
       (λ v low high at. never_stacked 0xFFFFFF8000003FD8 (sym (stub_before p v low high) ∙ at))
       (λ v low high at. never_stacked 0xFFFFFF8000003FD0 (sym (stub_behind p v low high) ∙ at))
       offset point holds

@@ -1,15 +1,11 @@
 -- How many turns are left at the gate points: fewer from each to the next.
-use Rattle.std.proofs.Common.{◌≡◌, ◌≢◌, ℕ, ◌+◌, ◌-◌, ◌*◌, ◌%◌, ◌<◌, ◌≤◌, Bool, true, false, refl, arith, sym, subst, ◌∙◌}
-use Rattle.std.specs.Prelude.{not, ◌==◌, ◌||◌, if◌then◌else◌}
-use Rattle.std.proofs.lemmas.Bool.{and_parts, false≢true}
+use Rattle.std.proofs.Common.{◌≡◌, ℕ, ◌+◌, ◌-◌, ◌*◌, ◌%◌, ◌<◌, ◌≤◌, Bool, true, false, refl, arith, sym, subst}
+use Rattle.std.specs.Prelude.{◌==◌, ◌||◌, if◌then◌else◌}
 use Rattle.x86_alu.specs.SignedNumbers.{bit}
 use Rattle.x86_regs.specs.Combinations.{interrupt_flag}
 use Rattle.cpu_step.specs.Processor.{Processor}
-use Rattle.gate_text.specs.GatePoints.{is_point}
 use Rattle.gate_text.specs.Listing.{gate_address}
-use Rattle.gate_state.specs.GateWindow.{IsAtPoint, is_uninterrupted, stands_on}
 use Rattle.gate_state.specs.WindowLeft.{left, left_at, left_by}
-use Rattle.gate_state.proofs.WindowPoints.{at_points, stub_before, stub_behind}
 use Rattle.gate_state.proofs.WindowRows.{Below, from_32}
 
 -- with IF as it was; and with IF clear from then on
