@@ -26,6 +26,7 @@ pub mod ControlWord
 pub mod WindowRows
 pub mod WindowEffects
 pub mod WindowPoints
+pub mod WindowNearer
 pub mod WindowKept
 pub mod WindowSteps
 pub mod WindowPushes
@@ -44,10 +45,12 @@ pub mod Assembly
 pub mod LooseLeaves
 pub mod BodyKept
 pub mod StatesOf
+pub mod TurnNearer
 pub mod RefutedLeaves
 pub mod OpeningBytes
 pub mod OpeningGuarded
 pub mod RunsSafe
+pub mod RunsShort
 pub mod ShownStates
 pub mod MoveLemmas
 pub mod WholeLemmas
@@ -65,3 +68,4 @@ pub mod CallThroughMoves
 pub mod CallThrough
 mod WorkedOpening
 mod RefutedRecords
+mod RefutedRuns

@@ -57,7 +57,7 @@ has_some plan n event is = elim (cases_lt n (length plan)) [
 ]
 
 -- what a step counts
-count_by : (plan : List Event) (s : MachineState) (m : Move) → IsMove plan s m → Counts plan m s (next_by m s)
+pub count_by : (plan : List Event) (s : MachineState) (m : Move) → IsMove plan s m → Counts plan m s (next_by m s)
 unfolding served after_turn
 count_by plan s move.Serve (serving at) = record { turns = refl; taken = refl }
 count_by plan s (move.Take what) (taking event outside is) = record { turns = refl; taken = refl; left = has_some plan s.taken event is }

@@ -37,7 +37,7 @@ use Rattle.gate_state.proofs.Traps.{raise_kept, trap_kept}
 use Rattle.gate_state.proofs.TurnFacts.{TurnFacts}
 
 -- the instruction that is made, once one is fetched
-made_from : (p : Processor) (m : List ℕ) (it : Fetched) → (instruction_at m (view_of m p.control p.regs.cpl) p.regs.rip p.tlb).answer ≡ Ok it
+pub made_from : (p : Processor) (m : List ℕ) (it : Fetched) → (instruction_at m (view_of m p.control p.regs.cpl) p.regs.rip p.tlb).answer ≡ Ok it
     → instruction_made p m ≡ effect_of it.instr it.size p.regs p.control m (instruction_at m (view_of m p.control p.regs.cpl) p.regs.rip p.tlb).tlb
 made_from p m it is =
     let fetched : Outcome Fault Fetched = instruction_at m (view_of m p.control p.regs.cpl) p.regs.rip p.tlb in
@@ -139,7 +139,7 @@ module _ (laws : LowerLaws) (o : Opening) (ks : List Kind) (scenes : SceneLaws o
       by_place false away false clear = clear_kept (wp_of p.control.cr0) p m ready clear (point clear) away
 
   -- a processor that is ready, with another mark of the shield
-  unshielded : (p : Processor) (m : List ℕ) → IsReady o ks p m → IsReady o ks (record p { shielded = false }) m
+  pub unshielded : (p : Processor) (m : List ℕ) → IsReady o ks p m → IsReady o ks (record p { shielded = false }) m
   unshielded p m ready = record {
     control = record {
       cr0 = ready.control.cr0;

@@ -36,6 +36,7 @@ use Rattle.gate_state.proofs.Scene.{IsScene, SceneLaws}
 use Rattle.gate_state.proofs.ControlWord.{cr0_kept, wp_kept}
 use Rattle.gate_state.proofs.WindowEffects.{load_refused, load_row}
 use Rattle.gate_state.proofs.WindowKept.{Goes, leads_back, leads_from, register_same}
+use Rattle.gate_state.proofs.WindowNearer.{closer_same, points_closer}
 use Rattle.gate_state.proofs.WindowPoints.{at_points, stub_before}
 use Rattle.gate_state.proofs.WindowPushes.{goes_448, goes_pushing}
 use Rattle.gate_state.proofs.WindowRows.{cli, jmp, jz, load_bytes, mov_cr0_rax, mov_rax_cr0, mov_rsp, or_eax, push_rax, push_value, rows, stub_jump, stub_points, stub_push, test_eax}
@@ -80,38 +81,42 @@ module _ (lower : LowerLaws) (o : Opening) (ks : List Kind) (laws : SceneLaws o 
             (λ at elsewhere. absurd (elsewhere refl)),
             (
               (λ at elsewhere. row_of p m tlb 29 mov_rax_cr0 3 rows.row_29
-                  (goes_reading lower p m tlb controlled 32 (leads_from p 29 3 32 at refl refl) (λ q has. has))),
+                  (goes_reading lower p m tlb controlled 32 (leads_from p 29 3 32 at refl refl)
+                  (closer_same p 29 32 p.regs.flags at.rip refl points_closer.from_29) (λ q has. has))),
               (
                 (λ at elsewhere. row_of p m tlb 32 or_eax 5 rows.row_32
-                    (goes_raising lower p m tlb controlled 37 (leads_from p 32 5 37 at refl refl) at.holds (λ q has. has))),
+                    (goes_raising lower p m tlb controlled 32 37 at.rip points_closer.from_32 (leads_from p 32 5 37 at refl refl) at.holds (λ q has. has))),
                 (
                   (λ at elsewhere. row_of p m tlb 37 mov_cr0_rax 3 rows.row_37
                       (goes_loading lower p m tlb controlled at.supervisor at.holds)),
                   (
                     (λ at elsewhere. row_of p m tlb 40 test_eax 5 rows.row_40
-                        (goes_testing lower p m tlb controlled 45 (leads_from p 40 5 45 at refl refl) at.holds (λ q has. has))),
+                        (goes_testing lower p m tlb controlled 40 45 at.rip points_closer.from_40 (leads_from p 40 5 45 at refl refl) at.holds (λ q has. has))),
                     (
                       (λ at elsewhere. row_of p m tlb 45 (jz (2 ^ 64 - 18)) 2 rows.row_45
-                          (goes_back lower p m tlb controlled 29 (2 ^ 64 - 18) (leads_back p 45 2 29 (2 ^ 64 - 18) at refl refl) refl
+                          (goes_back lower p m tlb controlled 29 (2 ^ 64 - 18) (leads_back p 45 2 29 (2 ^ 64 - 18) at refl refl)
+                          (closer_same p 45 29 p.regs.flags at.rip refl points_closer.from_45) refl
                           at.holds (λ q. refl))),
                       (
                         (λ at elsewhere. row_of p m tlb 448 push_rax 1 rows.row_448
                             (goes_448 o ks laws p m tlb controlled scene pass at)),
                         (
                           (λ at elsewhere. row_of p m tlb 449 mov_rax_cr0 3 rows.row_449
-                              (goes_reading lower p m tlb controlled 452 (leads_from p 449 3 452 at refl refl) (λ q has. has))),
+                              (goes_reading lower p m tlb controlled 452 (leads_from p 449 3 452 at refl refl)
+                              (closer_same p 449 452 p.regs.flags at.rip refl points_closer.from_449) (λ q has. has))),
                           (
                             (λ at elsewhere. row_of p m tlb 452 or_eax 5 rows.row_452
-                                (goes_raising lower p m tlb controlled 457 (leads_from p 452 5 457 at refl refl) at.holds (λ q has. has))),
+                                (goes_raising lower p m tlb controlled 452 457 at.rip points_closer.from_452 (leads_from p 452 5 457 at refl refl) at.holds (λ q has. has))),
                             (
                               (λ at elsewhere. row_of p m tlb 457 mov_cr0_rax 3 rows.row_457
                                   (goes_loading lower p m tlb controlled at.supervisor at.holds)),
                               (
                                 (λ at elsewhere. row_of p m tlb 460 test_eax 5 rows.row_460
-                                    (goes_testing lower p m tlb controlled 465 (leads_from p 460 5 465 at refl refl) at.holds (λ q has. has))),
+                                    (goes_testing lower p m tlb controlled 460 465 at.rip points_closer.from_460 (leads_from p 460 5 465 at refl refl) at.holds (λ q has. has))),
                                 (
                                   (λ at elsewhere. row_of p m tlb 465 (jz (2 ^ 64 - 18)) 2 rows.row_465
-                                      (goes_back lower p m tlb controlled 449 (2 ^ 64 - 18) (leads_back p 465 2 449 (2 ^ 64 - 18) at refl refl) refl
+                                      (goes_back lower p m tlb controlled 449 (2 ^ 64 - 18) (leads_back p 465 2 449 (2 ^ 64 - 18) at refl refl)
+                                      (closer_same p 465 449 p.regs.flags at.rip refl points_closer.from_465) refl
                                       at.holds (λ q. refl))),
                                   tt,
                                 ),

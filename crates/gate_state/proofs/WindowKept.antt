@@ -1,5 +1,5 @@
 -- What it is for an instruction to keep the window, and two ways to do so: by registers alone, and by a push.
-use Rattle.std.proofs.Common.{◌≡◌, ◌⊎◌, ℕ, ◌+◌, ◌%◌, ◌^◌, ◌<◌, false, true, refl, List, length, inl, arith, ap, ◌∙◌}
+use Rattle.std.proofs.Common.{◌≡◌, ◌⊎◌, ℕ, ◌+◌, ◌%◌, ◌^◌, ◌<◌, false, true, refl, List, length, inl, arith, ap, subst, sym, ◌∙◌}
 use Rattle.std.specs.Prelude.{◌==◌, slice_index, IfSome, None, Some, Ok}
 use Rattle.std.proofs.lemmas.Bool.{eq-eqb}
 use Rattle.std.proofs.lemmas.List.{get_or-set_same}
@@ -16,6 +16,7 @@ use Rattle.boot_map.specs.KernelSlot.{slot_start}
 use Rattle.x86_regs.specs.declared.effects.Act.{Act}
 use Rattle.x86_regs.specs.declared.effects.Act.TheVariants as act
 use Rattle.x86_regs.specs.declared.effects.Effect.{Effect}
+use Rattle.x86_regs.specs.Combinations.{interrupt_flag}
 use Rattle.x86_regs.specs.Effects.{effect_of}
 use Rattle.x86_regs.specs.Operands.{next_of, with_register, wrapped}
 use Rattle.x86_regs.specs.OperandOutcomes.{going_on}
@@ -26,8 +27,10 @@ use Rattle.gate_text.specs.GatePoints.{is_point}
 use Rattle.gate_text.specs.Listing.{gate_address}
 use Rattle.gate_state.specs.GateWindow.{IsAtPoint, IsGatePoint, holds_at}
 use Rattle.gate_state.specs.GuardedStates.{IsCr0}
+use Rattle.gate_state.specs.WindowLeft.{left, left_at}
 use Rattle.gate_state.proofs.LowerLaws.{LowerLaws}
 use Rattle.gate_state.proofs.WindowEffects.{quiet}
+use Rattle.gate_state.proofs.WindowNearer.{left_there}
 
 -- CR0 after an act
 abbrev pub cr0_after : Act → ℕ → ℕ
@@ -35,7 +38,7 @@ cr0_after (act.Cr0 value) cr0 = kept_in_cr0 value
 cr0_after _ cr0 = cr0
 
 -- an instruction of the window: it doesn't fault, sets at most CR0, writes at most to the trap stack, and stays in the
--- window unless it sets WP
+-- window unless it sets WP, with fewer turns left of it
 pub record KeepsWindow (p : Processor) (effect : Effect) : Type 0 where
   pub act_is : (effect.act ≡ act.Quiet) ⊎ ((value : ℕ) × (effect.act ≡ act.Cr0 value))
   pub cr0_is : IsCr0 (cr0_after effect.act p.control.cr0)
@@ -44,6 +47,7 @@ pub record KeepsWindow (p : Processor) (effect : Effect) : Type 0 where
         regs = effect.regs;
         control = record p.control { cr0 = cr0_after effect.act p.control.cr0 };
       })
+  pub nearer : wp_of (cr0_after effect.act p.control.cr0) ≡ false → left (record p { regs = effect.regs }) < left p
   pub write_is : IfSome effect.write (λ w. (page_of w.va ≡ slot_start + 3) × (crosses w.va w.width ≡ false))
 
 -- what an instruction does at a state: its effect keeps the window
@@ -119,18 +123,26 @@ arrives p general flags rip next leads holds = record {
   };
 }
 
+-- with fewer turns left there
+arrives_nearer : (p : Processor) (general : List ℕ) (flags rip next : ℕ) → Leads p rip next
+    → left_at next (bit flags interrupt_flag) < left p → left (moved p general flags rip) < left p
+arrives_nearer p general flags rip next leads nearer =
+    subst (λ (n : ℕ). n < left p) (sym (left_there rip next (bit flags interrupt_flag) leads.there)) nearer
+
 -- an instruction that only changes registers
 pub goes_quietly : (p : Processor) (m : List ℕ) (tlb : Translations) (i : Instr) (size : ℕ) (general : List ℕ)
     (flags rip next : ℕ) → IsCr0 p.control.cr0 → Leads p rip next
+    → left_at next (bit flags interrupt_flag) < left p
     → (effect_of i size p.regs p.control m tlb).answer ≡ quiet (going_on p.regs general flags rip)
     → holds_at next (moved p general flags rip) ≡ true → Goes p m tlb i size
-goes_quietly p m tlb i size general flags rip next cr0 leads answer holds = record {
+goes_quietly p m tlb i size general flags rip next cr0 leads nearer answer holds = record {
   effect = record { regs = going_on p.regs general flags rip; write = None; act = act.Quiet };
   answer = answer;
   keeps = record {
     act_is = inl refl;
     cr0_is = cr0;
     window = λ clear. arrives p general flags rip next leads holds;
+    nearer = λ clear. arrives_nearer p general flags rip next leads nearer;
     write_is = tt;
   };
 }
@@ -138,6 +150,7 @@ goes_quietly p m tlb i size general flags rip next cr0 leads answer holds = reco
 -- an instruction that writes eight bytes on one page of the trap stack as well
 pub goes_writing : (p : Processor) (m : List ℕ) (tlb : Translations) (i : Instr) (size : ℕ) (general : List ℕ)
     (flags rip next va value : ℕ) (target : Target) → IsCr0 p.control.cr0 → Leads p rip next
+    → left_at next (bit flags interrupt_flag) < left p
     → (effect_of i size p.regs p.control m tlb).answer ≡ Ok (record {
       regs = going_on p.regs general flags rip;
       write = Some (record { va = va; width = 8; value = value; target = target });
@@ -145,7 +158,7 @@ pub goes_writing : (p : Processor) (m : List ℕ) (tlb : Translations) (i : Inst
     })
     → page_of va ≡ slot_start + 3 → crosses va 8 ≡ false → holds_at next (moved p general flags rip) ≡ true
     → Goes p m tlb i size
-goes_writing p m tlb i size general flags rip next va value target cr0 leads answer page within holds = record {
+goes_writing p m tlb i size general flags rip next va value target cr0 leads nearer answer page within holds = record {
   effect = record {
     regs = going_on p.regs general flags rip;
     write = Some (record { va = va; width = 8; value = value; target = target });
@@ -156,6 +169,7 @@ goes_writing p m tlb i size general flags rip next va value target cr0 leads ans
     act_is = inl refl;
     cr0_is = cr0;
     window = λ clear. arrives p general flags rip next leads holds;
+    nearer = λ clear. arrives_nearer p general flags rip next leads nearer;
     write_is = (page, within);
   };
 }

@@ -1,7 +1,7 @@
 -- The pushes of the trap gate and of its stubs are served, write to the trap stack, and keep the window.
 use Rattle.std.proofs.Common.{◌≡◌, ℕ, ◌+◌, ◌*◌, ◌%◌, ◌^◌, ◌<◌, ◌≤◌, refl, List, arith, ap, sym, ◌∙◌}
 use Rattle.std.specs.Prelude.{slice_index, Ok}
-use Rattle.std.proofs.lemmas.Bool.{and_from, and_parts, eq-eqb, eqb-true}
+use Rattle.std.proofs.lemmas.Bool.{and_from, and_parts, eq-eqb, eqb-true, not-true}
 use Rattle.decode_fields.specs.declared.place.Place.TheVariants.{Reg}
 use Rattle.x86_alu.specs.SignedNumbers.{cut}
 use Rattle.nk_bits.specs.declared.access.Access.TheVariants as access
@@ -25,6 +25,7 @@ use Rattle.gate_state.proofs.LowerLaws.{AllPass}
 use Rattle.gate_state.proofs.Scene.{IsScene, SceneLaws}
 use Rattle.gate_state.proofs.WindowEffects.{push_rax_effect, push_value_effect}
 use Rattle.gate_state.proofs.WindowKept.{Goes, goes_writing, leads_from, moved, register_same}
+use Rattle.gate_state.proofs.WindowNearer.{closer_cleared, closer_same, points_closer, push_closer}
 use Rattle.gate_state.proofs.WindowPoints.{stub_before, stub_behind}
 use Rattle.gate_state.proofs.WindowRows.{push_rax, push_value, stub_points}
 
@@ -59,6 +60,7 @@ module _ (o : Opening) (ks : List Kind) (laws : SceneLaws o ks) where
         let points = stub_points v low high in
         goes_writing p m tlb (push_value v) 2 general p.regs.flags (next_of p.regs 2) (66 + 8 * v) va (cut 64 v)
         (in_trap_frame va) controlled.cr0 (leads_from p (64 + 8 * v) 2 (66 + 8 * v) at (omega arith) points.1)
+        (closer_same p (64 + 8 * v) (66 + 8 * v) p.regs.flags at.rip refl (push_closer v low high))
         (push_value_effect 2 p.regs p.control m tlb at.supervisor v (in_trap_frame va)
         (trap_served m p.control tlb va scene pass (ap page_of place) room))
         (ap page_of place) (ap (λ a. crosses a 8) place)
@@ -76,6 +78,7 @@ module _ (o : Opening) (ks : List Kind) (laws : SceneLaws o ks) where
         let room : va % 4096 + 8 ≤ 4096 = omega arith in
         goes_writing p m tlb push_rax 1 (with_register p.regs.general 4 va) p.regs.flags (next_of p.regs 1) 449 va
         (cut 64 (held p.regs.general (Reg 0) 64)) (in_trap_frame va) controlled.cr0 (leads_from p 448 1 449 at refl refl)
+        (closer_cleared p 448 449 p.regs.flags at.rip (not-true _ parts.0) points_closer.from_448)
         (push_rax_effect 1 p.regs p.control m tlb at.supervisor (in_trap_frame va)
         (trap_served m p.control tlb va scene pass (ap page_of place) room))
         (ap page_of place) (ap (λ a. crosses a 8) place) refl

@@ -1,12 +1,13 @@
 //! The machine in the gates: WP is clear, and the supervisor stands at a gate point that isn't the body's place.
 
-ghost use Rattle.std.specs.Prelude.{◌≡◌, ◌<◌, false, length, ◌*◌};
+ghost use Rattle.std.specs.Prelude.{◌≡◌, ◌<◌, ◌≤◌, false, length, ◌*◌};
 ghost use Rattle.nk_body.specs.NestedRecord.{AreBooks};
 ghost use Rattle.cpu_step.specs.Turns.{enters_body};
 ghost use Rattle.gate_state.specs.MachineOf.{IsInGates, IsOf, whole_of};
 ghost use Rattle.gate_state.specs.MachineSteps.{move_of, seen_by};
 ghost use Rattle.gate_state.specs.SafeStates.{IsSafe};
 ghost use Rattle.gate_state.specs.WholeMachine.{is_rest, next_whole};
+ghost use Rattle.gate_state.specs.WindowLeft.{ComesNearer, left};
 
 use crate::machine::{Machine, step};
 use crate::seen::Seen;
@@ -34,7 +35,8 @@ impl<'i> Model for GateMachine<'i> {
 }
 
 impl<'i> GateMachine<'i> {
-    /// One step: an event of the plan, or a turn; with what it shows. In the gates the machine never rests.
+    /// One step: an event of the plan, or a turn; with what it shows. In the gates the machine never rests. A turn sets WP
+    /// or leaves fewer turns until it is set.
     pub fn step(self, plan: &Plan) -> (Machine<'i>, Seen)
         requires turns { self.state.turns < 4294967296 }
         ensures next { whole_of result.0 ≡ next_whole plan.now self.entry }
@@ -43,11 +45,25 @@ impl<'i> GateMachine<'i> {
         ensures safe { IsSafe self.entry.opening self.entry.state }
         ensures in_gates { IsInGates self.entry.state.processor }
         ensures sorted { IsOf result.0 }
+        ensures nearer { ComesNearer (move_of plan.now self.entry.state) self.entry.state.processor
+            (whole_of result.0).state.processor }
     {
         let GateMachine { whole } = self;
         whole.stands_in_gates();
         whole.is_running(plan);
+        whole.comes_nearer(plan);
         step(whole, plan)
+    }
+
+    /// How many turns at most go by until WP is set, the one that sets it counted in.
+    pub fn left(&self) -> u8
+        ensures left { result ≡ left self.now.state.processor }
+        ensures some { 1 ≤ result }
+        ensures most { result ≤ 11 }
+        ensures in_gates { IsInGates self.now.state.processor }
+    {
+        self.whole.stands_in_gates();
+        self.whole.left()
     }
 
     /// Whether the machine rests for good. In the gates the machine never rests.

@@ -10,7 +10,7 @@ ghost use Rattle.nk_bits.specs.Kinds.{kind_of, level_of};
 ghost use Rattle.nk_bits.specs.Paging.{is_present};
 ghost use Rattle.phys_mem.specs.Memory.{entry_in};
 ghost use Rattle.boot_map.specs.KernelSlot.{IsNamedIn};
-ghost use Rattle.cpu_step.specs.Processor.{IsSound};
+ghost use Rattle.cpu_step.specs.Processor.{IsSound, Processor};
 ghost use Rattle.cpu_step.specs.Turns.{enters_body};
 ghost use Rattle.nk_body.specs.NestedRecord.{AreBooks, Books};
 ghost use Rattle.gate_state.specs.AnyVector.{DeliversAny};
@@ -23,6 +23,7 @@ ghost use Rattle.gate_state.specs.MachineSteps.{after_event, after_turn, calls, 
 ghost use Rattle.gate_state.specs.SafeStates.{IsSafe, TakesTurn};
 ghost use Rattle.gate_state.specs.ShownSteps.{IsShown, IsShownCall};
 ghost use Rattle.gate_state.specs.StepsTaken.{Counts};
+ghost use Rattle.gate_state.specs.WindowLeft.{ComesNearer, IsNearer, IsShortWindow, left};
 
 use boot_map::{
     opening_bytes_law, opening_entries_law, opening_kinds_law, slot_law, slot_leaf_law,
@@ -41,7 +42,8 @@ use x86_regs::{bound_law, effect_law, grant_law};
 
 /// Each kind of step keeps the invariant, over which a state is safe, the processor sound and, with WP clear, in the gates
 /// or at the body; books stay those of memory
-/// over a turn. What a turn and a call show are bytes, and numbers of 64 bits.
+/// over a turn. What a turn and a call show are bytes, and numbers of 64 bits. With WP clear, a turn sets it or leaves
+/// fewer turns until it is set, and so does the body.
 pub(crate) fn steps_law()
     ensures opening { (o : Opening) (input : List ℕ) → IsAdmitted o → IsGuarded o (opening_state o input) }
     ensures event { (o : Opening) (s : MachineState) (what : What) → IsAdmitted o → IsPlannable what
@@ -70,6 +72,10 @@ pub(crate) fn steps_law()
         → IsGuarded o s → IsShown (shown_by_turn (turn_of s).stepped) }
     ensures shown_call { (o : Opening) (s : MachineState) → IsAdmitted o → IsGuarded o s → s.turns < 2 ^ 62
         → IsShownCall s }
+    ensures turn_left { (o : Opening) (s : MachineState) → IsAdmitted o → TakesTurn s.processor → IsGuarded o s
+        → wp_of s.processor.control.cr0 ≡ false → IsNearer s.processor (after_turn s).processor }
+    ensures body_left { (o : Opening) (s : MachineState) → IsAdmitted o → enters_body s.processor ≡ true
+        → IsGuarded o s → left (served s).processor < left s.processor }
 {
     access_law();
     kind_law();
@@ -102,7 +108,8 @@ pub(crate) fn steps_law()
 
 /// Every state of every run is guarded, and so safe: in the opening, and after each step under any plan. In a guarded
 /// state each vector can be delivered. What the nested kernel guards in a state is what the accepted calls make of the
-/// opening's record. A call that is made through the gates with interrupts off is answered.
+/// opening's record. A call that is made through the gates with interrupts off is answered. Of turns in a row that each
+/// begin with WP clear there are at most eleven.
 pub fn safety_law()
     ensures opening { (o : Opening) (input : List ℕ) → IsAdmitted o → IsGuarded o (opening_state o input) }
     ensures guarded { (o : Opening) (input : List ℕ) (plan : List Event) (k : ℕ) → IsAdmitted o → IsPlan plan
@@ -116,6 +123,25 @@ pub fn safety_law()
     ensures called { (o : Opening) (input : List ℕ) (plan : List Event) (n k : ℕ) → IsAdmitted o → IsPlan plan
         → IsCalling (state plan (opening_state o input) n).processor
         → IsCalledThrough plan (state plan (opening_state o input) n) k }
+    ensures window { (o : Opening) (input : List ℕ) (plan : List Event) → IsAdmitted o → IsPlan plan
+        → IsShortWindow plan (opening_state o input) }
+{
+    steps_law();
+}
+
+/// From a guarded state with WP clear, at least one turn and at most eleven are left until WP is set. A turn sets it or
+/// leaves fewer, the body leaves fewer, and an event of the plan leaves CR0 and as many.
+pub fn window_law()
+    ensures within { (p : Processor) → (1 ≤ left p) × (left p ≤ 11) }
+    ensures turn { (o : Opening) (s : MachineState) → IsAdmitted o → IsGuarded o s → TakesTurn s.processor
+        → wp_of s.processor.control.cr0 ≡ false → IsNearer s.processor (after_turn s).processor }
+    ensures body { (o : Opening) (s : MachineState) → IsAdmitted o → IsGuarded o s → enters_body s.processor ≡ true
+        → left (served s).processor < left s.processor }
+    ensures event { (what : What) (s : MachineState)
+        → ((after_event what s).processor.control.cr0 ≡ s.processor.control.cr0)
+        × (left (after_event what s).processor ≡ left s.processor) }
+    ensures step { (o : Opening) (plan : List Event) (s : MachineState) → IsAdmitted o → IsGuarded o s
+        → wp_of s.processor.control.cr0 ≡ false → ComesNearer (move_of plan s) s.processor (next plan s).processor }
 {
     steps_law();
 }

@@ -12,6 +12,7 @@ mod seen;
 // The machine as a run begins, and what its three states share.
 mod opening;
 mod source;
+mod turns_left;
 mod whole;
 
 // The three states.
@@ -24,7 +25,7 @@ mod outer;
 mod laws;
 
 pub use gate::GateMachine;
-pub use laws::{entry_forms_law, moves_law, safety_law, shown_law};
+pub use laws::{entry_forms_law, moves_law, safety_law, shown_law, window_law};
 pub use machine::Machine;
 pub use moves::Move;
 pub use nested::NestedMachine;

@@ -1,12 +1,13 @@
 //! The machine at the nested kernel's body: WP is clear.
 
-ghost use Rattle.std.specs.Prelude.{◌≡◌, ◌<◌, false, true, length, ◌*◌};
+ghost use Rattle.std.specs.Prelude.{◌≡◌, ◌<◌, ◌≤◌, false, true, length, ◌*◌};
 ghost use Rattle.nk_body.specs.NestedRecord.{AreBooks};
 ghost use Rattle.cpu_step.specs.Turns.{enters_body};
 ghost use Rattle.gate_state.specs.MachineOf.{IsAtBody, IsInGates};
 ghost use Rattle.gate_state.specs.MachineSteps.{called_in, move_of};
 ghost use Rattle.gate_state.specs.SafeStates.{IsSafe};
 ghost use Rattle.gate_state.specs.WholeMachine.{is_rest, served_whole};
+ghost use Rattle.gate_state.specs.WindowLeft.{left};
 
 use crate::gate::GateMachine;
 use crate::seen::Called;
@@ -32,7 +33,7 @@ impl<'i> Model for NestedMachine<'i> {
 }
 
 impl<'i> NestedMachine<'i> {
-    /// The body: the call that the registers hold is served, and the exit gate is next.
+    /// The body: the call that the registers hold is served, and the exit gate is next, with fewer turns until WP is set.
     pub fn serve(self) -> (GateMachine<'i>, Called)
         requires turns { self.state.turns < 4294967296 }
         ensures next { result.0 ≡ served_whole self.entry }
@@ -41,13 +42,26 @@ impl<'i> NestedMachine<'i> {
         ensures safe { IsSafe self.entry.opening self.entry.state }
         ensures at_body { IsAtBody self.entry.state.processor }
         ensures in_gates { IsInGates result.0.state.processor }
+        ensures nearer { left result.0.state.processor < left self.entry.state.processor }
     {
         let NestedMachine { mut whole } = self;
         whole.stands_at_body();
+        whole.serves_nearer();
         whole.is_safe();
         let called = whole.serve();
         whole.stands_in_gates();
         (GateMachine { whole }, called)
+    }
+
+    /// How many turns at most go by until WP is set, the body and the one that sets it counted in.
+    pub fn left(&self) -> u8
+        ensures left { result ≡ left self.now.state.processor }
+        ensures some { 1 ≤ result }
+        ensures most { result ≤ 11 }
+        ensures at_body { IsAtBody self.now.state.processor }
+    {
+        self.whole.stands_at_body();
+        self.whole.left()
     }
 
     /// Whether the machine rests for good. At the body the machine never rests.

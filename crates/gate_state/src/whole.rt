@@ -1,20 +1,22 @@
 //! What the three states share: the machine with the opening of its run.
 
-ghost use Rattle.std.specs.Prelude.{◌≡◌, ℕ, ◌+◌, ◌<◌, ◌^◌, true, false, slice_get, Some, None, length, ◌*◌};
+ghost use Rattle.std.specs.Prelude.{◌≡◌, ℕ, ◌+◌, ◌<◌, ◌≤◌, ◌^◌, true, false, slice_get, Some, None, length, ◌*◌};
 ghost use Rattle.irq_plan.specs.PlannedEvents.{IsPlannable};
 ghost use Rattle.nk_bits.specs.Accesses.{wp_of};
 ghost use Rattle.cpu_step.specs.Turns.{enters_body};
 ghost use Rattle.nk_body.specs.NestedRecord.{AreBooks};
 ghost use Rattle.gate_state.specs.EventMoves.{IfTaken};
 ghost use Rattle.gate_state.specs.MachineOf.{IsAtBody, IsInGates};
-ghost use Rattle.gate_state.specs.MachineSteps.{after_event, after_turn, answered_with, call_in, called_in, move_by, move_of, seen_by, shown_by_turn, turn_of, waits};
+ghost use Rattle.gate_state.specs.MachineSteps.{after_event, after_turn, answered_with, call_in, called_in, move_by, move_of, next, seen_by, served, shown_by_turn, turn_of, waits};
 ghost use Rattle.gate_state.specs.SafeStates.{IsSafe, TakesTurn};
 ghost use Rattle.gate_state.specs.WholeMachine.{is_rest, next_whole, served_whole};
+ghost use Rattle.gate_state.specs.WindowLeft.{ComesNearer, left};
 
-use crate::laws::steps_law;
+use crate::laws::{steps_law, window_law};
 use crate::moves::Move;
 use crate::seen::{Called, Seen};
 use crate::source::{sourced, take_source};
+use crate::turns_left::left;
 use boot_map::Layout;
 use cpu_step::{Cpu, Stepped};
 use elf_image::Image;
@@ -191,6 +193,35 @@ impl<'i> Whole<'i> {
     {
         steps_law();
         let _taken = self.taken;
+    }
+
+    /// With WP clear, the step from this state comes nearer to where WP is set.
+    pub fn comes_nearer(&self, plan: &Plan)
+        requires clear { wp_of self.now.state.processor.control.cr0 ≡ false }
+        ensures { ComesNearer (move_of plan.now self.now.state) self.now.state.processor
+            (next plan.now self.now.state).processor }
+    {
+        window_law();
+        let _taken = self.taken;
+    }
+
+    /// Behind the body fewer turns are left.
+    pub fn serves_nearer(&self)
+        requires body { enters_body self.now.state.processor ≡ true }
+        ensures { left (served self.now.state).processor < left self.now.state.processor }
+    {
+        window_law();
+        let _taken = self.taken;
+    }
+
+    /// How many turns are left until WP is set.
+    pub fn left(&self) -> u8
+        ensures left { result ≡ left self.now.state.processor }
+        ensures some { 1 ≤ result }
+        ensures most { result ≤ 11 }
+    {
+        window_law();
+        left(self.cpu.regs())
     }
 
     /// What the invariant gives: the state is safe.

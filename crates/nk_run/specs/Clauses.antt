@@ -19,6 +19,7 @@ use Rattle.gate_state.specs.MachineSteps.{calls, made_by_all, state}
 use Rattle.replay_core.specs.ReplayedCalls.{replay_of}
 use Rattle.image_maker.specs.MadeImage.{image_of_number}
 use Rattle.gate_state.specs.SafeStates.{IsSafe}
+use Rattle.gate_state.specs.WindowLeft.{IsShortWindow}
 use Rattle.nk_run.specs.declared.command_line.Command.{Command}
 use Rattle.nk_run.specs.declared.command_line.Command.TheVariants.{Scan, Map, Run, Replay, Make, Work}
 use Rattle.nk_run.specs.declared.command_line.Role.{Role}
@@ -184,6 +185,8 @@ pub record IsSafeRun (plan : List Event) (o : Opening) (input : List ℕ) : Type
   -- a call that is made through the gates with interrupts off is answered
   pub called : (n k : ℕ) → IsCalling (state plan (opening_state o input) n).processor
       → IsCalledThrough plan (state plan (opening_state o input) n) k
+  -- of turns in a row that each begin with WP clear there are at most eleven
+  pub window : IsShortWindow plan (opening_state o input)
 
 -- where the checks of a run pass, the run is safe
 abbrev pub HasSafeRun : Command → List (List ℕ) → Files → Type 0

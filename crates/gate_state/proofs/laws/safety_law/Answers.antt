@@ -3,6 +3,7 @@ use Rattle.gate_state.specs.MachineOpening.{opening_state}
 use Rattle.gate_state.specs.MachineSteps.{state}
 use Rattle.gate_state.specs.MachineStates.{Opening}
 use Rattle.gate_state.proofs.RunsSafe.{StepsKept, state_guarded, state_made}
+use Rattle.gate_state.proofs.RunsShort.{StepsNearer, short_window}
 use Rattle.gate_state.proofs.laws.safety_law.Goals as goal
 
 pub returns : goal.returns
@@ -13,6 +14,10 @@ returns c =
       body = λ s at guarded. c.steps_law.ensures.body o s admitted at guarded;
       stays = λ s takes guarded. c.steps_law.ensures.stays o s admitted takes guarded;
       serves = λ s guarded. c.steps_law.ensures.serves o s admitted guarded;
+    } in
+    let nearer : (o : Opening) → IsAdmitted o → StepsNearer o = λ o admitted. record {
+      turn = λ s takes guarded clear. c.steps_law.ensures.turn_left o s admitted takes guarded clear;
+      body = λ s enters guarded. c.steps_law.ensures.body_left o s admitted enters guarded;
     } in
     record {
       opening = c.steps_law.ensures.opening;
@@ -27,4 +32,7 @@ returns c =
       called = λ o input plan n k admitted in_form calling.
           c.steps_law.ensures.called o (state plan (opening_state o input) n) plan k admitted in_form
           (state_guarded o (steps o admitted) plan in_form (opening_state o input) n (c.steps_law.ensures.opening o input admitted)) calling;
+      window = λ o input plan admitted in_form.
+          short_window o (nearer o admitted) plan (steps o admitted) in_form (opening_state o input)
+          (c.steps_law.ensures.opening o input admitted);
     }

@@ -10,6 +10,7 @@ use Rattle.gate_state.proofs.ShownStates.{call_shown}
 use Rattle.gate_state.proofs.StatesKept.{event_guarded, guarded_delivers, guarded_safe, guarded_sound, turn_books, turn_guarded, turn_shows, turn_stays}
 use Rattle.gate_state.proofs.StatesOf.{at_body, in_gates}
 use Rattle.gate_state.proofs.TurnFacts.{TurnFacts}
+use Rattle.gate_state.proofs.TurnNearer.{body_left, turn_left}
 use Rattle.gate_state.proofs.laws.steps_law.Goals as goal
 
 pub returns : goal.returns
@@ -125,4 +126,6 @@ returns c =
       sound = λ o s admitted guarded. guarded_sound laws o admitted s guarded;
       shown = λ o s admitted takes guarded. turn_shows laws o admitted s guarded (facts o s admitted guarded) takes;
       shown_call = λ o s admitted guarded few. call_shown laws o s guarded few;
+      turn_left = λ o s admitted takes guarded clear. turn_left laws o admitted s guarded (facts o s admitted guarded) takes clear;
+      body_left = λ o s admitted enters guarded. body_left laws o admitted s guarded enters;
     }
