@@ -1,3 +1,4 @@
 mod FoundRegions
 mod PoolFrames
 mod Writes
+mod WorkedPolicies

@@ -21,3 +21,4 @@ pub mod RegionReads
 pub mod RowPlaces
 pub mod RowStores
 pub mod SoundBooks
+mod WorkedRegions
