@@ -6,6 +6,7 @@ mod calls;
 mod jumps;
 mod opening;
 mod regions;
+mod stretches;
 
 ghost use Rattle.std.specs.Prelude.{◌≡◌, IfSome, None};
 ghost use Rattle.boot_map.specs.Division.{IsLayout};
