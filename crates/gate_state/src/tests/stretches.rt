@@ -1,5 +1,5 @@
-//! Jumps to each byte of the gates that carry a RAX with WP clear, under an interrupt that comes after so many turns: the
-//! machine stands at gate points while WP is clear, and never takes more than eleven turns so.
+//! Jumps to each byte of the gates that carry a RAX with WP clear, under an interrupt that is due after so many turns:
+//! while WP is clear the machine stands at gate points, and it never takes more than eleven turns so.
 
 ghost use Rattle.std.specs.Prelude.{◌≡◌, None};
 ghost use Rattle.boot_map.specs.Division.{IsLayout};
@@ -153,34 +153,29 @@ fn over(alloc: Global, from: u16, to: u16) -> Option<Longest> {
     Some(runs)
 }
 
-/// So many runs, of which one has the longest stretch.
-fn one(runs: u32, turns: u32, first: (u16, u64)) -> Option<Longest> {
+/// So many runs, the longest stretch of them, how many of them reach it, and the offset and the due turn of the first.
+fn at_most(runs: u32, turns: u32, reached: u32, first: (u16, u64)) -> Option<Longest> {
     Some(Longest {
         runs,
         turns,
-        reached: 1,
+        reached,
         first: Some(first),
         stood: true,
     })
 }
 
-/// So many runs from this offset on, in which WP is never clear.
+/// So many runs, the first of them to this offset, in which WP is never clear.
 fn none_clear(runs: u32, from: u16) -> Option<Longest> {
-    Some(Longest {
-        runs,
-        turns: 0,
-        reached: runs,
-        first: Some((from, 5)),
-        stood: true,
-    })
+    at_most(runs, 0, runs, (from, 5))
 }
 
-/// Both gates load CR0 there, and go round once more where WP was cleared: 40, 45, 29 and 32, or 460, 465, 449 and 452. An
-/// interrupt that comes then, as the fifth turn, adds the most: its delivery, and the trap gate's first six instructions.
+/// Both gates load CR0 there, and go round once more where WP was cleared: 40, 45, 29 and 32, or 460, 465, 449 and 452.
+/// An interrupt that comes behind these adds the most: its delivery, two instructions of its stub, and four of the trap
+/// gate.
 #[test]
 fn loads_that_set_wp(rt: HostRuntime) -> Result<(), Fail> {
-    assert_eq!(rt; over(rt.alloc(), 37, 38), one(10, 11, (37, 9)));
-    assert_eq!(rt; over(rt.alloc(), 457, 458), one(10, 11, (457, 9)));
+    assert_eq!(rt; over(rt.alloc(), 37, 38), at_most(10, 11, 1, (37, 9)));
+    assert_eq!(rt; over(rt.alloc(), 457, 458), at_most(10, 11, 1, (457, 9)));
     Ok(())
 }
 
@@ -193,27 +188,110 @@ fn beside_these_loads(rt: HostRuntime) -> Result<(), Fail> {
     Ok(())
 }
 
+/// From 2, 3, 5 and 6 the load at 13 is reached with IF set. An interrupt comes at 16: seven turns, where the way to
+/// the load at 37 takes six.
+#[test]
+fn from_0(rt: HostRuntime) -> Result<(), Fail> {
+    assert_eq!(rt; over(rt.alloc(), 0, 8), at_most(80, 7, 4, (2, 8)));
+    Ok(())
+}
+
+/// So it is from 8, and from 13 itself.
+#[test]
+fn from_8(rt: HostRuntime) -> Result<(), Fail> {
+    assert_eq!(rt; over(rt.alloc(), 8, 37), at_most(290, 7, 2, (8, 6)));
+    Ok(())
+}
+
+// The other offsets stand in parts, so that each part ends in time where tests run with checks.
+
 #[test]
 fn from_38(rt: HostRuntime) -> Result<(), Fail> {
-    assert_eq!(rt; over(rt.alloc(), 38, 150), none_clear(1120, 38));
+    assert_eq!(rt; over(rt.alloc(), 38, 66), none_clear(280, 38));
+    Ok(())
+}
+
+#[test]
+fn from_66(rt: HostRuntime) -> Result<(), Fail> {
+    assert_eq!(rt; over(rt.alloc(), 66, 94), none_clear(280, 66));
+    Ok(())
+}
+
+#[test]
+fn from_94(rt: HostRuntime) -> Result<(), Fail> {
+    assert_eq!(rt; over(rt.alloc(), 94, 122), none_clear(280, 94));
+    Ok(())
+}
+
+#[test]
+fn from_122(rt: HostRuntime) -> Result<(), Fail> {
+    assert_eq!(rt; over(rt.alloc(), 122, 150), none_clear(280, 122));
     Ok(())
 }
 
 #[test]
 fn from_150(rt: HostRuntime) -> Result<(), Fail> {
-    assert_eq!(rt; over(rt.alloc(), 150, 250), none_clear(1000, 150));
+    assert_eq!(rt; over(rt.alloc(), 150, 178), none_clear(280, 150));
     Ok(())
 }
 
 #[test]
-fn from_250(rt: HostRuntime) -> Result<(), Fail> {
-    assert_eq!(rt; over(rt.alloc(), 250, 350), none_clear(1000, 250));
+fn from_178(rt: HostRuntime) -> Result<(), Fail> {
+    assert_eq!(rt; over(rt.alloc(), 178, 206), none_clear(280, 178));
     Ok(())
 }
 
 #[test]
-fn from_350(rt: HostRuntime) -> Result<(), Fail> {
-    assert_eq!(rt; over(rt.alloc(), 350, 457), none_clear(1070, 350));
+fn from_206(rt: HostRuntime) -> Result<(), Fail> {
+    assert_eq!(rt; over(rt.alloc(), 206, 234), none_clear(280, 206));
+    Ok(())
+}
+
+#[test]
+fn from_234(rt: HostRuntime) -> Result<(), Fail> {
+    assert_eq!(rt; over(rt.alloc(), 234, 262), none_clear(280, 234));
+    Ok(())
+}
+
+#[test]
+fn from_262(rt: HostRuntime) -> Result<(), Fail> {
+    assert_eq!(rt; over(rt.alloc(), 262, 290), none_clear(280, 262));
+    Ok(())
+}
+
+#[test]
+fn from_290(rt: HostRuntime) -> Result<(), Fail> {
+    assert_eq!(rt; over(rt.alloc(), 290, 318), none_clear(280, 290));
+    Ok(())
+}
+
+#[test]
+fn from_318(rt: HostRuntime) -> Result<(), Fail> {
+    assert_eq!(rt; over(rt.alloc(), 318, 346), none_clear(280, 318));
+    Ok(())
+}
+
+#[test]
+fn from_346(rt: HostRuntime) -> Result<(), Fail> {
+    assert_eq!(rt; over(rt.alloc(), 346, 374), none_clear(280, 346));
+    Ok(())
+}
+
+#[test]
+fn from_374(rt: HostRuntime) -> Result<(), Fail> {
+    assert_eq!(rt; over(rt.alloc(), 374, 402), none_clear(280, 374));
+    Ok(())
+}
+
+#[test]
+fn from_402(rt: HostRuntime) -> Result<(), Fail> {
+    assert_eq!(rt; over(rt.alloc(), 402, 430), none_clear(280, 402));
+    Ok(())
+}
+
+#[test]
+fn from_430(rt: HostRuntime) -> Result<(), Fail> {
+    assert_eq!(rt; over(rt.alloc(), 430, 457), none_clear(270, 430));
     Ok(())
 }
 
