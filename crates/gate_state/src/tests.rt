@@ -6,6 +6,7 @@ mod calls;
 mod jumps;
 mod opening;
 mod regions;
+mod stretches;
 mod windows;
 
 ghost use Rattle.std.specs.Prelude.{◌≡◌, IfSome, None};

@@ -11,10 +11,10 @@ use std::test::Fail;
 /// CR0 as it is while the outer kernel runs, and the same with WP clear.
 const WITH_WP: u32 = 0x8001_0001;
 
-pub const WITHOUT_WP: u32 = 0x8000_0001;
+pub(super) const WITHOUT_WP: u32 = 0x8000_0001;
 
 /// nop, or sti; mov rcx, GATE + offset; mov eax, number; jmp rcx. Four turns.
-pub fn program(sets_if: bool, offset: u16, rax: u32) -> [u8; 18] {
+pub(super) fn program(sets_if: bool, offset: u16, rax: u32) -> [u8; 18] {
     let [a0, a1, a2, a3, a4, a5, a6, a7] = (GATE + u64::from(offset)).to_le_bytes();
     let [n0, n1, n2, n3] = rax.to_le_bytes();
     let first = if sets_if { 0xFB } else { 0x90 };
