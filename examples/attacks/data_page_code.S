@@ -1,8 +1,8 @@
-/* The attacker writes MOV to CR0 and HLT into its page of data, as their complement; asks for a leaf that makes that page
- * executable for the supervisor; and jumps to the page as it is.
+/* The attacker writes MOV to CR0 and HLT into its page of data, as their complement; asks for a leaf that makes
+ * that page executable for the supervisor; and jumps to the page as it is.
  *
  * k: call 3 for frame 68 (44), read-only and without XD, breaks rule 11: a leaf of a frame of data is user or not
- *    executable.
+ *     executable.
  * i: the page's own leaf has XD. Code 11 is hexadecimal: 17, present (1) and fetch (16), at the page's first byte.
  * turns: 1 + 1 + 1 + 1 + 25 + 1 + 12 (the fetch that faults, and the opening's handler) = 42. */
 #include "attack.inc"

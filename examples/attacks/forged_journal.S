@@ -1,5 +1,5 @@
-/* The attacker's second write to a write-once byte is refused; forged_journal.journal is the run's text with that answer
- * changed to 0, which says that the write was accepted.
+/* The attacker's second write to a write-once byte is refused; forged_journal.journal is the run's text with that
+ * answer changed to 0, which says that the write was accepted.
  *
  * k: call 7 allocates 16 bytes (10) with policy 1: region 256 (100) at the pool's first byte.
  * k: call 9 writes one byte, 61, from the page of data: accepted. The next, 62, breaks rule 24, WrittenOnce.

@@ -1,5 +1,5 @@
-/* The attacker wants an address that isn't canonical in the slot with the trap handler, so that the trap gate faults in its
- * own jump: by call 1, by a store to the slot where the nested kernel has it, and by the direct map.
+/* The attacker wants an address that isn't canonical in the slot with the trap handler, so that the trap gate
+ * faults in its own jump: by call 1, by a store to the slot where the nested kernel has it, and by the direct map.
  *
  * k: call 1 sets the handler. With 0000800000000000 it breaks rule 27, NotCanonical.
  * i: a store to the slot is refused with code 3. It stands at 10 + 7 + 2 * 3e + a + 7 + a = ae.

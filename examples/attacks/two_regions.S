@@ -1,11 +1,11 @@
-/* The attacker has a page declared write-once, and wants a second region over the same bytes, in which they count as never
- * written; then one over the pool.
+/* The attacker has a page declared write-once, and wants a second region over the same bytes, in which they count
+ * as never written; then one over the pool.
  *
  * k: call 3 makes the direct map's leaf of frame 72 (48) read-only; call 6 declares the page: region 256.
  * k: call 6 once more breaks rule 4, NotData: the frame's kind is Guarded now.
  * k: so does call 6 over the pool's first page, whose frame, 10, is Guarded from the opening on.
- * k: call 9 writes 61: accepted. 62 breaks rule 24, WrittenOnce; in region 257 (101) it breaks rule 19, BadRegion: there
- *    is none, and nothing is read.
+ * k: call 9 writes 61: accepted. 62 breaks rule 24, WrittenOnce; in region 257 (101) it breaks rule 19, BadRegion:
+ *     there is none, and nothing is read.
  * turns: 1 + 4 * 25 + 1 + 25 + 1 + 2 * 25 + 1 = 179.
  * f, t, r: the frame, the leaf, and the region of 4,096 bytes, the first one 61. */
 #include "attack.inc"

@@ -1,5 +1,5 @@
-/* The attacker writes MOV to CR0 and HLT into a free frame, as their complement, since its own code may not hold them;
- * has the frame mapped for a user, to write and to execute; and jumps there as the supervisor.
+/* The attacker writes MOV to CR0 and HLT into a free frame, as their complement, since its own code may not hold
+ * them; has the frame mapped for a user, to write and to execute; and jumps there as the supervisor.
  *
  * k: call 3 is accepted: a leaf of a frame of data may be executable where it is user.
  * i: SMEP refuses the fetch. Code 11 is hexadecimal: 17, present (1) and fetch (16), at the page's first byte.
