@@ -76,8 +76,8 @@
 #define NK_LEAF_BITS NK_NUMBER(0x21)
 #define NK_WRITABLE_LEAF_BITS NK_NUMBER(0x63)
 
-/* A call pushes sixteen bytes on the stack in use, the return address and the flags (5). Code that is compiled with a red
- * zone keeps data in the 128 bytes below RSP, so a call steps over them; code that is compiled with -mno-red-zone
+/* A call pushes sixteen bytes on the stack in use, the return address and the flags (5). Code that is compiled with a
+ * red zone keeps data in the 128 bytes below RSP, so a call steps over them; code that is compiled with -mno-red-zone
  * defines this as 0, as outer/build does. */
 #ifndef NK_RED_ZONE
 #define NK_RED_ZONE 128
@@ -101,7 +101,8 @@ enum nk_number {
 /* The policies of a region. */
 enum nk_policy { NK_WRITE_ONCE = 1, NK_APPEND_ONLY = 2, NK_NO_WRITE = 3, NK_WRITE_LOG = 4 };
 
-/* An answer below 256 is one of these: the first rule that the call breaks, or 0. */
+/* An answer below 256 is one of these: the first rule that the call breaks, or 0. They are named as the rules are, but
+ * for rule 23, NoWrite, whose name is the policy's. */
 enum nk_rule {
         NK_ACCEPTED = 0,
         NK_BAD_CALL = 1,
@@ -230,7 +231,7 @@ static inline nk_entry nk_leaf(nk_frame frame, unsigned rights)
         return rights & NK_CAN_EXECUTE ? leaf : leaf | NK_NOT_EXECUTABLE;
 }
 
-/* What a call is answered with. The place is the region's first address after an accepted call 7, and else argument b. */
+/* What a call is answered with. The place is the region's first address after an accepted call 7, else argument b. */
 struct nk_answer {
         uint64_t value;
         nk_address place;
@@ -242,8 +243,8 @@ static inline int nk_is_accepted(struct nk_answer answer)
 }
 
 /* Any call. The gate turns interrupts off as its second instruction and loads the caller's flags again as its last but
- * one, so the caller's IF may be set or clear. It changes RAX, RDX, R9 and R10; it reads memory (call 9) and changes what
- * mapped addresses hold, so nothing may be kept in registers across it. */
+ * one, so the caller's IF may be set or clear. It changes RAX, RDX, R9 and R10; it reads memory (call 9) and changes
+ * what mapped addresses hold, so nothing may be kept in registers across it. */
 static inline struct nk_answer nk_call(uint64_t number, uint64_t a, uint64_t b, uint64_t c, uint64_t d)
 {
         struct nk_answer answer;

@@ -1,6 +1,7 @@
-/* Entry of an outer kernel. The machine starts here at privilege level 0 with the trap stack's top in RSP, the number of
- * the first free frame in RDI and the number of frames in RSI: the two arguments of kernel_main, kept as they are. Each
- * delivery overwrites the trap stack from its top on, so the kernel moves to a stack of its own before anything else. */
+/* Entry of an outer kernel. The machine starts here at privilege level 0 with the trap stack's top in RSP, the number
+ * of the first free frame in RDI and the number of frames in RSI: the two arguments of kernel_main, kept as they are.
+ * Each delivery overwrites the trap stack from its top on, so the kernel moves to a stack of its own before anything
+ * else. */
         .set    STACK_SIZE, 16384
 
         .section .text.start, "ax"

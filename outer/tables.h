@@ -1,5 +1,5 @@
-/* Page tables by the nested kernel's calls. Each function answers with the value of the call that decided: NK_ACCEPTED, or
- * the number of the rule that was broken (nk.h). */
+/* Page tables by the nested kernel's calls. Each function answers with the value of the call that decided:
+ * NK_ACCEPTED, or the number of the rule that was broken (nk.h). */
 #ifndef TABLES_H
 #define TABLES_H
 
@@ -39,8 +39,9 @@ struct place direct_map_leaf(const struct memory *memory, nk_frame frame);
 uint64_t make_read_only(const struct memory *memory, nk_frame frame);
 uint64_t make_writable(const struct memory *memory, nk_frame frame);
 
-/* By calls 3 and 2: a free frame is made read-only, and becomes an empty table. Where call 2 is refused it can be written
- * again. The undoing, by calls 4 and 3: an empty table that nothing links is a free frame again, and can be written. */
+/* By calls 3 and 2: a free frame is made read-only, and becomes an empty table. Where call 2 is refused it can be
+ * written again. The undoing, by calls 4 and 3: an empty table that nothing links is a free frame again, and can be
+ * written. */
 uint64_t declare_table(const struct memory *memory, unsigned level, nk_frame frame);
 uint64_t undo_table(const struct memory *memory, nk_frame table);
 

@@ -7,8 +7,8 @@
         .set    RED_ZONE, 128
 
 /* A delivery comes here on the trap stack with IF clear and the vector at RSP. Whether an error code stands behind it
- * doesn't follow from the vector, since INT 13 pushes none: RSP alone says it, as each delivery begins at the same end. It
- * is 3FC8 with an error code, 3FD0 without one, so that bit 3 tells them apart. */
+ * doesn't follow from the vector, since INT 13 pushes none: RSP alone says it, as each delivery begins at the same
+ * end. It is 3FC8 with an error code, 3FD0 without one, so that bit 3 tells them apart. */
         .section .text.trap_entry, "ax"
         .globl  trap_entry
         .type   trap_entry, @function
@@ -69,8 +69,8 @@ copy:
         iretq
         .size   trap_entry, . - trap_entry
 
-/* What a C function keeps is kept on the kernel's stack, and where that stands in kernel_stack: deliveries from CPL 3 go
- * below it. The user begins with zeros in all registers but RSP, so that it learns nothing of the kernel's. */
+/* What a C function keeps is kept on the kernel's stack, and where that stands in kernel_stack: deliveries from CPL 3
+ * go below it. The user begins with zeros in all registers but RSP, so that it learns nothing of the kernel's. */
         .section .text.enter_user, "ax"
         .globl  enter_user
         .type   enter_user, @function

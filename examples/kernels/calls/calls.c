@@ -1,6 +1,6 @@
-/* A kernel that makes each of the nine calls so that it is accepted, and breaks each of the rules 1 to 27 once. What each
- * call is to be answered with stands beside it, by the rules of docs/MACHINE.md, 14.3; another answer is told on the
- * console. */
+/* A kernel that makes each of the nine calls so that it is accepted, and breaks each of the rules 1 to 27 once. What
+ * each call is to be answered with stands beside it, by the rules of docs/MACHINE.md, 14.3; another answer is told on
+ * the console. */
 #include "console.h"
 #include "nk.h"
 #include "tables.h"
@@ -92,6 +92,7 @@ static void link_and_remove(struct memory *memory, nk_frame table)
         refused(NK_NOT_ROOT, nk_load_root(table));
         undo_entry(place);
         undo_table(memory, place.table);
+        *(volatile char *)frame_bytes(place.table) = 1; /* a free frame again, as it was */
         accepted(NK_REMOVE_TABLE, 0, nk_remove_table(table));
         make_writable(memory, table);
         make_root(memory, &root);

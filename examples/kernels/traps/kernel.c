@@ -1,6 +1,6 @@
-/* A kernel that takes what traps and interrupts there are and goes on: INT3 with another trap inside, an instruction that
- * isn't one, INT 13, which pushes no error code, a page fault that it mends, two interrupts of the plan, and a user's code
- * that it enters and leaves. */
+/* A kernel that takes what traps and interrupts there are and goes on: INT3 with another trap inside, an instruction
+ * that isn't one, INT 13, which pushes no error code, two page faults that it mends, two interrupts of the plan, and a
+ * user's code that it enters and leaves. */
 #include "console.h"
 #include "nk.h"
 #include "tables.h"
@@ -100,6 +100,12 @@ static void take_traps(void)
         __asm__("" : "+r"(page));
         page[5] = 'm';
         print_byte(page[5]);
+        print("\n");
+        /* The page is taken away, and is missing again once the processor keeps nothing of it. */
+        must(undo_entry(leaf_of_page(root, MENDED_PAGE)));
+        forget_page(MENDED_PAGE);
+        page[6] = 'n';
+        print_byte(page[6]);
         print("\n");
 }
 

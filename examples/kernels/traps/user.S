@@ -1,6 +1,6 @@
-/* A user's code, copied to a page of its own. It asks the kernel by INT 47: RAX 1 prints the byte in RDI, RAX 2 ends with
- * the answer in RDI. Between, it waits till the kernel has written a byte that isn't 0 to its stack's first byte, and
- * tries HLT, which only the supervisor may use. */
+/* A user's code, copied to a page of its own. It asks the kernel by INT 47: RAX 1 prints the byte in RDI, RAX 2 ends
+ * with the answer in RDI. Between, it waits till the kernel has written a byte that isn't 0 to its stack's first byte,
+ * and tries HLT, which only the supervisor may use. */
         .section .rodata
         .globl  user_code, user_code_end
 user_code:
