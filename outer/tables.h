@@ -1,0 +1,68 @@
+/* Page tables by the nested kernel's calls. Each function answers with the value of the call that decided:
+ * NK_ACCEPTED, or the number of the rule that was broken (nk.h). */
+#ifndef TABLES_H
+#define TABLES_H
+
+#include <stdint.h>
+
+#include "nk.h"
+
+/* The memory as kernel_main is given it, and the next frame that wasn't taken yet. */
+struct memory {
+        nk_frame first_free;
+        uint64_t frames;
+        nk_frame next;
+};
+
+/* An entry of a page table. */
+struct place {
+        nk_frame table;
+        unsigned index;
+};
+
+struct memory memory_at_start(nk_frame first_free, uint64_t frames);
+
+/* A free frame, or the number of frames, which is none, where none is left. */
+nk_frame take_frame(struct memory *memory);
+
+/* The bytes of a frame in the direct map. */
+void *frame_bytes(nk_frame frame);
+
+/* Drops what the processor keeps of a page: call 3 leaves that. */
+void forget_page(nk_address address);
+
+/* The direct map's level 3 table, and its leaf of a frame. */
+nk_frame direct_map_table(const struct memory *memory);
+struct place direct_map_leaf(const struct memory *memory, nk_frame frame);
+
+/* By call 3: the direct map's leaf of a frame lets it be read alone, or written again. */
+uint64_t make_read_only(const struct memory *memory, nk_frame frame);
+uint64_t make_writable(const struct memory *memory, nk_frame frame);
+
+/* By calls 3 and 2: a free frame is made read-only, and becomes an empty table. Where call 2 is refused it can be
+ * written again. The undoing, by calls 4 and 3: an empty table that nothing links is a free frame again, and can be
+ * written. */
+uint64_t declare_table(const struct memory *memory, unsigned level, nk_frame frame);
+uint64_t undo_table(const struct memory *memory, nk_frame table);
+
+/* By call 3: an entry becomes a link, a leaf, or empty. Of a page whose leaf changes the kernel drops what the
+ * processor keeps, by forget_page. */
+uint64_t link_table(struct place place, nk_frame lower);
+uint64_t write_leaf(struct place place, nk_frame frame, unsigned rights);
+uint64_t undo_entry(struct place place);
+
+/* An entry as it stands, read through the direct map. */
+nk_entry read_entry(struct place place);
+
+/* A new root in a free frame, with the direct map linked; the nested kernel gives it the kernel slot. By call 5 it is
+ * loaded. */
+uint64_t make_root(struct memory *memory, nk_frame *root);
+uint64_t load_root(nk_frame root);
+
+/* Maps a page to a frame below a root, with the rights of nk.h, and takes frames for the tables that are missing. */
+uint64_t map_page(struct memory *memory, nk_frame root, nk_address address, nk_frame frame, unsigned rights);
+
+/* The leaf of a page that map_page has mapped below this root. */
+struct place leaf_of_page(nk_frame root, nk_address address);
+
+#endif
