@@ -125,12 +125,12 @@ fn push_is_judged_over_those_before_it(rt: HostRuntime) {
     assert_eq!(rt; run(rt.alloc(), &before, 0, None), Some(after));
 }
 
-/// A gate's bits that aren't looked at, and its address in three parts.
+/// A gate's bits that aren't looked at, bit 44 among them, and its address in three parts.
 #[test]
 fn gate_has_other_bits(rt: HostRuntime) {
     let before = Machine {
         changes: [
-            (0x8000, 0x1234_EEF9_0008_5678),
+            (0x8000, 0x1234_FEF9_0008_5678),
             (0x8008, 0x9ABC_DEF0_FFFF_FF80),
         ],
         ..MACHINE
