@@ -78,28 +78,29 @@ static void serve_timer(struct frame *frame)
         switch_to(next, frame);
 }
 
-static void map(nk_address page, nk_frame frame, unsigned rights)
+static int give_page(nk_address page, nk_frame frame, unsigned rights)
 {
+        uint64_t answer = map_page(&memory, current->root, page, frame, rights | NK_FOR_USER);
+        must(answer);
+        if (answer != NK_ACCEPTED)
+                return 0;
+        pages++;
         tell(" gets page ");
         print_hexadecimal(page);
         print("\n");
-        pages++;
-        must(map_page(&memory, current->root, page, frame, rights | NK_FOR_USER));
+        return 1;
 }
 
-/* Code and clock are one frame each for all processes, a stack is a process's own. Any other page isn't brought in. */
+/* Whether the page is there now. Code and clock are one frame each for all processes, a stack is a process's own. */
 static int bring_in(nk_address page)
 {
         switch (page) {
         case CODE_PAGE:
-                map(page, code, NK_CAN_EXECUTE);
-                return 1;
+                return give_page(page, code, NK_CAN_EXECUTE);
         case STACK_PAGE:
-                map(page, take_frame(&memory), NK_CAN_WRITE);
-                return 1;
+                return give_page(page, take_frame(&memory), NK_CAN_WRITE);
         case CLOCK_PAGE:
-                map(page, clock, NK_CAN_READ);
-                return 1;
+                return give_page(page, clock, NK_CAN_READ);
         default:
                 return 0;
         }
@@ -166,7 +167,7 @@ void trap(struct frame *frame)
                 serve_page_fault(frame);
                 break;
         default:
-                /* What a plan may raise beside the timer is let pass. */
+                /* Of interrupts the timer alone is served. */
                 if (frame->vector < NK_FIRST_IRQ)
                         kill(frame);
                 break;

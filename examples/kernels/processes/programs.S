@@ -1,5 +1,5 @@
-/* What the two processes do. The kernel copies this to a frame, so nothing here names an address of the image. Each
- * keeps its number in EBX, which the other has too. */
+/* What the two processes do. The kernel copies this to a frame, so nothing here names an address of the image. Both keep
+ * a number in EBX: that each says its own shows that the kernel keeps their registers apart. */
 #include "processes.h"
 
         .section .rodata
@@ -24,7 +24,8 @@ intruder:
         call    say_and_wait
         movb    $1, NK_IMAGE
 
-/* Says EBX, and waits till the timer has come, in a loop that does nothing: what interrupts it is the timer. */
+/* Says EBX, and waits till the timer has come. Only the kernel can change the clock: so what ends the loop is that it
+ * was interrupted. */
 say_and_wait:
         movl    $SAY, %eax
         movl    %ebx, %edi
