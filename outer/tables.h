@@ -46,7 +46,7 @@ uint64_t declare_table(const struct memory *memory, unsigned level, nk_frame fra
 uint64_t undo_table(const struct memory *memory, nk_frame table);
 
 /* By call 3: an entry becomes a link, a leaf, or empty. Of a page whose leaf changes the kernel drops what the
- * processor keeps, by forget_page. */
+ * processor keeps, by forget_page: so a page is unmapped by undo_entry(leaf_of_page(root, address)), and that. */
 uint64_t link_table(struct place place, nk_frame lower);
 uint64_t write_leaf(struct place place, nk_frame frame, unsigned rights);
 uint64_t undo_entry(struct place place);
