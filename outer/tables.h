@@ -64,7 +64,8 @@ uint64_t load_root(nk_frame root);
  * look whether the root is loaded: the one in use faults then. */
 uint64_t undo_root(const struct memory *memory, nk_frame root);
 
-/* Maps a page to a frame below a root, with the rights of nk.h, and takes frames for the tables that are missing. */
+/* Maps a page to a frame below a root, with the rights of nk.h, and takes frames for the tables that are missing. What
+ * the page was mapped to before is replaced, in the direct map too; an address that isn't canonical isn't refused. */
 uint64_t map_page(struct memory *memory, nk_frame root, nk_address address, nk_frame frame, unsigned rights);
 
 /* The leaf of a page that map_page has mapped below this root. */
