@@ -266,7 +266,7 @@ static inline struct nk_answer nk_call(uint64_t number, uint64_t a, uint64_t b, 
         return answer;
 }
 
-/* Call 1: the address of the trap handler. It is entered as traps.S says. */
+/* Call 1: the address of the trap handler: trap_entry of traps.h, or assembly of one's own; no function of C. */
 static inline struct nk_answer nk_set_handler(nk_address handler)
 {
         return nk_call(NK_SET_HANDLER, handler, 0, 0, 0);
@@ -296,25 +296,27 @@ static inline struct nk_answer nk_load_root(nk_frame table)
         return nk_call(NK_LOAD_ROOT, table, 0, 0, 0);
 }
 
-/* Call 6: pages from an address on, size bytes of them, become a region; the answer is its identifier. */
+/* Call 6: mapped pages from an address on, size bytes of them, become a region, bytes as they stand; the answer is its
+ * identifier. No leaf of their frames, the direct map's among them, may be writable or a user's. It can't be undone. */
 static inline struct nk_answer nk_declare_pages(nk_address first, uint64_t size, enum nk_policy policy)
 {
         return nk_call(NK_DECLARE_PAGES, first, size, (uint64_t)policy, 0);
 }
 
-/* Call 7: a region of size bytes in the pool; the answer is its identifier and its place. */
+/* Call 7: a region of size bytes in the pool, of zeros; the answer is its identifier and its place. */
 static inline struct nk_answer nk_allocate(uint64_t size, enum nk_policy policy)
 {
         return nk_call(NK_ALLOCATE, size, (uint64_t)policy, 0, 0);
 }
 
-/* Call 8: a region of the pool is let go. */
+/* Call 8: a region of the pool is let go. Its records stay in the log. */
 static inline struct nk_answer nk_free(nk_region region)
 {
         return nk_call(NK_FREE, region, 0, 0, 0);
 }
 
-/* Call 9: size bytes from the source go into a region, from an offset on. */
+/* Call 9: size bytes from the source go into a region, from an offset on. Its policy allows: NK_WRITE_ONCE no byte
+ * twice, NK_APPEND_ONLY where the last write ended (0 before the first), NK_NO_WRITE none, NK_WRITE_LOG any. */
 static inline struct nk_answer nk_write(nk_region region, uint64_t offset, const void *source, uint64_t size)
 {
         return nk_call(NK_WRITE, region, offset, (nk_address)source, size);

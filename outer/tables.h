@@ -46,7 +46,7 @@ uint64_t declare_table(const struct memory *memory, unsigned level, nk_frame fra
 uint64_t undo_table(const struct memory *memory, nk_frame table);
 
 /* By call 3: an entry becomes a link, a leaf, or empty. Of a page whose leaf changes the kernel drops what the
- * processor keeps, by forget_page. */
+ * processor keeps, by forget_page: so a page is unmapped by undo_entry(leaf_of_page(root, address)), and that. */
 uint64_t link_table(struct place place, nk_frame lower);
 uint64_t write_leaf(struct place place, nk_frame frame, unsigned rights);
 uint64_t undo_entry(struct place place);
@@ -60,10 +60,12 @@ uint64_t make_root(struct memory *memory, nk_frame *root);
 uint64_t load_root(nk_frame root);
 
 /* Undoes a root that isn't loaded, and all tables below it but the direct map's; no other root may link one of these.
- * They are free frames again. What their leaves named stays as it is. */
+ * They are free frames again. What their leaves named stays as it is. It begins with the direct map's link, and doesn't
+ * look whether the root is loaded: the one in use faults then. */
 uint64_t undo_root(const struct memory *memory, nk_frame root);
 
-/* Maps a page to a frame below a root, with the rights of nk.h, and takes frames for the tables that are missing. */
+/* Maps a page to a frame below a root, with the rights of nk.h, and takes frames for the tables that are missing. What
+ * the page was mapped to before is replaced, in the direct map too; an address that isn't canonical isn't refused. */
 uint64_t map_page(struct memory *memory, nk_frame root, nk_address address, nk_frame frame, unsigned rights);
 
 /* The leaf of a page that map_page has mapped below this root. */

@@ -19,7 +19,7 @@ struct frame {
  * fault; it returns to what was interrupted. */
 void trap(struct frame *frame);
 
-/* The handler whose address call 1 is given. Not to be called. */
+/* The handler whose address call 1 is given; trap() isn't. Not to be called. */
 void trap_entry(void);
 
 /* Runs a user's code at CPL 3, from an address on, with a stack that ends at another, and these flags
