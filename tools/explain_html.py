@@ -24,7 +24,7 @@ COLOURS = """
   --data: #e4f4e4; --mark: #fff0a8; }
 @media (prefers-color-scheme: dark) { :root { --ground: #15161a; --text: #e9eaee; --faint: #b2b5be; --edge: #7d818c;
   --link: #8ab4f8; --bad: #ff9a9a; --fixed: #3a3d46; --trap: #6a4310; --table: #213f78; --guarded: #7a2730;
-  --hidden: #4c505b; --code: #4b3080; --data: #1f4529; --mark: #5c4d00; } }
+  --hidden: #4c505b; --code: #4b3080; --data: #1f4529; --mark: #453a00; } }
 """
 STYLE = COLOURS + """
 * { box-sizing: border-box; }
@@ -303,7 +303,7 @@ def counts_by_kind(opening, ending):
     before, after = collections.Counter(opening.values()), collections.Counter(ending.values())
     rows = [row(kind, tag("td", letter, class_=kind_class(kind)), f"{before[kind]:,}", f"{after[kind]:,}")
             for kind, letter in KINDS.items() if before[kind] or after[kind]]
-    return table("How many frames of each kind", ("Kind", "Letter", "Opening", "End"), rows)
+    return table("How many of these frames are of each kind", ("Kind", "Letter", "Opening", "End"), rows)
 
 
 def end_words(reader):
