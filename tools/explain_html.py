@@ -32,11 +32,10 @@ body { margin: 0 auto; max-width: 100rem; padding: 0 1rem 3rem; background: var(
   font: 1rem/1.5 system-ui, sans-serif; overflow-wrap: anywhere; }
 h1 { font-size: 1.5rem; line-height: 1.25; margin: 1.5rem 0 .5rem; }
 h2 { font-size: 1.25rem; margin: 2.5rem 0 .5rem; padding-top: .75rem; border-top: 1px solid var(--edge); }
-h3 { font-size: 1rem; margin: 1.5rem 0 .25rem; }
-p, .notes { max-width: 50rem; margin: .5rem 0; }
+p { max-width: 50rem; margin: .5rem 0; }
 a { color: var(--link); }
 nav a { display: inline-block; margin: 0 1rem .25rem 0; }
-code, pre, .digits { font-family: ui-monospace, "DejaVu Sans Mono", monospace; font-size: .8125rem; }
+pre, .digits { font-family: ui-monospace, "DejaVu Sans Mono", monospace; font-size: .8125rem; }
 pre { white-space: pre-wrap; padding: .75rem; border: 1px solid var(--edge); margin: .5rem 0; }
 ol { padding: 0; list-style: none; margin: .75rem 0; }
 ul { padding-left: 1.25rem; margin: .75rem 0; }
@@ -71,7 +70,7 @@ thead th { border-bottom-width: 2px; }
 .map th:first-child { width: 3.25rem; }
 .map thead th { font-weight: 400; font-size: .6875rem; }
 .map .band { text-align: left; padding-left: .5rem; }
-.map .changed { font-weight: 700; text-decoration: underline; outline: 2px solid var(--text); outline-offset: -3px; }
+.map .changed { font-weight: 700; text-decoration: underline; outline: 1px solid var(--text); outline-offset: -2px; }
 .fixed { background: var(--fixed); } .trap { background: var(--trap); } .table { background: var(--table); }
 .guarded { background: var(--guarded); } .hidden { background: var(--hidden); } .code { background: var(--code); }
 .data { background: var(--data); }
@@ -80,7 +79,7 @@ thead th { border-bottom-width: 2px; }
 .left-out { font-style: italic; }
 @media (min-width: 56rem) { .events li[id] { display: grid; grid-template-columns: 8rem 5rem 1fr; } }
 @media (max-width: 32rem) { th, td { padding: .1875rem .3125rem; font-size: .875rem; }
-  code, pre, .digits { font-size: .75rem; } }
+  pre, .digits { font-size: .75rem; } }
 """
 
 
@@ -134,17 +133,13 @@ def cut_items(items, most, make):
     return [*map(make, first), *cut, *map(make, last)]
 
 
-def heads_row(heads):
-    return tag("thead", tag("tr", *(tag("th", it, scope="col") for it in heads)))
-
-
 def table(caption, heads, rows, **attributes):
-    """A table, each of whose rows is its cells as they stand."""
-    body = tag("tbody", *cut_rows(rows, len(heads)))
-    return tag("table", tag("caption", caption), heads_row(heads), body, **attributes)
+    head = tag("thead", tag("tr", *(tag("th", it, scope="col") for it in heads)))
+    return tag("table", tag("caption", caption), head, tag("tbody", *cut_rows(rows, len(heads))), **attributes)
 
 
 def row(head, *cells):
+    """A row of a table; a cell that is markup is a whole <td>."""
     return tag("tr", tag("th", head, scope="row"), *(it if isinstance(it, Markup) else tag("td", it) for it in cells))
 
 
@@ -324,8 +319,9 @@ def frames_section(frames, rows, reader):
     if changed:
         change = table("Frames of another kind at the end", ("Frame", "Opening", "End"), changed, class_="changes")
     return section(
-        "frames", "Frames by kind", tag("p", f"{known} {end_words(reader)} Frames that changed are underlined in the "
-                                        "second map."),
+        "frames", "Frames by kind", tag("p", f"{known} {end_words(reader)}"),
+        tag("p", f"A row of a map has {MAP_WIDTH} frames, by the letters of their kinds, or stands for rows of one kind. "
+                 "What changed is underlined in the second map."),
         tag("div", frame_map("At the opening", opening, opening, frames),
             frame_map("At the end", ending, opening, frames), class_="side"),
         tag("div", counts_by_kind(opening, ending), change,
@@ -405,7 +401,7 @@ def life_words(region, reader):
     elif region.content is not None:
         end = "lives at the end"
     else:
-        end = "not at the end" if "root" in reader.seen else "its end isn't told"
+        end = "without a line r" if "root" in reader.seen else "its end isn't told"
     return f"{region.made}, {end}" if region.made else end
 
 
