@@ -320,8 +320,8 @@ def frames_section(frames, rows, reader):
         change = table("Frames of another kind at the end", ("Frame", "Opening", "End"), changed, class_="changes")
     return section(
         "frames", "Frames by kind", tag("p", f"{known} {end_words(reader)}"),
-        tag("p", f"A row of a map has {MAP_WIDTH} frames, by the letters of their kinds, or stands for rows of one kind. "
-                 "What changed is underlined in the second map."),
+        tag("p", f"A row of a map has {MAP_WIDTH} frames, by the letters of their kinds, or stands for rows of one "
+                 "kind. What changed is underlined in the second map."),
         tag("div", frame_map("At the opening", opening, opening, frames),
             frame_map("At the end", ending, opening, frames), class_="side"),
         tag("div", counts_by_kind(opening, ending), change,
