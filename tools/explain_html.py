@@ -44,6 +44,7 @@ caption { text-align: left; font-weight: 600; padding-bottom: .375rem; }
 th, td { text-align: left; vertical-align: top; padding: .25rem .5rem; border: 1px solid var(--edge);
   overflow-wrap: normal; }
 .regions tbody *, .log tbody *, .changes tbody *, .map tbody th, .bytes .band { overflow-wrap: anywhere; }
+.regions td:last-child { overflow-wrap: normal; }
 th { font-weight: 600; }
 thead th { border-bottom-width: 2px; }
 .side { display: flex; flex-wrap: wrap; gap: 0 3rem; align-items: flex-start; }
