@@ -12,12 +12,12 @@ ghost use Rattle.nk_body.specs.SourceWords.{sourced_of};
 use crate::{Kernel, Source};
 use boot_map::{Layout, prepare};
 use elf_image::Image;
-use nk_bits::{Answer, CallWords, Kind, canonical};
+use nk_bits::{Answer, CallWords, Control, Kind};
 use page_desc::Frames;
-use page_walk::walk;
 use phys_mem::PhysMem;
 use region_book::Region;
 use std::alloc::{AllocError, Global};
+use tlb_model::Tlb;
 use write_log::Noted;
 
 /// A file's one header loads the byte at offset 4,096 to FFFFFFFF80000000, the entry, readable and executable.
@@ -110,33 +110,38 @@ fn words(call: &Row) -> CallWords {
     }
 }
 
-/// The byte at an address, by the walk of its page; None where no page is mapped.
-fn byte_at(mem: &PhysMem, root: u32, va: u64) -> Option<u8> {
-    if !canonical(va) || root >= mem.frames() {
-        return None;
-    }
-    let Ok(leaf) = walk(mem, root, va) else {
-        return None;
-    };
-    let at = 4096 * u64::from(leaf.frame) + va % 4096;
-    if at < 4096 * u64::from(mem.frames()) {
-        Some(mem.load8(at))
-    } else {
-        None
+/// The control registers of the opening, over this root.
+fn control_of(root: u32) -> Control
+    ensures { result.root ≡ root }
+{
+    Control {
+        cr0: 0x8001_0001,
+        cr2: 0,
+        root,
+        cr4: 0x10_0020,
+        efer: 0xD00,
     }
 }
 
-/// So many bytes from an address on; None where one can't be read, and for want of memory.
+/// So many bytes from an address on, each loaded at CPL 0, with no translation kept before the first; None where a load
+/// faults, and for want of memory.
 fn bytes_at(alloc: Global, mem: &PhysMem, root: u32, va: u64, count: u64) -> Option<Vec<u8>> {
+    if root >= mem.frames() {
+        return None;
+    }
+    let Ok(mut tlb) = Tlb::new(alloc) else {
+        return None;
+    };
+    let control = control_of(root);
     let mut bytes = Vec::new(alloc);
     for offset in 0..count {
         let Some(at) = va.checked_add(offset) else {
             return None;
         };
-        let Some(byte) = byte_at(mem, root, at) else {
+        let Ok(byte) = mem_access::load(mem, &mut tlb, &control, 0, at, 1) else {
             return None;
         };
-        let Ok(()) = bytes.push(byte) else {
+        let Ok(()) = bytes.push(byte as u8) else {
             return None;
         };
     }
@@ -162,7 +167,7 @@ fn read<'s>(wanted: Option<u64>, data: &'s Option<Vec<u8>>) -> Source<'s>
     }
 }
 
-/// Makes a call, the source of which is read in memory.
+/// Makes a call, the source of which is loaded.
 fn serve(alloc: Global, kernel: &mut Kernel, mem: &mut PhysMem, call: &Row) -> Option<Answer>
     requires { AreBooks kernel.old mem.old }
     ensures { AreBooks kernel.new mem.new }

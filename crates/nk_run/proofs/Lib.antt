@@ -35,3 +35,4 @@ pub mod JournalOpening
 pub mod RunsReplayed
 mod WorkedWords
 mod RefutedPromises
+mod RefutedReplays

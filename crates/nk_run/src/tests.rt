@@ -3,6 +3,7 @@ mod calls;
 mod compiled;
 mod deliveries;
 mod journals;
+mod long_files;
 mod made;
 mod regions;
 mod run;

@@ -5,3 +5,4 @@ pub mod WantedBytes
 mod WorkedLines
 mod WorkedReplays
 mod RefutedLines
+mod RefutedJournals

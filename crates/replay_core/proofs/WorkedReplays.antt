@@ -9,17 +9,17 @@ use Rattle.replay_core.specs.ReplayedCalls.{Replay, Replayed, replay_from, repla
 
 module _ (nk : Nested) (memory : List ℕ) where
   -- the opening's ledger, with any tables, handler, guarded bytes and memory
-  abbrev opened : Replayed
+  abbrev pub opened : Replayed
   opened = record { nested = record nk { ledger = opening_ledger }; memory = memory }
 
-  abbrev replay : List ℕ → Replay
+  abbrev pub replay : List ℕ → Replay
   replay journal = replay_of journal opened
 
   -- the first line that isn't right, and what is left: handler, next identifier, live regions and records of the log
-  abbrev bad : List ℕ → Option ℕ
+  abbrev pub bad : List ℕ → Option ℕ
   bad journal = (replay journal).bad
 
-  abbrev left : List ℕ → ℕ × ℕ × ℕ × ℕ
+  abbrev pub left : List ℕ → ℕ × ℕ × ℕ × ℕ
   left journal =
       let nested = (replay journal).made.nested in
       (nested.trap, nested.ledger.book.next, length nested.ledger.book.regions, length nested.ledger.log)

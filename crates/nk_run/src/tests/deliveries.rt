@@ -121,7 +121,7 @@ fn jumps_into_the_gates_are_refused(rt: HostRuntime) -> Result<(), Fail> {
 }
 
 /// STI; JMP to itself.
-const TURNS: [u8; 3] = [0xfb, 0xeb, 0xfe];
+pub(super) const TURNS: [u8; 3] = [0xfb, 0xeb, 0xfe];
 
 /// STI; HLT.
 const WAITS: [u8; 2] = [0xfb, 0xf4];

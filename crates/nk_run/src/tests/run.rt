@@ -20,8 +20,18 @@ fn files_of(
     input: Vec<u8>,
     plan: Vec<u8>,
 ) -> Result<Vec<(String, Vec<u8>)>, AllocError> {
+    files_with(alloc, image(alloc, text)?, input, plan)
+}
+
+/// As above, with this file as the image.
+fn files_with(
+    alloc: Global,
+    file: Vec<u8>,
+    input: Vec<u8>,
+    plan: Vec<u8>,
+) -> Result<Vec<(String, Vec<u8>)>, AllocError> {
     let mut files = Vec::new(alloc);
-    files.push((String::from_str(alloc, NAME)?, image(alloc, text)?))?;
+    files.push((String::from_str(alloc, NAME)?, file))?;
     files.push((String::from_str(alloc, INPUT)?, input))?;
     files.push((String::from_str(alloc, PLAN)?, plan))?;
     Ok(files)
@@ -40,7 +50,18 @@ pub(super) fn run_planned(
     steps: &str,
 ) -> Result<Ran, Fail> {
     let plan = plan.as_bytes().to_vec(alloc)?;
-    let files = files_of(alloc, text, Vec::new(alloc), plan)?;
+    run_files(alloc, image(alloc, text)?, Vec::new(alloc), plan, steps)
+}
+
+/// A run of an image with its input and its plan.
+pub(super) fn run_files(
+    alloc: Global,
+    file: Vec<u8>,
+    input: Vec<u8>,
+    plan: Vec<u8>,
+    steps: &str,
+) -> Result<Ran, Fail> {
+    let files = files_with(alloc, file, input, plan)?;
     let words = ["run", NAME, INPUT, PLAN, steps, "512"];
     run_over(alloc, &words, files, &[], &[], 0)
 }
