@@ -164,3 +164,27 @@ struct place leaf_of_page(nk_frame root, nk_address address)
                 place = place_in(linked_table(place), level, address);
         return place;
 }
+
+/* The root's last entry is the nested kernel's, and no call changes it. */
+static uint64_t undo_tables(const struct memory *memory, nk_frame table, unsigned level)
+{
+        unsigned entries = level == 4 ? NK_KERNEL_SLOT_INDEX : NK_ENTRIES;
+        for (struct place place = {table, 0}; place.index < entries; place.index++) {
+                if (!(read_entry(place) & NK_PRESENT))
+                        continue;
+                nk_frame lower = linked_table(place);
+                uint64_t answer = undo_entry(place);
+                if (answer == NK_ACCEPTED && level > 1)
+                        answer = undo_tables(memory, lower, level - 1);
+                if (answer != NK_ACCEPTED)
+                        return answer;
+        }
+        return undo_table(memory, table);
+}
+
+uint64_t undo_root(const struct memory *memory, nk_frame root)
+{
+        struct place direct_map = {root, NK_DIRECT_MAP_INDEX};
+        uint64_t answer = undo_entry(direct_map);
+        return answer == NK_ACCEPTED ? undo_tables(memory, root, 4) : answer;
+}

@@ -59,6 +59,10 @@ nk_entry read_entry(struct place place);
 uint64_t make_root(struct memory *memory, nk_frame *root);
 uint64_t load_root(nk_frame root);
 
+/* Undoes a root that isn't loaded, and all tables below it but the direct map's; no other root may link one of these.
+ * They are free frames again. What their leaves named stays as it is. */
+uint64_t undo_root(const struct memory *memory, nk_frame root);
+
 /* Maps a page to a frame below a root, with the rights of nk.h, and takes frames for the tables that are missing. */
 uint64_t map_page(struct memory *memory, nk_frame root, nk_address address, nk_frame frame, unsigned rights);
 

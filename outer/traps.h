@@ -4,6 +4,8 @@
 
 #include <stdint.h>
 
+#include "nk.h"
+
 /* What trap() is given: the registers of what was interrupted, as traps.S pushes them, and then what the delivery
  * pushed. What trap() changes here is what the interrupted code goes on with. */
 struct frame {
@@ -24,6 +26,19 @@ void trap_entry(void);
  * (NK_INTERRUPT_FLAG lets interrupts come). It returns when trap() calls leave_user, with the answer that leave_user
  * is given, and the caller's own flags. One user runs at a time: it isn't called again before it has returned. */
 uint64_t enter_user(uint64_t address, uint64_t stack_end, uint64_t flags);
+
+/* The frame of a user that hasn't begun: what enter_user begins with. A kernel keeps one for each user that waits; to
+ * go on with another user, trap() keeps what its frame holds and puts the other's there. */
+static inline struct frame user_frame(uint64_t address, uint64_t stack_end, uint64_t flags)
+{
+        struct frame frame = {0};
+        frame.rip = address;
+        frame.cs = NK_USER_CS;
+        frame.rflags = flags;
+        frame.rsp = stack_end;
+        frame.ss = NK_USER_SS;
+        return frame;
+}
 
 /* From trap() alone, for a delivery that came from CPL 3: ends enter_user. */
 __attribute__((noreturn)) void leave_user(uint64_t answer);
