@@ -12,6 +12,7 @@ pub mod SlotLaws
 pub mod SlotLeaves
 pub mod SlotNames
 pub mod SlotTables
+pub mod SlotUppers
 pub mod WalkLaws
 pub mod WalkSchema
 mod WorkedValues

@@ -10,7 +10,7 @@ use Rattle.std.proofs.lemmas.List.FromFn.{length-range_with_len, get_or-range_wi
 use Rattle.std.specs.List.{position, position_or_len, range_with_len}
 use Rattle.nk_bits.specs.declared.leaf.Rights.{Rights}
 use Rattle.nk_bits.specs.declared.leaf.Leaf.{Leaf}
-use Rattle.nk_bits.specs.Paging.{all_rights, common, frame_of, is_executable, is_large, is_missing, is_present, is_user, is_writable, page_index, rights_of, walk, walk_from}
+use Rattle.nk_bits.specs.Paging.{all_rights, common, frame_of, is_executable, is_large, is_missing, is_present, is_user, is_writable, page_index, rights_of, upper_from, walk, walk_from}
 use Rattle.elf_image.specs.Pages.{IsPageList, is_page, pages_of}
 use Rattle.boot_map.specs.Division.{Division, IsLayout, division_of, free_start, is_touched, page_in, pages_start, ranges_of, tables_start}
 use Rattle.boot_map.specs.Parts.{part_at}
@@ -45,6 +45,14 @@ step_link t frames page level f g is inside small =
     ap (λ e. if is_missing frames (suc level) e then Err (suc level) else walk_from t frames page level (frame_of e) (common all_rights (rights_of e))) is
     ∙ cond-false _ _ _ (link_there frames (suc level) g inside small)
     ∙ (λ j. walk_from t frames page level (frame_of_link g small j) (common all_rights (rights_of_link g small j)))
+
+pub upper_step_link : (t : ℕ → ℕ → ℕ) (frames page left level f g : ℕ) → t f (page_index page (suc level)) ≡ link g → g < frames → g < 2 ^ 40 →
+    upper_from t frames page (suc left) (suc level) f all_rights ≡ upper_from t frames page left level g all_rights
+unfolding upper_from
+upper_step_link t frames page left level f g is inside small =
+    ap (λ e. if is_missing frames (suc level) e then None else upper_from t frames page left level (frame_of e) (common all_rights (rights_of e))) is
+    ∙ cond-false _ _ _ (link_there frames (suc level) g inside small)
+    ∙ (λ j. upper_from t frames page left level (frame_of_link g small j) (common all_rights (rights_of_link g small j)))
 
 -- a look-up that finds 0 ends the walk
 pub step_none : (t : ℕ → ℕ → ℕ) (frames page level f : ℕ) → t f (page_index page (suc level)) ≡ 0 → result_ok (walk_from t frames page (suc level) f all_rights) ≡ None

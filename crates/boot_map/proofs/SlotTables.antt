@@ -59,11 +59,11 @@ led_on d frames above e (inl none) there = absurd (both_ways true (sym (missing_
 led_on d frames above e (inr (f, is, small, own)) there = ap (λ x. is_slot_table (part_at d (frame_of x))) is ∙ ap (λ g. is_slot_table (part_at d g)) (frame_of_link f small) ∙ own
 
 -- a table of this level of the slot; at level 0 any frame
-abbrev IsSlotTableAt : Division → ℕ → ℕ → Rights → Type 0
+abbrev pub IsSlotTableAt : Division → ℕ → ℕ → Rights → Type 0
 IsSlotTableAt d zero f r = Unit {0}
 IsSlotTableAt d (suc level) f r = IsTableAt d (suc level) f r × (is_slot_table (part_at d f) ≡ true)
 
-stays : (b : List ℕ) (frames page : ℕ) → free_start (division_of b frames) ≤ 2 ^ 40 → (level f : ℕ) (r : Rights) → IsSlotTableAt (division_of b frames) (suc level) f r →
+pub stays : (b : List ℕ) (frames page : ℕ) → free_start (division_of b frames) ≤ 2 ^ 40 → (level f : ℕ) (r : Rights) → IsSlotTableAt (division_of b frames) (suc level) f r →
     is_missing frames (suc level) (opening_entry b frames f (page_index page (suc level))) ≡ false →
     IsSlotTableAt (division_of b frames) level (frame_of (opening_entry b frames f (page_index page (suc level)))) (common r (rights_of (opening_entry b frames f (page_index page (suc level)))))
 stays b frames page most zero f r table there = tt
@@ -77,6 +77,10 @@ stays b frames page most (suc level) f r table there =
 slot_table_level : (d : Division) → table_level (part_at d slot_table) ≡ 3
 unfolding part_at
 slot_table_level d = refl
+
+pub at_slot_table : (b : List ℕ) (frames : ℕ) → IsLayout b (division_of b frames) → IsSlotTableAt (division_of b frames) 3 slot_table all_rights
+at_slot_table b frames layout =
+    let least : 512 ≤ frames = layout.least in ((omega arith, slot_table_level (division_of b frames)), (low_tables (division_of b frames)).3)
 
 -- the whole slot, from any root that has its entry, over any tables that hold it
 pub slot_walk_any : (b : List ℕ) (frames root page : ℕ) (t : ℕ → ℕ → ℕ) → IsLayout b (division_of b frames) → IsPageList b (pages_of b) → HoldsSlot b frames t →
@@ -95,7 +99,7 @@ slot_walk_any b frames root page t layout list holds entry low high =
     ∙ step_link t frames page 3 root slot_table first (omega arith) (omega arith)
     ∙ walk_alike (opening_entry b frames) frames page (IsSlotTableAt d) (stays b frames page small) t
     (λ level f r table. holds.entries f (page_index page (suc level)) (table.0).0 (index_small page (suc level)) table.1)
-    3 slot_table all_rights ((omega arith, slot_table_level d), (low_tables d).3)
+    3 slot_table all_rights (at_slot_table b frames layout)
     ∙ sym (step_link (opening_entry b frames) frames page 3 opening_root slot_table opening_first (omega arith) (omega arith))
     ∙ sym (walk_by_level (opening_entry b frames) frames opening_root page) in
     ap result_ok same ∙ slot_walk b frames page layout list low high

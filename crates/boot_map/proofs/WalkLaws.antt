@@ -151,7 +151,7 @@ carries b frames page most (suc level) f r table there =
     subst (Leads d (suc level)) (sym (entry_within b frames f i (index_small page (suc (suc level))))) (entry_leads b d (part_at d f) level i most table.1) in
     (frame_in_memory frames (suc (suc level)) (opening_entry b frames f i) there, led d frames (suc (suc level)) (suc level) (opening_entry b frames f i) leads there)
 
-root_at : (d : Division) → table_level (part_at d opening_root) ≡ 4
+pub root_at : (d : Division) → table_level (part_at d opening_root) ≡ 4
 unfolding part_at
 root_at d = refl
 

@@ -1,13 +1,15 @@
--- The linear layout of the kernel slot at the opening of the image b: the frame and the rights of each of its pages.
+-- The linear layout of the kernel slot at the opening of the image b: the frame and the rights of each of its pages, and the
+-- tables that lead to them.
 use Rattle.std.specs.Prelude.{◌≡◌, ◌⊎◌, ℕ, ◌+◌, ◌-◌, ◌/◌, ◌<◌, Bool, true, false, ◌==◌, ◌&&◌, nat_le, nat_lt, if◌then◌else◌, List, slice_index, Option, Some, None}
 use Rattle.std.specs.List.{position}
 use Rattle.nk_bits.specs.declared.leaf.Leaf.{Leaf}
-use Rattle.nk_bits.specs.Paging.{frame_of, is_present}
+use Rattle.nk_bits.specs.declared.leaf.Upper.{Upper}
+use Rattle.nk_bits.specs.Paging.{frame_of, is_present, upper_walk}
 use Rattle.nk_bits.specs.Paging.{is_writable as grants_writes}
 use Rattle.elf_image.specs.Pages.{is_executable, is_writable, page_count, pages_of}
 use Rattle.boot_map.specs.declared.part.Part.{Part}
 use Rattle.boot_map.specs.declared.part.Part.TheVariants.{SlotTable, AreaDirectory, AreaTable, ImageDirectory, RangeTable}
-use Rattle.boot_map.specs.FixedFrames.{area_table, gate_text, handler_slot, idt_and_tss, image_directory, nested_stack, trap_stack}
+use Rattle.boot_map.specs.FixedFrames.{area_table, gate_text, handler_slot, idt_and_tss, image_directory, nested_stack, opening_root, trap_stack}
 use Rattle.boot_map.specs.Division.{division_of, pages_start}
 use Rattle.boot_map.specs.Parts.{part_at}
 use Rattle.boot_map.specs.OpeningEntries.{opening_entry, table_level}
@@ -50,6 +52,10 @@ unfoldable pub slot_leaf : List ℕ → ℕ → ℕ → Option Leaf
 slot_leaf b frames page =
     if nat_lt page (slot_start + 32) then area_leaf (page - slot_start)
     else image_leaf b (pages_start (division_of b frames)) page (position (λ m. m == page) (pages_of b))
+
+-- the table that a page's entry of this level, 2 to 4, names at the opening, and the rights common to the entries down to it
+unfoldable pub slot_upper : List ℕ → ℕ → ℕ → ℕ → Option Upper
+slot_upper b frames page level = upper_walk (opening_entry b frames) frames opening_root page level
 
 -- the part is one of the kernel slot's own tables: its table of level 3, and those of the nested area and of the image
 abbrev pub is_slot_table : Part → Bool

@@ -1,12 +1,13 @@
 //! What follows from the definitions of the opening for those who read its memory.
 
-ghost use Rattle.std.specs.Prelude.{◌≡◌, ◌≢◌, ◌⊎◌, ℕ, ◌+◌, ◌*◌, ◌^◌, ◌<◌, ◌≤◌, true, false, List, IfOk, IfSome, length, slice_index};
+ghost use Rattle.std.specs.Prelude.{◌≡◌, ◌≢◌, ◌⊎◌, ℕ, ◌+◌, ◌*◌, ◌^◌, ◌<◌, ◌≤◌, true, false, List, IfOk, IfSome, Some, length, slice_index};
 ghost use Rattle.std.specs.Result.{result_ok};
 ghost use Rattle.phys_mem.specs.Memory.{byte_at, entry_in};
 ghost use Rattle.nk_bits.specs.declared.kind.Kind.TheVariants.{Code, Fixed, Table, Trap};
+ghost use Rattle.nk_bits.specs.declared.leaf.Upper.{Upper};
 ghost use Rattle.nk_bits.specs.EntryForms.{has_form, has_leaf_form, has_table_form};
 ghost use Rattle.nk_bits.specs.Kinds.{allows, is_storable, kind_of, level_of};
-ghost use Rattle.nk_bits.specs.Paging.{frame_of, is_canonical_page, is_executable, is_present, is_slot_entry, is_user, is_writable, rights_of, slot_value, walk};
+ghost use Rattle.nk_bits.specs.Paging.{frame_of, is_canonical_page, is_executable, is_present, is_slot_entry, is_user, is_writable, rights_of, slot_value, upper_walk, walk, walk_below};
 ghost use Rattle.gate_text.specs.Listing.{gate_byte};
 ghost use Rattle.elf_image.specs.Pages.{IsPageList, byte_of, page_count, pages_of};
 ghost use Rattle.boot_map.specs.FixedFrames.{area_directory, area_table, gate_text, handler_slot, idt_and_tss, image_directory, nested_stack, opening_root, slot_table, trap_stack};
@@ -15,7 +16,9 @@ ghost use Rattle.boot_map.specs.OpeningKinds.{kind_at, kinds};
 ghost use Rattle.boot_map.specs.OpeningEntries.{opening_entry, link, table_level};
 ghost use Rattle.boot_map.specs.Opening.{IsOpening};
 ghost use Rattle.boot_map.specs.Parts.{part_at};
-ghost use Rattle.boot_map.specs.KernelSlot.{HoldsSlot, HoldsTables, IsCodePage, IsNamedIn, IsWrittenInSlot, slot_leaf, slot_start};
+ghost use Rattle.boot_map.specs.KernelSlot.{HoldsSlot, HoldsTables, IsCodePage, IsNamedIn, IsWrittenInSlot, slot_leaf, slot_start, slot_upper};
+
+use nk_bits::upper_law;
 
 /// The entries of the opening's tables stand in its memory, so that the walk from the opening's root finds in memory
 /// what it finds in the entries.
@@ -45,6 +48,23 @@ pub fn slot_law()
         → IsLayout b (division_of b frames) → HoldsSlot b frames (entry_in m) }
     ensures link { link slot_table ≡ slot_value }
 {}
+
+/// The upper entries of the kernel slot's pages: in any tables that hold the slot, from any root whose entry 511 is the
+/// slot's, a walk comes to those of the opening, whose frames are in memory, and below each it finds the slot's linear
+/// layout.
+pub fn slot_upper_law()
+    ensures any { (b : List ℕ) (frames root page level : ℕ) (t : ℕ → ℕ → ℕ) → IsLayout b (division_of b frames)
+        → IsPageList b (pages_of b) → HoldsSlot b frames t → t root 511 ≡ slot_value → slot_start ≤ page
+        → page < 2 ^ 52 → 2 ≤ level → level ≤ 4 → upper_walk t frames root page level ≡ slot_upper b frames page level }
+    ensures in_memory { (b : List ℕ) (frames page level : ℕ) → IsLayout b (division_of b frames) → 2 ≤ level → level ≤ 4
+        → IfSome (slot_upper b frames page level) (λ it. it.frame < frames) }
+    ensures below { (b : List ℕ) (frames page level : ℕ) (it : Upper) (t : ℕ → ℕ → ℕ)
+        → IsLayout b (division_of b frames) → IsPageList b (pages_of b) → HoldsSlot b frames t → slot_start ≤ page
+        → page < 2 ^ 52 → 2 ≤ level → level ≤ 4 → slot_upper b frames page level ≡ Some it
+        → result_ok (walk_below t frames page level it) ≡ slot_leaf b frames page }
+{
+    upper_law();
+}
 
 /// What follows for tables that hold the opening's page tables: they hold the kernel slot, from the opening's root too,
 /// whose walk finds in them what it finds in the opening's entries. The opening's memory holds them, and no page table

@@ -27,7 +27,7 @@ pub use fixed_frames::{
 };
 pub use laws::{
     held_law, opening_bytes_law, opening_entries_law, opening_kinds_law, opening_respects_law,
-    slot_law, slot_leaf_law, tables_law,
+    slot_law, slot_leaf_law, slot_upper_law, tables_law,
 };
 pub use layout::{Layout, NoRoom};
 pub use opening::{NoMemory, prepare};

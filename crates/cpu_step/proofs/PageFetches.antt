@@ -32,7 +32,7 @@ use Rattle.cpu_step.proofs.WordBytes.{code_at, code_bytes, code_length}
 
 -- what the law on accesses says of a page that was reached
 pub record PageFacts : Type 0 where
-  pub held : (view : View) (access : Access) (tlb : Translations) (va : ℕ) (leaf : Leaf) → look tlb (page_of va) ≡ Some leaf →
+  pub held : (view : View) (access : Access) (tlb : Translations) (va : ℕ) (leaf : Leaf) → look tlb.pairs (page_of va) ≡ Some leaf →
       may access leaf.rights view.cpl view.wp view.smep ≡ true → reached view access tlb va ≡ answered (place_in leaf va) tlb
   pub found_again : (view : View) (access : Access) (tlb : Translations) (va : ℕ) →
       IfOk (reached view access tlb va).answer (IsKept view access (reached view access tlb va).tlb va)
@@ -103,7 +103,7 @@ module _ (facts : PageFacts) (view : View) where
       let canonical : is_canonical va ≡ true = ap (λ x. (x == 0) || (x == 2 ^ 17 - 1)) upper ∙ page.canonical in
       let there : place_in page.kept.leaf va ≡ place + k = omega (arith, plain, within, page.kept.place_is) in
       found_there view va (omega arith) after canonical
-      ∙ (facts.held view Fetch after va page.kept.leaf (ap (look after) same ∙ page.kept.kept) page.kept.may_access
+      ∙ (facts.held view Fetch after va page.kept.leaf (ap (look after.pairs) same ∙ page.kept.kept) page.kept.may_access
       ∙ ap (λ x. answered {F = AccessFault} x after) there)
 
 -- the byte at an address, by its place

@@ -1,8 +1,6 @@
 -- A turn by its cases: at the body's place, by a fault, and by what an instruction asks; and what stays sound.
-use Rattle.std.proofs.Common.{◌≡◌, ℕ, ◌*◌, ◌<◌, ◌-◌, ◌==◌, Bool, true, false, not, if◌then◌else◌, List, [], ◌∷◌, ◌++◌, length, Option, None, Ok, Err, refl, sym, ap, subst, ◌∙◌}
-use Rattle.std.proofs.lemmas.List.Elements.{All-drop, All-filter, All-push}
-use Rattle.nk_bits.specs.declared.leaf.Leaf.{Leaf}
-use Rattle.nk_bits.specs.Translations.{NamesFramesIn, Translations, capacity, dropped, filled}
+use Rattle.std.proofs.Common.{◌≡◌, ℕ, Bool, true, false, if◌then◌else◌, List, Option, None, Ok, Err, refl, sym, ap, subst, ◌∙◌}
+use Rattle.nk_bits.specs.Translations.{NamesFramesIn, Translations}
 use Rattle.nk_bits.specs.Outcomes.{Outcome, outcome_of}
 use Rattle.x86_regs.specs.declared.effects.Act.{Act}
 use Rattle.x86_regs.specs.declared.effects.Act.TheVariants as act
@@ -14,21 +12,7 @@ use Rattle.x86_regs.specs.Effects.{IfDelivered, LeavesToDelivery, effect_with}
 use Rattle.cpu_step.specs.Processor.{IsSound, Processor, deliverable}
 use Rattle.cpu_step.specs.Turns.{acted, instructed, instruction_made, is_at_body, memory_after, raised, refused_body, turned, turned_by, turned_unless}
 
--- the frames that translations name lie in memory still when one goes, and when one comes whose frame does
-pub within_dropped : (size : ℕ) (tlb : Translations) (page : ℕ) → NamesFramesIn size tlb → NamesFramesIn size (dropped tlb page)
-within_dropped size tlb page within =
-    All-filter (λ pair. not (pair.0 == page)) (λ (pair : ℕ × Leaf). 4096 * pair.1.frame < size) tlb within
-
-pub within_filled : (size : ℕ) (tlb : Translations) (page : ℕ) (leaf : Leaf) → NamesFramesIn size tlb
-    → 4096 * leaf.frame < size → NamesFramesIn size (filled tlb page leaf)
-unfolding filled
-within_filled size tlb page leaf within frame =
-    let Is : ℕ × Leaf → Type 0 = λ pair. 4096 * pair.1.frame < size in
-    let all : Translations = dropped tlb page ++ (page, leaf) ∷ [] in
-    All-drop Is (length all - capacity) all
-    (All-push Is (dropped tlb page) (page, leaf) (within_dropped size tlb page within) frame)
-
--- a processor with other translations, whose frames lie in memory too
+-- a processor that keeps other translations and entries, whose frames lie in memory too
 pub sound_with : (size : ℕ) (p q : Processor) (tlb : Translations) → p ≡ q → IsSound size q → NamesFramesIn size tlb
     → IsSound size (record p { tlb = tlb })
 sound_with size p q tlb is sound within =
@@ -94,3 +78,9 @@ pub turned_by_vector : (p : Processor) (m : List ℕ) (vector : Option ℕ) → 
     → turned p m ≡ turned_unless vector p m
 unfolding turned
 turned_by_vector p m vector is = ap (λ (v : Option ℕ). turned_unless v p m) is
+
+-- and each way in which something goes keeps the frames in memory
+pub sound_without : (size : ℕ) (p q : Processor) (tlb : Translations) → (NamesFramesIn size p.tlb → NamesFramesIn size tlb)
+    → p ≡ q → IsSound size q → IsSound size (record p { tlb = tlb })
+sound_without size p q tlb within is sound =
+    sound_with size p q tlb is sound (within (subst (λ (p : Processor). NamesFramesIn size p.tlb) (sym is) sound.frames))

@@ -38,7 +38,7 @@ supervisor idt = record {
   };
   control = record { cr0 = 0x80010001; cr2 = 0; root = 5; cr4 = 0x100020; efer = 0xD00 };
   tables = record { idt = idt; limit = 767; tss = 0xFFFFFF800000000C };
-  tlb = (0xFFFFFF8000000, record { frame = 0; rights = record { can_write = true; user = false; exec = true } }) ∷ [];
+  tlb = record { pairs = (0xFFFFFF8000000, record { frame = 0; rights = record { can_write = true; user = false; exec = true } }) ∷ []; upper = [] };
   input = [];
   pending = 0;
   shielded = false;

@@ -1,7 +1,7 @@
 //! What an instruction asks of the processor.
 
 ghost use Rattle.std.specs.Prelude.{◌≡◌, List, ℕ, ◌*◌, ◌/◌, ◌<◌, length};
-ghost use Rattle.nk_bits.specs.Translations.{dropped, flushed};
+ghost use Rattle.nk_bits.specs.Translations.{flushed, invalidated};
 ghost use Rattle.x86_regs.specs.Effects.{LoadsFrameIn};
 ghost use Rattle.cpu_step.specs.Processor.{IsSound};
 ghost use Rattle.cpu_step.specs.Turns.{acted, interrupted, kept_in_cr0, returned_by, with_al};
@@ -10,6 +10,7 @@ ghost use Rattle.trap_unit.specs.TrapReturn.{returned};
 use crate::processor::Cpu;
 use crate::stepped::Stepped;
 use decode_fields::Place;
+use nk_bits::named_law;
 use phys_mem::PhysMem;
 use trap_unit::{interrupt_allowed, iretq};
 use x86_regs::{Act, Fault, Frame};
@@ -63,7 +64,7 @@ impl Cpu {
                 Stepped::Ran
             }
             Act::DropPage(page) => {
-                self.drop_page(page);
+                self.invalidate(page);
                 Stepped::Ran
             }
         }
@@ -130,12 +131,13 @@ impl Cpu {
         self.tlb.flush();
     }
 
-    /// Forgets the translation of the page with this number.
-    pub(crate) fn drop_page(&mut self, page: u64)
-        ensures dropped { self.new ≡ record self.old { tlb = dropped self.old.tlb page } }
+    /// INVLPG forgets the translation of the page with this number, and every upper entry.
+    fn invalidate(&mut self, page: u64)
+        ensures invalidated { self.new ≡ record self.old { tlb = invalidated self.old.tlb page } }
         ensures sound { (size : ℕ) → IsSound size self.old → IsSound size self.new }
     {
-        self.tlb.drop_page(page);
+        named_law();
+        self.tlb.invalidate(page);
     }
 
     fn output(&mut self, byte: u8, port: u16) -> Stepped

@@ -1,7 +1,8 @@
 //! A turn.
 
-ghost use Rattle.std.specs.Prelude.{◌≡◌, ◌⊎◌, ◌%◌, ◌≤◌, false, IsSome, IfOk, Ok, OnErr, length};
+ghost use Rattle.std.specs.Prelude.{◌≡◌, ◌⊎◌, ℕ, ◌%◌, ◌≤◌, false, IsSome, IfOk, Ok, OnErr, length};
 ghost use Rattle.nk_bits.specs.Accesses.{wp_of};
+ghost use Rattle.nk_bits.specs.Translations.{faulted};
 ghost use Rattle.nk_bits.specs.Outcomes.{outcome_of};
 ghost use Rattle.x86_regs.specs.Effects.{FitsIn, HasAccessSize, LeavesToDelivery, LoadsFrameIn, asked_nothing, effect_with};
 ghost use Rattle.cpu_step.specs.Processor.{IsSound, deliverable};
@@ -12,6 +13,7 @@ use crate::fetch::{code_on_page, fetch_by_bytes, is_on_page};
 use crate::processor::Cpu;
 use crate::stepped::Stepped;
 use mem_access::commit;
+use nk_bits::named_law;
 use phys_mem::PhysMem;
 use x86_decode::Decoded;
 use x86_regs::{ASKED_NOTHING, Asked, Fault, Regs, Write, bit};
@@ -103,7 +105,7 @@ impl Cpu {
         ensures sound { IsSound (length mem.new) self.new }
         ensures length { length mem.new ≡ length mem.old }
     {
-        self.drop_page(BODY_STACK / 4096);
+        self.drop_fault(BODY_STACK / 4096);
         self.raise(
             Fault::Page {
                 code: 3,
@@ -111,6 +113,15 @@ impl Cpu {
             },
             mem,
         )
+    }
+
+    /// A page fault forgets the translation of the page with this number, and the upper entries that serve it.
+    fn drop_fault(&mut self, page: u64)
+        ensures faulted { self.new ≡ record self.old { tlb = faulted self.old.tlb page } }
+        ensures sound { (size : ℕ) → IsSound size self.old → IsSound size self.new }
+    {
+        named_law();
+        self.tlb.drop_fault(page);
     }
 
     /// Fetches the instruction at RIP and makes its effect on the registers.

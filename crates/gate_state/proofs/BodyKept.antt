@@ -3,13 +3,13 @@
 use Rattle.std.proofs.Common.{◌≡◌, ℕ, ◌+◌, ◌/◌, ◌≤◌, Bool, true, false, List, refl, sym, ap, subst, ◌∙◌, arith}
 use Rattle.std.specs.Prelude.{IfSome, Option, None, Some, not, ◌==◌, if◌then◌else◌}
 use Rattle.std.proofs.lemmas.Bool.{and_parts, eqb-true, false≢true}
-use Rattle.std.proofs.lemmas.List.Elements.{All-nil}
 use Rattle.nk_bits.specs.declared.call.Answer.{Answer}
 use Rattle.nk_bits.specs.declared.call.CallWords.{CallWords}
 use Rattle.nk_bits.specs.declared.kind.Kind.{Kind}
 use Rattle.nk_bits.specs.declared.kind.Kind.TheVariants.{Code, Fixed, Guarded}
 use Rattle.nk_bits.specs.declared.leaf.Leaf.{Leaf}
 use Rattle.nk_bits.specs.Accesses.{wp_of}
+use Rattle.nk_bits.specs.Claims.{AllPass}
 use Rattle.nk_bits.specs.Kinds.{is_guarded, is_storable, kind_of}
 use Rattle.nk_bits.specs.Translations.{flushed}
 use Rattle.phys_mem.specs.Memory.{entry_in}
@@ -30,9 +30,9 @@ use Rattle.cpu_step.specs.Turns.{enters_body, is_at_body}
 use Rattle.gate_state.specs.GuardedStates.{AreKinds, IsAdmitted, IsGuarded, IsHeld}
 use Rattle.gate_state.specs.MachineStates.{MachineState, Opening, nested_of}
 use Rattle.gate_state.specs.MachineSteps.{after_reading, answer_in, answered_with, call_in, nested_after, served, source_of, wanted, with_place}
-use Rattle.gate_state.specs.RespectedKinds.{respects}
+use Rattle.gate_state.specs.RespectedKinds.{respecting}
 use Rattle.gate_state.proofs.LooseLeaves.{written_loose}
-use Rattle.gate_state.proofs.LowerLaws.{AllPass, LowerLaws}
+use Rattle.gate_state.proofs.LowerLaws.{LowerLaws}
 use Rattle.gate_state.proofs.RegisterBounds.{registers_at, registers_with}
 use Rattle.gate_state.proofs.SceneProofsStores.{slot_fixed}
 use Rattle.gate_state.proofs.SourceReads.{source_bytes, source_is}
@@ -149,10 +149,10 @@ module _ (laws : LowerLaws) (o : Opening) (admitted : IsAdmitted o) (s : Machine
 
   -- translations go, or the kinds are what they were
   pass_kept : (flush : Bool) → (answer_in s).flush ≡ flush
-      → AllPass (respects o after.tables.kinds) (if flush then flushed else (after_reading s).processor.tlb)
-  pass_kept true is = All-nil (λ (pair : ℕ × Leaf). respects o after.tables.kinds pair ≡ true)
+      → AllPass (respecting o after.tables.kinds) (if flush then flushed else (after_reading s).processor.tlb)
+  pass_kept true is = laws.kept.flushed (respecting o after.tables.kinds)
   pass_kept false is =
-      subst (λ (ks : List Kind). AllPass (respects o ks) (after_reading s).processor.tlb)
+      subst (λ (ks : List Kind). AllPass (respecting o ks) (after_reading s).processor.tlb)
       (sym (laws.call.same s.kinds root s.ledger s.memory call source is).0) (reading_pass laws o admitted s guarded)
 
   -- the registers behind the body

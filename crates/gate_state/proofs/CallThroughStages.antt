@@ -6,7 +6,7 @@ use Rattle.std.specs.Prelude.{◌==◌, IfSome, slice_index}
 use Rattle.nk_bits.specs.Accesses.{wp_of}
 use Rattle.nk_bits.specs.Translations.{Translations}
 use Rattle.irq_plan.specs.declared.event.What.{What}
-use Rattle.irq_plan.specs.declared.event.What.TheVariants.{Irq, Drop, Fill}
+use Rattle.irq_plan.specs.declared.event.What.TheVariants.{Irq, Drop, Fill, Keep, Forget}
 use Rattle.irq_plan.specs.PlannedEvents.{IsPlannable}
 use Rattle.x86_alu.specs.Flags.{with_flag, zero_flag}
 use Rattle.x86_alu.specs.SignedNumbers.{bit}
@@ -161,3 +161,7 @@ module _ (laws : LowerLaws) (o : Opening) (admitted : IsAdmitted o) where
       with_event o stage s t t.processor.pending _ at (event_guarded laws o admitted t (Drop page) plannable at.guarded)
   event_stays stage s t (Fill page) plannable at =
       with_event o stage s t t.processor.pending _ at (event_guarded laws o admitted t (Fill page) plannable at.guarded)
+  event_stays stage s t (Keep level page) plannable at =
+      with_event o stage s t t.processor.pending _ at (event_guarded laws o admitted t (Keep level page) plannable at.guarded)
+  event_stays stage s t (Forget level page) plannable at =
+      with_event o stage s t t.processor.pending _ at (event_guarded laws o admitted t (Forget level page) plannable at.guarded)

@@ -6,6 +6,7 @@ use Rattle.std.proofs.lemmas.Bool.{cases_lt, cond-false, cond-true, le-ltb, lt-l
 use Rattle.nk_bits.specs.declared.control.Control.{Control}
 use Rattle.nk_bits.specs.declared.kind.Kind.{Kind}
 use Rattle.nk_bits.specs.declared.kind.Kind.TheVariants.{Fixed}
+use Rattle.nk_bits.specs.Claims.{AllPass}
 use Rattle.nk_bits.specs.Kinds.{kind_of}
 use Rattle.nk_bits.specs.Outcomes.{Outcome, and_then, answered, refused}
 use Rattle.nk_bits.specs.Translations.{Translations}
@@ -22,8 +23,8 @@ use Rattle.trap_unit.specs.TrapDelivery.{Delivered, Pushed, arrived, at_handler,
 use Rattle.page_desc.specs.PageTables.{is_kept}
 use Rattle.gate_state.specs.MachineOpening.{opening_tables}
 use Rattle.gate_state.specs.MachineStates.{Opening}
-use Rattle.gate_state.specs.RespectedKinds.{respects}
-use Rattle.gate_state.proofs.LowerLaws.{AllPass, LowerLaws}
+use Rattle.gate_state.specs.RespectedKinds.{respecting}
+use Rattle.gate_state.proofs.LowerLaws.{LowerLaws}
 use Rattle.gate_state.proofs.Scene.{AreStores, IsScene, SceneLaws}
 use Rattle.gate_state.proofs.SceneProofsWalks.{kind_is}
 use Rattle.gate_state.proofs.DeliveryGates.{gate_leads, laid_gate, number_from, number_held, stack_is}
@@ -38,12 +39,12 @@ pub record IsDelivery (o : Opening) (ks : List Kind) (m : List ℕ) (regs : Regs
   pub memory_is : it.memory ≡ stored m ws
   pub places : All (λ w. w.0 / 4096 ≡ 3) ws
   pub bytes : All (λ w. w.1 < 256) ws
-  pub pass : AllPass (respects o ks) it.tlb
+  pub pass : AllPass (respecting o ks) it.tlb
 
 -- INT n asks first: it never shuts the machine down, and is allowed for the 48 vectors alone
 pub record IsAsked (o : Opening) (ks : List Kind) (vector : ℕ) (it : Outcome Shut Bool) : Type 0 where
   pub answered : (it.answer ≡ Ok false) ⊎ ((it.answer ≡ Ok true) × (vector < 48))
-  pub pass : AllPass (respects o ks) it.tlb
+  pub pass : AllPass (respecting o ks) it.tlb
 
 -- at most one error code is pushed
 few_codes : (code : Option ℕ) → length (codes_of code) ≤ 1
@@ -87,24 +88,24 @@ module _ (laws : LowerLaws) (o : Opening) (ks : List Kind) (scenes : SceneLaws o
   module _ (m : List ℕ) (control : Control) (scene : IsScene o ks m control) where
     -- a read of the first frame finds what the opening has there
     read_opening : (va place : ℕ) (tlb : Translations) → va ≡ 0xFFFFFF8000000000 + place → place + 8 ≤ 4096
-        → AllPass (respects o ks) tlb
-        → Gives (respects o ks) Shut ℕ (read_at control va m tlb) (number_from idt_and_tss_byte 8 place)
+        → AllPass (respecting o ks) tlb
+        → Gives (respecting o ks) Shut ℕ (read_at control va m tlb) (number_from idt_and_tss_byte 8 place)
     read_opening va place tlb is within pass =
-        subst (λ x. Gives (respects o ks) Shut ℕ (read_at control va m tlb) x)
+        subst (λ x. Gives (respecting o ks) Shut ℕ (read_at control va m tlb) x)
         (number_held o ks m scene.memory (first_kept m control scene) 8 place within)
         (read_gives o ks scenes m control scene va place tlb is within pass)
 
-    gate_gives : (vector : ℕ) (tlb : Translations) → vector < 48 → AllPass (respects o ks) tlb
-        → Gives (respects o ks) Shut Gate (gate_read control opening_tables vector m tlb) (laid_gate vector)
+    gate_gives : (vector : ℕ) (tlb : Translations) → vector < 48 → AllPass (respecting o ks) tlb
+        → Gives (respecting o ks) Shut Gate (gate_read control opening_tables vector m tlb) (laid_gate vector)
     unfolding gate_read
     gate_gives vector tlb few pass =
         let va : ℕ = gate_address opening_tables vector in
         let here : va ≡ 0xFFFFFF8000000000 + 16 * vector = omega (arith, few) in
-        then_gives (respects o ks) Shut ℕ Gate (read_at control va m tlb)
+        then_gives (respecting o ks) Shut ℕ Gate (read_at control va m tlb)
         (number_from idt_and_tss_byte 8 (16 * vector)) _ (laid_gate vector)
         (read_opening va (16 * vector) tlb here (omega (arith, few)) pass)
         (λ after kept.
-        then_gives (respects o ks) Shut ℕ Gate (read_at control (wrapped (va + 8)) m after)
+        then_gives (respecting o ks) Shut ℕ Gate (read_at control (wrapped (va + 8)) m after)
         (number_from idt_and_tss_byte 8 (16 * vector + 8)) _ (laid_gate vector)
         (read_opening (wrapped (va + 8)) (16 * vector + 8) after (omega (arith, here, few)) (omega (arith, few)) kept)
         (λ last passing. record { answers = refl; pass = passing }))
@@ -112,39 +113,39 @@ module _ (laws : LowerLaws) (o : Opening) (ks : List Kind) (scenes : SceneLaws o
     within_limit : (vector : ℕ) → vector < 48 → passes_limit opening_tables vector ≡ false
     within_limit vector few = le-ltb 767 (16 * vector + 15) (omega arith)
 
-    good_gives : (vector : ℕ) (tlb : Translations) → vector < 48 → AllPass (respects o ks) tlb
-        → Gives (respects o ks) Shut Gate (gate_found control opening_tables vector m tlb) (laid_gate vector)
+    good_gives : (vector : ℕ) (tlb : Translations) → vector < 48 → AllPass (respecting o ks) tlb
+        → Gives (respecting o ks) Shut Gate (gate_found control opening_tables vector m tlb) (laid_gate vector)
     good_gives vector tlb few pass =
         let found : Outcome Shut Gate = and_then (gate_read control opening_tables vector m tlb) if_good in
-        let good : Gives (respects o ks) Shut Gate found (laid_gate vector) =
-        then_gives (respects o ks) Shut Gate Gate (gate_read control opening_tables vector m tlb) (laid_gate vector)
+        let good : Gives (respecting o ks) Shut Gate found (laid_gate vector) =
+        then_gives (respecting o ks) Shut Gate Gate (gate_read control opening_tables vector m tlb) (laid_gate vector)
         if_good (laid_gate vector)
         (gate_gives vector tlb few pass)
         (λ after kept.
-        subst (λ (out : Outcome Shut Gate). Gives (respects o ks) Shut Gate out (laid_gate vector))
+        subst (λ (out : Outcome Shut Gate). Gives (respecting o ks) Shut Gate out (laid_gate vector))
         (sym (cond-true (is_good (laid_gate vector)) (answered (laid_gate vector) after) (refused shut after)
         (gate_leads vector few).0))
         (record { answers = refl; pass = kept })) in
-        subst (λ (out : Outcome Shut Gate). Gives (respects o ks) Shut Gate out (laid_gate vector))
+        subst (λ (out : Outcome Shut Gate). Gives (respecting o ks) Shut Gate out (laid_gate vector))
         (sym (cond-false (passes_limit opening_tables vector) (refused shut tlb) found (within_limit vector few))) good
 
     -- the entry of a delivery: the vector's stub, and the top of the trap stack
-    entry_gives : (vector : ℕ) (tlb : Translations) → vector < 48 → AllPass (respects o ks) tlb
-        → Gives (respects o ks) Shut Entry (entry_found control opening_tables vector m tlb)
+    entry_gives : (vector : ℕ) (tlb : Translations) → vector < 48 → AllPass (respecting o ks) tlb
+        → Gives (respecting o ks) Shut Entry (entry_found control opening_tables vector m tlb)
         (record { handler = gate_offset (laid_gate vector); top = number_from idt_and_tss_byte 8 1060 / 16 * 16 })
     unfolding entry_found
     entry_gives vector tlb few pass =
-        then_gives (respects o ks) Shut Gate Entry (gate_found control opening_tables vector m tlb) (laid_gate vector)
+        then_gives (respecting o ks) Shut Gate Entry (gate_found control opening_tables vector m tlb) (laid_gate vector)
         _ _ (good_gives vector tlb few pass)
         (λ after kept.
-        then_gives (respects o ks) Shut ℕ Entry (read_at control (wrapped (opening_tables.tss + 36)) m after)
+        then_gives (respecting o ks) Shut ℕ Entry (read_at control (wrapped (opening_tables.tss + 36)) m after)
         (number_from idt_and_tss_byte 8 1060) _ _
         (read_opening (wrapped (opening_tables.tss + 36)) 1060 after refl (omega arith) kept)
         (λ last passing. record { answers = refl; pass = passing }))
 
     -- the pushes from an entry
     entered_gives : (regs : Regs) (vector : ℕ) (code : Option ℕ) (tlb : Translations) (handler top : ℕ)
-        → handler ≡ 0xFFFFFF8000001040 + 8 * vector → top ≡ 0xFFFFFF8000004000 → AllPass (respects o ks) tlb
+        → handler ≡ 0xFFFFFF8000001040 + 8 * vector → top ≡ 0xFFFFFF8000004000 → AllPass (respecting o ks) tlb
         → IsDelivery o ks m regs vector code (entered regs control code (Ok (record { handler = handler; top = top }))
         m tlb) (frame_stores regs control code (Ok (record { handler = handler; top = top })) m tlb)
     entered_gives regs vector code tlb handler top leads stands pass =
@@ -156,7 +157,7 @@ module _ (laws : LowerLaws) (o : Opening) (ks : List Kind) (scenes : SceneLaws o
         (pushes_give laws o ks scenes control values top m tlb scene pass (omega (arith, count, few, stands))
         (omega (arith, stands)))
 
-    delivers_here : (regs : Regs) (vector : ℕ) (code : Option ℕ) (tlb : Translations) → AllPass (respects o ks) tlb
+    delivers_here : (regs : Regs) (vector : ℕ) (code : Option ℕ) (tlb : Translations) → AllPass (respecting o ks) tlb
         → vector < 48
         → IsDelivery o ks m regs vector code (delivered regs control opening_tables vector code m tlb)
         (delivery_stores regs control opening_tables vector code m tlb)
@@ -170,7 +171,7 @@ module _ (laws : LowerLaws) (o : Opening) (ks : List Kind) (scenes : SceneLaws o
         (number_from idt_and_tss_byte 8 1060 / 16 * 16)
         (gate_leads vector few).1 (ap (λ x. x / 16 * 16) stack_is) gives.pass)
 
-    asks_here : (cpl vector : ℕ) (tlb : Translations) → AllPass (respects o ks) tlb
+    asks_here : (cpl vector : ℕ) (tlb : Translations) → AllPass (respecting o ks) tlb
         → IsAsked o ks vector (interrupt_allowed control opening_tables cpl vector m tlb)
     unfolding interrupt_allowed
     asks_here cpl vector tlb pass =
@@ -180,8 +181,8 @@ module _ (laws : LowerLaws) (o : Opening) (ks : List Kind) (scenes : SceneLaws o
         elim (cases_lt vector 48) [
           | inl few ↦
               let low : ℕ = number_from idt_and_tss_byte 8 (16 * vector) in
-              let gives : Gives (respects o ks) Shut Bool found (nat_le cpl (gate_level low)) =
-              then_gives (respects o ks) Shut ℕ Bool (read_at control (gate_address opening_tables vector) m tlb) low _ _
+              let gives : Gives (respecting o ks) Shut Bool found (nat_le cpl (gate_level low)) =
+              then_gives (respecting o ks) Shut ℕ Bool (read_at control (gate_address opening_tables vector) m tlb) low _ _
               (read_opening (gate_address opening_tables vector) (16 * vector) tlb (omega (arith, few))
               (omega (arith, few)) pass)
               (λ after kept. record { answers = refl; pass = kept }) in
@@ -207,7 +208,7 @@ module _ (laws : LowerLaws) (o : Opening) (ks : List Kind) (scenes : SceneLaws o
 
   pub delivers : (m : List ℕ) (control : Control) (tables : Tables) (regs : Regs) (vector : ℕ) (code : Option ℕ)
       (tlb : Translations)
-      → IsScene o ks m control → tables ≡ opening_tables → AllPass (respects o ks) tlb → vector < 48
+      → IsScene o ks m control → tables ≡ opening_tables → AllPass (respecting o ks) tlb → vector < 48
       → IsDelivery o ks m regs vector code (delivered regs control tables vector code m tlb)
       (delivery_stores regs control tables vector code m tlb)
   delivers m control tables regs vector code tlb scene same pass few =
@@ -216,7 +217,7 @@ module _ (laws : LowerLaws) (o : Opening) (ks : List Kind) (scenes : SceneLaws o
       (delivers_here m control scene regs vector code tlb pass few)
 
   pub asks : (m : List ℕ) (control : Control) (tables : Tables) (cpl vector : ℕ) (tlb : Translations)
-      → IsScene o ks m control → tables ≡ opening_tables → AllPass (respects o ks) tlb
+      → IsScene o ks m control → tables ≡ opening_tables → AllPass (respecting o ks) tlb
       → IsAsked o ks vector (interrupt_allowed control tables cpl vector m tlb)
   asks m control tables cpl vector tlb scene same pass =
       subst (λ t. IsAsked o ks vector (interrupt_allowed control t cpl vector m tlb)) (sym same)

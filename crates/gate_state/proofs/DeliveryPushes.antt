@@ -8,6 +8,7 @@ use Rattle.nk_bits.specs.declared.kind.Kind.{Kind}
 use Rattle.nk_bits.specs.declared.kind.Kind.TheVariants.{Trap}
 use Rattle.nk_bits.specs.declared.leaf.Target.{Target}
 use Rattle.nk_bits.specs.Accesses.{accessed, first_part}
+use Rattle.nk_bits.specs.Claims.{AllPass}
 use Rattle.nk_bits.specs.Kinds.{is_storable, kind_of}
 use Rattle.nk_bits.specs.Paging.{page_of}
 use Rattle.nk_bits.specs.Translations.{Translations}
@@ -20,8 +21,8 @@ use Rattle.trap_unit.specs.declared.shutdown.Shut.{Shut}
 use Rattle.trap_unit.specs.DeliveryStores.{push_stores, pushes_stores, stores_found, stores_on}
 use Rattle.trap_unit.specs.TrapDelivery.{Pushed, made_at, pushed, pushed_on, pushes}
 use Rattle.gate_state.specs.MachineStates.{Opening}
-use Rattle.gate_state.specs.RespectedKinds.{respects}
-use Rattle.gate_state.proofs.LowerLaws.{AllPass, LowerLaws}
+use Rattle.gate_state.specs.RespectedKinds.{respecting}
+use Rattle.gate_state.proofs.LowerLaws.{LowerLaws}
 use Rattle.gate_state.proofs.Scene.{AreStores, IsScene, SceneLaws, scene_stored}
 use Rattle.gate_state.proofs.SceneProofsWalks.{kind_is}
 use Rattle.gate_state.proofs.DeliveryReads.{stack_leaf, whole_part}
@@ -32,7 +33,7 @@ pub record IsPushed (o : Opening) (ks : List Kind) (m : List ℕ) (last : ℕ) (
   pub memory_is : it.memory ≡ stored m ws
   pub places : All (λ w. w.0 / 4096 ≡ 3) ws
   pub bytes : All (λ w. w.1 < 256) ws
-  pub pass : AllPass (respects o ks) it.tlb
+  pub pass : AllPass (respecting o ks) it.tlb
 
 -- the stores of an access on one page are those of its number
 no_stores : (P : ℕ × ℕ → Type 0) (n p v : ℕ) → n ≡ 0 → All P (stores n p v)
@@ -70,7 +71,7 @@ module _ (laws : LowerLaws) (o : Opening) (ks : List Kind) (scenes : SceneLaws o
 
   -- a push at this address
   push_at : (control : Control) (value top va : ℕ) (m : List ℕ) (tlb : Translations) → IsScene o ks m control
-      → AllPass (respects o ks) tlb → lowered top 8 ≡ va → 0xFFFFFF8000003000 ≤ va → va + 8 ≤ 0xFFFFFF8000004000
+      → AllPass (respecting o ks) tlb → lowered top 8 ≡ va → 0xFFFFFF8000003000 ≤ va → va + 8 ≤ 0xFFFFFF8000004000
       → IsPushed o ks m va (pushed control value top m tlb) (push_stores control value top m tlb)
   unfolding pushed push_stores
   push_at control value top va m tlb scene pass is low high =
@@ -97,7 +98,7 @@ module _ (laws : LowerLaws) (o : Opening) (ks : List Kind) (scenes : SceneLaws o
       })
 
   push_gives : (control : Control) (value top : ℕ) (m : List ℕ) (tlb : Translations) → IsScene o ks m control
-      → AllPass (respects o ks) tlb → 0xFFFFFF8000003000 + 8 ≤ top → top ≤ 0xFFFFFF8000004000
+      → AllPass (respecting o ks) tlb → 0xFFFFFF8000003000 + 8 ≤ top → top ≤ 0xFFFFFF8000004000
       → IsPushed o ks m (top - 8) (pushed control value top m tlb) (push_stores control value top m tlb)
   push_gives control value top m tlb scene pass low high =
       push_at control value top (top - 8) m tlb scene pass (omega (arith, low, high)) (omega (arith, low))
@@ -132,7 +133,7 @@ module _ (laws : LowerLaws) (o : Opening) (ks : List Kind) (scenes : SceneLaws o
   -- all pushes, as long as they stay on the trap stack's page
   pub pushes_give : (control : Control) (values : List ℕ) (top : ℕ) (m : List ℕ) (tlb : Translations)
       → IsScene o ks m control
-      → AllPass (respects o ks) tlb → 0xFFFFFF8000003000 + 8 * length values ≤ top → top ≤ 0xFFFFFF8000004000
+      → AllPass (respecting o ks) tlb → 0xFFFFFF8000003000 + 8 * length values ≤ top → top ≤ 0xFFFFFF8000004000
       → IsPushed o ks m (top - 8 * length values) (pushes control values top m tlb) (pushes_stores control values top m tlb)
   pushes_give control [] top m tlb scene pass low high = record {
     answers = ap Ok (omega arith);

@@ -5,9 +5,9 @@ use Rattle.nk_bits.specs.declared.access.Access.TheVariants.{Read}
 use Rattle.nk_bits.specs.declared.control.Control.{Control}
 use Rattle.nk_bits.specs.declared.fault.AccessFault.{AccessFault}
 use Rattle.nk_bits.specs.declared.kind.Kind.{Kind}
-use Rattle.nk_bits.specs.declared.leaf.Leaf.{Leaf}
 use Rattle.nk_bits.specs.declared.leaf.Target.{Target}
 use Rattle.nk_bits.specs.Accesses.{accessed, first_part}
+use Rattle.nk_bits.specs.Claims.{AllPass, Claim}
 use Rattle.nk_bits.specs.Outcomes.{Outcome, and_then, answered, then_by}
 use Rattle.nk_bits.specs.Paging.{page_of}
 use Rattle.nk_bits.specs.Translations.{Translations}
@@ -18,17 +18,16 @@ use Rattle.page_walk.specs.MemoryAccess.{loaded, value_at, view_of}
 use Rattle.trap_unit.specs.declared.shutdown.Shut.{Shut}
 use Rattle.trap_unit.specs.TrapDelivery.{or_shut, read_at}
 use Rattle.gate_state.specs.MachineStates.{Opening}
-use Rattle.gate_state.specs.RespectedKinds.{respects}
-use Rattle.gate_state.proofs.LowerLaws.{AllPass}
+use Rattle.gate_state.specs.RespectedKinds.{respecting}
 use Rattle.gate_state.proofs.Scene.{IsScene, SceneLaws}
 
 -- a step answers this, and the translations that it leaves pass a test
-pub record Gives (test : ℕ × Leaf → Bool) (F A : Type 0) (outcome : Outcome F A) (x : A) : Type 0 where
+pub record Gives (test : Claim) (F A : Type 0) (outcome : Outcome F A) (x : A) : Type 0 where
   pub answers : outcome.answer ≡ Ok x
   pub pass : AllPass test outcome.tlb
 
 -- and so does the next step from its answer, and hence both
-pub then_gives : (test : ℕ × Leaf → Bool) (F A B : Type 0) (outcome : Outcome F A) (x : A)
+pub then_gives : (test : Claim) (F A B : Type 0) (outcome : Outcome F A) (x : A)
     (next : A → Translations → Outcome F B) (y : B)
     → Gives test F A outcome x → ((after : Translations) → AllPass test after → Gives test F B (next x after) y)
     → Gives test F B (and_then outcome next) y
@@ -67,7 +66,7 @@ value_whole m va width first place within at =
     omega (arith, nothing, low)
 
 -- a read that faults shuts the machine down
-shut_gives : (test : ℕ × Leaf → Bool) (outcome : Outcome AccessFault ℕ) (x : ℕ) → Gives test AccessFault ℕ outcome x
+shut_gives : (test : Claim) (outcome : Outcome AccessFault ℕ) (x : ℕ) → Gives test AccessFault ℕ outcome x
     → Gives test Shut ℕ (record { answer = or_shut outcome.answer; tlb = outcome.tlb }) x
 shut_gives test outcome x gives = record { answers = ap or_shut gives.answers; pass = gives.pass }
 
@@ -75,8 +74,8 @@ module _ (o : Opening) (ks : List Kind) (scenes : SceneLaws o ks) (m : List ℕ)
     (scene : IsScene o ks m control) where
   -- the eight bytes at an offset of the slot's first page
   pub read_gives : (va place : ℕ) (tlb : Translations) → va ≡ 0xFFFFFF8000000000 + place → place + 8 ≤ 4096
-      → AllPass (respects o ks) tlb
-      → Gives (respects o ks) Shut ℕ (read_at control va m tlb) (number_at m 8 place)
+      → AllPass (respecting o ks) tlb
+      → Gives (respecting o ks) Shut ℕ (read_at control va m tlb) (number_at m 8 place)
   read_gives va place tlb is within pass =
       let page : page_of va ≡ slot_start = omega (arith, is, within) in
       let laid : slot_leaf o.image o.frames (page_of va) ≡ Some (readable idt_and_tss) =
@@ -86,14 +85,14 @@ module _ (o : Opening) (ks : List Kind) (scenes : SceneLaws o ks) (m : List ℕ)
       let short : va % 4096 + 8 ≤ 4096 = omega (arith, is, within) in
       let first : 4096 * 0 + va % 4096 ≡ place = omega (arith, is, within) in
       let target : Target = record { first = 4096 * 0 + va % 4096; second = 0 } in
-      let found : Gives (respects o ks) AccessFault Target (accessed (view_of m control 0) Read tlb va 8) target =
+      let found : Gives (respecting o ks) AccessFault Target (accessed (view_of m control 0) Read tlb va 8) target =
       record {
         answers = scenes.slot_accessed m control 0 Read tlb va 8 (readable idt_and_tss) scene pass fits low
             (omega arith) short laid refl;
         pass = scenes.accessed_pass m control 0 Read tlb va 8 scene pass fits (omega arith);
       } in
-      shut_gives (respects o ks) (loaded m (view_of m control 0) tlb va 8) (number_at m 8 place)
-      (then_gives (respects o ks) AccessFault Target ℕ (accessed (view_of m control 0) Read tlb va 8) target
+      shut_gives (respecting o ks) (loaded m (view_of m control 0) tlb va 8) (number_at m 8 place)
+      (then_gives (respecting o ks) AccessFault Target ℕ (accessed (view_of m control 0) Read tlb va 8) target
       (λ target after. answered (value_at m va 8 target) after) (number_at m 8 place) found
       (λ after kept. record {
         answers = ap Ok (value_whole m va 8 (4096 * 0 + va % 4096) place short first);

@@ -11,6 +11,7 @@ use Rattle.nk_bits.specs.declared.leaf.Leaf.{Leaf}
 use Rattle.nk_bits.specs.declared.leaf.Target.{Target}
 use Rattle.nk_bits.specs.AccessRights.{may}
 use Rattle.nk_bits.specs.Accesses.{Serves, View, accessed, crosses, next_page, place_in, smep_of, wp_of}
+use Rattle.nk_bits.specs.Claims.{AllPass}
 use Rattle.nk_bits.specs.Kinds.{allows, kind_of}
 use Rattle.nk_bits.specs.Outcomes.{answered, then_by, then_on}
 use Rattle.nk_bits.specs.Paging.{is_slot_page, page_of}
@@ -25,8 +26,8 @@ use Rattle.boot_map.specs.KernelSlot.{IsCodePage, slot_leaf, slot_start}
 use Rattle.cpu_step.specs.InstructionFetch.{byte_fetched, raised_by_fetch}
 use Rattle.gate_state.specs.GuardedStates.{IsAdmitted}
 use Rattle.gate_state.specs.MachineStates.{Opening}
-use Rattle.gate_state.specs.RespectedKinds.{respects}
-use Rattle.gate_state.proofs.LowerLaws.{AllPass, LowerLaws}
+use Rattle.gate_state.specs.RespectedKinds.{respecting, respects}
+use Rattle.gate_state.proofs.LowerLaws.{LowerLaws}
 use Rattle.gate_state.proofs.Scene.{IsScene, SceneLaws}
 use Rattle.gate_state.proofs.GateTextBytes.{code_there, gate_there}
 
@@ -101,12 +102,12 @@ any_ok (Err fault) = tt
 module _ (laws : LowerLaws) (o : Opening) (ks : List Kind) (scenes : SceneLaws o ks) where
   module _ (m : List ℕ) (control : Control) (scene : IsScene o ks m control) where
     -- translations go on respecting the kinds when a byte is fetched
-    pub byte_pass : (cpl : ℕ) (tlb : Translations) (va : ℕ) → va < 2 ^ 64 → AllPass (respects o ks) tlb
-        → AllPass (respects o ks) (byte_fetched m (view_of m control cpl) va tlb).tlb
+    pub byte_pass : (cpl : ℕ) (tlb : Translations) (va : ℕ) → va < 2 ^ 64 → AllPass (respecting o ks) tlb
+        → AllPass (respecting o ks) (byte_fetched m (view_of m control cpl) va tlb).tlb
     byte_pass cpl tlb va fits all =
-        let kept : AllPass (respects o ks) (accessed (view_of m control cpl) Fetch tlb va 1).tlb =
+        let kept : AllPass (respecting o ks) (accessed (view_of m control cpl) Fetch tlb va 1).tlb =
         scenes.accessed_pass m control cpl Fetch tlb va 1 scene all fits (lit≤ tt) in
-        then_on (λ pair. respects o ks pair ≡ true) (accessed (view_of m control cpl) Fetch tlb va 1).answer
+        then_on (AllPass (respecting o ks)) (accessed (view_of m control cpl) Fetch tlb va 1).answer
         (accessed (view_of m control cpl) Fetch tlb va 1).tlb (λ target after. answered (byte_at m target.first) after)
         kept (λ target. kept)
 
@@ -161,16 +162,16 @@ module _ (laws : LowerLaws) (o : Opening) (ks : List Kind) (scenes : SceneLaws o
         ∙ (sym (ap (byte_at m) at) ∙ is))))
 
     -- what the supervisor fetches is code
-    pub supervisor_byte : (tlb : Translations) (va byte : ℕ) → va < 2 ^ 64 → AllPass (respects o ks) tlb
+    pub supervisor_byte : (tlb : Translations) (va byte : ℕ) → va < 2 ^ 64 → AllPass (respecting o ks) tlb
         → (byte_fetched m (view_of m control 0) va tlb).answer ≡ Ok byte → code_byte o va ≡ Some byte
     supervisor_byte tlb va byte fits all is =
         let view : View = view_of m control 0 in
         let (place, serves, at) = fetched_from_place m (accessed view Fetch tlb va 1).answer
         (accessed view Fetch tlb va 1).tlb byte
-        (Serves view Fetch (respects o ks) va)
-        (IfOk-weaker _ _ _ (λ (target : Target) (both : Serves view Fetch (respects o ks) va target.first
-        × (crosses va 1 ≡ true → Serves view Fetch (respects o ks) (next_page va) target.second)). both.0)
-        (laws.access.served view Fetch (respects o ks) tlb va 1 (scenes.walked m control 0 scene) fits
+        (Serves view Fetch (respecting o ks) va)
+        (IfOk-weaker _ _ _ (λ (target : Target) (both : Serves view Fetch (respecting o ks) va target.first
+        × (crosses va 1 ≡ true → Serves view Fetch (respecting o ks) (next_page va) target.second)). both.0)
+        (laws.access.served view Fetch (respecting o ks) tlb va 1 (scenes.walked m control 0 scene) fits
         (lit≤ tt) all)) is in
         elim (supervisor_page (page_of va) serves.leaf (omega (arith, fits)) serves.passes serves.may_access) [
           | inl gates ↦ gate_byte_served va place byte serves.leaf serves.place_is at gates.0 gates.1

@@ -4,8 +4,8 @@ use Rattle.std.specs.Prelude.{Result, Ok}
 use Rattle.std.proofs.lemmas.Bool.{and_parts, false≢true}
 use Rattle.std.proofs.lemmas.List.{append-nil, append_assoc, length-append}
 use Rattle.std.proofs.Math.Seq.{get_or-append_seam}
-use Rattle.nk_bits.specs.declared.leaf.Leaf.{Leaf}
 use Rattle.nk_bits.specs.Accesses.{View}
+use Rattle.nk_bits.specs.Claims.{AllPass, Claim}
 use Rattle.nk_bits.specs.Outcomes.{Outcome, then_by}
 use Rattle.nk_bits.specs.Translations.{Translations}
 use Rattle.x86_decode.specs.declared.instruction.Decoded.{Decoded}
@@ -15,7 +15,6 @@ use Rattle.x86_regs.specs.declared.faults.Fault.{Fault}
 use Rattle.x86_regs.specs.Operands.{wrapped}
 use Rattle.cpu_step.specs.declared.fetch.Fetched.{Fetched}
 use Rattle.cpu_step.specs.InstructionFetch.{byte_fetched, decided_by, fetched_from, instruction_at}
-use Rattle.gate_state.proofs.LowerLaws.{AllPass}
 
 abbrev pub is_short : Decoded → Bool
 is_short (Whole instr size) = false
@@ -62,7 +61,7 @@ next_read : (bytes : List ℕ) (answer : Result ℕ Fault) (byte : ℕ) (tlb : T
 next_read bytes answer byte tlb next is later =
     subst (λ (a : Result ℕ Fault). IsRead bytes (then_by a tlb next)) (sym is) later
 
-module _ (m : List ℕ) (view : View) (test : ℕ × Leaf → Bool)
+module _ (m : List ℕ) (view : View) (test : Claim)
     (keeps : (tlb : Translations) (va : ℕ) → va < 2 ^ 64 → AllPass test tlb
     → AllPass test (byte_fetched m view va tlb).tlb)
     (rip : ℕ) (all : List ℕ)

@@ -8,6 +8,7 @@ use Rattle.nk_bits.specs.declared.kind.Kind.{Kind}
 use Rattle.nk_bits.specs.declared.leaf.Target.{Target}
 use Rattle.nk_bits.specs.AccessRights.{may}
 use Rattle.nk_bits.specs.Accesses.{View, accessed, place_in, smep_of, wp_of}
+use Rattle.nk_bits.specs.Claims.{AllPass}
 use Rattle.nk_bits.specs.Outcomes.{answered, then_by}
 use Rattle.nk_bits.specs.Paging.{page_of}
 use Rattle.nk_bits.specs.Translations.{Translations}
@@ -23,8 +24,8 @@ use Rattle.boot_map.specs.KernelSlot.{fetchable, slot_leaf}
 use Rattle.cpu_step.specs.declared.fetch.Fetched.{Fetched}
 use Rattle.cpu_step.specs.InstructionFetch.{byte_fetched, instruction_at, raised_by_fetch}
 use Rattle.gate_state.specs.MachineStates.{Opening}
-use Rattle.gate_state.specs.RespectedKinds.{respects}
-use Rattle.gate_state.proofs.LowerLaws.{AllPass, LowerLaws}
+use Rattle.gate_state.specs.RespectedKinds.{respecting}
+use Rattle.gate_state.proofs.LowerLaws.{LowerLaws}
 use Rattle.gate_state.proofs.Scene.{IsScene, SceneLaws}
 use Rattle.gate_state.proofs.FetchBytes.{byte_pass, gate_page}
 use Rattle.gate_state.proofs.FetchKnown.{IsRead, read_known, reads_on}
@@ -51,7 +52,7 @@ byte_found m answer target tlb is =
 module _ (laws : LowerLaws) (o : Opening) (ks : List Kind) (scenes : SceneLaws o ks) where
   module _ (m : List ℕ) (control : Control) (scene : IsScene o ks m control) where
     -- a byte of the gates' text
-    gate_fetched : (tlb : Translations) (va p : ℕ) → va ≡ gate_address + p → p < 4096 → AllPass (respects o ks) tlb
+    gate_fetched : (tlb : Translations) (va p : ℕ) → va ≡ gate_address + p → p < 4096 → AllPass (respecting o ks) tlb
         → (byte_fetched m (view_of m control 0) va tlb).answer ≡ Ok (gate_byte p)
     gate_fetched tlb va p is below all =
         let view : View = view_of m control 0 in
@@ -70,10 +71,10 @@ module _ (laws : LowerLaws) (o : Opening) (ks : List Kind) (scenes : SceneLaws o
     pub gate_read : (offset : ℕ) (bytes : List ℕ) (tlb : Translations) → offset + length bytes ≤ 4096
         → length bytes ≤ 15
         → ((k : ℕ) → k < length bytes → gate_byte (offset + k) ≡ get_or bytes k 0) → reads_on [] bytes ≡ true
-        → AllPass (respects o ks) tlb
+        → AllPass (respecting o ks) tlb
         → IsRead bytes (instruction_at m (view_of m control 0) (gate_address + offset) tlb)
     gate_read offset bytes tlb within few stand reads all =
-        read_known m (view_of m control 0) (respects o ks)
+        read_known m (view_of m control 0) (respecting o ks)
         (λ now va fits passed. byte_pass laws o ks scenes m control scene 0 now va fits passed)
         (gate_address + offset) bytes
         (λ now k passed below.
@@ -84,7 +85,7 @@ module _ (laws : LowerLaws) (o : Opening) (ks : List Kind) (scenes : SceneLaws o
 
   -- at a gate point but the body's place the supervisor fetches the instruction of the listing
   pub fetch_listed : (m : List ℕ) (control : Control) (tlb : Translations) (offset : ℕ) → IsScene o ks m control
-      → AllPass (respects o ks) tlb → is_point offset ≡ true → offset ≢ 27
+      → AllPass (respecting o ks) tlb → is_point offset ≡ true → offset ≢ 27
       → (it : Fetched) × (decoded_of (instruction_bytes offset) ≡ Whole it.instr it.size)
       × ((instruction_at m (view_of m control 0) (gate_address + offset) tlb).answer ≡ Ok it)
   fetch_listed m control tlb offset scene all point elsewhere =

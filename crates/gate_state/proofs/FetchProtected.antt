@@ -8,6 +8,7 @@ use Rattle.decode_fields.specs.Prefixes.{is_prefix, prefix_bytes}
 use Rattle.decode_fields.specs.Protected.{is_protected_at}
 use Rattle.nk_bits.specs.declared.control.Control.{Control}
 use Rattle.nk_bits.specs.declared.kind.Kind.{Kind}
+use Rattle.nk_bits.specs.Claims.{AllPass}
 use Rattle.nk_bits.specs.Translations.{Translations}
 use Rattle.page_walk.specs.MemoryAccess.{view_of}
 use Rattle.x86_decode.specs.declared.instruction.Decoded.TheVariants.{Whole}
@@ -22,8 +23,8 @@ use Rattle.cpu_step.specs.declared.fetch.Fetched.{Fetched}
 use Rattle.cpu_step.specs.InstructionFetch.{instruction_at}
 use Rattle.gate_state.specs.GuardedStates.{IsAdmitted}
 use Rattle.gate_state.specs.MachineStates.{Opening}
-use Rattle.gate_state.specs.RespectedKinds.{respects}
-use Rattle.gate_state.proofs.LowerLaws.{AllPass, LowerLaws}
+use Rattle.gate_state.specs.RespectedKinds.{respecting}
+use Rattle.gate_state.proofs.LowerLaws.{LowerLaws}
 use Rattle.gate_state.proofs.Scene.{IsScene, SceneLaws}
 use Rattle.gate_state.proofs.FetchSteps.{AreFetched, steps_bytes}
 use Rattle.gate_state.proofs.FetchBytes.{byte_pass, code_byte, code_byte-gates, code_where, fetched_byte, supervisor_byte}
@@ -124,7 +125,7 @@ same_fetched one other answer a b = cc
 module _ (laws : LowerLaws) (o : Opening) (ks : List Kind) (scenes : SceneLaws o ks) where
   -- what stands there is the load
   load_read : (m : List ℕ) (control : Control) (rip : ℕ) (tlb : Translations) → IsScene o ks m control
-      → AllPass (respects o ks) tlb → (it : Fetched) → (instruction_at m (view_of m control 0) rip tlb).answer ≡ Ok it
+      → AllPass (respecting o ks) tlb → (it : Fetched) → (instruction_at m (view_of m control 0) rip tlb).answer ≡ Ok it
       → IsLoadPlace rip → IsLoad rip it
   load_read m control rip tlb scene all it is load =
       let small : load.offset < 4000 = elim load.places [
@@ -149,12 +150,12 @@ module _ (laws : LowerLaws) (o : Opening) (ks : List Kind) (scenes : SceneLaws o
 
   -- the supervisor fetches a protected instruction at the gates' loads of CR0 alone
   pub fetch_protected : (m : List ℕ) (control : Control) (rip : ℕ) (tlb : Translations) → IsScene o ks m control
-      → AllPass (respects o ks) tlb → rip < 2 ^ 64 → (it : Fetched)
+      → AllPass (respecting o ks) tlb → rip < 2 ^ 64 → (it : Fetched)
       → (instruction_at m (view_of m control 0) rip tlb).answer ≡ Ok it → is_protected it.instr.op ≡ true
       → IsLoad rip it
   fetch_protected m control rip tlb scene all fits it is protected =
       let read : AreFetched (IsCode o) rip it =
-      steps_bytes m (view_of m control 0) (respects o ks)
+      steps_bytes m (view_of m control 0) (respecting o ks)
       (λ now va small passed. byte_pass laws o ks scenes m control scene 0 now va small passed) (IsCode o)
       (λ now va byte small passed found. record {
         small = fetched_byte laws o ks scenes m control scene 0 now va byte found;

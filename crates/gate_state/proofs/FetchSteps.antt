@@ -3,8 +3,8 @@ use Rattle.std.proofs.Common.{◌≡◌, ℕ, zero, suc, ◌+◌, ◌^◌, ◌<�
 use Rattle.std.specs.Prelude.{Result, Ok, Err}
 use Rattle.std.proofs.lemmas.Bool.{cases_lt}
 use Rattle.std.proofs.lemmas.List.{length-append, get_or_append_left, get_or-append-add}
-use Rattle.nk_bits.specs.declared.leaf.Leaf.{Leaf}
 use Rattle.nk_bits.specs.Accesses.{View}
+use Rattle.nk_bits.specs.Claims.{AllPass, Claim}
 use Rattle.nk_bits.specs.Outcomes.{Outcome, then_by, then_on}
 use Rattle.nk_bits.specs.Translations.{Translations}
 use Rattle.x86_decode.specs.declared.instruction.Decoded.{Decoded}
@@ -15,7 +15,6 @@ use Rattle.x86_regs.specs.declared.faults.Fault.{Fault}
 use Rattle.x86_regs.specs.Operands.{wrapped}
 use Rattle.cpu_step.specs.declared.fetch.Fetched.{Fetched}
 use Rattle.cpu_step.specs.InstructionFetch.{byte_fetched, decided_by, fetched_from, instruction_at}
-use Rattle.gate_state.proofs.LowerLaws.{AllPass}
 
 -- at most fifteen bytes, of each of which this holds at its address, decode to what was fetched
 pub record AreFetched (P : ℕ → ℕ → Type 0) (rip : ℕ) (it : Fetched) : Type 0 where
@@ -50,7 +49,7 @@ each_more P rip bytes byte each last k below = elim (cases_lt k (length bytes)) 
       (subst (P (wrapped (rip + length bytes))) (sym there ∙ ap (λ (x : ℕ). get_or (bytes ++ byte ∷ []) x 0) here) last)
 ]
 
-module _ (m : List ℕ) (view : View) (test : ℕ × Leaf → Bool)
+module _ (m : List ℕ) (view : View) (test : Claim)
     (keeps : (tlb : Translations) (va : ℕ) → va < 2 ^ 64 → AllPass test tlb
     → AllPass test (byte_fetched m view va tlb).tlb) where
   decided_pass : (d : Decoded) (tlb : Translations) (more : Outcome Fault Fetched) → AllPass test tlb
@@ -67,7 +66,7 @@ module _ (m : List ℕ) (view : View) (test : ℕ × Leaf → Bool)
   from_pass (suc left) rip bytes tlb all =
       let first : Outcome Fault ℕ = byte_fetched m view (wrapped (rip + length bytes)) tlb in
       let kept : AllPass test first.tlb = keeps tlb (wrapped (rip + length bytes)) (omega arith) all in
-      then_on (λ pair. test pair ≡ true) first.answer first.tlb
+      then_on (AllPass test) first.answer first.tlb
       (λ byte after. decided_by (decoded_of (bytes ++ byte ∷ [])) after
       (fetched_from left m view rip (bytes ++ byte ∷ []) after))
       kept

@@ -6,6 +6,7 @@ use Rattle.std.proofs.lemmas.Bool.{false≢true}
 use Rattle.std.proofs.lemmas.List.Elements.{All-nil}
 use Rattle.nk_bits.specs.declared.kind.Kind.{Kind}
 use Rattle.nk_bits.specs.Accesses.{crosses, wp_of}
+use Rattle.nk_bits.specs.Claims.{AllPass}
 use Rattle.nk_bits.specs.Kinds.{is_storable, kind_of}
 use Rattle.nk_bits.specs.Paging.{page_of}
 use Rattle.nk_bits.specs.Translations.{Translations}
@@ -28,10 +29,10 @@ use Rattle.cpu_step.specs.Turns.{acted, kept_in_cr0, memory_after}
 use Rattle.gate_state.specs.GateWindow.{IsGatePoint}
 use Rattle.gate_state.specs.GuardedStates.{IsCr0}
 use Rattle.gate_state.specs.MachineStates.{Opening}
-use Rattle.gate_state.specs.RespectedKinds.{respects}
+use Rattle.gate_state.specs.RespectedKinds.{respecting}
 use Rattle.gate_state.proofs.DeliveryReads.{stack_leaf}
 use Rattle.gate_state.proofs.FetchProtected.{IsLoad}
-use Rattle.gate_state.proofs.LowerLaws.{AllPass, LowerLaws}
+use Rattle.gate_state.proofs.LowerLaws.{LowerLaws}
 use Rattle.gate_state.proofs.Ready.{IsReady, Kept, kept_behind, no_stores, ran_kept, stored_none}
 use Rattle.gate_state.proofs.Scene.{AreStores, IsScene, SceneLaws, scene_stored}
 use Rattle.gate_state.proofs.Acts.{act_kept, with_registers}
@@ -97,21 +98,21 @@ module _ (laws : LowerLaws) (o : Opening) (ks : List Kind) (scenes : SceneLaws o
   pub record IsMade (p : Processor) (m : List ℕ) (effect : Effect) : Type 0 where
     pub registers : AreRegisters effect.regs
     pub cpl : effect.regs.cpl ≡ p.regs.cpl
-    pub granted : IfSome effect.write (IsGranted (view_of m p.control p.regs.cpl) (respects o ks) (length m))
+    pub granted : IfSome effect.write (IsGranted (view_of m p.control p.regs.cpl) (respecting o ks) (length m))
 
-  pub made : (p : Processor) (m : List ℕ) (tlb : Translations) (it : Fetched) (effect : Effect) → IsReady o ks p m → AllPass (respects o ks) tlb → IsWellFormed it.instr
+  pub made : (p : Processor) (m : List ℕ) (tlb : Translations) (it : Fetched) (effect : Effect) → IsReady o ks p m → AllPass (respecting o ks) tlb → IsWellFormed it.instr
       → (effect_of it.instr it.size p.regs p.control m tlb).answer ≡ Ok effect → IsMade p m effect
   made p m tlb it effect ready pass formed is =
       let whole : length m % 4096 ≡ 0 = omega (arith, ready.scene.memory.size) in
       record {
         registers = ok_at (λ (e : Effect). AreRegisters e.regs) _ effect is (laws.effect.registers it.instr it.size p.regs p.control m tlb formed ready.control.registers);
         cpl = (ok_at (λ (e : Effect). (e.regs.cpl ≡ p.regs.cpl) × (e.regs.ss ≡ p.regs.ss)) _ effect is (laws.effect.privilege it.instr it.size p.regs p.control m tlb)).0;
-        granted = ok_at (λ (e : Effect). IfSome e.write (IsGranted (view_of m p.control p.regs.cpl) (respects o ks) (length m))) _ effect is
-            (laws.effect.granted it.instr it.size p.regs p.control m tlb (respects o ks) formed ready.control.registers whole (scenes.named m p.control tlb ready.scene pass) (scenes.walked m p.control p.regs.cpl ready.scene) pass);
+        granted = ok_at (λ (e : Effect). IfSome e.write (IsGranted (view_of m p.control p.regs.cpl) (respecting o ks) (length m))) _ effect is
+            (laws.effect.granted it.instr it.size p.regs p.control m tlb (respecting o ks) formed ready.control.registers whole (scenes.named m p.control tlb ready.scene pass) (scenes.walked m p.control p.regs.cpl ready.scene) pass);
       }
 
   -- the processor and memory behind the write
-  behind : (p : Processor) (m : List ℕ) (tlb : Translations) (effect : Effect) → IsReady o ks p m → AllPass (respects o ks) tlb → IsMade p m effect → AreStores ks (write_stores effect.write)
+  behind : (p : Processor) (m : List ℕ) (tlb : Translations) (effect : Effect) → IsReady o ks p m → AllPass (respecting o ks) tlb → IsMade p m effect → AreStores ks (write_stores effect.write)
       → IsReady o ks (record p { regs = effect.regs; tlb = tlb }) (memory_after effect.write m)
   behind p m tlb effect ready pass done are =
       let scene : IsScene o ks (memory_after effect.write m) p.control = subst (λ (x : List ℕ). IsScene o ks x p.control) (sym (memory_stored effect.write m)) (scene_stored o ks scenes m p.control (write_stores effect.write) ready.scene are) in
@@ -131,18 +132,18 @@ module _ (laws : LowerLaws) (o : Opening) (ks : List Kind) (scenes : SceneLaws o
       }
 
   -- an instruction of the gates, with WP clear
-  pub window_kept : (p : Processor) (m : List ℕ) (tlb : Translations) (effect : Effect) → IsReady o ks p m → AllPass (respects o ks) tlb → IsMade p m effect → KeepsWindow p effect
+  pub window_kept : (p : Processor) (m : List ℕ) (tlb : Translations) (effect : Effect) → IsReady o ks p m → AllPass (respecting o ks) tlb → IsMade p m effect → KeepsWindow p effect
       → (wp : Bool) → Kept o ks wp p.control.root m (acted effect.act p.regs (record p { regs = effect.regs; tlb = tlb }) (memory_after effect.write m))
       (effect_stores (Ok effect) p m tlb)
   window_kept p m tlb effect ready pass done keeps wp =
       let view = view_of m p.control p.regs.cpl in
       let places : All (λ (s : ℕ × ℕ). s.0 / 4096 ≡ 3) (write_stores effect.write) =
-      write_cases (λ ws. All (λ (s : ℕ × ℕ). s.0 / 4096 ≡ 3) ws) (λ w. IsGranted view (respects o ks) (length m) w × ((page_of w.va ≡ slot_start + 3) × (crosses w.va w.width ≡ false))) effect.write
-      (both_of (IsGranted view (respects o ks) (length m)) (λ w. (page_of w.va ≡ slot_start + 3) × (crosses w.va w.width ≡ false)) effect.write done.granted keeps.write_is)
+      write_cases (λ ws. All (λ (s : ℕ × ℕ). s.0 / 4096 ≡ 3) ws) (λ w. IsGranted view (respecting o ks) (length m) w × ((page_of w.va ≡ slot_start + 3) × (crosses w.va w.width ≡ false))) effect.write
+      (both_of (IsGranted view (respecting o ks) (length m)) (λ w. (page_of w.va ≡ slot_start + 3) × (crosses w.va w.width ≡ false)) effect.write done.granted keeps.write_is)
       (All-nil (λ (s : ℕ × ℕ). s.0 / 4096 ≡ 3))
       (λ w both. stack_stores laws o ks scenes view (length m) w both.0 both.1.0 both.1.1 (stack_leaf o.image o.frames)) in
       let bytes : All (λ (s : ℕ × ℕ). s.1 < 256) (write_stores effect.write) =
-      write_cases (λ ws. All (λ (s : ℕ × ℕ). s.1 < 256) ws) (IsGranted view (respects o ks) (length m)) effect.write done.granted
+      write_cases (λ ws. All (λ (s : ℕ × ℕ). s.1 < 256) ws) (IsGranted view (respecting o ks) (length m)) effect.write done.granted
       (All-nil (λ (s : ℕ × ℕ). s.1 < 256)) (λ w granted. stores_bytes laws w.va w.width w.target w.value) in
       let are : AreStores ks (write_stores effect.write) = on_trap_stack o ks facts storable (write_stores effect.write) places bytes in
       let q : Processor = record p { regs = effect.regs; tlb = tlb } in
@@ -154,11 +155,11 @@ module _ (laws : LowerLaws) (o : Opening) (ks : List Kind) (scenes : SceneLaws o
   -- with WP set the write goes to frames that may be stored to
   set_stores : (p : Processor) (m : List ℕ) (effect : Effect) → IsMade p m effect → wp_of p.control.cr0 ≡ true → AreStores ks (write_stores effect.write)
   set_stores p m effect done set =
-      write_cases (AreStores ks) (IsGranted (view_of m p.control p.regs.cpl) (respects o ks) (length m)) effect.write done.granted (no_stores ks)
+      write_cases (AreStores ks) (IsGranted (view_of m p.control p.regs.cpl) (respecting o ks) (length m)) effect.write done.granted (no_stores ks)
       (λ w granted. granted_stores laws o ks (view_of m p.control p.regs.cpl) (length m) w granted set)
 
   -- any instruction with WP set
-  pub set_kept : (p : Processor) (m : List ℕ) (tlb after : Translations) (it : Fetched) (effect : Effect) → IsReady o ks p m → AllPass (respects o ks) tlb → AllPass (respects o ks) after → IsWellFormed it.instr
+  pub set_kept : (p : Processor) (m : List ℕ) (tlb after : Translations) (it : Fetched) (effect : Effect) → IsReady o ks p m → AllPass (respecting o ks) tlb → AllPass (respecting o ks) after → IsWellFormed it.instr
       → wp_of p.control.cr0 ≡ true → p.halted ≡ false → (p.regs.cpl ≡ 0 → is_protected it.instr.op ≡ true → IsLoad p.regs.rip it)
       → (effect_of it.instr it.size p.regs p.control m tlb).answer ≡ Ok effect
       → Kept o ks true p.control.root m (acted effect.act p.regs (record p { regs = effect.regs; tlb = after }) (memory_after effect.write m))

@@ -1,9 +1,9 @@
 pub mod LowerLaws
 pub mod Scene
-pub mod TranslationsKept
 pub mod SourceReads
 pub mod SourceWants
 pub mod SceneProofsRespects
+pub mod SceneProofsUppers
 pub mod SceneProofsWalks
 pub mod SceneProofsStores
 pub mod SceneProofsAccesses

@@ -1,5 +1,5 @@
 -- What is used of the laws of the crates below, as one record a subject.
-use Rattle.std.specs.Prelude.{◌≡◌, ◌≢◌, ◌⊎◌, ℕ, ◌+◌, ◌*◌, ◌/◌, ◌%◌, ◌^◌, ◌<◌, ◌≤◌, ◌==◌, ◌++◌, Bool, true, false, List, length, slice_index, slice_get, drop, All, IfErr, IfOk, IfSome, Ok, Some}
+use Rattle.std.specs.Prelude.{◌≡◌, ◌≢◌, ◌⊎◌, ℕ, ◌+◌, ◌*◌, ◌/◌, ◌%◌, ◌^◌, ◌<◌, ◌≤◌, ◌==◌, ◌++◌, Bool, true, false, List, length, slice_index, slice_get, drop, All, IfErr, IfOk, IfSome, Ok, Option, Some}
 use Rattle.std.specs.List.{list_any, list_all}
 use Rattle.std.specs.Result.{result_ok}
 use Rattle.decode_fields.specs.Prefixes.{is_prefix, prefix_bytes}
@@ -20,18 +20,21 @@ use Rattle.nk_bits.specs.declared.kind.Kind.{Kind}
 use Rattle.nk_bits.specs.declared.kind.Kind.TheVariants.{Code, Fixed, Trap}
 use Rattle.nk_bits.specs.declared.leaf.Leaf.{Leaf}
 use Rattle.nk_bits.specs.declared.leaf.Rights.{Rights}
+use Rattle.nk_bits.specs.declared.leaf.Upper.{Upper}
 use Rattle.nk_bits.specs.AccessRights.{may}
 use Rattle.nk_bits.specs.Accesses.{IsWalked, Serves, View, accessed, crosses, next_page}
+use Rattle.nk_bits.specs.Claims.{AllPass, Claim}
 use Rattle.nk_bits.specs.Kinds.{allows, is_guarded, is_storable, kind_of, level_of}
-use Rattle.nk_bits.specs.Paging.{frame_of, is_canonical_page, is_present, is_slot_page, is_user, is_writable, slot_value, walk}
-use Rattle.nk_bits.specs.Translations.{NamesFramesIn, Translations}
+use Rattle.nk_bits.specs.Paging.{frame_of, has_all, is_canonical, is_canonical_page, is_present, is_slot_page, is_user, is_writable, page_of, slot_value, upper_walk, walk, walk_below}
+use Rattle.nk_bits.specs.Translations.{NamesFramesIn, Translations, entry_forgotten, entry_kept, faulted, flushed, forgotten, tlb_after, with_leaf}
+use Rattle.nk_bits.specs.UpperEntries.{KeptEntry, covers, first_page, kept_for, span_of, walk_by}
 use Rattle.phys_mem.specs.Memory.{IsBytes, byte_at, entry_in, stored, stores}
 use Rattle.elf_image.specs.Pages.{IsPageList, byte_of, page_count, pages_of}
 use Rattle.gate_text.specs.GatePoints.{instruction_bytes, is_point}
 use Rattle.gate_text.specs.Listing.{cr0_loads, gate_at, gate_byte}
 use Rattle.boot_map.specs.Division.{IsLayout, division_of, pages_start}
 use Rattle.boot_map.specs.FixedFrames.{area_directory, area_table, gate_text, handler_slot, idt_and_tss, image_directory, nested_stack, slot_table, trap_stack}
-use Rattle.boot_map.specs.KernelSlot.{HoldsSlot, IsCodePage, IsWrittenInSlot, slot_leaf, slot_start}
+use Rattle.boot_map.specs.KernelSlot.{HoldsSlot, IsCodePage, IsWrittenInSlot, slot_leaf, slot_start, slot_upper}
 use Rattle.boot_map.specs.Opening.{IsOpening}
 use Rattle.boot_map.specs.OpeningKinds.{kind_at, kinds}
 use Rattle.page_desc.specs.FrameCounts.{holds_leaves, loose_in}
@@ -49,17 +52,42 @@ use Rattle.x86_regs.specs.EffectsKept.{AreRegisters, IsGranted, IsSmallAct, IsSm
 use Rattle.cpu_step.specs.InstructionFetch.{instruction_at}
 use Rattle.cpu_step.specs.Processor.{Processor, deliverable}
 
--- a test holds of each translation kept
-abbrev pub AllPass : (ℕ × Leaf → Bool) → Translations → Type 0
-AllPass test tlb = All (λ pair. test pair ≡ true) tlb
-
 -- accesses, by translations of which a test holds
 pub record AccessLaws : Type 0 where
-  pub kept : (view : View) (access : Access) (test : ℕ × Leaf → Bool) (tlb : Translations) (va width : ℕ) → IsWalked view test
+  pub kept : (view : View) (access : Access) (test : Claim) (tlb : Translations) (va width : ℕ) → IsWalked view test
       → va < 2 ^ 64 → 1 ≤ width → AllPass test tlb → AllPass test (accessed view access tlb va width).tlb
-  pub served : (view : View) (access : Access) (test : ℕ × Leaf → Bool) (tlb : Translations) (va width : ℕ) → IsWalked view test
+  pub served : (view : View) (access : Access) (test : Claim) (tlb : Translations) (va width : ℕ) → IsWalked view test
       → va < 2 ^ 64 → 1 ≤ width → AllPass test tlb → IfOk (accessed view access tlb va width).answer (λ target.
       Serves view access test va target.first × (crosses va width ≡ true → Serves view access test (next_page va) target.second))
+
+-- what is kept of walks, over its changes; and what is found of it
+pub record KeptLaws : Type 0 where
+  pub flushed : (test : Claim) → AllPass test flushed
+  pub faulted : (test : Claim) (tlb : Translations) (page : ℕ) → AllPass test tlb → AllPass test (faulted tlb page)
+  pub forgotten : (test : Claim) (tlb : Translations) (page : ℕ) → AllPass test tlb → AllPass test (forgotten tlb page)
+  pub entry_forgotten : (test : Claim) (tlb : Translations) (level page : ℕ) → AllPass test tlb
+      → AllPass test (entry_forgotten tlb level page)
+  pub entry_kept : (test : Claim) (tlb : Translations) (level page : ℕ) (found : Option Upper) → AllPass test tlb
+      → IfSome found (λ it. test.upper (level, span_of level page, it) ≡ true) → AllPass test (entry_kept tlb level page found)
+  pub filled : (test : Claim) (tlb : Translations) (page : ℕ) (leaf : Leaf) → AllPass test tlb → test.pair (page, leaf) ≡ true
+      → AllPass test (with_leaf tlb page leaf)
+  pub passes : (test : Claim) (tlb : Translations) (level page : ℕ) → AllPass test tlb
+      → IfSome (kept_for tlb.upper level page) (λ it. test.upper (level, span_of level page, it) ≡ true)
+  pub found : (view : View) (test : Claim) (tlb : Translations) (va : ℕ) → IsWalked view test → AllPass test tlb
+      → is_canonical va ≡ true → IfOk (walk_by view.entries view.frames view.root tlb.upper (page_of va))
+      (λ leaf. test.pair (page_of va, leaf) ≡ true)
+  pub after : (view : View) (test : Claim) (tlb : Translations) (va : ℕ) → IsWalked view test → AllPass test tlb
+      → is_canonical va ≡ true → AllPass test (tlb_after view.entries view.frames view.root tlb (page_of va))
+
+-- upper entries, and the pages that share one
+pub record UpperLaws : Type 0 where
+  pub covers : (page : ℕ) (entry : KeptEntry) → covers page entry ≡ true
+      → (2 ≤ entry.0) × (entry.0 ≤ 4) × (entry.1 ≡ span_of entry.0 page)
+  pub same_span : (t : ℕ → ℕ → ℕ) (frames root page other level : ℕ) → 1 ≤ level → level ≤ 4
+      → span_of level page ≡ span_of level other → upper_walk t frames root page level ≡ upper_walk t frames root other level
+  pub same_slot : (page other level : ℕ) → 1 ≤ level → level ≤ 4 → span_of level page ≡ span_of level other
+      → is_slot_page page ≡ is_slot_page other
+  pub first_page : (level bits : ℕ) → span_of level (first_page level bits) ≡ bits
 
 -- kinds of frames
 pub record KindLaws : Type 0 where
@@ -86,6 +114,14 @@ pub record OpeningLaws : Type 0 where
       → result_ok (walk t frames root page) ≡ slot_leaf b frames page
   pub in_memory : (b : List ℕ) (frames page : ℕ) → IsLayout b (division_of b frames)
       → IfSome (slot_leaf b frames page) (λ leaf. leaf.frame < frames)
+  pub upper_any : (b : List ℕ) (frames root page level : ℕ) (t : ℕ → ℕ → ℕ) → IsLayout b (division_of b frames)
+      → IsPageList b (pages_of b) → HoldsSlot b frames t → t root 511 ≡ slot_value → slot_start ≤ page → page < 2 ^ 52
+      → 2 ≤ level → level ≤ 4 → upper_walk t frames root page level ≡ slot_upper b frames page level
+  pub upper_in_memory : (b : List ℕ) (frames page level : ℕ) → IsLayout b (division_of b frames) → 2 ≤ level → level ≤ 4
+      → IfSome (slot_upper b frames page level) (λ it. it.frame < frames)
+  pub upper_below : (b : List ℕ) (frames page level : ℕ) (it : Upper) (t : ℕ → ℕ → ℕ) → IsLayout b (division_of b frames)
+      → IsPageList b (pages_of b) → HoldsSlot b frames t → slot_start ≤ page → page < 2 ^ 52 → 2 ≤ level → level ≤ 4
+      → slot_upper b frames page level ≡ Some it → result_ok (walk_below t frames page level it) ≡ slot_leaf b frames page
   pub executable : (b : List ℕ) (frames page : ℕ) → IfSome (slot_leaf b frames page) (λ leaf. leaf.rights.exec ≡ true
       → ((page ≡ slot_start + 1) × (leaf.frame ≡ gate_text)) ⊎ IsCodePage b frames page leaf.frame)
   pub code : (b : List ℕ) (frames page frame : ℕ) → IsCodePage b frames page frame → kind_at b frames frame ≡ Code
@@ -115,6 +151,13 @@ pub record TableLaws : Type 0 where
   pub walk : (kinds : List Kind) (t : ℕ → ℕ → ℕ) (frames root page : ℕ) (leaf : Leaf) → AreTables kinds t
       → level_of (kind_of kinds root) ≡ 4 → is_canonical_page page ≡ true → is_slot_page page ≡ false
       → walk t frames root page ≡ Ok leaf → allows (kind_of kinds leaf.frame) leaf.rights ≡ true
+  pub below : (kinds : List Kind) (t : ℕ → ℕ → ℕ) (frames page level : ℕ) (it : Upper) (leaf : Leaf) → AreTables kinds t
+      → 2 ≤ level → level ≤ 4 → level_of (kind_of kinds it.frame) + 1 ≡ level → has_all it.rights ≡ true
+      → walk_below t frames page level it ≡ Ok leaf → allows (kind_of kinds leaf.frame) leaf.rights ≡ true
+  pub upper : (kinds : List Kind) (t : ℕ → ℕ → ℕ) (frames root page level : ℕ) (it : Upper) → AreTables kinds t
+      → level_of (kind_of kinds root) ≡ 4 → 2 ≤ level → level ≤ 4 → is_slot_page page ≡ false
+      → is_canonical_page page ≡ true → upper_walk t frames root page level ≡ Some it
+      → (level_of (kind_of kinds it.frame) + 1 ≡ level) × (has_all it.rights ≡ true)
   pub slot : (kinds : List Kind) (t : ℕ → ℕ → ℕ) (f : ℕ) → AreTables kinds t → level_of (kind_of kinds f) ≡ 4 → t f 511 ≡ slot_value
   pub no_loose_leaf : (kinds : List Kind) (t : ℕ → ℕ → ℕ) (frame f i : ℕ) → loose_in kinds t frame ≡ 0
       → f < length kinds → i < 512 → holds_leaves kinds t f ≡ true → is_present (t f i) ≡ true → frame_of (t f i) ≡ frame
@@ -204,10 +247,10 @@ pub record EffectLaws : Type 0 where
       → is_protected i.op ≡ false → IfOk (effect_of i size regs control m tlb).answer (λ effect. LoadsNothing effect.act)
   pub supervisor : (i : Instr) (size : ℕ) (regs : Regs) (control : Control) (m : List ℕ) (tlb : Translations)
       → is_protected i.op ≡ true → IfOk (effect_of i size regs control m tlb).answer (λ effect. regs.cpl ≡ 0)
-  pub translations : (i : Instr) (size : ℕ) (regs : Regs) (control : Control) (m : List ℕ) (tlb : Translations) (test : ℕ × Leaf → Bool)
+  pub translations : (i : Instr) (size : ℕ) (regs : Regs) (control : Control) (m : List ℕ) (tlb : Translations) (test : Claim)
       → IsWellFormed i → AreRegisters regs → IsWalked (view_of m control regs.cpl) test → AllPass test tlb
       → AllPass test (effect_of i size regs control m tlb).tlb
-  pub granted : (i : Instr) (size : ℕ) (regs : Regs) (control : Control) (m : List ℕ) (tlb : Translations) (test : ℕ × Leaf → Bool)
+  pub granted : (i : Instr) (size : ℕ) (regs : Regs) (control : Control) (m : List ℕ) (tlb : Translations) (test : Claim)
       → IsWellFormed i → AreRegisters regs → length m % 4096 ≡ 0 → NamesFramesIn (length m) tlb
       → IsWalked (view_of m control regs.cpl) test → AllPass test tlb
       → IfOk (effect_of i size regs control m tlb).answer (λ effect.
@@ -229,6 +272,8 @@ pub record PendingLaws : Type 0 where
 
 pub record LowerLaws : Type 0 where
   pub access : AccessLaws
+  pub kept : KeptLaws
+  pub upper : UpperLaws
   pub kind : KindLaws
   pub store : StoreLaws
   pub opening : OpeningLaws

@@ -3,7 +3,6 @@ use Rattle.std.proofs.Common.{◌≡◌, ℕ, zero, suc, ◌*◌, ◌/◌, ◌^�
 use Rattle.std.specs.Prelude.{IfSome, Option, None, Some, slice_index}
 use Rattle.std.proofs.lemmas.Bool.{cases_lt, false≢true}
 use Rattle.std.proofs.lemmas.List.{get_or_past}
-use Rattle.std.proofs.lemmas.List.Elements.{All-nil}
 use Rattle.nk_bits.specs.declared.leaf.Leaf.{Leaf}
 use Rattle.nk_bits.specs.Accesses.{wp_of}
 use Rattle.nk_bits.specs.declared.kind.Kind.TheVariants.{Hidden}
@@ -18,7 +17,7 @@ use Rattle.page_desc.specs.PageTables.{is_kept}
 use Rattle.gate_state.specs.GuardedStates.{AreKinds, IsAdmitted, IsGuarded, IsHeld}
 use Rattle.gate_state.specs.MachineOpening.{opening_memory, opening_regs, opening_state}
 use Rattle.gate_state.specs.MachineStates.{Opening}
-use Rattle.gate_state.specs.RespectedKinds.{respects}
+use Rattle.gate_state.specs.RespectedKinds.{respecting}
 use Rattle.gate_state.proofs.GateTextBytes.{opening_is}
 use Rattle.gate_state.proofs.LowerLaws.{LowerLaws}
 use Rattle.gate_state.proofs.OpeningBytes.{byte_small}
@@ -98,7 +97,7 @@ module _ (laws : LowerLaws) (o : Opening) (admitted : IsAdmitted o) (entry : ent
     memory = held;
     ledger = laws.opening.kept o.image o.frames admitted.layout;
     next = omega arith;
-    translations = All-nil (λ (pair : ℕ × Leaf). respects o (kinds o.image o.frames) pair ≡ true);
+    translations = laws.kept.flushed (respecting o (kinds o.image o.frames));
     window = λ clear. absurd (false≢true (sym clear ∙ wp_set));
   }
     where

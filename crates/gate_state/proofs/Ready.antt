@@ -3,6 +3,7 @@ use Rattle.std.proofs.Common.{◌≡◌, ◌≢◌, ℕ, ◌/◌, ◌<◌, Bool,
 use Rattle.std.proofs.lemmas.List.Elements.{All-append, All-nil}
 use Rattle.nk_bits.specs.declared.kind.Kind.{Kind}
 use Rattle.nk_bits.specs.Accesses.{wp_of}
+use Rattle.nk_bits.specs.Claims.{AllPass}
 use Rattle.nk_bits.specs.Kinds.{is_storable, kind_of}
 use Rattle.phys_mem.specs.Memory.{stored}
 use Rattle.cpu_step.specs.declared.stepped.Stepped.TheVariants as stepped
@@ -12,22 +13,22 @@ use Rattle.gate_state.specs.GateWindow.{IsGatePoint}
 use Rattle.gate_state.specs.GuardedStates.{IsControlled}
 use Rattle.gate_state.specs.MachineStates.{Opening}
 use Rattle.gate_state.specs.MachineSteps.{shown_by_turn}
-use Rattle.gate_state.specs.RespectedKinds.{respects}
+use Rattle.gate_state.specs.RespectedKinds.{respecting}
 use Rattle.gate_state.specs.ShownSteps.{IsShown}
-use Rattle.gate_state.proofs.LowerLaws.{AllPass, StoreLaws}
+use Rattle.gate_state.proofs.LowerLaws.{StoreLaws}
 use Rattle.gate_state.proofs.Scene.{AreStores, IsScene}
 
 pub record IsReady (o : Opening) (ks : List Kind) (p : Processor) (m : List ℕ) : Type 0 where
   pub control : IsControlled p
   pub scene : IsScene o ks m p.control
-  pub pass : AllPass (respects o ks) p.tlb
+  pub pass : AllPass (respecting o ks) p.tlb
 
 -- what a turn keeps that makes these stores, over the root and the memory m before it; where WP was clear before, it stores
 -- on the trap stack alone
 pub record Kept (o : Opening) (ks : List Kind) (wp : Bool) (root : ℕ) (m : List ℕ) (t : Turned) (ws : List (ℕ × ℕ)) : Type 0 where
   pub control : IsControlled t.processor
   pub same_root : t.processor.control.root ≡ root
-  pub pass : AllPass (respects o ks) t.processor.tlb
+  pub pass : AllPass (respecting o ks) t.processor.tlb
   pub window : wp_of t.processor.control.cr0 ≡ false → IsGatePoint t.processor
   pub runs : t.stepped ≢ stepped.Shutdown
   pub shows : IsShown (shown_by_turn t.stepped)

@@ -1,11 +1,17 @@
--- States that are not safe, each named by the sentence that it guards.
-use Rattle.std.proofs.Common.{◌≡◌, ◌≢◌, ℕ, suc, zero, ◌+◌, ◌/◌, ◌%◌, ◌++◌, true, false, List, [], ◌∷◌, All, refl, subst, arith}
-use Rattle.std.specs.Prelude.{None}
+-- States that are not safe or not guarded, each named by the sentence that it guards.
+use Rattle.std.proofs.Common.{◌≡◌, ◌≢◌, ℕ, suc, zero, ◌+◌, ◌/◌, ◌%◌, ◌++◌, true, false, List, [], ◌∷◌, All, refl, sym, ap, subst, ◌∙◌, ◌≤◌, arith}
+use Rattle.std.specs.Prelude.{None, Some, slice_get, ◌&&◌}
 use Rattle.std.specs.Int.Count.{count_leading_zeros}
 use Rattle.std.specs.List.{Contains}
+use Rattle.std.proofs.lemmas.Bool.{and_parts, false≢true}
 use Rattle.std.proofs.lemmas.List.Elements.{All-contains, All-head}
 use Rattle.nk_bits.specs.declared.kind.Kind.{Kind}
+use Rattle.nk_bits.specs.declared.kind.Kind.TheVariants.{Data}
+use Rattle.nk_bits.specs.declared.leaf.Upper.{Upper}
 use Rattle.nk_bits.specs.Accesses.{accessed, completed, crosses, first_part, has_canonical_bytes, reached, smep_of, wp_of}
+use Rattle.nk_bits.specs.Kinds.{kind_of, level_of}
+use Rattle.nk_bits.specs.Paging.{has_all, is_slot_page}
+use Rattle.nk_bits.specs.UpperEntries.{first_page}
 use Rattle.phys_mem.specs.Memory.{number_at, stored, stores}
 use Rattle.trap_unit.specs.DeliveryStores.{delivery_stores, push_stores}
 use Rattle.trap_unit.specs.TrapDelivery.{delivered, entry_found, gate_read, pushed}
@@ -15,8 +21,11 @@ use Rattle.cpu_step.specs.Turns.{trapped, turned}
 use Rattle.nk_body.specs.NestedRecord.{Ledger}
 use Rattle.gate_text.specs.GatePoints.{is_point}
 use Rattle.gate_text.specs.Listing.{gate_address}
+use Rattle.gate_state.specs.GuardedStates.{IsGuarded}
 use Rattle.gate_state.specs.MachineStates.{MachineState, Opening}
+use Rattle.gate_state.specs.RespectedKinds.{respecting}
 use Rattle.gate_state.specs.SafeStates.{IsGateInstruction, IsSafe, TakesTurn}
+use Rattle.gate_state.proofs.SceneProofsUppers.{Leading, entry_passes, leading}
 
 -- with WP clear, a turn that stores a byte outside frame 3 isn't safe, whatever stood at that place
 outside_store : (o : Opening) (s : MachineState) (place byte : ℕ) → TakesTurn s.processor → wp_of s.processor.control.cr0 ≡ false
@@ -60,7 +69,10 @@ user = record {
   };
   control = record { cr0 = 0x80000001; cr2 = 0; root = 5; cr4 = 0x100020; efer = 0xD00 };
   tables = record { idt = 0xFFFFFF7FFFFFFE00; limit = 527; tss = 0xFFFFFF800000000C };
-  tlb = (0xFFFFFF8000000, record { frame = 0; rights = record { can_write = true; user = false; exec = false } }) ∷ [];
+  tlb = record {
+    pairs = (0xFFFFFF8000000, record { frame = 0; rights = record { can_write = true; user = false; exec = false } }) ∷ [];
+    upper = [];
+  };
   input = [];
   pending = 1;
   shielded = false;
@@ -93,3 +105,30 @@ equal_bytes o kinds ledger turns taken safe =
     let all = subst (All (λ (w : ℕ × ℕ). w.0 / 4096 ≡ 3)) stores_in_frame_0 (safe.stores (record { no_body = refl; runs = refl }) refl) in
     let first : 0x78 / 4096 ≡ 3 = All-head (λ (w : ℕ × ℕ). w.0 / 4096 ≡ 3) (0x78, 0x23) later all in
     absurd (omega (arith, first))
+
+-- a state that keeps an upper entry outside the kernel slot isn't guarded where it names a frame of data, where it doesn't
+-- grant all rights, and where it is of level 1
+module _ (o : Opening) (s : MachineState) (place level bits : ℕ) (it : Upper)
+    (kept : slice_get s.processor.tlb.upper place ≡ Some (level, bits, it))
+    (outside : is_slot_page (first_page level bits) ≡ false) where
+  leads_so : IsGuarded o s → Leading o s.kinds (level, bits, it)
+  leads_so guarded =
+      leading o s.kinds (level, bits, it)
+      (entry_passes (respecting o s.kinds) s.processor.tlb place (level, bits, it) kept guarded.translations)
+
+  entry_to_data : kind_of s.kinds it.frame ≡ Data → IsGuarded o s → ⊥
+  entry_to_data is guarded =
+      let lead : Leading o s.kinds (level, bits, it) = leads_so guarded in
+      let named : level_of Data + 1 ≡ level = ap (λ (k : Kind). level_of k + 1) (sym is) ∙ (lead.outside outside).0 in
+      absurd (omega (arith, named, lead.least))
+
+  entry_without_writes : it.rights.can_write ≡ false → IsGuarded o s → ⊥
+  entry_without_writes none guarded =
+      let all : has_all it.rights ≡ true = ((leads_so guarded).outside outside).1 in
+      let both = and_parts (it.rights.can_write && it.rights.user) it.rights.exec all in
+      false≢true (sym none ∙ (and_parts it.rights.can_write it.rights.user both.0).0)
+
+  entry_of_level_1 : level ≡ 1 → IsGuarded o s → ⊥
+  entry_of_level_1 is guarded =
+      let least : 2 ≤ level = (leads_so guarded).least in
+      absurd (omega (arith, is, least))

@@ -5,7 +5,7 @@ use Rattle.std.proofs.lemmas.Bool.{cases_lt}
 use Rattle.std.proofs.lemmas.Option.{slice_get_past}
 use Rattle.std.specs.List.{All}
 use Rattle.std.proofs.lemmas.List.Elements.{All-head, All-tail}
-use Rattle.irq_plan.specs.declared.event.What.TheVariants.{Irq, Drop, Fill}
+use Rattle.irq_plan.specs.declared.event.What.TheVariants.{Irq, Drop, Fill, Keep, Forget}
 use Rattle.nk_bits.specs.declared.rule.Rule.{Rule}
 use Rattle.irq_plan.specs.declared.event.Event.{Event}
 use Rattle.irq_plan.specs.declared.event.What.{What}
@@ -118,6 +118,8 @@ module _ (o : Opening) (steps : StepsKept o) (plan : List Event) (in_form : IsPl
       event_leaves (Irq vector) s = refl
       event_leaves (Drop page) s = refl
       event_leaves (Fill page) s = refl
+      event_leaves (Keep level page) s = refl
+      event_leaves (Forget level page) s = refl
   step_made s move.Turn later (turning takes) guarded = ap (λ (nk : Nested). made_by_all nk later) (sym (steps.stays s takes guarded))
   step_made s move.Rest later (resting outside waits_so) guarded = refl
 

@@ -8,21 +8,30 @@ use Rattle.nk_bits.specs.declared.fault.AccessFault.{AccessFault}
 use Rattle.nk_bits.specs.declared.fault.AccessFault.TheVariants.{NonCanonical}
 use Rattle.nk_bits.specs.declared.leaf.Leaf.{Leaf}
 use Rattle.nk_bits.specs.declared.leaf.Target.{Target}
+use Rattle.nk_bits.specs.declared.leaf.Upper.{Upper}
 use Rattle.nk_bits.specs.AccessRights.{may}
 use Rattle.nk_bits.specs.Accesses.{View, accessed, address_of, completed, crosses, has_canonical_bytes, judged, next_page, place_in, reached}
 use Rattle.nk_bits.specs.Outcomes.{Outcome, and_then, answered, refused, then_by}
-use Rattle.nk_bits.specs.Paging.{is_canonical, page_of, walk}
+use Rattle.nk_bits.specs.Paging.{is_canonical, page_of, walk_below}
 use Rattle.nk_bits.specs.Translations.{Translations, look, or_walked, translation}
+use Rattle.nk_bits.specs.UpperEntries.{begun, walk_by}
 use Rattle.boot_map.specs.KernelSlot.{slot_start}
+
+-- the walk of a page, where what is found below what is kept at a level is this leaf, and what is found otherwise is too
+pub begun_is : (t : ℕ → ℕ → ℕ) (frames page level : ℕ) (found : Option Upper) (other : Result Leaf ℕ) (leaf : Leaf)
+    → IfSome found (λ it. walk_below t frames page level it ≡ Ok leaf) → other ≡ Ok leaf
+    → begun t frames page level found other ≡ Ok leaf
+begun_is t frames page level (Some it) other leaf below later = below
+begun_is t frames page level None other leaf below later = later
 
 -- the translation of a page, where what is kept is this leaf, and what the walk finds is too
 pub translation_is : (t : ℕ → ℕ → ℕ) (frames root : ℕ) (tlb : Translations) (page : ℕ) (laid : Leaf)
-    → IfSome (look tlb page) (λ leaf. leaf ≡ laid)
-    → walk t frames root page ≡ Ok laid → translation t frames root tlb page ≡ Some laid
-translation_is t frames root tlb page laid kept walked = go (look tlb page) kept
+    → IfSome (look tlb.pairs page) (λ leaf. leaf ≡ laid)
+    → walk_by t frames root tlb.upper page ≡ Ok laid → translation t frames root tlb page ≡ Some laid
+translation_is t frames root tlb page laid kept walked = go (look tlb.pairs page) kept
   where
     go : (found : Option Leaf) → IfSome found (λ leaf. leaf ≡ laid)
-        → or_walked found (walk t frames root page) ≡ Some laid
+        → or_walked found (walk_by t frames root tlb.upper page) ≡ Some laid
     go (Some leaf) is = ap Some is
     go None is = ap (or_walked None) walked
 

@@ -1,17 +1,17 @@
 -- What it is for a translation to respect the kinds, as facts: in the kernel slot, and outside it.
-use Rattle.std.proofs.Common.{◌≡◌, ◌⊎◌, ℕ, ◌*◌, ◌-◌, ◌/◌, ◌^◌, ◌<◌, ◌≤◌, ◌==◌, ◌&&◌, ◌||◌, Bool, true, false, not, List, [], ◌∷◌, refl, sym, ap, subst, ◌∙◌, arith, inl, inr}
+use Rattle.std.proofs.Common.{◌≡◌, ◌⊎◌, ℕ, ◌*◌, ◌-◌, ◌/◌, ◌^◌, ◌<◌, ◌≤◌, ◌==◌, ◌&&◌, ◌||◌, Bool, true, false, not, List, [], ◌∷◌, All, refl, sym, ap, subst, ◌∙◌, arith, inl, inr}
 use Rattle.std.specs.Prelude.{IfSome, Option, Some, None, if◌then◌else◌}
 use Rattle.std.proofs.lemmas.Bool.{and_from, and_parts, cond-false, cond-true, eq-eqb, eqb-false, eqb-true, false≢true, or_cases, or_left, or_right}
 use Rattle.std.proofs.lemmas.List.Elements.{All-head, All-tail}
 use Rattle.nk_bits.specs.declared.kind.Kind.{Kind}
 use Rattle.nk_bits.specs.declared.leaf.Leaf.{Leaf}
+use Rattle.nk_bits.specs.Claims.{AllPass, Claim}
 use Rattle.nk_bits.specs.Kinds.{allows, is_storable, kind_of}
 use Rattle.nk_bits.specs.Paging.{is_canonical, is_canonical_page, is_slot_page, page_of}
-use Rattle.nk_bits.specs.Translations.{Translations, look}
+use Rattle.nk_bits.specs.Translations.{Pairs, Translations, look}
 use Rattle.boot_map.specs.KernelSlot.{slot_leaf, slot_start}
 use Rattle.gate_state.specs.MachineStates.{Opening}
 use Rattle.gate_state.specs.RespectedKinds.{fits_kind, is_alike, is_code, is_leaf, respects}
-use Rattle.gate_state.proofs.LowerLaws.{AllPass}
 
 -- the pages of the slot, by number
 pub slot_page : (page : ℕ) → slot_start ≤ page → page < 2 ^ 52 → is_slot_page page ≡ true
@@ -45,12 +45,12 @@ canonical_page_of va canonical =
     ap (λ x. (x == 0) || (x == 2 ^ 17 - 1)) same ∙ canonical
 
 -- leaves that are alike are one
-alike_same : (a b : Bool) → is_alike a b ≡ true → a ≡ b
+pub alike_same : (a b : Bool) → is_alike a b ≡ true → a ≡ b
 alike_same true b alike = sym alike
 alike_same false true alike = alike
 alike_same false false alike = refl
 
-same_alike : (a : Bool) → is_alike a a ≡ true
+pub same_alike : (a : Bool) → is_alike a a ≡ true
 same_alike true = refl
 same_alike false = refl
 
@@ -123,14 +123,18 @@ unfolding respects
 respects_outside o ks page leaf outside = cond-false (is_slot_page page) _ _ outside
 
 -- the leaf that is kept for a page passes the test that every translation passes
-pub look_passes : (test : ℕ × Leaf → Bool) (tlb : Translations) (page : ℕ) → AllPass test tlb
-    → IfSome (look tlb page) (λ leaf. test (page, leaf) ≡ true)
-look_passes test [] page all = tt
-look_passes test (pair ∷ tlb) page all =
-    go (pair.0 == page) refl (look_passes test tlb page (All-tail (λ p. test p ≡ true) pair tlb all))
+pub look_passes : (test : Claim) (tlb : Translations) (page : ℕ) → AllPass test tlb
+    → IfSome (look tlb.pairs page) (λ leaf. test.pair (page, leaf) ≡ true)
+look_passes test tlb page all = among tlb.pairs all.pairs
   where
-    go : (here : Bool) → (pair.0 == page) ≡ here → IfSome (look tlb page) (λ leaf. test (page, leaf) ≡ true)
-        → IfSome (if here then Some pair.1 else look tlb page) (λ leaf. test (page, leaf) ≡ true)
-    go true is later = subst (λ x. test (x, pair.1) ≡ true) (eqb-true pair.0 page is)
-        (All-head (λ p. test p ≡ true) pair tlb all)
-    go false is later = later
+    among : (pairs : Pairs) → All (λ p. test.pair p ≡ true) pairs
+        → IfSome (look pairs page) (λ leaf. test.pair (page, leaf) ≡ true)
+    among [] all = tt
+    among (pair ∷ pairs) all =
+        go (pair.0 == page) refl (among pairs (All-tail (λ p. test.pair p ≡ true) pair pairs all))
+      where
+        go : (here : Bool) → (pair.0 == page) ≡ here → IfSome (look pairs page) (λ leaf. test.pair (page, leaf) ≡ true)
+            → IfSome (if here then Some pair.1 else look pairs page) (λ leaf. test.pair (page, leaf) ≡ true)
+        go true is later = subst (λ x. test.pair (x, pair.1) ≡ true) (eqb-true pair.0 page is)
+            (All-head (λ p. test.pair p ≡ true) pair pairs all)
+        go false is later = later

@@ -9,9 +9,11 @@ use Rattle.nk_bits.specs.declared.kind.Kind.{Kind}
 use Rattle.nk_bits.specs.declared.kind.Kind.TheVariants.{Code}
 use Rattle.nk_bits.specs.declared.leaf.Leaf.{Leaf}
 use Rattle.nk_bits.specs.Accesses.{IsWalked}
+use Rattle.nk_bits.specs.Claims.{AllPass}
 use Rattle.nk_bits.specs.Kinds.{is_storable, kind_of}
-use Rattle.nk_bits.specs.Paging.{is_canonical, is_slot_page, page_of, walk}
+use Rattle.nk_bits.specs.Paging.{is_canonical, is_slot_page, page_of, walk, walk_below}
 use Rattle.nk_bits.specs.Translations.{NamesFramesIn, Translations}
+use Rattle.nk_bits.specs.UpperEntries.{KeptEntry, covers, span_of}
 use Rattle.phys_mem.specs.Memory.{entry_in}
 use Rattle.boot_map.specs.FixedFrames.{gate_text}
 use Rattle.boot_map.specs.KernelSlot.{IsCodePage, slot_leaf, slot_start}
@@ -21,9 +23,10 @@ use Rattle.page_walk.specs.MemoryAccess.{view_of}
 use Rattle.nk_body.specs.KindsKept.{is_settled}
 use Rattle.gate_state.specs.GuardedStates.{AreKinds, IsAdmitted, IsHeld}
 use Rattle.gate_state.specs.MachineStates.{Opening}
-use Rattle.gate_state.specs.RespectedKinds.{fits_kind, is_code, respects}
-use Rattle.gate_state.proofs.LowerLaws.{AllPass, LowerLaws}
+use Rattle.gate_state.specs.RespectedKinds.{fits_kind, is_code, leads, respecting, respects}
+use Rattle.gate_state.proofs.LowerLaws.{LowerLaws}
 use Rattle.gate_state.proofs.SceneProofsRespects.{canonical_page_of, fits_from, leaf_within, respects_outside, respects_within, slot_bounds}
+use Rattle.gate_state.proofs.SceneProofsUppers.{allowed_below, frames_are, laid_below, upper_within}
 
 -- a choice between the two sides of a gate's code and the image's
 gate_or_code : (ks : List Kind) (frame : ℕ) {A : Type 0} (C : Type 0) → (A × (frame ≡ 1)) ⊎ C
@@ -67,15 +70,12 @@ module _ (laws : LowerLaws) (o : Opening) (ks : List Kind) (admitted : IsAdmitte
       (laws.opening.code o.image o.frames page leaf.frame code) refl)))
 
   module _ (m : List ℕ) (held : IsHeld o ks m) where
-    pub frames_are : length m / 4096 ≡ o.frames
-    frames_are = omega (arith, held.size)
-
     -- the walk over memory, in the slot and outside it
     module _ (root : ℕ) (tables : HoldsSoundTables ks root m) where
       pub laid_by_walk : (page : ℕ) → slot_start ≤ page → page < 2 ^ 52
           → result_ok (walk (entry_in m) (length m / 4096) root page) ≡ slot_leaf o.image o.frames page
       laid_by_walk page low high =
-          ap (λ (frames : ℕ). result_ok (walk (entry_in m) frames root page)) frames_are
+          ap (λ (frames : ℕ). result_ok (walk (entry_in m) frames root page)) (frames_are laws o ks admitted kinds_are m held)
           ∙ laws.opening.slot_walk o.image o.frames root page (entry_in m) admitted.layout admitted.pages held.slot
           (laws.table.slot ks (entry_in m) root tables.tables tables.root_level) low high
 
@@ -94,9 +94,32 @@ module _ (laws : LowerLaws) (o : Opening) (ks : List Kind) (admitted : IsAdmitte
             (canonical_page_of va canonical) outside found
       ]
 
+      -- and the rest of it below an entry that leads
+      below_respects : (entry : KeptEntry) (va : ℕ) (leaf : Leaf) → leads o ks entry ≡ true
+          → covers (page_of va) entry ≡ true
+          → walk_below (entry_in m) (length m / 4096) (page_of va) entry.0 entry.2 ≡ Ok leaf
+          → respects o ks (page_of va, leaf) ≡ true
+      below_respects entry va leaf is covered found =
+          let under : entry.1 ≡ span_of entry.0 (page_of va) = (laws.upper.covers (page_of va) entry covered).2 in
+          elim (cases_Bool (is_slot_page (page_of va))) [
+            | inl within ↦
+                let bounds = slot_bounds (page_of va) within in
+                let laid : slot_leaf o.image o.frames (page_of va) ≡ Some leaf =
+                same_leaf (walk_below (entry_in m) (length m / 4096) (page_of va) entry.0 entry.2) _ leaf
+                (laid_below laws o ks admitted kinds_are m held entry.0 entry.1 (page_of va) entry.2 is under within) found in
+                respects_within o ks (page_of va) leaf within laid (laid_fits (page_of va) leaf bounds.0 bounds.1 laid)
+            | inr outside ↦
+                respects_outside o ks (page_of va) leaf outside
+                ∙ allowed_below laws o ks admitted kinds_are m held root tables entry.0 entry.1 (page_of va) entry.2 leaf is
+                under outside found
+          ]
+
     pub walk_respects : (control : Control) (cpl : ℕ) → HoldsSoundTables ks control.root m
-        → IsWalked (view_of m control cpl) (respects o ks)
-    walk_respects control cpl tables va leaf canonical found = found_respects control.root tables va leaf canonical found
+        → IsWalked (view_of m control cpl) (respecting o ks)
+    walk_respects control cpl tables = record {
+      root = found_respects control.root tables;
+      below = λ entry va leaf is canonical covered found. below_respects control.root tables entry va leaf is covered found;
+    }
 
     -- what respects the kinds names a frame in memory
     frame_within : (pair : ℕ × Leaf) → respects o ks pair ≡ true → 4096 * pair.1.frame < length m
@@ -111,6 +134,11 @@ module _ (laws : LowerLaws) (o : Opening) (ks : List Kind) (admitted : IsAdmitte
           omega (arith, held.size, inside, kinds_are.count)
     ]
 
-    pub frames_within : (tlb : Translations) → AllPass (respects o ks) tlb → NamesFramesIn (length m) tlb
-    frames_within tlb all = All-weaker (λ pair. respects o ks pair ≡ true) (λ pair. 4096 * pair.1.frame < length m)
-        frame_within tlb all
+    pub frames_within : (tlb : Translations) → AllPass (respecting o ks) tlb → NamesFramesIn (length m) tlb
+    frames_within tlb all = record {
+      pairs = All-weaker (λ (pair : ℕ × Leaf). respects o ks pair ≡ true) (λ (pair : ℕ × Leaf). 4096 * pair.1.frame < length m)
+          frame_within tlb.pairs all.pairs;
+      upper = All-weaker (λ (entry : KeptEntry). leads o ks entry ≡ true)
+          (λ (entry : KeptEntry). 4096 * entry.2.frame < length m)
+          (upper_within laws o ks admitted kinds_are m held) tlb.upper all.upper;
+    }

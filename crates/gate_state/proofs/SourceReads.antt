@@ -1,16 +1,20 @@
 -- The source of a call, as it is read: so many bytes or none, each a byte of memory; the translations that it leaves.
 use Rattle.std.proofs.Common.{◌≡◌, ℕ, zero, suc, ◌+◌, ◌/◌, ◌^◌, ◌<◌, Bool, true, false, List, [], ◌∷◌, ◌++◌, length, All, refl, sym, ap, ◌∙◌, arith}
-use Rattle.std.specs.Prelude.{IfSome, Option, None, Some, Ok, if◌then◌else◌, nat_lt}
+use Rattle.std.specs.Prelude.{IfSome, Option, None, Some, if◌then◌else◌, nat_lt}
 use Rattle.std.proofs.lemmas.Bool.{and_parts}
 use Rattle.std.proofs.lemmas.List.{append-nil, append_assoc}
 use Rattle.std.proofs.lemmas.List.Elements.{All-cons, All-nil}
+use Rattle.nk_bits.specs.declared.control.Control.{Control}
 use Rattle.nk_bits.specs.declared.leaf.Leaf.{Leaf}
-use Rattle.nk_bits.specs.Paging.{is_canonical, page_of, walk}
-use Rattle.nk_bits.specs.Translations.{Translations, look, tlb_after, translation}
+use Rattle.nk_bits.specs.Accesses.{IsWalked}
+use Rattle.nk_bits.specs.Claims.{AllPass, Claim}
+use Rattle.nk_bits.specs.Paging.{is_canonical, page_of}
+use Rattle.nk_bits.specs.Translations.{Translations, tlb_after, translation}
 use Rattle.phys_mem.specs.Memory.{IsBytes, entry_in}
+use Rattle.page_walk.specs.MemoryAccess.{view_of}
 use Rattle.nk_body.specs.CallRules.{IsSourceOf, bytes_read}
-use Rattle.gate_state.specs.SourceBytes.{SourceRead, byte_by, in_front, is_readable, read_on, source_byte, source_by, source_read, source_tlb, source_with, tlb_by}
-use Rattle.gate_state.proofs.TranslationsKept.{walked_keep}
+use Rattle.gate_state.specs.SourceBytes.{SourceRead, byte_by, in_front, is_readable, kept_by, read_on, source_byte, source_by, source_read, source_tlb, source_with, tlb_by}
+use Rattle.gate_state.proofs.LowerLaws.{KeptLaws}
 
 -- so many bytes
 abbrev AreSo : ℕ → List ℕ → Type 0
@@ -68,26 +72,36 @@ module _ (m : List ℕ) (root : ℕ) (are : IsBytes m) where
       by_found None so = All-nil (λ b. b < 256)
       by_found (Some bytes) so = so.1
 
--- what holds of each translation kept, and of each that a walk finds, holds once the source was read
-module _ (Is : ℕ × Leaf → Type 0) (m : List ℕ) (root : ℕ)
-    (walked : (va : ℕ) (leaf : Leaf) → is_canonical va ≡ true
-    → walk (entry_in m) (length m / 4096) root (page_of va) ≡ Ok leaf → Is (page_of va, leaf)) where
-  byte_keeps : (tlb : Translations) (va : ℕ) → All Is tlb → All Is (source_tlb m root tlb va)
+-- what passes a claim that each walk of a canonical page passes goes on doing so once the source was read
+module _ (laws : KeptLaws) (test : Claim) (m : List ℕ) (control : Control) (walked : IsWalked (view_of m control 0) test) where
+  abbrev root : ℕ
+  root = control.root
+
+  looked_keeps : (found : Option Leaf) (tlb : Translations) (page : ℕ) → AllPass test tlb → AllPass test (kept_by found tlb page)
+  looked_keeps None tlb page all = laws.faulted test tlb page all
+  looked_keeps (Some leaf) tlb page all = all
+
+  byte_keeps : (tlb : Translations) (va : ℕ) → AllPass test tlb → AllPass test (source_tlb m root tlb va)
   byte_keeps tlb va all = choice (is_readable va) refl
     where
-      choice : (b : Bool) → is_readable va ≡ b
-          → All Is (if b then tlb_after (entry_in m) (length m / 4096) root tlb (page_of va) else tlb)
+      found : Option Leaf
+      found = translation (entry_in m) (length m / 4096) root tlb (page_of va)
+
+      after : Translations
+      after = tlb_after (entry_in m) (length m / 4096) root tlb (page_of va)
+
+      choice : (b : Bool) → is_readable va ≡ b → AllPass test (if b then kept_by found after (page_of va) else tlb)
       choice true readable =
-          walked_keep Is tlb (page_of va) (look tlb (page_of va)) (walk (entry_in m) (length m / 4096) root (page_of va)) all
-          (λ leaf found. walked va leaf (and_parts (nat_lt va (2 ^ 64)) (is_canonical va) readable).1 found)
+          looked_keeps found after (page_of va) (laws.after (view_of m control 0) test tlb va walked all
+          (and_parts (nat_lt va (2 ^ 64)) (is_canonical va) readable).1)
       choice false readable = all
 
-  on_keeps : (found : Option ℕ) (after : Translations) (later : SourceRead) → All Is after → All Is later.tlb
-      → All Is (read_on found after later).tlb
+  on_keeps : (found : Option ℕ) (after : Translations) (later : SourceRead) → AllPass test after → AllPass test later.tlb
+      → AllPass test (read_on found after later).tlb
   on_keeps None after later all rest = all
   on_keeps (Some byte) after later all rest = rest
 
-  pub read_keeps : (tlb : Translations) (va n : ℕ) → All Is tlb → All Is (source_read m root tlb va n).tlb
+  pub read_keeps : (tlb : Translations) (va n : ℕ) → AllPass test tlb → AllPass test (source_read m root tlb va n).tlb
   unfolding source_read
   read_keeps tlb va zero all = all
   read_keeps tlb va (suc n) all =
@@ -95,7 +109,8 @@ module _ (Is : ℕ × Leaf → Type 0) (m : List ℕ) (root : ℕ)
       on_keeps (source_byte m root tlb va) after (source_read m root after (va + 1) n) (byte_keeps tlb va all)
       (read_keeps after (va + 1) n (byte_keeps tlb va all))
 
-  pub source_keeps : (tlb : Translations) (va : ℕ) (wanted : Option ℕ) → All Is tlb → All Is (tlb_by m root tlb va wanted)
+  pub source_keeps : (tlb : Translations) (va : ℕ) (wanted : Option ℕ) → AllPass test tlb
+      → AllPass test (tlb_by m root tlb va wanted)
   source_keeps tlb va None all = all
   source_keeps tlb va (Some count) all = read_keeps tlb va count all
 

@@ -1,17 +1,21 @@
 -- Each kind of step keeps the invariant, and over it a state is safe.
 use Rattle.std.proofs.Common.{◌≡◌, ◌≢◌, ℕ, ◌+◌, ◌-◌, ◌*◌, ◌/◌, ◌%◌, ◌^◌, ◌<◌, Bool, true, false, List, length, All, refl, sym, ap, subst, ◌∙◌, arith, inl, inr}
-use Rattle.std.specs.Prelude.{IfSome, Option, None, not, ◌==◌, ◌&&◌}
+use Rattle.std.specs.Prelude.{IfOk, IfSome, Option, None, Some, Result, Ok, Err, not, ◌==◌, ◌&&◌}
 use Rattle.std.proofs.lemmas.Bool.{and_parts, false≢true}
 use Rattle.nk_bits.specs.declared.kind.Kind.{Kind}
 use Rattle.nk_bits.specs.declared.kind.Kind.TheVariants.{Trap}
 use Rattle.nk_bits.specs.declared.leaf.Leaf.{Leaf}
-use Rattle.nk_bits.specs.Accesses.{smep_of, wp_of}
+use Rattle.nk_bits.specs.declared.leaf.Upper.{Upper}
+use Rattle.nk_bits.specs.Accesses.{IsWalked, smep_of, wp_of}
+use Rattle.nk_bits.specs.Claims.{AllPass, Claim}
 use Rattle.nk_bits.specs.Kinds.{is_storable, kind_of}
-use Rattle.nk_bits.specs.Paging.{is_canonical, page_of, walk}
-use Rattle.nk_bits.specs.Translations.{IsLive, Translations}
+use Rattle.nk_bits.specs.Paging.{is_canonical, page_of, upper_walk, walk, walk_below}
+use Rattle.nk_bits.specs.Translations.{IsLive, Translations, fill_walked}
+use Rattle.nk_bits.specs.UpperEntries.{covers, span_of, walk_by}
 use Rattle.phys_mem.specs.Memory.{entry_in, stored}
+use Rattle.page_walk.specs.MemoryAccess.{view_of}
 use Rattle.irq_plan.specs.declared.event.What.{What}
-use Rattle.irq_plan.specs.declared.event.What.TheVariants.{Irq, Drop, Fill}
+use Rattle.irq_plan.specs.declared.event.What.TheVariants.{Irq, Drop, Fill, Keep, Forget}
 use Rattle.irq_plan.specs.PlannedEvents.{IsPlannable}
 use Rattle.page_desc.specs.PageTables.{HoldsSoundTables}
 use Rattle.nk_body.specs.NestedRecord.{AreBooks, Books, nested_in}
@@ -24,17 +28,17 @@ use Rattle.gate_state.specs.GateWindow.{IsGatePoint}
 use Rattle.gate_state.specs.GuardedStates.{AreKinds, IsAdmitted, IsGuarded, IsHeld}
 use Rattle.gate_state.specs.MachineStates.{MachineState, Opening, nested_of}
 use Rattle.gate_state.specs.MachineSteps.{after_event, after_reading, after_turn, call_in, shown_by_turn, turn_of, wanted}
-use Rattle.gate_state.specs.RespectedKinds.{respects}
+use Rattle.gate_state.specs.RespectedKinds.{leads, respecting, respects}
 use Rattle.gate_state.specs.SafeStates.{IsSafe, TakesTurn}
 use Rattle.gate_state.specs.ShownSteps.{IsShown}
-use Rattle.gate_state.proofs.LowerLaws.{AllPass, LowerLaws}
+use Rattle.gate_state.proofs.LowerLaws.{KeptLaws, LowerLaws}
 use Rattle.gate_state.proofs.Ready.{IsReady, Kept}
 use Rattle.gate_state.proofs.Scene.{SceneLaws}
 use Rattle.gate_state.proofs.SceneProofs.{scene_laws}
 use Rattle.gate_state.proofs.SceneProofsRespects.{look_passes}
+use Rattle.gate_state.proofs.SceneProofsUppers.{entry_passes}
 use Rattle.gate_state.proofs.SceneProofsWalks.{kind_is}
 use Rattle.gate_state.proofs.SourceReads.{source_keeps}
-use Rattle.gate_state.proofs.TranslationsKept.{dropped_keep, walked_keep}
 use Rattle.gate_state.proofs.TurnFacts.{TurnFacts}
 use Rattle.gate_state.proofs.TurnKept.{gate_instruction, turn_kept}
 
@@ -42,6 +46,16 @@ use Rattle.gate_state.proofs.TurnKept.{gate_instruction, turn_kept}
 has_smep : (cr4 : ℕ) → cr4 ≡ 0x100020 → smep_of cr4 ≡ true
 unfolding smep_of
 has_smep cr4 is = ap (λ n. n / 2 ^ 20 % 2 == 1) is
+
+-- the leaf that a walk found is filled
+filled_pass : (laws : KeptLaws) (test : Claim) (tlb : Translations) (page : ℕ) (found : Result Leaf ℕ) → AllPass test tlb
+    → IfOk found (λ leaf. test.pair (page, leaf) ≡ true) → AllPass test (fill_walked tlb page None found)
+filled_pass laws test tlb page (Ok leaf) all passes = laws.filled test tlb page leaf all passes
+filled_pass laws test tlb page (Err level) all passes = all
+
+each_found : {A : Type 0} (P : A → Type 0) (found : Option A) → ((it : A) → found ≡ Some it → P it) → IfSome found P
+each_found P None holds = tt
+each_found P (Some it) holds = holds it refl
 
 module _ (laws : LowerLaws) (o : Opening) (admitted : IsAdmitted o) where
   abbrev Facts : List Kind → Type 0
@@ -114,7 +128,7 @@ module _ (laws : LowerLaws) (o : Opening) (admitted : IsAdmitted o) where
     turn_places = kept.places
 
   -- another pending set, and other translations
-  with_event : (s : MachineState) (pending : ℕ) (tlb : Translations) → IsGuarded o s → pending < 2 ^ 16 → AllPass (respects o s.kinds) tlb
+  with_event : (s : MachineState) (pending : ℕ) (tlb : Translations) → IsGuarded o s → pending < 2 ^ 16 → AllPass (respecting o s.kinds) tlb
       → IsGuarded o (record s { processor = record s.processor { pending = pending; tlb = tlb }; taken = s.taken + 1 })
   with_event s pending tlb guarded small pass = record {
     control = record {
@@ -137,22 +151,34 @@ module _ (laws : LowerLaws) (o : Opening) (admitted : IsAdmitted o) where
         record { offset = at.offset; stands = record { supervisor = at.stands.supervisor; runs = at.stands.runs; rip = at.stands.rip; point = at.stands.point; holds = at.stands.holds } };
   }
 
+  -- what walks find in a guarded state respects the kinds
+  walked_in : (s : MachineState) → IsGuarded o s → IsWalked (view_of s.memory s.processor.control 0) (respecting o s.kinds)
+  walked_in s guarded = (scenes_of s.kinds guarded.kinds).walked s.memory s.processor.control 0 (ready s guarded).scene
+
   pub event_guarded : (s : MachineState) (what : What) → IsPlannable what → IsGuarded o s → IsGuarded o (after_event what s)
   event_guarded s (Irq vector) plannable guarded = with_event s _ s.processor.tlb guarded (laws.pending.left s.processor.pending (vector - 32) true guarded.control.pending (omega (arith, plannable))) guarded.translations
-  event_guarded s (Drop page) plannable guarded = with_event s s.processor.pending _ guarded guarded.control.pending (dropped_keep (λ (pair : ℕ × Leaf). respects o s.kinds pair ≡ true) s.processor.tlb (page_of page) guarded.translations)
+  event_guarded s (Drop page) plannable guarded = with_event s s.processor.pending _ guarded guarded.control.pending (laws.kept.forgotten (respecting o s.kinds) s.processor.tlb (page_of page) guarded.translations)
   event_guarded s (Fill page) plannable guarded =
       let canonical : is_canonical page ≡ true = (and_parts (is_canonical page) (page % 4096 == 0) plannable).0 in
-      let walked = (scenes_of s.kinds guarded.kinds).walked s.memory s.processor.control 0 (ready s guarded).scene in
       with_event s s.processor.pending _ guarded guarded.control.pending
-      (walked_keep (λ (pair : ℕ × Leaf). respects o s.kinds pair ≡ true) s.processor.tlb (page_of page) None
-      (walk (entry_in s.memory) (length s.memory / 4096) s.processor.control.root (page_of page)) guarded.translations (λ leaf found. walked page leaf canonical found))
+      (filled_pass laws.kept (respecting o s.kinds) s.processor.tlb (page_of page)
+      (walk_by (entry_in s.memory) (length s.memory / 4096) s.processor.control.root s.processor.tlb.upper (page_of page)) guarded.translations
+      (laws.kept.found (view_of s.memory s.processor.control 0) (respecting o s.kinds) s.processor.tlb page (walked_in s guarded) guarded.translations canonical))
+  event_guarded s (Keep level page) plannable guarded =
+      let canonical : is_canonical page ≡ true = (and_parts (is_canonical page) (page % 4096 == 0) plannable.2).0 in
+      let found : Option Upper = upper_walk (entry_in s.memory) (length s.memory / 4096) s.processor.control.root (page_of page) level in
+      with_event s s.processor.pending _ guarded guarded.control.pending
+      (laws.kept.entry_kept (respecting o s.kinds) s.processor.tlb level (page_of page) found guarded.translations
+      (each_found (λ (it : Upper). leads o s.kinds (level, span_of level (page_of page), it) ≡ true) found
+      (λ it is. (scenes_of s.kinds guarded.kinds).upper_leads s.memory s.processor.control level page it (ready s guarded).scene plannable.0 plannable.1 canonical is)))
+  event_guarded s (Forget level page) plannable guarded =
+      with_event s s.processor.pending _ guarded guarded.control.pending
+      (laws.kept.entry_forgotten (respecting o s.kinds) s.processor.tlb level (page_of page) guarded.translations)
 
   -- other translations
-  pub reading_pass : (s : MachineState) → IsGuarded o s → AllPass (respects o s.kinds) (after_reading s).processor.tlb
+  pub reading_pass : (s : MachineState) → IsGuarded o s → AllPass (respecting o s.kinds) (after_reading s).processor.tlb
   reading_pass s guarded =
-      source_keeps (λ (pair : ℕ × Leaf). respects o s.kinds pair ≡ true) s.memory s.processor.control.root
-      ((scenes_of s.kinds guarded.kinds).walked s.memory s.processor.control 0 (ready s guarded).scene)
-      s.processor.tlb (call_in s.processor.regs).c (wanted s) guarded.translations
+      source_keeps laws.kept (respecting o s.kinds) s.memory s.processor.control (walked_in s guarded) s.processor.tlb (call_in s.processor.regs).c (wanted s) guarded.translations
 
   -- the processor is sound
   pub guarded_sound : (s : MachineState) → IsGuarded o s → IsSound (length s.memory) s.processor
@@ -169,11 +195,19 @@ module _ (laws : LowerLaws) (o : Opening) (admitted : IsAdmitted o) where
       → IsLive (entry_in s.memory) (length s.memory / 4096) s.processor.control.root s.processor.tlb page leaf → respects o s.kinds (page, leaf) ≡ true
   live_respects s guarded page leaf (inl found) =
       let Is : Option Leaf → Type 0 = λ at. IfSome at (λ leaf. respects o s.kinds (page, leaf) ≡ true) in
-      subst Is found (look_passes (respects o s.kinds) s.processor.tlb page guarded.translations)
-  live_respects s guarded page leaf (inr walked) =
+      subst Is found (look_passes (respecting o s.kinds) s.processor.tlb page guarded.translations)
+  live_respects s guarded page leaf (inr given) =
       let same : page_of (4096 * page) ≡ page = omega arith in
-      let at = (scenes_of s.kinds guarded.kinds).walked s.memory s.processor.control 0 (ready s guarded).scene (4096 * page) leaf walked.0
-      (ap (walk (entry_in s.memory) (length s.memory / 4096) s.processor.control.root) same ∙ walked.1) in
+      let walked : IsWalked (view_of s.memory s.processor.control 0) (respecting o s.kinds) = walked_in s guarded in
+      let at : respects o s.kinds (page_of (4096 * page), leaf) ≡ true = elim given.1 [
+        | inl found ↦
+            walked.root (4096 * page) leaf given.0
+            (ap (walk (entry_in s.memory) (length s.memory / 4096) s.processor.control.root) same ∙ found)
+        | inr below ↦
+            walked.below below.entry (4096 * page) leaf (entry_passes (respecting o s.kinds) s.processor.tlb below.place below.entry below.kept guarded.translations) given.0
+            (ap (λ (n : ℕ). covers n below.entry) same ∙ below.for_page)
+            (ap (λ (n : ℕ). walk_below (entry_in s.memory) (length s.memory / 4096) n below.entry.0 below.entry.2) same ∙ below.found)
+      ] in
       ap (λ n. respects o s.kinds (n, leaf)) (sym same) ∙ at
 
   -- each vector can be delivered

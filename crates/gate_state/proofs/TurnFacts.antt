@@ -4,6 +4,7 @@ use Rattle.std.specs.Prelude.{IfOk, None, Option, Ok}
 use Rattle.nk_bits.specs.declared.control.Control.{Control}
 use Rattle.nk_bits.specs.declared.kind.Kind.{Kind}
 use Rattle.nk_bits.specs.Accesses.{wp_of}
+use Rattle.nk_bits.specs.Claims.{AllPass}
 use Rattle.nk_bits.specs.Translations.{Translations}
 use Rattle.page_walk.specs.MemoryAccess.{view_of}
 use Rattle.gate_text.specs.GatePoints.{instruction_bytes, is_point}
@@ -27,8 +28,7 @@ use Rattle.gate_state.specs.GateWindow.{IsAtPoint, IsGatePoint}
 use Rattle.gate_state.specs.GuardedStates.{IsControlled, IsCr0}
 use Rattle.gate_state.specs.MachineOpening.{opening_tables}
 use Rattle.gate_state.specs.MachineStates.{Opening}
-use Rattle.gate_state.specs.RespectedKinds.{respects}
-use Rattle.gate_state.proofs.LowerLaws.{AllPass}
+use Rattle.gate_state.specs.RespectedKinds.{respecting}
 use Rattle.gate_state.proofs.Scene.{IsScene}
 use Rattle.gate_state.proofs.Delivery.{IsAsked, IsDelivery}
 use Rattle.gate_state.proofs.FetchProtected.{IsLoad}
@@ -36,25 +36,25 @@ use Rattle.gate_state.proofs.Window.{KeepsWindow, cr0_after}
 
 pub record TurnFacts (o : Opening) (ks : List Kind) : Type 0 where
   pub delivers : (m : List ℕ) (control : Control) (tables : Tables) (regs : Regs) (vector : ℕ) (code : Option ℕ) (tlb : Translations)
-      → IsScene o ks m control → tables ≡ opening_tables → AllPass (respects o ks) tlb → vector < 48
+      → IsScene o ks m control → tables ≡ opening_tables → AllPass (respecting o ks) tlb → vector < 48
       → IsDelivery o ks m regs vector code (delivered regs control tables vector code m tlb)
       (delivery_stores regs control tables vector code m tlb)
   pub asks : (m : List ℕ) (control : Control) (tables : Tables) (cpl vector : ℕ) (tlb : Translations)
-      → IsScene o ks m control → tables ≡ opening_tables → AllPass (respects o ks) tlb
+      → IsScene o ks m control → tables ≡ opening_tables → AllPass (respecting o ks) tlb
       → IsAsked o ks vector (interrupt_allowed control tables cpl vector m tlb)
   pub fetch_pass : (m : List ℕ) (control : Control) (cpl rip : ℕ) (tlb : Translations) → IsScene o ks m control
-      → AllPass (respects o ks) tlb → AllPass (respects o ks) (instruction_at m (view_of m control cpl) rip tlb).tlb
+      → AllPass (respecting o ks) tlb → AllPass (respecting o ks) (instruction_at m (view_of m control cpl) rip tlb).tlb
   pub fetch_formed : (m : List ℕ) (control : Control) (cpl rip : ℕ) (tlb : Translations) → IsScene o ks m control → (it : Fetched)
       → (instruction_at m (view_of m control cpl) rip tlb).answer ≡ Ok it → IsWellFormed it.instr
   pub fetch_protected : (m : List ℕ) (control : Control) (rip : ℕ) (tlb : Translations) → IsScene o ks m control
-      → AllPass (respects o ks) tlb → rip < 2 ^ 64 → (it : Fetched)
+      → AllPass (respecting o ks) tlb → rip < 2 ^ 64 → (it : Fetched)
       → (instruction_at m (view_of m control 0) rip tlb).answer ≡ Ok it → is_protected it.instr.op ≡ true → IsLoad rip it
   pub fetch_listed : (m : List ℕ) (control : Control) (tlb : Translations) (offset : ℕ) → IsScene o ks m control
-      → AllPass (respects o ks) tlb → is_point offset ≡ true → offset ≢ 27
+      → AllPass (respecting o ks) tlb → is_point offset ≡ true → offset ≢ 27
       → (it : Fetched) × (decoded_of (instruction_bytes offset) ≡ Whole it.instr it.size)
       × ((instruction_at m (view_of m control 0) (gate_address + offset) tlb).answer ≡ Ok it)
   pub window_effect : (p : Processor) (m : List ℕ) (tlb : Translations) (offset : ℕ) (it : Fetched) → IsControlled p
-      → IsScene o ks m p.control → AllPass (respects o ks) tlb → wp_of p.control.cr0 ≡ false → IsAtPoint offset p → offset ≢ 27
+      → IsScene o ks m p.control → AllPass (respecting o ks) tlb → wp_of p.control.cr0 ≡ false → IsAtPoint offset p → offset ≢ 27
       → decoded_of (instruction_bytes offset) ≡ Whole it.instr it.size
       → (effect : Effect) × ((effect_of it.instr it.size p.regs p.control m tlb).answer ≡ Ok effect) × KeepsWindow p effect
   pub load_effect : (p : Processor) (m : List ℕ) (tlb : Translations) (offset : ℕ) (it : Fetched)

@@ -2,11 +2,10 @@
 use Rattle.std.proofs.Common.{◌≡◌, ◌≢◌, ℕ, ◌+◌, ◌-◌, ◌<◌, ◌≤◌, Bool, true, false, List, refl, sym, ap, subst, ◌∙◌, arith}
 use Rattle.std.specs.Prelude.{IfErr, Option, None, Some, Result, Ok, Err, is_none, not, ◌==◌, ◌&&◌, if◌then◌else◌}
 use Rattle.std.proofs.lemmas.Bool.{and_from, eq-eqb, false≢true}
-use Rattle.std.proofs.lemmas.List.Elements.{All-filter}
 use Rattle.std.proofs.lemmas.Result.{IfErr-at_err}
 use Rattle.nk_bits.specs.declared.kind.Kind.{Kind}
-use Rattle.nk_bits.specs.declared.leaf.Leaf.{Leaf}
 use Rattle.nk_bits.specs.Accesses.{wp_of}
+use Rattle.nk_bits.specs.Claims.{AllPass}
 use Rattle.nk_bits.specs.Kinds.{is_storable, kind_of}
 use Rattle.nk_bits.specs.Outcomes.{Outcome, then_by}
 use Rattle.nk_bits.specs.Translations.{faulted}
@@ -26,9 +25,9 @@ use Rattle.cpu_step.specs.Turns.{enters_body, instructed, instruction_made, is_a
 use Rattle.gate_state.specs.GateWindow.{IsAtPoint, IsGatePoint}
 use Rattle.gate_state.specs.MachineStates.{Opening}
 use Rattle.gate_state.specs.MachineSteps.{waits}
-use Rattle.gate_state.specs.RespectedKinds.{respects}
+use Rattle.gate_state.specs.RespectedKinds.{respecting}
 use Rattle.gate_state.specs.SafeStates.{IsGateInstruction}
-use Rattle.gate_state.proofs.LowerLaws.{AllPass, LowerLaws}
+use Rattle.gate_state.proofs.LowerLaws.{LowerLaws}
 use Rattle.gate_state.proofs.Ready.{IsReady, Kept}
 use Rattle.gate_state.proofs.Scene.{SceneLaws}
 use Rattle.gate_state.proofs.Acts.{with_translations}
@@ -75,11 +74,11 @@ module _ (laws : LowerLaws) (o : Opening) (ks : List Kind) (scenes : SceneLaws o
       let gate : IsGateInstruction p m = gate_instruction p m ready point away in
       let fetched : Outcome Fault Fetched = instruction_at m (view_of m p.control p.regs.cpl) p.regs.rip p.tlb in
       let it : Fetched = gate.fetched in
-      let after : AllPass (respects o ks) fetched.tlb = facts.fetch_pass m p.control p.regs.cpl p.regs.rip p.tlb ready.scene ready.pass in
+      let after : AllPass (respecting o ks) fetched.tlb = facts.fetch_pass m p.control p.regs.cpl p.regs.rip p.tlb ready.scene ready.pass in
       let formed = facts.fetch_formed m p.control p.regs.cpl p.regs.rip p.tlb ready.scene it gate.found in
       let it_makes = facts.window_effect p m fetched.tlb gate.offset it ready.control ready.scene after clear gate.point gate.elsewhere gate.listed in
       let outcome : Outcome Fault Effect = effect_of it.instr it.size p.regs p.control m fetched.tlb in
-      let pass : AllPass (respects o ks) outcome.tlb = laws.effect.translations it.instr it.size p.regs p.control m fetched.tlb (respects o ks) formed ready.control.registers (scenes.walked m p.control p.regs.cpl ready.scene) after in
+      let pass : AllPass (respecting o ks) outcome.tlb = laws.effect.translations it.instr it.size p.regs p.control m fetched.tlb (respecting o ks) formed ready.control.registers (scenes.walked m p.control p.regs.cpl ready.scene) after in
       let done : IsMade laws o ks scenes facts storable p m it_makes.0 = made laws o ks scenes facts storable p m fetched.tlb it it_makes.0 ready after formed it_makes.1 in
       subst (λ (x : Outcome Fault Effect). Kept o ks wp p.control.root m (turned_by x.answer p m x.tlb) (effect_stores x.answer p m x.tlb)) (sym (made_from p m it gate.found))
       (subst (λ (a : Result Effect Fault). Kept o ks wp p.control.root m (turned_by a p m outcome.tlb) (effect_stores a p m outcome.tlb)) (sym it_makes.1)
@@ -94,16 +93,16 @@ module _ (laws : LowerLaws) (o : Opening) (ks : List Kind) (scenes : SceneLaws o
       (IfErr-at_err IsSmallFault is
       (subst (λ (x : Outcome Fault Fetched). IfErr x.answer IsSmallFault) (sym same)
       (laws.bound.fetch m (view_of m p.control p.regs.cpl) p.regs.rip p.tlb)))
-      (with_translations o ks p m fetched.tlb ready (subst (λ (x : Outcome Fault Fetched). AllPass (respects o ks) x.tlb) (sym same) (facts.fetch_pass m p.control p.regs.cpl p.regs.rip p.tlb ready.scene ready.pass))) set
+      (with_translations o ks p m fetched.tlb ready (subst (λ (x : Outcome Fault Fetched). AllPass (respecting o ks) x.tlb) (sym same) (facts.fetch_pass m p.control p.regs.cpl p.regs.rip p.tlb ready.scene ready.pass))) set
   fetched_kept p m fetched ready set runs same (Ok it) is =
-      let after : AllPass (respects o ks) fetched.tlb = subst (λ (x : Outcome Fault Fetched). AllPass (respects o ks) x.tlb) (sym same) (facts.fetch_pass m p.control p.regs.cpl p.regs.rip p.tlb ready.scene ready.pass) in
+      let after : AllPass (respecting o ks) fetched.tlb = subst (λ (x : Outcome Fault Fetched). AllPass (respecting o ks) x.tlb) (sym same) (facts.fetch_pass m p.control p.regs.cpl p.regs.rip p.tlb ready.scene ready.pass) in
       let found : (instruction_at m (view_of m p.control p.regs.cpl) p.regs.rip p.tlb).answer ≡ Ok it = ap (λ (x : Outcome Fault Fetched). x.answer) (sym same) ∙ is in
       let formed = facts.fetch_formed m p.control p.regs.cpl p.regs.rip p.tlb ready.scene it found in
       let outcome : Outcome Fault Effect = effect_of it.instr it.size p.regs p.control m fetched.tlb in
-      let pass : AllPass (respects o ks) outcome.tlb = laws.effect.translations it.instr it.size p.regs p.control m fetched.tlb (respects o ks) formed ready.control.registers (scenes.walked m p.control p.regs.cpl ready.scene) after in
+      let pass : AllPass (respecting o ks) outcome.tlb = laws.effect.translations it.instr it.size p.regs p.control m fetched.tlb (respecting o ks) formed ready.control.registers (scenes.walked m p.control p.regs.cpl ready.scene) after in
       by_answer outcome.answer refl after pass found formed
     where
-      by_answer : (answer : Result Effect Fault) → (effect_of it.instr it.size p.regs p.control m fetched.tlb).answer ≡ answer → AllPass (respects o ks) fetched.tlb → AllPass (respects o ks) (effect_of it.instr it.size p.regs p.control m fetched.tlb).tlb
+      by_answer : (answer : Result Effect Fault) → (effect_of it.instr it.size p.regs p.control m fetched.tlb).answer ≡ answer → AllPass (respecting o ks) fetched.tlb → AllPass (respecting o ks) (effect_of it.instr it.size p.regs p.control m fetched.tlb).tlb
           → (instruction_at m (view_of m p.control p.regs.cpl) p.regs.rip p.tlb).answer ≡ Ok it → IsWellFormed it.instr
           → Kept o ks true p.control.root m (turned_by answer p m (effect_of it.instr it.size p.regs p.control m fetched.tlb).tlb)
           (effect_stores answer p m (effect_of it.instr it.size p.regs p.control m fetched.tlb).tlb)
@@ -129,7 +128,7 @@ module _ (laws : LowerLaws) (o : Opening) (ks : List Kind) (scenes : SceneLaws o
       by_place true at true set =
           raise_kept o ks facts storable (wp_of p.control.cr0) (record p { tlb = faulted p.tlb 0xFFFFFF8000004 }) m
           (fault.Page 3 0xFFFFFF8000004FF8) (omega arith, omega arith)
-          (with_translations o ks p m (faulted p.tlb 0xFFFFFF8000004) ready (All-filter (λ pair. not (pair.0 == 0xFFFFFF8000004)) (λ (pair : ℕ × Leaf). respects o ks pair ≡ true) p.tlb ready.pass)) set
+          (with_translations o ks p m (faulted p.tlb 0xFFFFFF8000004) ready (laws.kept.faulted (respecting o ks) p.tlb 0xFFFFFF8000004 ready.pass)) set
       by_place true at false clear =
           absurd (false≢true (sym no_body ∙ and_from (is_at_body p.regs) (not (wp_of p.control.cr0)) at (ap not clear)))
       by_place false away true set =

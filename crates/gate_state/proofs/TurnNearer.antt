@@ -3,7 +3,7 @@ use Rattle.std.proofs.Common.{◌≡◌, ◌⊎◌, ℕ, ◌+◌, ◌-◌, ◌*�
 use Rattle.std.specs.Prelude.{Option, None, Some, Result, not, ◌&&◌, if◌then◌else◌}
 use Rattle.std.proofs.lemmas.Bool.{and_parts, cases_Bool, false≢true, not-true}
 use Rattle.irq_plan.specs.declared.event.What.{What}
-use Rattle.irq_plan.specs.declared.event.What.TheVariants.{Irq, Drop, Fill}
+use Rattle.irq_plan.specs.declared.event.What.TheVariants.{Irq, Drop, Fill, Keep, Forget}
 use Rattle.nk_bits.specs.declared.kind.Kind.{Kind}
 use Rattle.nk_bits.specs.Accesses.{wp_of}
 use Rattle.nk_bits.specs.Kinds.{is_storable, kind_of}
@@ -233,3 +233,5 @@ pub event_left : (what : What) (s : MachineState)
 event_left (Irq vector) s = (refl, refl)
 event_left (Drop page) s = (refl, refl)
 event_left (Fill page) s = (refl, refl)
+event_left (Keep level page) s = (refl, refl)
+event_left (Forget level page) s = (refl, refl)

@@ -7,7 +7,7 @@ use Rattle.nk_bits.specs.declared.call.CallWords.{CallWords}
 use Rattle.nk_bits.specs.Accesses.{wp_of}
 use Rattle.irq_plan.specs.declared.event.Event.{Event}
 use Rattle.irq_plan.specs.declared.event.What.{What}
-use Rattle.irq_plan.specs.declared.event.What.TheVariants.{Irq, Drop, Fill}
+use Rattle.irq_plan.specs.declared.event.What.TheVariants.{Irq, Drop, Fill, Keep, Forget}
 use Rattle.nk_body.specs.NestedRecord.{AreBooks, Books, Nested, nested_by, nested_in}
 use Rattle.nk_body.specs.CallRules.{Sourced, after_call, answer_to, memory_after_call, stand_of, wants}
 use Rattle.cpu_step.specs.declared.stepped.Stepped.{Stepped}
@@ -32,6 +32,8 @@ event_root : (what : What) (m : List ℕ) (p : Processor) → (event_taken what 
 event_root (Irq vector) m p = refl
 event_root (Drop page) m p = refl
 event_root (Fill page) m p = refl
+event_root (Keep level page) m p = refl
+event_root (Forget level page) m p = refl
 
 pub event_whole : (o : Opening) (s : MachineState) (books : Books) (what : What) (p : Processor) → IsWhole o s books → IsGuarded o (after_event what s) → p ≡ event_taken what s.memory s.processor
     → IsWhole o (record s { processor = p; taken = s.taken + 1 }) books

@@ -11,6 +11,7 @@ use Rattle.x86_alu.specs.SignedNumbers.{bit, cut}
 use Rattle.nk_bits.specs.declared.call.Answer.{Answer}
 use Rattle.nk_bits.specs.declared.kind.Kind.{Kind}
 use Rattle.nk_bits.specs.Accesses.{wp_of}
+use Rattle.nk_bits.specs.Claims.{AllPass}
 use Rattle.nk_bits.specs.Translations.{Translations}
 use Rattle.x86_regs.specs.declared.effects.Act.TheVariants as act
 use Rattle.x86_regs.specs.declared.effects.Effect.{Effect}
@@ -30,8 +31,8 @@ use Rattle.gate_state.specs.GateWindow.{IsAtPoint, IsGatePoint, holds_at}
 use Rattle.gate_state.specs.GuardedStates.{IsControlled, IsCr0}
 use Rattle.gate_state.specs.MachineStates.{Opening}
 use Rattle.gate_state.specs.MachineSteps.{answered_with}
-use Rattle.gate_state.specs.RespectedKinds.{respects}
-use Rattle.gate_state.proofs.LowerLaws.{AllPass, LowerLaws}
+use Rattle.gate_state.specs.RespectedKinds.{respecting}
+use Rattle.gate_state.proofs.LowerLaws.{LowerLaws}
 use Rattle.gate_state.proofs.Scene.{IsScene, SceneLaws}
 use Rattle.gate_state.proofs.ControlWord.{cr0_kept, wp_kept}
 use Rattle.gate_state.proofs.WindowEffects.{load_refused, load_row}
@@ -68,7 +69,7 @@ row_of p m tlb offset i size row goes = record { instr = i; size = size; row = r
 module _ (lower : LowerLaws) (o : Opening) (ks : List Kind) (laws : SceneLaws o ks) where
   -- point by point, but for the body's place
   row_goes : (p : Processor) (m : List ℕ) (tlb : Translations) (offset : ℕ) → IsControlled p → IsScene o ks m p.control
-      → AllPass (respects o ks) tlb → IsAtPoint offset p → offset ≢ 27 → RowGoes p m tlb offset
+      → AllPass (respecting o ks) tlb → IsAtPoint offset p → offset ≢ 27 → RowGoes p m tlb offset
   unfolding is_point
   row_goes p m tlb offset controlled scene pass at elsewhere =
       at_points (λ offset. IsAtPoint offset p → offset ≢ 27 → RowGoes p m tlb offset) (
@@ -140,7 +141,7 @@ module _ (lower : LowerLaws) (o : Opening) (ks : List Kind) (laws : SceneLaws o 
       offset at.point at elsewhere
 
   pub window_effect : (p : Processor) (m : List ℕ) (tlb : Translations) (offset : ℕ) (it : Fetched) → IsControlled p
-      → IsScene o ks m p.control → AllPass (respects o ks) tlb → wp_of p.control.cr0 ≡ false → IsAtPoint offset p
+      → IsScene o ks m p.control → AllPass (respecting o ks) tlb → wp_of p.control.cr0 ≡ false → IsAtPoint offset p
       → offset ≢ 27 → decoded_of (instruction_bytes offset) ≡ Whole it.instr it.size
       → (effect : Effect) × ((effect_of it.instr it.size p.regs p.control m tlb).answer ≡ Ok effect)
       × KeepsWindow p effect

@@ -9,6 +9,7 @@ use Rattle.nk_bits.specs.declared.control.Control.{Control}
 use Rattle.nk_bits.specs.declared.kind.Kind.{Kind}
 use Rattle.nk_bits.specs.declared.leaf.Target.{Target}
 use Rattle.nk_bits.specs.Accesses.{accessed, crosses, place_in}
+use Rattle.nk_bits.specs.Claims.{AllPass}
 use Rattle.nk_bits.specs.Paging.{page_of}
 use Rattle.nk_bits.specs.Translations.{Translations}
 use Rattle.boot_map.specs.KernelSlot.{slot_leaf, slot_start, writable}
@@ -20,8 +21,7 @@ use Rattle.gate_text.specs.GatePoints.{is_point}
 use Rattle.gate_state.specs.GateWindow.{IsAtPoint, is_uninterrupted, stands_on}
 use Rattle.gate_state.specs.GuardedStates.{IsControlled}
 use Rattle.gate_state.specs.MachineStates.{Opening}
-use Rattle.gate_state.specs.RespectedKinds.{respects}
-use Rattle.gate_state.proofs.LowerLaws.{AllPass}
+use Rattle.gate_state.specs.RespectedKinds.{respecting}
 use Rattle.gate_state.proofs.Scene.{IsScene, SceneLaws}
 use Rattle.gate_state.proofs.WindowEffects.{push_rax_effect, push_value_effect}
 use Rattle.gate_state.proofs.WindowKept.{Goes, goes_writing, leads_from, moved, register_same}
@@ -35,7 +35,7 @@ in_trap_frame va = record { first = place_in (writable 3) va; second = 0 }
 
 module _ (o : Opening) (ks : List Kind) (laws : SceneLaws o ks) where
   trap_served : (m : List ℕ) (control : Control) (tlb : Translations) (va : ℕ) → IsScene o ks m control
-      → AllPass (respects o ks) tlb → page_of va ≡ slot_start + 3 → va % 4096 + 8 ≤ 4096
+      → AllPass (respecting o ks) tlb → page_of va ≡ slot_start + 3 → va % 4096 + 8 ≤ 4096
       → (accessed (view_of m control 0) access.Write tlb va 8).answer ≡ Ok (in_trap_frame va)
   unfolding slot_leaf
   trap_served m control tlb va scene pass page room =
@@ -43,7 +43,7 @@ module _ (o : Opening) (ks : List Kind) (laws : SceneLaws o ks) where
       (omega arith) room (ap (slot_leaf o.image o.frames) page) refl
 
   module _ (p : Processor) (m : List ℕ) (tlb : Translations) (controlled : IsControlled p)
-      (scene : IsScene o ks m p.control) (pass : AllPass (respects o ks) tlb) where
+      (scene : IsScene o ks m p.control) (pass : AllPass (respecting o ks) tlb) where
     -- PUSH of a stub's vector
     pub goes_pushing : (v : ℕ) → 32 ≤ v → v < 48 → IsAtPoint (64 + 8 * v) p → Goes p m tlb (push_value v) 2
     unfolding crosses

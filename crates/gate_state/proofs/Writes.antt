@@ -10,6 +10,7 @@ use Rattle.nk_bits.specs.declared.leaf.Leaf.{Leaf}
 use Rattle.nk_bits.specs.declared.leaf.Target.{Target}
 use Rattle.nk_bits.specs.AccessRights.{may}
 use Rattle.nk_bits.specs.Accesses.{IsAccessSize, Serves, View, crosses, first_part, next_page, place_in}
+use Rattle.nk_bits.specs.Claims.{Claim}
 use Rattle.nk_bits.specs.Kinds.{allows, is_storable, kind_of}
 use Rattle.nk_bits.specs.Paging.{is_slot_page, page_of}
 use Rattle.phys_mem.specs.Memory.{stores}
@@ -18,7 +19,7 @@ use Rattle.page_walk.specs.MemoryAccess.{stores_at}
 use Rattle.x86_regs.specs.declared.effects.Write.{Write}
 use Rattle.x86_regs.specs.EffectsKept.{IsGranted}
 use Rattle.gate_state.specs.MachineStates.{Opening}
-use Rattle.gate_state.specs.RespectedKinds.{fits_kind, is_code, is_leaf, respects}
+use Rattle.gate_state.specs.RespectedKinds.{fits_kind, is_code, is_leaf, respecting, respects}
 use Rattle.gate_state.proofs.LowerLaws.{LowerLaws}
 use Rattle.gate_state.proofs.Scene.{AreStores, SceneLaws}
 
@@ -88,8 +89,8 @@ module _ (laws : LowerLaws) where
       (laws.store.within_frame n place value frame (omega arith) (omega arith))
 
   -- what holds of the frames of translations that serve a write holds of the frame of each byte that it stores
-  pub granted_places : (view : View) (test : ℕ × Leaf → Bool) (size : ℕ) (w : Write) → IsGranted view test size w → (P : ℕ → Type 0)
-      → ((page : ℕ) (leaf : Leaf) → test (page, leaf) ≡ true → may access.Write leaf.rights view.cpl view.wp view.smep ≡ true
+  pub granted_places : (view : View) (test : Claim) (size : ℕ) (w : Write) → IsGranted view test size w → (P : ℕ → Type 0)
+      → ((page : ℕ) (leaf : Leaf) → test.pair (page, leaf) ≡ true → may access.Write leaf.rights view.cpl view.wp view.smep ≡ true
       → (page ≡ page_of w.va) ⊎ (crosses w.va w.width ≡ true) → P leaf.frame)
       → All (λ s. P (s.0 / 4096)) (stores_at w.va w.width w.target w.value)
   granted_places view test size w granted P each =
@@ -109,20 +110,20 @@ module _ (laws : LowerLaws) where
       second_places false is = no_stores_left P (w.width - first_part w.va w.width) w.target.second (w.value / 256 ^ first_part w.va w.width) (part_whole w.va w.width is)
 
   -- with WP set, a write goes to frames that may be stored to
-  pub granted_stores : (o : Opening) (ks : List Kind) (view : View) (size : ℕ) (w : Write) → IsGranted view (respects o ks) size w → view.wp ≡ true
+  pub granted_stores : (o : Opening) (ks : List Kind) (view : View) (size : ℕ) (w : Write) → IsGranted view (respecting o ks) size w → view.wp ≡ true
       → AreStores ks (stores_at w.va w.width w.target w.value)
   granted_stores o ks view size w granted set = record {
-    places = granted_places view (respects o ks) size w granted (λ f. is_storable (kind_of ks f) ≡ true)
+    places = granted_places view (respecting o ks) size w granted (λ f. is_storable (kind_of ks f) ≡ true)
         (λ page leaf pass serves at. writable_storable laws o ks page leaf pass (write_needs leaf view.cpl view.wp view.smep set serves));
     bytes = stores_bytes laws w.va w.width w.target w.value;
   }
 
   -- a write on the trap stack's page goes to the trap stack
-  pub stack_stores : (o : Opening) (ks : List Kind) (scenes : SceneLaws o ks) (view : View) (size : ℕ) (w : Write) → IsGranted view (respects o ks) size w
+  pub stack_stores : (o : Opening) (ks : List Kind) (scenes : SceneLaws o ks) (view : View) (size : ℕ) (w : Write) → IsGranted view (respecting o ks) size w
       → page_of w.va ≡ slot_start + 3 → crosses w.va w.width ≡ false → slot_leaf o.image o.frames (slot_start + 3) ≡ Some (writable 3)
       → All (λ s. s.0 / 4096 ≡ 3) (stores_at w.va w.width w.target w.value)
   stack_stores o ks scenes view size w granted page alone laid =
-      granted_places view (respects o ks) size w granted (λ f. f ≡ 3) (λ p leaf pass serves at. on_stack p leaf pass at)
+      granted_places view (respecting o ks) size w granted (λ f. f ≡ 3) (λ p leaf pass serves at. on_stack p leaf pass at)
     where
       same_leaf : (one other : Leaf) → Some one ≡ Some other → one.frame ≡ other.frame
       same_leaf one other e = let same : one ≡ other = cc in ap (λ (l : Leaf). l.frame) same

@@ -1,7 +1,8 @@
 -- The invariant of the machine: what holds in every state of every run, of which safety follows.
-use Rattle.std.specs.Prelude.{◌≡◌, ◌⊎◌, ℕ, ◌+◌, ◌*◌, ◌/◌, ◌^◌, ◌<◌, ◌≤◌, true, false, List, length, slice_index, All, IfSome}
+use Rattle.std.specs.Prelude.{◌≡◌, ◌⊎◌, ℕ, ◌+◌, ◌*◌, ◌/◌, ◌^◌, ◌<◌, ◌≤◌, true, false, List, length, slice_index, IfSome}
 use Rattle.nk_bits.specs.declared.kind.Kind.{Kind}
 use Rattle.nk_bits.specs.Accesses.{wp_of}
+use Rattle.nk_bits.specs.Claims.{AllPass}
 use Rattle.nk_bits.specs.Kinds.{is_storable, kind_of}
 use Rattle.phys_mem.specs.Memory.{IsBytes, byte_at, entry_in}
 use Rattle.elf_image.specs.Pages.{IsPageList, pages_of}
@@ -19,7 +20,7 @@ use Rattle.x86_regs.specs.EffectsKept.{AreRegisters}
 use Rattle.gate_state.specs.GateWindow.{IsGatePoint}
 use Rattle.gate_state.specs.MachineOpening.{opening_tables}
 use Rattle.gate_state.specs.MachineStates.{MachineState, Opening}
-use Rattle.gate_state.specs.RespectedKinds.{respects}
+use Rattle.gate_state.specs.RespectedKinds.{respecting}
 
 -- the opening is that of an image that was admitted and has room: a file of bytes whose layout fits and whose pages are
 -- an image's, without a protected encoding anywhere in its code
@@ -72,5 +73,5 @@ pub record IsGuarded (o : Opening) (s : MachineState) : Type 0 where
   pub memory : IsHeld o s.kinds s.memory
   pub ledger : IsKept s.kinds s.ledger
   pub next : s.ledger.book.next ≤ 256 + s.turns
-  pub translations : All (λ pair. respects o s.kinds pair ≡ true) s.processor.tlb
+  pub translations : AllPass (respecting o s.kinds) s.processor.tlb
   pub window : wp_of s.processor.control.cr0 ≡ false → IsGatePoint s.processor

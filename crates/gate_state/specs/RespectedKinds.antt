@@ -1,12 +1,15 @@
 -- Which translations respect the kinds of frames: outside the kernel slot by the rights that the kind allows, and in the
--- slot those of its linear layout.
-use Rattle.std.specs.Prelude.{ℕ, Bool, true, false, not, ◌==◌, ◌&&◌, ◌||◌, if◌then◌else◌, List, Option, None, Some}
+-- slot those of its linear layout; and to which tables upper entries may lead.
+use Rattle.std.specs.Prelude.{ℕ, ◌+◌, nat_le, Bool, true, false, not, ◌==◌, ◌&&◌, ◌||◌, if◌then◌else◌, List, Option, None, Some}
 use Rattle.nk_bits.specs.declared.kind.Kind.{Kind}
 use Rattle.nk_bits.specs.declared.kind.Kind.TheVariants.{Data, Code, Table, Fixed, Trap, Guarded, Hidden}
 use Rattle.nk_bits.specs.declared.leaf.Leaf.{Leaf}
-use Rattle.nk_bits.specs.Kinds.{allows, is_storable, kind_of}
-use Rattle.nk_bits.specs.Paging.{is_slot_page}
-use Rattle.boot_map.specs.KernelSlot.{slot_leaf}
+use Rattle.nk_bits.specs.declared.leaf.Upper.{Upper}
+use Rattle.nk_bits.specs.Claims.{Claim}
+use Rattle.nk_bits.specs.Kinds.{allows, is_storable, kind_of, level_of}
+use Rattle.nk_bits.specs.Paging.{has_all, is_slot_page}
+use Rattle.nk_bits.specs.UpperEntries.{KeptEntry, first_page}
+use Rattle.boot_map.specs.KernelSlot.{slot_leaf, slot_upper}
 use Rattle.gate_state.specs.MachineStates.{Opening}
 
 -- the frame holds code of the image
@@ -45,3 +48,26 @@ respects o kinds pair =
     if is_slot_page pair.0
     then is_leaf (slot_leaf o.image o.frames pair.0) pair.1 && fits_kind kinds pair.1
     else allows (kind_of kinds pair.1.frame) pair.1.rights
+
+-- what is named has this frame and these rights
+abbrev pub is_upper : Option Upper → Upper → Bool
+is_upper None it = false
+is_upper (Some laid) it =
+    laid.frame == it.frame
+    && is_alike laid.rights.can_write it.rights.can_write
+    && is_alike laid.rights.user it.rights.user
+    && is_alike laid.rights.exec it.rights.exec
+
+-- an upper entry is of level 2, 3 or 4; outside the kernel slot it has all rights and names a table one level below its own,
+-- and in it, it is what the layout gives
+unfoldable pub leads : Opening → List Kind → KeptEntry → Bool
+leads o kinds entry =
+    nat_le 2 entry.0 && nat_le entry.0 4
+    && (if is_slot_page (first_page entry.0 entry.1)
+        then is_upper (slot_upper o.image o.frames (first_page entry.0 entry.1) entry.0) entry.2
+        else level_of (kind_of kinds entry.2.frame) + 1 == entry.0
+            && has_all entry.2.rights)
+
+-- what holds of all that the processor keeps: each pair respects the kinds, and each upper entry leads where it may
+abbrev pub respecting : Opening → List Kind → Claim
+respecting o kinds = record { pair = respects o kinds; upper = leads o kinds }

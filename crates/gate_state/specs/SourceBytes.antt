@@ -1,10 +1,11 @@
 -- The source of a call, as it is read for it: byte by byte in ascending order, each by its page's translation, which is kept,
--- or else walked for and filled. It ends at the first byte that can't be read, and raises no fault (SDM volume 3, 4.6).
+-- or else walked for and filled. It ends at the first byte that can't be read, and raises no fault (SDM volume 3, 4.6); but
+-- like a fault, a page without a translation drops the upper entries that serve it.
 use Rattle.std.specs.Prelude.{ℕ, zero, suc, ◌+◌, ◌/◌, ◌^◌, Bool, ◌&&◌, nat_lt, if◌then◌else◌, List, [], ◌∷◌, length, Option, None, Some}
 use Rattle.nk_bits.specs.declared.leaf.Leaf.{Leaf}
 use Rattle.nk_bits.specs.Accesses.{place_in}
 use Rattle.nk_bits.specs.Paging.{is_canonical, page_of}
-use Rattle.nk_bits.specs.Translations.{Translations, tlb_after, translation}
+use Rattle.nk_bits.specs.Translations.{Translations, faulted, tlb_after, translation}
 use Rattle.phys_mem.specs.Memory.{byte_at, entry_in}
 use Rattle.nk_body.specs.CallRules.{Sourced, Bytes, NotTaken, Unreadable}
 
@@ -26,8 +27,17 @@ abbrev pub source_byte : List ℕ → ℕ → Translations → ℕ → Option �
 source_byte m root tlb va =
     if is_readable va then byte_by m va (translation (entry_in m) (length m / 4096) root tlb (page_of va)) else None
 
+-- what is kept once a page's translation was looked for: where there was none, what a page fault leaves
+abbrev pub kept_by : Option Leaf → Translations → ℕ → Translations
+kept_by None tlb page = faulted tlb page
+kept_by (Some leaf) tlb page = tlb
+
 abbrev pub source_tlb : List ℕ → ℕ → Translations → ℕ → Translations
-source_tlb m root tlb va = if is_readable va then tlb_after (entry_in m) (length m / 4096) root tlb (page_of va) else tlb
+source_tlb m root tlb va =
+    let page = page_of va in
+    if is_readable va
+    then kept_by (translation (entry_in m) (length m / 4096) root tlb page) (tlb_after (entry_in m) (length m / 4096) root tlb page) page
+    else tlb
 
 -- a byte in front of others
 abbrev pub in_front : ℕ → Option (List ℕ) → Option (List ℕ)

@@ -26,13 +26,13 @@ ghost use Rattle.gate_state.specs.StepsTaken.{Counts};
 ghost use Rattle.gate_state.specs.WindowLeft.{ComesNearer, IsNearer, IsShortWindow, left};
 
 use boot_map::{
-    opening_bytes_law, opening_entries_law, opening_kinds_law, slot_law, slot_leaf_law,
+    opening_bytes_law, opening_entries_law, opening_kinds_law, slot_law, slot_leaf_law, slot_upper_law,
 };
 use cpu_step::{fetch_law, pending_law};
 use decode_fields::{longer_law, prefixes_law};
 use elf_image::entry_law;
 use gate_text::listing_law;
-use nk_bits::{access_law, kind_law};
+use nk_bits::{access_law, kept_law, kind_law, upper_law};
 use nk_body::{call_law, call_leaves_law, opening_sound_law, stores_law};
 use page_desc::{count_law, sound_law};
 use phys_mem::{frame_law, memory_law};
@@ -78,11 +78,14 @@ pub(crate) fn steps_law()
         → IsGuarded o s → left (served s).processor < left s.processor }
 {
     access_law();
+    kept_law();
+    upper_law();
     kind_law();
     memory_law();
     frame_law();
     slot_law();
     slot_leaf_law();
+    slot_upper_law();
     opening_kinds_law();
     opening_bytes_law();
     opening_entries_law();

@@ -9,13 +9,13 @@ ghost use Rattle.cpu_step.specs.Processor.{IsSound};
 ghost use Rattle.nk_body.specs.CallRules.{Sourced, bytes_read};
 ghost use Rattle.nk_body.specs.SourceWords.{sourced_of};
 ghost use Rattle.gate_state.specs.MachineSteps.{took_by};
-ghost use Rattle.gate_state.specs.SourceBytes.{byte_by, source_by, source_byte, source_read, source_tlb, tlb_by};
+ghost use Rattle.gate_state.specs.SourceBytes.{byte_by, kept_by, source_by, source_byte, source_read, source_tlb, tlb_by};
 
 use crate::seen::Took;
 use cpu_step::Cpu;
-use nk_bits::{Leaf, canonical, translation_law};
+use mem_access::translate;
+use nk_bits::{Leaf, canonical, named_law};
 use nk_body::Source;
-use page_walk::walk;
 use phys_mem::PhysMem;
 use tlb_model::Tlb;
 
@@ -93,7 +93,7 @@ fn read_byte(tlb: &mut Tlb, mem: &PhysMem, root: u32, va: u64, offset: u64) -> O
     ensures frames { NamesFramesIn (length mem.now) tlb.new }
 {
     match va.checked_add(offset) {
-        Some(at) if canonical(at) => byte_by(mem, at, translate(mem, tlb, root, at)),
+        Some(at) if canonical(at) => byte_by(mem, at, look_up(mem, tlb, root, at)),
         _ => None,
     }
 }
@@ -111,25 +111,23 @@ fn byte_by(mem: &PhysMem, va: u64, leaf: Option<Leaf>) -> Option<u8>
     }
 }
 
-/// The translation of a page: the one that is kept, or else the one that a walk finds, which is filled.
-fn translate(mem: &PhysMem, tlb: &mut Tlb, root: u32, va: u64) -> Option<Leaf>
+/// The translation of a page. Where it has none, what a page fault drops goes.
+fn look_up(mem: &PhysMem, tlb: &mut Tlb, root: u32, va: u64) -> Option<Leaf>
     requires root { 4096 * root < length mem.now }
     requires frames { NamesFramesIn (length mem.now) tlb.old }
     requires canonical { IsTrue (is_canonical va) }
     ensures found { result ≡ translation (entry_in mem.now) (length mem.now / 4096) root tlb.old (page_of va) }
-    ensures tlb { tlb.new ≡ tlb_after (entry_in mem.now) (length mem.now / 4096) root tlb.old (page_of va) }
+    ensures tlb { tlb.new ≡ kept_by result
+        (tlb_after (entry_in mem.now) (length mem.now / 4096) root tlb.old (page_of va)) (page_of va) }
     ensures frame { IfSome result (λ leaf. 4096 * leaf.frame < length mem.now) }
     ensures frames { NamesFramesIn (length mem.now) tlb.new }
 {
-    translation_law();
-    if let Some(leaf) = tlb.look(va / 4096) {
-        return Some(leaf);
-    }
-    match walk(mem, root, va) {
-        Ok(leaf) => {
-            tlb.fill(va / 4096, leaf);
-            Some(leaf)
+    named_law();
+    match translate(mem, tlb, root, va) {
+        Some(leaf) => Some(leaf),
+        None => {
+            tlb.drop_fault(va / 4096);
+            None
         }
-        Err(_) => None,
     }
 }

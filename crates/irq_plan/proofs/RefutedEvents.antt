@@ -1,10 +1,9 @@
 -- What is no event of a plan, and no plan.
-use Rattle.std.proofs.Common.{◌≡◌, ℕ, ◌+◌, ◌^◌, ◌<◌, ◌≤◌, List, [], ◌∷◌, arith}
+use Rattle.std.proofs.Common.{arith}
 use Rattle.std.proofs.lemmas.Bool.{false≢true}
-use Rattle.irq_plan.specs.declared.event.Event.{Event}
 use Rattle.irq_plan.specs.declared.event.What.{What}
-use Rattle.irq_plan.specs.declared.event.What.TheVariants.{Irq, Drop, Fill}
-use Rattle.irq_plan.specs.PlannedEvents.{IsEvent, IsPlan, IsPlannable}
+use Rattle.irq_plan.specs.declared.event.What.TheVariants.{Irq, Drop, Fill, Keep, Forget}
+use Rattle.irq_plan.specs.PlannedEvents.{IsEvent, IsPlannable}
 
 -- an event that is due after 2^32 + 1 turns
 late : (what : What) → IsEvent (record { due = 4294967297; what = what }) → ⊥
@@ -23,3 +22,10 @@ inside is = false≢true is
 
 between : IsPlannable (Fill 0x800000000000) → ⊥
 between is = false≢true is
+
+-- an entry of level 1, which holds a leaf, and one of level 5, which no walk has
+lowest : IsPlannable (Keep 1 0x1000) → ⊥
+lowest is = let low = is.0 in omega arith
+
+above : IsPlannable (Forget 5 0x1000) → ⊥
+above is = let high = is.1 in omega arith

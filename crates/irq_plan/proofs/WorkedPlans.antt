@@ -2,7 +2,7 @@
 use Rattle.std.proofs.Common.{◌≡◌, ℕ, ◌++◌, [], ◌∷◌, Ok, Err, codes, refl}
 use Rattle.irq_plan.specs.declared.event.Event.{Event}
 use Rattle.irq_plan.specs.declared.event.What.{What}
-use Rattle.irq_plan.specs.declared.event.What.TheVariants.{Irq, Drop, Fill}
+use Rattle.irq_plan.specs.declared.event.What.TheVariants.{Irq, Drop, Fill, Keep, Forget}
 use Rattle.irq_plan.specs.PlanFile.{plan_of, read_from}
 
 abbrev at : ℕ → What → Event
@@ -54,7 +54,26 @@ pages :
 unfolding plan_of read_from
 pages = (refl, refl, refl, refl, refl, refl, refl, refl, refl)
 
--- three words, a space between each two; a line is never empty
+-- L is one digit, 2 to 4; a level and a page stand behind `keep` and `forget` alone
+entries :
+    (plan_of (codes "5 keep 2 ffff800000000000") ≡ Ok (at 5 (Keep 2 0xFFFF800000000000) ∷ [])) ×
+    (plan_of (codes "5 keep 4 0") ≡ Ok (at 5 (Keep 4 0) ∷ [])) ×
+    (plan_of (codes "5 forget 3 7FFFFFFFF000\n5 keep 3 1000") ≡ Ok (at 5 (Forget 3 0x7FFFFFFFF000) ∷ at 5 (Keep 3 0x1000) ∷ [])) ×
+    (plan_of (codes "5 keep 1 1000") ≡ Err 1) ×
+    (plan_of (codes "5 forget 5 1000") ≡ Err 1) ×
+    (plan_of (codes "5 keep 02 1000") ≡ Err 1) ×
+    (plan_of (codes "5 keep 2 1001") ≡ Err 1) ×
+    (plan_of (codes "5 keep 2 800000000000") ≡ Err 1) ×
+    (plan_of (codes "5 keep 1000") ≡ Err 1) ×
+    (plan_of (codes "5 forget 2") ≡ Err 1) ×
+    (plan_of (codes "5 irq 2 32") ≡ Err 1) ×
+    (plan_of (codes "5 fill 2 1000") ≡ Err 1) ×
+    (plan_of (codes "5 keep 2 1000 x") ≡ Err 1) ×
+    (plan_of (codes "0 irq 32\n4294967297 keep 2 1000") ≡ Err 2)
+unfolding plan_of read_from
+entries = (refl, refl, refl, refl, refl, refl, refl, refl, refl, refl, refl, refl, refl, refl)
+
+-- three words or four, a space between each two; a line is never empty
 spaces :
     (plan_of (codes "\n") ≡ Err 1) ×
     (plan_of (codes "1 irq 32\n\n") ≡ Err 2) ×

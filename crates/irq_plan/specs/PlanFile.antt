@@ -1,10 +1,11 @@
--- The plan file: a line is `N irq V`, `N drop PAGE` or `N fill PAGE`, with single spaces.
+-- The plan file: a line is `N irq V`, `N drop PAGE`, `N fill PAGE`, `N keep L PAGE` or `N forget L PAGE`, with single
+-- spaces.
 use Rattle.std.specs.Prelude.{◌≡◌, ℕ, ◌+◌, Bool, ◌&&◌, nat_le, if◌then◌else◌, List, [], ◌∷◌, Option, None, Some, Result, Ok, Err, codes, ⊤}
 use Rattle.std.specs.Option.{option_map}
 use Rattle.std.specs.Str.{bytes_eq}
 use Rattle.irq_plan.specs.declared.event.Event.{Event}
 use Rattle.irq_plan.specs.declared.event.What.{What}
-use Rattle.irq_plan.specs.declared.event.What.TheVariants.{Irq, Drop, Fill}
+use Rattle.irq_plan.specs.declared.event.What.TheVariants.{Irq, Drop, Fill, Keep, Forget}
 use Rattle.irq_plan.specs.declared.fault.PlanFault.{PlanFault}
 use Rattle.irq_plan.specs.declared.fault.PlanFault.TheVariants.{Line, Memory}
 use Rattle.irq_plan.specs.PlannedEvents.{is_page_address}
@@ -39,6 +40,22 @@ what_of verb number =
     else if bytes_eq verb (codes "fill") then option_map Fill (page_address_of number)
     else None
 
+-- L: 2, 3 or 4, one digit
+abbrev pub level_of : List ℕ → Option ℕ
+level_of word = passed (is_within 2 4) (numeral 10 1 word)
+
+-- what is done with the entry of a level and a page, where both are given
+abbrev pub entry_with : (ℕ → ℕ → What) → Option ℕ → Option ℕ → Option What
+entry_with what None page = None
+entry_with what (Some level) page = option_map (what level) page
+
+-- what the second, the third and the fourth word say
+abbrev pub entry_of : List ℕ → List ℕ → List ℕ → Option What
+entry_of verb level page =
+    if bytes_eq verb (codes "keep") then entry_with Keep (level_of level) (page_address_of page)
+    else if bytes_eq verb (codes "forget") then entry_with Forget (level_of level) (page_address_of page)
+    else None
+
 abbrev pub event_with : Option ℕ → Option What → Option Event
 event_with (Some due) (Some what) = Some (record { due = due; what = what })
 event_with (Some due) None = None
@@ -47,6 +64,7 @@ event_with None what = None
 -- the event of a line by its words, where none before it is due later than `least`
 abbrev pub event_of : ℕ → List (List ℕ) → Option Event
 event_of least (due ∷ verb ∷ number ∷ []) = event_with (due_of least due) (what_of verb number)
+event_of least (due ∷ verb ∷ level ∷ page ∷ []) = event_with (due_of least due) (entry_of verb level page)
 event_of least _ = None
 
 -- an event before those of the later lines

@@ -12,6 +12,13 @@ pub enum What {
 
     /// The processor walks the tables for this page, and keeps the translation that it finds.
     Fill(u64),
+
+    /// The processor walks the tables for this page down to its entry of this level, 2, 3 or 4, and keeps that entry in
+    /// a paging-structure cache (SDM volume 3, 4.10.3), if none on the way is missing.
+    Keep(u8, u64),
+
+    /// The processor drops this page's entry of this level, 2, 3 or 4, if it keeps one.
+    Forget(u8, u64),
 }
 
 /// An event, and when it is due.

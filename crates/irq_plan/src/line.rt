@@ -2,7 +2,8 @@
 
 ghost use Rattle.std.specs.Prelude.{◌≡◌};
 ghost use Rattle.std.specs.Str.{bytes_eq};
-ghost use Rattle.irq_plan.specs.PlanFile.{due_of, event_of, event_with, page_address_of, vector_of, what_of};
+ghost use Rattle.irq_plan.specs.PlanFile.{due_of, entry_of, entry_with, event_of, event_with, level_of, page_address_of, vector_of, what_of};
+ghost use Rattle.irq_plan.specs.declared.event.What.TheVariants.{Forget, Keep};
 ghost use Rattle.text_lines.specs.TextLines.{words};
 
 use crate::event::{Event, What};
@@ -15,6 +16,10 @@ const MOST_DUE: u64 = 4_294_967_296;
 const FIRST_VECTOR: u64 = 32;
 
 const LAST_VECTOR: u64 = 47;
+
+const FIRST_LEVEL: u64 = 2;
+
+const LAST_LEVEL: u64 = 4;
 
 const PAGE_SIZE: u64 = 4096;
 
@@ -44,6 +49,16 @@ fn vector(word: &[u8]) -> Option<u8>
     }
 }
 
+/// The level of an entry that may be kept.
+fn level(word: &[u8]) -> Option<u8>
+    ensures { result ≡ level_of word.now }
+{
+    match decimal(word, 1) {
+        Some(level) if FIRST_LEVEL <= level && level <= LAST_LEVEL => Some(level as u8),
+        _ => None,
+    }
+}
+
 /// The linear address of a page.
 fn page(word: &[u8]) -> Option<u64>
     ensures { result ≡ page_address_of word.now }
@@ -68,6 +83,44 @@ fn what(verb: &[u8], number: &[u8]) -> Option<What>
     }
 }
 
+/// The entry of a page that is kept.
+fn keep(number: &[u8], address: &[u8]) -> Option<What>
+    ensures { result ≡ entry_with Keep (level_of number.now) (page_address_of address.now) }
+{
+    let Some(level) = level(number) else {
+        return None;
+    };
+    match page(address) {
+        Some(page) => Some(What::Keep(level, page)),
+        None => None,
+    }
+}
+
+/// The entry of a page that is dropped.
+fn forget(number: &[u8], address: &[u8]) -> Option<What>
+    ensures { result ≡ entry_with Forget (level_of number.now) (page_address_of address.now) }
+{
+    let Some(level) = level(number) else {
+        return None;
+    };
+    match page(address) {
+        Some(page) => Some(What::Forget(level, page)),
+        None => None,
+    }
+}
+
+fn entry(verb: &[u8], number: &[u8], address: &[u8]) -> Option<What>
+    ensures { result ≡ entry_of verb.now number.now address.now }
+{
+    if is_text(verb, b"keep") {
+        keep(number, address)
+    } else if is_text(verb, b"forget") {
+        forget(number, address)
+    } else {
+        None
+    }
+}
+
 /// The event of a line of three words.
 fn event(word: &[u8], verb: &[u8], number: &[u8], least: u64) -> Option<Event>
     ensures { result ≡ event_with (due_of least word.now) (what_of verb.now number.now) }
@@ -76,6 +129,19 @@ fn event(word: &[u8], verb: &[u8], number: &[u8], least: u64) -> Option<Event>
         return None;
     };
     match what(verb, number) {
+        Some(what) => Some(Event { due, what }),
+        None => None,
+    }
+}
+
+/// The event of a line of four words.
+fn entry_event(word: &[u8], verb: &[u8], number: &[u8], address: &[u8], least: u64) -> Option<Event>
+    ensures { result ≡ event_with (due_of least word.now) (entry_of verb.now number.now address.now) }
+{
+    let Some(due) = due(word, least) else {
+        return None;
+    };
+    match entry(verb, number, address) {
         Some(what) => Some(Event { due, what }),
         None => None,
     }
@@ -90,6 +156,7 @@ pub(crate) fn read_line(line: &[u8], least: u64) -> Option<Event>
     };
     match words.as_slice() {
         [due, verb, number] => event(due, verb, number, least),
+        [due, verb, number, address] => entry_event(due, verb, number, address, least),
         _ => None,
     }
 }

@@ -53,6 +53,16 @@ fn lines_in_form_are_events(rt: HostRuntime) {
             "0 drop ffff800000000000\n",
             at(0, What::Drop(0xFFFF_8000_0000_0000)),
         ),
+        (
+            "0 keep 2 ffff800000000000\n",
+            at(0, What::Keep(2, 0xFFFF_8000_0000_0000)),
+        ),
+        ("7 keep 4 0", at(7, What::Keep(4, 0))),
+        ("7 keep 3 01000", at(7, What::Keep(3, 0x1000))),
+        (
+            "7 forget 3 7FFFFFFFF000\n",
+            at(7, What::Forget(3, 0x7FFF_FFFF_F000)),
+        ),
     ] {
         assert_reads(&rt, rt.alloc(), text, &[event]);
     }
@@ -75,6 +85,15 @@ fn numbers_out_of_form_are_refused(rt: HostRuntime) {
         "5 drop ffff7ffffffff000",
         "5 drop 00000000000001000",
         "5 drop 0x1000",
+        "5 keep 1 1000",
+        "5 keep 5 1000",
+        "5 keep 02 1000",
+        "5 keep x 1000",
+        "5 keep 2 1001",
+        "5 keep 2 800000000000",
+        "5 forget 1 1000",
+        "5 forget 5 1000",
+        "5 forget 2 ffff7ffffffff000",
     ] {
         assert_refuses(&rt, rt.alloc(), text, 1);
     }
@@ -95,6 +114,13 @@ fn words_out_of_form_are_refused(rt: HostRuntime) {
         ("1 2 3 4 5 6 7 8 9 0", 1),
         ("5 IRQ 32", 1),
         ("5 keep 1000", 1),
+        ("5 forget 2", 1),
+        ("5 keep 2 1000 x", 1),
+        ("5 keep 2  1000", 1),
+        ("5 irq 2 32", 1),
+        ("5 fill 2 1000", 1),
+        ("5 KEEP 2 1000", 1),
+        ("5 irq 32\n4 keep 2 1000", 2),
         ("5 irq 32\n9 irq\n1", 2),
         ("1 irq 32\n0 irq 32\n", 2),
     ] {
@@ -108,12 +134,14 @@ fn events_come_in_order(rt: HostRuntime) {
     assert_reads(
         &rt,
         rt.alloc(),
-        "3 irq 33\n3 fill 1000\n3 irq 32\n4 drop 1000\n20 irq 32",
+        "3 irq 33\n3 fill 1000\n3 irq 32\n3 keep 2 1000\n4 drop 1000\n4 forget 2 1000\n20 irq 32",
         &[
             at(3, What::Irq(33)),
             at(3, What::Fill(0x1000)),
             at(3, What::Irq(32)),
+            at(3, What::Keep(2, 0x1000)),
             at(4, What::Drop(0x1000)),
+            at(4, What::Forget(2, 0x1000)),
             at(20, What::Irq(32)),
         ],
     );

@@ -6,11 +6,11 @@ use Rattle.nk_bits.specs.declared.access.Access.{Access}
 use Rattle.nk_bits.specs.declared.leaf.Leaf.{Leaf}
 use Rattle.nk_bits.specs.declared.fault.AccessFault.{AccessFault}
 use Rattle.nk_bits.specs.Paging.{page_of}
-use Rattle.nk_bits.specs.Translations.{Translations, dropped, translation, tlb_after}
+use Rattle.nk_bits.specs.Translations.{Translations, faulted, translation, tlb_after}
 use Rattle.nk_bits.specs.Outcomes.{outcome_of}
 use Rattle.nk_bits.specs.Accesses.{View, reached, judged, kept_after}
 
-kept_after-fault : (judgement : Result ℕ AccessFault) (tlb : Translations) (va : ℕ) → is_err judgement ≡ true → kept_after judgement tlb va ≡ dropped tlb (page_of va)
+kept_after-fault : (judgement : Result ℕ AccessFault) (tlb : Translations) (va : ℕ) → is_err judgement ≡ true → kept_after judgement tlb va ≡ faulted tlb (page_of va)
 kept_after-fault (Err fault) tlb va is = refl
 kept_after-fault (Ok place) tlb va is = absurd (false≢true is)
 
@@ -28,10 +28,10 @@ module _ (view : View) (access : Access) (tlb after : Translations) (va : ℕ) (
       ap (λ (x : Result ℕ AccessFault × Translations). outcome_of x.0 (kept_after x.0 x.1 va))
       (λ j. ((told ∙ ap (λ x. judged view access va x) found) j, filled j))
 
-  pub page_dropped : (page : ℕ) (last : Translations) → is_err judgement ≡ true → page ≡ page_of va → last ≡ dropped after page →
+  pub page_faulted : (page : ℕ) (last : Translations) → is_err judgement ≡ true → page ≡ page_of va → last ≡ faulted after page →
       outcome_of judgement last ≡ reached view access tlb va
-  page_dropped page last is same left =
-      ap (outcome_of judgement) (left ∙ ap (λ x. dropped after x) same ∙ sym (kept_after-fault judgement after va is)) ∙ by_judgement
+  page_faulted page last is same left =
+      ap (outcome_of judgement) (left ∙ ap (λ x. faulted after x) same ∙ sym (kept_after-fault judgement after va is)) ∙ by_judgement
 
   pub page_kept : is_err judgement ≡ false → outcome_of judgement after ≡ reached view access tlb va
   page_kept is = ap (outcome_of judgement) (sym (kept_after-place judgement after va is)) ∙ by_judgement

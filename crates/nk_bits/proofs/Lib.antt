@@ -1,11 +1,14 @@
 mod AccessLaws
 mod EntryBits
 mod FaultBounds
+mod KeptLaws
 mod KindLaws
 mod SpanLaws
 mod TableFunctions
 mod TranslationLaws
+mod UpperLaws
 mod WalkLaws
 mod WorkedAccesses
 mod WorkedRights
+mod WorkedUppers
 mod WorkedValues

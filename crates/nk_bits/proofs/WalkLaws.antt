@@ -74,3 +74,9 @@ pub leaf_in_memory : (t : ℕ → ℕ → ℕ) (frames root page : ℕ) (leaf : 
 leaf_in_memory t frames root page leaf found =
     leaf_has t frames page (λ level f r. level ≤ 3 → f < frames) (λ level f r g there _. frame_in_memory frames (suc level) _ there)
     4 root all_rights leaf (λ low. absurd (omega (arith, low))) (sym (walk_by_level t frames root page) ∙ found) (omega arith)
+
+-- and so is that of the rest of a walk, where a look-up is left
+pub rest_in_memory : (t : ℕ → ℕ → ℕ) (frames page level f : ℕ) (r : Rights) (leaf : Leaf) → 1 ≤ level → walk_from t frames page level f r ≡ Ok leaf → leaf.frame < frames
+rest_in_memory t frames page level f r leaf some found =
+    leaf_has t frames page (λ at f r. at < level → f < frames) (λ at f r g there _. frame_in_memory frames (suc at) _ there)
+    level f r leaf (λ low. absurd (omega (arith, low))) found some

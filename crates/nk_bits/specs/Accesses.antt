@@ -8,9 +8,11 @@ use Rattle.nk_bits.specs.declared.leaf.Leaf.{Leaf}
 use Rattle.nk_bits.specs.declared.leaf.Target.{Target}
 use Rattle.nk_bits.specs.declared.fault.AccessFault.{AccessFault}
 use Rattle.nk_bits.specs.declared.fault.AccessFault.TheVariants.{Page, NonCanonical}
-use Rattle.nk_bits.specs.Paging.{page_of, is_canonical, walk}
+use Rattle.nk_bits.specs.Paging.{page_of, is_canonical, walk, walk_below}
 use Rattle.nk_bits.specs.AccessRights.{may}
+use Rattle.nk_bits.specs.UpperEntries.{KeptEntry, covers}
 use Rattle.nk_bits.specs.Translations.{Translations, look, faulted, translation, tlb_after}
+use Rattle.nk_bits.specs.Claims.{Claim}
 use Rattle.nk_bits.specs.Outcomes.{Outcome, answered, refused, and_then}
 
 -- the error code of a page fault has five bits, and its address 64
@@ -56,7 +58,7 @@ judged view access va None = Err (Page (fault_code access view.cpl false) va)
 judged view access va (Some leaf) =
     if may access leaf.rights view.cpl view.wp view.smep then Ok (place_in leaf va) else Err (Page (fault_code access view.cpl true) va)
 
--- the translations after a judgement: a page fault drops that of its page
+-- the translations after a judgement: a page fault drops that of its page, and the upper entries that serve it
 abbrev pub kept_after : Result ℕ AccessFault → Translations → ℕ → Translations
 kept_after (Ok place) tlb va = tlb
 kept_after (Err fault) tlb va = faulted tlb (page_of va)
@@ -112,21 +114,22 @@ pub record IsTarget (size va width : ℕ) (target : Target) : Type 0 where
   pub first_fits : target.first + first_part va width ≤ size
   pub second_fits : first_part va width < width → target.second + (width - first_part va width) ≤ size
 
--- a test holds of the translation that a walk of a canonical page finds
-abbrev pub IsWalked : View → (ℕ × Leaf → Bool) → Type 0
-IsWalked view test =
-    (va : ℕ) (leaf : Leaf) → is_canonical va ≡ true → walk view.entries view.frames view.root (page_of va) ≡ Ok leaf → test (page_of va, leaf) ≡ true
+-- a test holds of the translation that a walk of a canonical page finds, from the root or below an entry that passes
+pub record IsWalked (view : View) (test : Claim) : Type 0 where
+  pub root : (va : ℕ) (leaf : Leaf) → is_canonical va ≡ true → walk view.entries view.frames view.root (page_of va) ≡ Ok leaf → test.pair (page_of va, leaf) ≡ true
+  pub below : (entry : KeptEntry) (va : ℕ) (leaf : Leaf) → test.upper entry ≡ true → is_canonical va ≡ true → covers (page_of va) entry ≡ true →
+      walk_below view.entries view.frames (page_of va) entry.0 entry.2 ≡ Ok leaf → test.pair (page_of va, leaf) ≡ true
 
 -- a translation of which the test holds serves the access at this address, and gives this place
-pub record Serves (view : View) (access : Access) (test : ℕ × Leaf → Bool) (va place : ℕ) : Type 0 where
+pub record Serves (view : View) (access : Access) (test : Claim) (va place : ℕ) : Type 0 where
   pub leaf : Leaf
-  pub passes : test (page_of va, leaf) ≡ true
+  pub passes : test.pair (page_of va, leaf) ≡ true
   pub may_access : may access leaf.rights view.cpl view.wp view.smep ≡ true
   pub place_is : place ≡ place_in leaf va
 
 -- the translation of the page of this address is kept, serves the access, and gives this place
 pub record IsKept (view : View) (access : Access) (tlb : Translations) (va place : ℕ) : Type 0 where
   pub leaf : Leaf
-  pub kept : look tlb (page_of va) ≡ Some leaf
+  pub kept : look tlb.pairs (page_of va) ≡ Some leaf
   pub may_access : may access leaf.rights view.cpl view.wp view.smep ≡ true
   pub place_is : place ≡ place_in leaf va

@@ -4,6 +4,8 @@ pub mod EntryForms
 pub mod Kinds
 pub mod Rules
 pub mod AccessRights
+pub mod UpperEntries
 pub mod Translations
+pub mod Claims
 pub mod Outcomes
 pub mod Accesses

@@ -2,9 +2,10 @@
 --
 -- A table function t gives the value of entry i of the table in frame f as t f i, so that one walk serves the tables in
 -- memory and any other record of them. The walk takes a page number, which is the linear address divided by 4,096.
-use Rattle.std.specs.Prelude.{ℕ, zero, suc, ◌+◌, ◌-◌, ◌*◌, ◌/◌, ◌%◌, ◌^◌, Bool, true, not, ◌&&◌, ◌||◌, ◌==◌, if◌then◌else◌, nat_le, Result, Ok, Err}
+use Rattle.std.specs.Prelude.{ℕ, zero, suc, ◌+◌, ◌-◌, ◌*◌, ◌/◌, ◌%◌, ◌^◌, Bool, true, not, ◌&&◌, ◌||◌, ◌==◌, if◌then◌else◌, nat_le, Option, Some, None, Result, Ok, Err}
 use Rattle.nk_bits.specs.declared.leaf.Rights.{Rights}
 use Rattle.nk_bits.specs.declared.leaf.Leaf.{Leaf}
+use Rattle.nk_bits.specs.declared.leaf.Upper.{Upper}
 
 -- the number of the page of a linear address
 abbrev pub page_of : ℕ → ℕ
@@ -66,6 +67,10 @@ common a b = record { can_write = a.can_write && b.can_write; user = a.user && b
 abbrev pub all_rights : Rights
 all_rights = record { can_write = true; user = true; exec = true }
 
+-- every right is granted
+abbrev pub has_all : Rights → Bool
+has_all r = r.can_write && r.user && r.exec
+
 -- the entry of a table of this level is missing: P is clear, the frame isn't in memory, or it names a large page
 unfoldable pub is_missing : ℕ → ℕ → ℕ → Bool
 is_missing frames level e = not (is_present e) || nat_le frames (frame_of e) || ((level == 3 || level == 2) && is_large e)
@@ -91,6 +96,23 @@ walk_from t frames page zero f r = Ok (record { frame = f; rights = r })
 walk_from t frames page (suc level) f r =
     let e = t f (page_index page (suc level)) in
     if is_missing frames (suc level) e then Err (suc level) else walk_from t frames page level (frame_of e) (common r (rights_of e))
+
+-- what is left of a walk below an entry of this level, 2 to 4, that names a table and grants rights
+abbrev pub walk_below : (ℕ → ℕ → ℕ) → ℕ → ℕ → ℕ → Upper → Result Leaf ℕ
+walk_below t frames page level it = walk_from t frames page (level - 1) it.frame it.rights
+
+-- the first look-ups of a walk, as many as are left, from a table of this level in frame f with the rights common to the
+-- entries so far: the frame that the last of them names and the rights common to all, or None where an entry is missing
+unfoldable pub upper_from : (ℕ → ℕ → ℕ) → ℕ → ℕ → ℕ → ℕ → ℕ → Rights → Option Upper
+upper_from t frames page zero level f r = Some (record { frame = f; rights = r })
+upper_from t frames page (suc left) zero f r = None
+upper_from t frames page (suc left) (suc level) f r =
+    let e = t f (page_index page (suc level)) in
+    if is_missing frames (suc level) e then None else upper_from t frames page left level (frame_of e) (common r (rights_of e))
+
+-- what a walk from this root has found once it has looked up the entry of this level, 2 to 4
+abbrev pub upper_walk : (ℕ → ℕ → ℕ) → ℕ → ℕ → ℕ → ℕ → Option Upper
+upper_walk t frames root page level = upper_from t frames page (5 - level) 4 root all_rights
 
 -- the entry is the kernel slot's: entry 511 of a table of level 4
 abbrev pub is_slot_entry : ℕ → ℕ → Bool

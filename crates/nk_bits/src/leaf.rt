@@ -20,6 +20,15 @@ pub struct Leaf {
     pub rights: Rights,
 }
 
+/// What an upper entry names, as a walk has found it: SDM volume 3, 4.10.3.
+#[derive(Clone, Copy, Debug, PartialEq, Eq)]
+pub struct Upper {
+    /// The number of the frame of the table that the entry names.
+    pub frame: u32,
+    /// The rights common to the entry and to those above it.
+    pub rights: Rights,
+}
+
 /// The places in memory of a write that was judged.
 #[derive(Clone, Copy, Debug, PartialEq, Eq)]
 pub struct Target {

@@ -32,6 +32,9 @@ pub use control::Control;
 pub use entry::{Entry, EntryFlags};
 pub use fault::AccessFault;
 pub use kind::Kind;
-pub use laws::{access_law, kind_law, span_law, table_law, translation_law, walk_law};
-pub use leaf::{Leaf, Rights, Target};
+pub use laws::{
+    access_law, kept_law, kind_law, named_law, span_law, table_law, translation_law, upper_law,
+    walk_law,
+};
+pub use leaf::{Leaf, Rights, Target, Upper};
 pub use rule::Rule;

@@ -2,6 +2,7 @@
 mod calls;
 mod compiled;
 mod deliveries;
+mod entries;
 mod journals;
 mod long_files;
 mod made;

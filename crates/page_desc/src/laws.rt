@@ -6,9 +6,10 @@ ghost use Rattle.phys_mem.specs.Memory.{entry_in, frame_zeroed, stored, stores};
 ghost use Rattle.nk_bits.specs.declared.kind.Kind.{Kind};
 ghost use Rattle.nk_bits.specs.declared.kind.Kind.TheVariants.{Data, Fixed, Guarded, Table};
 ghost use Rattle.nk_bits.specs.declared.leaf.Leaf.{Leaf};
+ghost use Rattle.nk_bits.specs.declared.leaf.Upper.{Upper};
 ghost use Rattle.nk_bits.specs.EntryForms.{has_form, has_leaf_form, has_table_form};
 ghost use Rattle.nk_bits.specs.Kinds.{allows, kind_of, level_of};
-ghost use Rattle.nk_bits.specs.Paging.{emptied, frame_of, is_canonical_page, is_present, is_slot_entry, is_slot_page, is_user, is_writable, replaced, rights_of, slot_value, walk, zeroed};
+ghost use Rattle.nk_bits.specs.Paging.{emptied, frame_of, has_all, is_canonical_page, is_present, is_slot_entry, is_slot_page, is_user, is_writable, replaced, rights_of, slot_value, upper_walk, walk, walk_below, zeroed};
 ghost use Rattle.page_desc.specs.FrameCounts.{IsSlotFixed, holds_leaves, holds_links, is_link_level, is_link_to, is_loose_leaf, links_in, loose_in, may_hold_table, one_if};
 ghost use Rattle.page_desc.specs.FrameDescriptors.{AreCounted, Descriptors, IsReplaceable, IsReplaced, last_value};
 ghost use Rattle.page_desc.specs.PageTables.{AreDescribed, HoldsSoundTables, is_table, is_unguarded, links_of, loose_of, tables_in, value_in};
@@ -98,15 +99,24 @@ pub fn descriptor_law()
     kind_law();
 }
 
-/// Over sound tables the walk of a canonical page outside the kernel slot, from any table of level 4, finds only a leaf that
-/// the kind of its frame allows. Sound tables stay sound over a lawful entry, over changes in frames that are no tables, and
-/// where a frame of data with no loose leaf becomes a new table or guarded, a table that nothing links data, and a guarded
-/// frame data. What a lawful entry is by its level. A present entry of sound tables has the form of its level, and so has the
-/// kernel slot's value.
+/// Over sound tables the walk of a canonical page outside the kernel slot, from any table of level 4, finds only a leaf
+/// that the kind of its frame allows, and so does what is left of a walk from any table; on the way it comes to tables
+/// of the next lower level alone, with all rights. Sound tables stay sound over a lawful entry, over changes in frames
+/// that are no tables, and where a frame of data with no loose leaf becomes a new table or guarded, a table that
+/// nothing links data, and a guarded frame data. What a lawful entry is by its level. A present entry of sound tables
+/// has the form of its level, and so has the kernel slot's value.
 pub fn sound_law()
     ensures walk { (kinds : List Kind) (t : ℕ → ℕ → ℕ) (frames root page : ℕ) (leaf : Leaf) → AreTables kinds t
         → level_of (kind_of kinds root) ≡ 4 → is_canonical_page page ≡ true → is_slot_page page ≡ false
         → walk t frames root page ≡ Ok leaf → allows (kind_of kinds leaf.frame) leaf.rights ≡ true }
+    ensures below { (kinds : List Kind) (t : ℕ → ℕ → ℕ) (frames page level : ℕ) (it : Upper) (leaf : Leaf)
+        → AreTables kinds t → 2 ≤ level → level ≤ 4 → level_of (kind_of kinds it.frame) + 1 ≡ level
+        → has_all it.rights ≡ true
+        → walk_below t frames page level it ≡ Ok leaf → allows (kind_of kinds leaf.frame) leaf.rights ≡ true }
+    ensures upper { (kinds : List Kind) (t : ℕ → ℕ → ℕ) (frames root page level : ℕ) (it : Upper) → AreTables kinds t
+        → level_of (kind_of kinds root) ≡ 4 → 2 ≤ level → level ≤ 4 → is_slot_page page ≡ false
+        → is_canonical_page page ≡ true → upper_walk t frames root page level ≡ Some it
+        → (level_of (kind_of kinds it.frame) + 1 ≡ level) × (has_all it.rights ≡ true) }
     ensures replaced { (kinds : List Kind) (t : ℕ → ℕ → ℕ) (a b c : ℕ) → AreTables kinds t
         → is_lawful kinds (level_of (kind_of kinds a)) b c ≡ true → AreTables kinds (replaced t a b c) }
     ensures elsewhere { (kinds : List Kind) (t u : ℕ → ℕ → ℕ) → AreTables kinds t

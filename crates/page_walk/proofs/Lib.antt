@@ -1,3 +1,2 @@
-mod LookUps
 mod Places
 mod WorkedBytes

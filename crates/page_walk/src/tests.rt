@@ -1,6 +1,6 @@
 //! The tables of the machine's opening layout, and entries that are missing.
 
-use super::{Leaf, Missing, walk};
+use super::{Leaf, Missing, Upper, upper, walk, walk_below};
 use nk_bits::Rights;
 use phys_mem::PhysMem;
 use std::test::Fail;
@@ -99,5 +99,86 @@ fn large_pages_and_frames_outside_memory_are_missing(rt: HostRuntime) -> Result<
     assert_eq!(rt; walk(&memory, 1, 0), Err(Missing { level: 1 }));
     memory.store64(0x4000, 0xF0E7);
     assert!(rt; walk(&memory, 1, 0).is_ok());
+    Ok(())
+}
+
+/// Four tables, each with one entry: at level 4 it denies fetches, at level 3 writes, at level 2 the user.
+fn chain(rt: &HostRuntime) -> Result<PhysMem, Fail> {
+    let mut memory = PhysMem::new(rt.alloc(), 16)?;
+    memory.store64(0x1000, 0x8000_0000_0000_2027);
+    memory.store64(0x2000, 0x3025);
+    memory.store64(0x3000, 0x4023);
+    memory.store64(0x4000, 0x9067);
+    Ok(memory)
+}
+
+fn rights(can_write: bool, user: bool, exec: bool) -> Rights {
+    Rights {
+        can_write,
+        user,
+        exec,
+    }
+}
+
+fn names(frame: u32, rights: Rights) -> Upper {
+    Upper { frame, rights }
+}
+
+#[test]
+fn upper_entries_down_to_the_first_that_is_missing(rt: HostRuntime) -> Result<(), Fail> {
+    let mut memory = chain(&rt)?;
+    let fourth = names(2, rights(true, true, false));
+    let third = names(3, rights(false, true, false));
+    let second = names(4, rights(false, false, false));
+    assert_eq!(rt; upper(&memory, 1, 0, 4), Some(fourth));
+    assert_eq!(rt; upper(&memory, 1, 0, 3), Some(third));
+    assert_eq!(rt; upper(&memory, 1, 0, 2), Some(second));
+    assert_eq!(rt; upper(&memory, 1, 0x1000, 2), Some(second));
+    assert_eq!(rt; upper(&memory, 1, 0x20_0000, 3), Some(third));
+    assert_eq!(rt; upper(&memory, 1, 0x20_0000, 2), None);
+    assert_eq!(rt; upper(&memory, 1, 0x4000_0000, 4), Some(fourth));
+    assert_eq!(rt; upper(&memory, 1, 0x4000_0000, 3), None);
+    assert_eq!(rt; upper(&memory, 1, 0x4000_0000, 2), None);
+    assert_eq!(rt; upper(&memory, 1, 0x80_0000_0000, 4), None);
+    memory.store64(0x3000, 0x40A3);
+    assert_eq!(rt; upper(&memory, 1, 0, 3), Some(third));
+    assert_eq!(rt; upper(&memory, 1, 0, 2), None);
+    memory.store64(0x2000, 0x1_0025);
+    assert_eq!(rt; upper(&memory, 1, 0, 3), None);
+    Ok(())
+}
+
+#[test]
+fn walks_below_upper_entries_keep_their_rights(rt: HostRuntime) -> Result<(), Fail> {
+    let memory = chain(&rt)?;
+    let all = rights(true, true, true);
+    let leaf = Leaf {
+        frame: 9,
+        rights: rights(true, false, true),
+    };
+    let narrowed = Leaf {
+        frame: 9,
+        rights: rights(false, false, true),
+    };
+    let second = names(4, rights(true, false, true));
+    assert_eq!(rt; walk_below(&memory, 2, &second, 0), Ok(leaf));
+    assert_eq!(rt;
+        walk_below(&memory, 2, &second, 0xFFFF_FFFF_8000_0FFF),
+        Ok(leaf)
+    );
+    assert_eq!(rt; walk_below(&memory, 3, &names(3, all), 0), Ok(leaf));
+    assert_eq!(rt; walk_below(&memory, 4, &names(2, all), 0), Ok(narrowed));
+    assert_eq!(rt;
+        walk_below(&memory, 2, &second, 0x1000),
+        Err(Missing { level: 1 })
+    );
+    assert_eq!(rt;
+        walk_below(&memory, 3, &names(3, all), 0x20_0000),
+        Err(Missing { level: 2 })
+    );
+    assert_eq!(rt;
+        walk_below(&memory, 4, &names(2, all), 0x4000_0000),
+        Err(Missing { level: 3 })
+    );
     Ok(())
 }

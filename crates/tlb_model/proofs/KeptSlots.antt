@@ -3,11 +3,11 @@ use Rattle.std.proofs.Common.{◌≡◌, ◌≢◌, ℕ, Bool, true, false, ◌=
 use Rattle.std.specs.Prelude.{Some, None, if◌then◌else◌}
 use Rattle.std.proofs.lemmas.Bool.{cases_eq}
 use Rattle.nk_bits.specs.declared.leaf.Leaf.{Leaf}
-use Rattle.nk_bits.specs.Translations.{Translations, look, dropped}
+use Rattle.nk_bits.specs.Translations.{Pairs, look, dropped}
 use Rattle.tlb_model.specs.PageSlots.{no_page, held, HoldsKept, HoldsNoOther}
 
 -- a longer list finds what its front finds
-look_more : (tlb more : Translations) (page : ℕ) (leaf : Leaf) → look tlb page ≡ Some leaf → look (tlb ++ more) page ≡ Some leaf
+look_more : (tlb more : Pairs) (page : ℕ) (leaf : Leaf) → look tlb page ≡ Some leaf → look (tlb ++ more) page ≡ Some leaf
 look_more [] more page leaf found = cc
 look_more (pair ∷ tlb) more page leaf found = go (pair.0 == page) found (look_more tlb more page leaf)
   where
@@ -16,7 +16,7 @@ look_more (pair ∷ tlb) more page leaf found = go (pair.0 == page) found (look_
     go true found later = found
     go false found later = later found
 
-module _ (slots before : List (ℕ × Leaf)) (tlb : Translations) (page : ℕ) (kept : HoldsKept before tlb) (others : HoldsNoOther slots before page) where
+module _ (slots before : List (ℕ × Leaf)) (tlb : Pairs) (page : ℕ) (kept : HoldsKept before tlb) (others : HoldsNoOther slots before page) where
   pub kept_dropped : held slots page ≡ None → ((other : ℕ) → other ≢ page → look (dropped tlb page) other ≡ look tlb other) → HoldsKept slots (dropped tlb page)
   kept_dropped empty same other leaf found =
       elim (cases_eq other page) [

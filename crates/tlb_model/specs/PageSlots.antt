@@ -1,7 +1,7 @@
 -- The index of the translations: 256 slots of a page number and a leaf. A page's slot is that of its low eight bits.
 use Rattle.std.specs.Prelude.{◌≡◌, ◌≢◌, ℕ, ◌-◌, ◌%◌, ◌^◌, false, not, ◌&&◌, ◌==◌, if◌then◌else◌, List, Option, Some, None, slice_index_or}
 use Rattle.nk_bits.specs.declared.leaf.Leaf.{Leaf}
-use Rattle.nk_bits.specs.Translations.{Translations, look}
+use Rattle.nk_bits.specs.Translations.{Pairs, look}
 
 -- the number that stands for no page: the number of a page has 52 bits
 abbrev pub no_page : ℕ
@@ -18,7 +18,7 @@ held slots page =
     if slot.0 == page && not (page == no_page) then Some slot.1 else None
 
 -- what the slots hold is kept
-abbrev pub HoldsKept : List (ℕ × Leaf) → Translations → Type 0
+abbrev pub HoldsKept : List (ℕ × Leaf) → Pairs → Type 0
 HoldsKept slots tlb = (page : ℕ) (leaf : Leaf) → held slots page ≡ Some leaf → look tlb page ≡ Some leaf
 
 -- but for one page the slots hold nothing that others didn't

@@ -6,6 +6,7 @@ use Rattle.nk_bits.specs.declared.control.Control.{Control}
 use Rattle.nk_bits.specs.Accesses.{accessed, completed, reached, crosses, first_part, has_canonical_bytes, wp_of, smep_of}
 use Rattle.nk_bits.specs.Paging.{is_missing, is_present, page_index, walk}
 use Rattle.nk_bits.specs.Translations.{Translations}
+use Rattle.nk_bits.specs.UpperEntries.{walk_by}
 use Rattle.phys_mem.specs.Memory.{entry_in, number_at, stored, stores}
 use Rattle.x86_alu.specs.Flags.{with_flag}
 use Rattle.x86_regs.specs.declared.delivery.Tables.{Tables}
@@ -40,7 +41,7 @@ abbrev tables : Tables
 tables = record { idt = 0xFFFFFF8000000000; limit = 15; tss = 0xFFFFFF800000000C }
 
 abbrev kept : Translations
-kept = (0xFFFFFF8000000, record { frame = 0; rights = record { can_write = true; user = false; exec = false } }) ∷ []
+kept = record { pairs = (0xFFFFFF8000000, record { frame = 0; rights = record { can_write = true; user = false; exec = false } }) ∷ []; upper = [] }
 
 -- memory with this IST1 and the words behind it
 abbrev memory : ℕ → List ℕ → List ℕ
@@ -84,7 +85,7 @@ third_push_faults :
       tlb = kept;
       answer = Err shut;
     }
-unfolding delivered entry_found gate_read pushed accessed completed reached crosses has_canonical_bytes first_part number_at stores stored wp_of smep_of with_flag walk entry_in is_missing is_present page_index
+unfolding delivered entry_found gate_read pushed accessed completed reached crosses has_canonical_bytes first_part number_at stores stored wp_of smep_of with_flag walk walk_by entry_in is_missing is_present page_index
 third_push_faults = refl
 
 -- the stores of the first and of the last of these: six words, the code lowest; and the two words of the pushes made
@@ -94,7 +95,7 @@ stores_are :
     ++ stores 8 0x50 5) ×
     (delivery_stores (regs 0x7008 0x401234 0x246 3 0x23) control tables 0 None (memory 0xFFFFFF8000000010 blank) kept
     ≡ stores 8 8 0x23 ++ stores 8 0 0x7008)
-unfolding delivery_stores push_stores entry_found gate_read pushed accessed completed reached crosses has_canonical_bytes first_part number_at stores stored wp_of smep_of walk entry_in is_missing is_present page_index
+unfolding delivery_stores push_stores entry_found gate_read pushed accessed completed reached crosses has_canonical_bytes first_part number_at stores stored wp_of smep_of walk walk_by entry_in is_missing is_present page_index
 stores_are = (refl, refl)
 
 -- gate 1 passes the limit, and nothing is read

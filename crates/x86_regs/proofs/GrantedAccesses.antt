@@ -1,18 +1,16 @@
 -- What translations that pass a test grant to the accesses of a plan: they go on passing, and each place that is checked
 -- for a write is served by one of them, and lies in memory.
-use Rattle.std.proofs.Common.{◌≡◌, ℕ, ◌+◌, ◌-◌, ◌*◌, ◌/◌, ◌%◌, ◌^◌, ◌<◌, ◌≤◌, Bool, true, false, List, All, arith, refl, sym, ◌∙◌}
-use Rattle.std.specs.Prelude.{⊤, nat_lt, IfOk, IfSome, Option, None, Some, Result, Ok, Err, if◌then◌else◌}
+use Rattle.std.proofs.Common.{◌≡◌, ℕ, ◌+◌, ◌-◌, ◌*◌, ◌/◌, ◌%◌, ◌^◌, ◌<◌, ◌≤◌, Bool, true, false, List, arith, refl, sym, ◌∙◌}
+use Rattle.std.specs.Prelude.{⊤, IfOk, IfSome, Option, None, Some, Result, Ok, Err, if◌then◌else◌}
 use Rattle.std.proofs.Math.Nat.{min-le_right, min-eq_left}
-use Rattle.std.proofs.lemmas.Bool.{ltb-true, ltb-false, lt-ltb, false≢true}
-use Rattle.std.proofs.lemmas.List.Elements.{All-weaker}
+use Rattle.std.proofs.lemmas.Bool.{ltb-true, ltb-false, false≢true}
 use Rattle.std.proofs.lemmas.Result.{IfOk-at_ok}
 use Rattle.nk_bits.specs.declared.access.Access.{Access}
 use Rattle.nk_bits.specs.declared.access.Access.TheVariants.{Read, Write}
 use Rattle.nk_bits.specs.declared.fault.AccessFault.{AccessFault}
-use Rattle.nk_bits.specs.declared.leaf.Leaf.{Leaf}
 use Rattle.nk_bits.specs.declared.leaf.Target.{Target}
-use Rattle.nk_bits.specs.Paging.{page_of, walk}
 use Rattle.nk_bits.specs.Translations.{NamesFramesIn, Translations}
+use Rattle.nk_bits.specs.Claims.{AllPass, Claim, lies_in}
 use Rattle.nk_bits.specs.Outcomes.{Outcome, and_then, answered, then_by, then_on}
 use Rattle.nk_bits.specs.Accesses.{IsAccessSize, IsTarget, IsWalked, Serves, View, accessed, completed, crosses, first_part, has_canonical_bytes, next_page, reached}
 use Rattle.page_walk.specs.declared.plan.Gathered.{Gathered}
@@ -26,24 +24,17 @@ use Rattle.x86_regs.specs.declared.effects.Write.{Write as Stored}
 use Rattle.x86_regs.specs.EffectsKept.{IsGranted}
 use Rattle.x86_regs.specs.Effects.{write_at}
 
--- a test holds of a translation, and of each that is kept
-abbrev pub Passes : (ℕ × Leaf → Bool) → ℕ × Leaf → Type 0
-Passes test pair = test pair ≡ true
-
-abbrev pub AllPass : (ℕ × Leaf → Bool) → Translations → Type 0
-AllPass test tlb = All (Passes test) tlb
-
 -- what is used of the laws of accesses and of walks
 pub record AccessLaws : Type 0 where
-  pub kept : (view : View) (access : Access) (test : ℕ × Leaf → Bool) (tlb : Translations) (va width : ℕ)
+  pub kept : (view : View) (access : Access) (test : Claim) (tlb : Translations) (va width : ℕ)
       → IsWalked view test → va < 2 ^ 64 → 1 ≤ width → AllPass test tlb
       → AllPass test (accessed view access tlb va width).tlb
-  pub served : (view : View) (access : Access) (test : ℕ × Leaf → Bool) (tlb : Translations) (va width : ℕ)
+  pub served : (view : View) (access : Access) (test : Claim) (tlb : Translations) (va width : ℕ)
       → IsWalked view test → va < 2 ^ 64 → 1 ≤ width → AllPass test tlb
       → IfOk (accessed view access tlb va width).answer (λ target. Serves view access test va target.first
       × (crosses va width ≡ true → Serves view access test (next_page va) target.second))
-  pub in_memory : (t : ℕ → ℕ → ℕ) (frames root page : ℕ) (leaf : Leaf) → walk t frames root page ≡ Ok leaf
-      → leaf.frame < frames
+  pub lies : (size : ℕ) (tlb : Translations) → NamesFramesIn size tlb → AllPass (lies_in size) tlb
+  pub lies_walked : (view : View) (size : ℕ) → view.frames ≡ size / 4096 → IsWalked view (lies_in size)
 
 -- the bytes of an operand have addresses of 64 bits, and are 1, 2, 4 or 8
 pub record IsSpan (span : Span) : Type 0 where
@@ -68,9 +59,9 @@ size_few : (width : ℕ) → IsAccessSize width → width ≤ 8
 size_few width sized = omega arith
 
 -- what passes after an outcome, and after the next step from each answer, passes after both
-pub kept_on : {F A B : Type 0} (test : ℕ × Leaf → Bool) (outcome : Outcome F A) (next : A → Translations → Outcome F B) →
+pub kept_on : {F A B : Type 0} (test : Claim) (outcome : Outcome F A) (next : A → Translations → Outcome F B) →
     AllPass test outcome.tlb → ((x : A) → AllPass test (next x outcome.tlb).tlb) → AllPass test (and_then outcome next).tlb
-kept_on test outcome next kept later = then_on (Passes test) outcome.answer outcome.tlb next kept later
+kept_on test outcome next kept later = then_on (AllPass test) outcome.answer outcome.tlb next kept later
 
 -- what holds of the answer of the next step, from each answer, holds of that of both
 then_ok : {F A B : Type 0} (Q : B → Type 0) (answer : Result A F) (tlb : Translations)
@@ -149,23 +140,7 @@ module _ (size va width : ℕ) (target : Target) (whole : size % 4096 ≡ 0) (fe
     second_fits = second_ends (crosses va width) refl;
   }
 
--- the frame of a translation lies in a memory of so many bytes
-abbrev pub lies_in : ℕ → ℕ × Leaf → Bool
-lies_in size pair = nat_lt (4096 * pair.1.frame) size
-
-pub named_lies : (size : ℕ) (tlb : Translations) → NamesFramesIn size tlb → AllPass (lies_in size) tlb
-named_lies size tlb named =
-    All-weaker (λ pair. 4096 * pair.1.frame < size) (Passes (lies_in size))
-    (λ pair. lt-ltb (4096 * pair.1.frame) size) tlb named
-
 module _ (laws : AccessLaws) (view : View) where
-  -- a walk finds no other
-  pub lies_walked : (size : ℕ) → view.frames ≡ size / 4096 → IsWalked view (lies_in size)
-  lies_walked size frames va leaf canonical found =
-      let below : leaf.frame < view.frames =
-      laws.in_memory view.entries view.frames view.root (page_of va) leaf found in
-      lt-ltb (4096 * leaf.frame) size (omega arith)
-
   named_at : (size va place : ℕ) → Serves view Write (lies_in size) va place → IsNamed size va place
   named_at size va place serves = record {
     frame = serves.leaf.frame;
@@ -173,7 +148,7 @@ module _ (laws : AccessLaws) (view : View) where
     place_is = serves.place_is;
   }
 
-  module _ (test : ℕ × Leaf → Bool) (walked : IsWalked view test) where
+  module _ (test : Claim) (walked : IsWalked view test) where
     span_kept : (access : Access) (span : Span) (tlb : Translations) → IsSpan span → AllPass test tlb →
         AllPass test (accessed view access tlb span.va span.width).tlb
     span_kept access span tlb is pass =
@@ -221,7 +196,7 @@ module _ (laws : AccessLaws) (view : View) where
       target_grants span tlb is pass lie target found value =
           let some = size_some span.width is.sized in
           let few = size_few span.width is.sized in
-          let named = lies_walked size frames in
+          let named = laws.lies_walked view size frames in
           let serve = laws.served view Write test tlb span.va span.width walked is.address some pass in
           let serves = IfOk-at_ok _ found serve in
           let serve_within = laws.served view Write (lies_in size) tlb span.va span.width named is.address some lie in

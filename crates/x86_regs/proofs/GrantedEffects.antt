@@ -1,12 +1,12 @@
 -- What translations that pass a test grant to an effect: they go on passing, and its write is served by one of them.
-use Rattle.std.proofs.Common.{◌≡◌, ℕ, ◌+◌, ◌*◌, ◌/◌, ◌%◌, Bool, List, length, refl, inr}
+use Rattle.std.proofs.Common.{◌≡◌, ℕ, ◌+◌, ◌*◌, ◌/◌, ◌%◌, List, length, refl, inr}
 use Rattle.std.specs.Prelude.{IfOk, IfSome, Option, None, Some, Result, Ok, Err, slice_index}
 use Rattle.std.proofs.lemmas.Result.{IfOk-at_ok}
 use Rattle.x86_decode.specs.WellFormed.{IsWellFormed}
 use Rattle.x86_decode.specs.declared.instruction.Instr.{Instr}
 use Rattle.nk_bits.specs.declared.control.Control.{Control}
-use Rattle.nk_bits.specs.declared.leaf.Leaf.{Leaf}
 use Rattle.nk_bits.specs.Accesses.{IsWalked, View}
+use Rattle.nk_bits.specs.Claims.{AllPass, Claim, lies_in}
 use Rattle.nk_bits.specs.Outcomes.{Outcome}
 use Rattle.nk_bits.specs.Translations.{NamesFramesIn, Translations}
 use Rattle.page_walk.specs.declared.plan.Gathered.{Gathered}
@@ -27,7 +27,7 @@ use Rattle.x86_regs.specs.OperandOutcomes.{outcome_by}
 use Rattle.x86_regs.specs.EffectsKept.{AreRegisters, IsGranted}
 use Rattle.x86_regs.specs.Effects.{concluded, effect_by, effect_of, frame_popped, in_faults, planned_effect, popped, raised_by, refusal, unless_refused}
 use Rattle.x86_regs.proofs.CalmActs.{unless_refused_ok}
-use Rattle.x86_regs.proofs.GrantedAccesses.{AccessLaws, AllPass, Grants, IsSpan, checked_grants, checked_kept, gathered_grants, gathered_kept, lies_in, lies_walked, kept_on, named_lies, ok_on, taken_kept, write_grants}
+use Rattle.x86_regs.proofs.GrantedAccesses.{AccessLaws, Grants, IsSpan, checked_grants, checked_kept, gathered_grants, gathered_kept, kept_on, ok_on, taken_kept, write_grants}
 use Rattle.x86_regs.proofs.PlannedSpans.{below_64, planned}
 
 -- the answer of a step, before its fault is raised
@@ -35,7 +35,7 @@ raised_ok : {A : Type 0} (answer : Result A SpanFault) (x : A) → raised_by ans
 raised_ok (Ok answer) x is = cc
 raised_ok (Err fault) x is = cc
 
-module _ (laws : AccessLaws) (view : View) (test : ℕ × Leaf → Bool) (walked : IsWalked view test) where
+module _ (laws : AccessLaws) (view : View) (test : Claim) (walked : IsWalked view test) where
   concluded_kept : (plan : Plan) (found : Gathered) (outcome : Result Change Fault) (tlb : Translations) →
       IfSome plan.last IsSpan → AllPass test tlb → AllPass test (concluded view plan found outcome tlb).tlb
   concluded_kept plan found (Err fault) tlb is pass = pass
@@ -113,7 +113,7 @@ module _ (laws : AccessLaws) (view : View) (test : ℕ × Leaf → Bool) (walked
           let accesses = plan_by by i count regs in
           let is = planned i count regs formed registers by in
           let kept = gathered_kept laws view test walked m accesses tlb is pass in
-          let lie_on = gathered_kept laws view (lies_in size) (lies_walked laws view size frames) m accesses tlb is lie in
+          let lie_on = gathered_kept laws view (lies_in size) (laws.lies_walked view size frames) m accesses tlb is lie in
           let grants = gathered_grants laws view test walked size whole frames m accesses tlb is pass lie in
           ok_on Granted (in_faults (gathered m view accesses tlb)) _
           (λ found is_found.
@@ -126,7 +126,7 @@ module _ (laws : AccessLaws) (view : View) (test : ℕ × Leaf → Bool) (walked
       form_granted by = planned_granted by
 
 module _ (laws : AccessLaws) (i : Instr) (size : ℕ) (regs : Regs) (control : Control) (m : List ℕ) (tlb : Translations)
-    (test : ℕ × Leaf → Bool) (formed : IsWellFormed i) (registers : AreRegisters regs) where
+    (test : Claim) (formed : IsWellFormed i) (registers : AreRegisters regs) where
   pub keeps_translations : IsWalked (view_of m control regs.cpl) test → AllPass test tlb →
       AllPass test (effect_of i size regs control m tlb).tlb
   unfolding effect_of
@@ -141,7 +141,7 @@ module _ (laws : AccessLaws) (i : Instr) (size : ℕ) (regs : Regs) (control : C
   unfolding effect_of
   is_granted whole named walked pass =
       let view = view_of m control regs.cpl in
-      let lie = named_lies (length m) tlb named in
+      let lie = laws.lies (length m) tlb named in
       unless_refused_ok (λ effect. IfSome effect.write (IsGranted view test (length m))) (refusal i regs.cpl) tlb _
       (form_granted laws view test walked (length m) whole refl i size regs control m formed registers tlb pass lie
       (instr_form i))

@@ -7,8 +7,10 @@ use Rattle.decode_fields.specs.declared.place.Place.TheVariants.{Nothing, Reg, H
 use Rattle.decode_fields.specs.declared.parts.Rep.TheVariants.{WhileEqual}
 use Rattle.x86_decode.specs.declared.instruction.Instr.{Instr}
 use Rattle.x86_decode.specs.declared.operation.Op.TheVariants as op
+use Rattle.nk_bits.specs.declared.leaf.Upper.{Upper}
 use Rattle.nk_bits.specs.Paging.{walk, page_index, is_missing, is_present, frame_of}
-use Rattle.nk_bits.specs.Translations.{Translations}
+use Rattle.nk_bits.specs.Translations.{Translations, flushed}
+use Rattle.nk_bits.specs.UpperEntries.{span_of, walk_by}
 use Rattle.nk_bits.specs.Accesses.{accessed, completed, reached, crosses, first_part, next_page, has_canonical_bytes, wp_of, smep_of}
 use Rattle.phys_mem.specs.Memory.{entry_in, number_at}
 use Rattle.page_walk.specs.declared.plan.Plan.{Plan}
@@ -136,7 +138,7 @@ missing :
     (effect_at 3 (instr op.Mov 8 (at 7 0) (Reg 1) 0) (pointed 0x2008 0x2008 0x2000 0x5000) 2 ≡ Err (fault.Page 6 0x5000)) ×
     (effect_at 3 (instr op.Lidt 64 Nothing (at 7 0) 0) (pointed 0x2008 0x2008 0x2000 0x5000) 2 ≡ Err (fault.General 0)) ×
     (effect (instr op.Lea 64 (Reg 0) (at 7 0) 0) (pointed 0x2008 0x2008 0x2000 0x5000) 2 ≡ quiet (general 0x5000 6 7 0x2008 0x2008 0x2000 0x5000) 2)
-unfolding effect_of gathered pointed accessed completed reached crosses has_canonical_bytes first_part number_at wp_of smep_of walk page_index is_missing is_present frame_of entry_in condition_stands
+unfolding effect_of gathered pointed accessed completed reached crosses has_canonical_bytes first_part number_at wp_of smep_of walk walk_by page_index is_missing is_present frame_of entry_in condition_stands
 missing = (refl, refl, refl, refl, refl, refl, refl, refl, refl, refl, refl)
 
 -- two faults that stand together: an operand before the stack, the stack before the place of a pop, RSI before
@@ -154,7 +156,7 @@ first_faults :
     (effect (instr op.Call 64 Nothing (at 6 0) 0) (pointed 0x6008 0x2008 0x2000 0x5000) 2 ≡ Err (fault.General 0)) ×
     (effect (instr op.Call 64 Nothing (at 6 16) 0) (pointed 0x6008 0x2008 0x2000 0x5000) 2 ≡ Err (fault.Page 2 0x6000)) ×
     (effect (instr op.Ret 64 Nothing Value 0) (pointed 0x6008 0x2008 0x2000 0x5000) 2 ≡ Err (fault.Page 0 0x6008))
-unfolding effect_of gathered pointed accessed completed reached crosses has_canonical_bytes first_part number_at wp_of smep_of walk page_index is_missing is_present frame_of entry_in
+unfolding effect_of gathered pointed accessed completed reached crosses has_canonical_bytes first_part number_at wp_of smep_of walk walk_by page_index is_missing is_present frame_of entry_in
 first_faults = (refl, refl, refl, refl, refl, refl, refl, refl, refl, refl, refl, refl)
 
 -- a place that isn't canonical raises #SS by a push, a pop, or RSP or RBP as base, and else #GP(0), by R12 (C) and
@@ -182,7 +184,7 @@ read_in_order :
     (effect (instr op.Iretq 64 Nothing Nothing 0) (pointed 0x2FF0 0x2008 0x2000 0x5000) 2 ≡ Err (fault.Page 0 0x3000)) ×
     (effect (instr op.Iretq 64 Nothing Nothing 0) (pointed (2 ^ 47 - 8) 0x2008 0x2000 0x5000) 2 ≡ Err (fault.Page 0 (2 ^ 47 - 8))) ×
     (effect (instr op.Iretq 64 Nothing Nothing 0) (pointed (2 ^ 47) 0x2008 0x2000 0x5000) 2 ≡ Err fault.Stack)
-unfolding effect_of frame_popped gathered pointed accessed completed reached crosses next_page has_canonical_bytes first_part number_at wp_of smep_of walk page_index is_missing is_present frame_of entry_in
+unfolding effect_of frame_popped gathered pointed accessed completed reached crosses next_page has_canonical_bytes first_part number_at wp_of smep_of walk walk_by page_index is_missing is_present frame_of entry_in
 read_in_order = (refl, refl, refl, refl, refl)
 
 -- a repeated instruction whose count is 0 reaches nothing, even where its pages are missing
@@ -204,20 +206,36 @@ written_back = (refl, refl, refl)
 
 -- the page at 2000, read-only
 read_only : Translations
-read_only = (2, record { frame = 0; rights = record { can_write = false; user = false; exec = false } }) ∷ []
+read_only = record { pairs = (2, record { frame = 0; rights = record { can_write = false; user = false; exec = false } }) ∷ []; upper = [] }
 
 -- a refused write drops its page's translation, and so does a refused read at CPL 3; a fault that isn't a page
 -- fault drops nothing
 translations_after :
-    (effect_of (instr op.Add 8 (at 7 0) (Reg 1) 0) 3 (regs_at 0x1000 (three 5 6 7) 2 0) control memory read_only ≡ record { answer = Err (fault.Page 3 0x2008); tlb = [] }) ×
-    (effect_of (instr op.Cmp 8 (at 7 0) (Reg 1) 0) 3 (regs_at 0x1000 (three 5 6 7) 2 3) control memory read_only ≡ record { answer = Err (fault.Page 5 0x2008); tlb = [] }) ×
+    (effect_of (instr op.Add 8 (at 7 0) (Reg 1) 0) 3 (regs_at 0x1000 (three 5 6 7) 2 0) control memory read_only ≡ record { answer = Err (fault.Page 3 0x2008); tlb = flushed }) ×
+    (effect_of (instr op.Cmp 8 (at 7 0) (Reg 1) 0) 3 (regs_at 0x1000 (three 5 6 7) 2 3) control memory read_only ≡ record { answer = Err (fault.Page 5 0x2008); tlb = flushed }) ×
     (effect_of (instr op.Div 8 (at 6 0) Nothing 0) 3 (regs_at 0x1000 (three 5 6 7) 2 0) control memory read_only ≡ record { answer = Err fault.Divide; tlb = read_only })
 unfolding effect_of gathered read_only accessed completed reached crosses has_canonical_bytes first_part number_at wp_of smep_of
 translations_after = (refl, refl, refl)
 
+-- what an upper entry names, with all rights
+abbrev upper_at : ℕ → Upper
+upper_at frame = record { frame = frame; rights = record { can_write = true; user = true; exec = true } }
+
+-- the same beside an upper entry of level 2 that serves the pages below 2 MiB, one of level 2 that serves the next 2 MiB, and
+-- one of level 4 that serves the pages below 512 GiB
+with_upper : Translations
+with_upper = record { pairs = read_only.pairs; upper = (2, 0, upper_at 9) ∷ (2, 1, upper_at 10) ∷ (4, 0, upper_at 11) ∷ [] }
+
+-- a page fault drops those that serve its page
+upper_after :
+    (effect_of (instr op.Add 8 (at 7 0) (Reg 1) 0) 3 (regs_at 0x1000 (three 5 6 7) 2 0) control memory with_upper ≡ record { answer = Err (fault.Page 3 0x2008); tlb = record { pairs = []; upper = (2, 1, upper_at 10) ∷ [] } }) ×
+    (effect_of (instr op.Div 8 (at 6 0) Nothing 0) 3 (regs_at 0x1000 (three 5 6 7) 2 0) control memory with_upper ≡ record { answer = Err fault.Divide; tlb = with_upper })
+unfolding effect_of gathered read_only with_upper span_of accessed completed reached crosses has_canonical_bytes first_part number_at wp_of smep_of
+upper_after = (refl, refl)
+
 -- the pages at 2000 and 3000, in frames 0 and 7, of which the second may be read-only
 two_pages : Bool → Translations
-two_pages second = (2, record { frame = 0; rights = record { can_write = true; user = false; exec = false } }) ∷ (3, record { frame = 7; rights = record { can_write = second; user = false; exec = false } }) ∷ []
+two_pages second = record { pairs = (2, record { frame = 0; rights = record { can_write = true; user = false; exec = false } }) ∷ (3, record { frame = 7; rights = record { can_write = second; user = false; exec = false } }) ∷ []; upper = [] }
 
 -- four bytes over the end of the page at 2000: both places are told; where the second page refuses, the fault names its first
 -- byte, its translation alone is dropped, and nothing is written
@@ -225,7 +243,7 @@ crossing :
     (effect_of (instr op.Mov 32 (at 7 0) (Reg 0) 0) 3 (regs_at 0x1000 (pointed 0x2008 0x2008 0x2000 0x2FFE) 2 0) control memory (two_pages true) ≡
     record { answer = Ok (record { regs = regs_at 0x1003 (pointed 0x2008 0x2008 0x2000 0x2FFE) 2 0; write = Some (record { va = 0x2FFE; width = 4; value = 5; target = record { first = 0xFFE; second = 0x7000 } }); act = act.Quiet }); tlb = two_pages true }) ×
     (effect_of (instr op.Inc 32 (at 7 0) Nothing 0) 3 (regs_at 0x1000 (pointed 0x2008 0x2008 0x2000 0x2FFE) 2 0) control memory (two_pages false) ≡
-    record { answer = Err (fault.Page 3 0x3000); tlb = (2, record { frame = 0; rights = record { can_write = true; user = false; exec = false } }) ∷ [] }) ×
+    record { answer = Err (fault.Page 3 0x3000); tlb = record { pairs = (2, record { frame = 0; rights = record { can_write = true; user = false; exec = false } }) ∷ []; upper = [] } }) ×
     (effect_of (instr op.Inc 32 (at 7 0) Nothing 0) 3 (regs_at 0x1000 (pointed 0x2008 0x2008 0x2000 0x2FFE) 3 0) control memory (two_pages true) ≡
     record { answer = Ok (record { regs = regs_at 0x1003 (pointed 0x2008 0x2008 0x2000 0x2FFE) 3 0; write = Some (record { va = 0x2FFE; width = 4; value = 1; target = record { first = 0xFFE; second = 0x7000 } }); act = act.Quiet }); tlb = two_pages true })
 unfolding effect_of gathered pointed two_pages with_flag lib.Count.ones accessed completed reached crosses next_page has_canonical_bytes first_part number_at wp_of smep_of

@@ -41,7 +41,7 @@ memory =
     0x23 ∷ 0x00 ∷ 0x00 ∷ 0x00 ∷ 0x00 ∷ 0x00 ∷ 0x00 ∷ 0x00 ∷ []
 
 abbrev pub kept : Translations
-kept = (2, record { frame = 0; rights = record { can_write = true; user = true; exec = false } }) ∷ []
+kept = record { pairs = (2, record { frame = 0; rights = record { can_write = true; user = true; exec = false } }) ∷ []; upper = [] }
 
 -- an instruction that is neither repeated nor locked, with its width, its operands and its number
 abbrev pub instr : Op → ℕ → Place → Place → ℕ → Instr

@@ -1,7 +1,7 @@
 -- What an effect keeps, and what the translations grant to it: the words of the laws on effects.
-use Rattle.std.specs.Prelude.{◌≡◌, ℕ, ◌^◌, ◌<◌, ⊤, Bool, true, length, slice_index}
+use Rattle.std.specs.Prelude.{◌≡◌, ℕ, ◌^◌, ◌<◌, ⊤, true, length, slice_index}
 use Rattle.nk_bits.specs.declared.access.Access.TheVariants as access
-use Rattle.nk_bits.specs.declared.leaf.Leaf.{Leaf}
+use Rattle.nk_bits.specs.Claims.{Claim}
 use Rattle.nk_bits.specs.Accesses.{IsAccessSize, IsTarget, Serves, View, crosses, next_page}
 use Rattle.x86_regs.specs.declared.effects.Act.{Act}
 use Rattle.x86_regs.specs.declared.effects.Act.TheVariants as act
@@ -40,7 +40,7 @@ IsSmallAct _ = ⊤
 
 -- a write to a memory of so many bytes is granted: on each of its pages a translation of which the test holds serves it,
 -- and gives its place there
-pub record IsGranted (view : View) (test : ℕ × Leaf → Bool) (size : ℕ) (write : Write) : Type 0 where
+pub record IsGranted (view : View) (test : Claim) (size : ℕ) (write : Write) : Type 0 where
   pub sized : IsAccessSize write.width
   pub target : IsTarget size write.va write.width write.target
   pub first : Serves view access.Write test write.va write.target.first

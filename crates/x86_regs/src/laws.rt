@@ -1,20 +1,20 @@
 //! What follows from the definition of an effect, for those who say what a turn of the processor keeps.
 
-ghost use Rattle.std.specs.Prelude.{◌≡◌, ℕ, ◌%◌, Bool, true, false, List, length, All, IfErr, IfOk, IfSome};
+ghost use Rattle.std.specs.Prelude.{◌≡◌, ℕ, ◌%◌, Bool, true, false, List, length, IfErr, IfOk, IfSome};
 ghost use Rattle.x86_decode.specs.declared.instruction.Instr.{Instr};
 ghost use Rattle.x86_decode.specs.Conditions.{is_protected};
 ghost use Rattle.x86_decode.specs.WellFormed.{IsWellFormed};
 ghost use Rattle.nk_bits.specs.declared.control.Control.{Control};
-ghost use Rattle.nk_bits.specs.declared.leaf.Leaf.{Leaf};
 ghost use Rattle.nk_bits.specs.declared.fault.AccessFault.{AccessFault};
 ghost use Rattle.nk_bits.specs.Accesses.{IsSmallAccessFault, IsWalked};
+ghost use Rattle.nk_bits.specs.Claims.{AllPass, Claim};
 ghost use Rattle.nk_bits.specs.Translations.{NamesFramesIn, Translations};
 ghost use Rattle.page_walk.specs.MemoryAccess.{view_of};
 ghost use Rattle.x86_regs.specs.declared.registers.Regs.{Regs};
 ghost use Rattle.x86_regs.specs.Effects.{LeavesToDelivery, LoadsFrameIn, effect_of, raised};
 ghost use Rattle.x86_regs.specs.EffectsKept.{AreRegisters, IsGranted, IsSmallAct, IsSmallFault, LoadsNothing};
 
-use nk_bits::{access_law, walk_law};
+use nk_bits::{access_law, kept_law};
 
 /// What no instruction does by itself: it leaves the CPL and SS, and loads CR3 with a frame in memory alone. An
 /// interrupt or a return moves RIP on, and leaves all else to its delivery.
@@ -41,19 +41,19 @@ pub fn grant_law()
         → is_protected i.op ≡ true
         → IfOk (effect_of i size regs control m tlb).answer (λ effect. regs.cpl ≡ 0) }
     ensures translations { (i : Instr) (size : ℕ) (regs : Regs) (control : Control) (m : List ℕ) (tlb : Translations)
-        (test : ℕ × Leaf → Bool)
+        (test : Claim)
         → IsWellFormed i → AreRegisters regs → IsWalked (view_of m control regs.cpl) test
-        → All (λ pair. test pair ≡ true) tlb
-        → All (λ pair. test pair ≡ true) (effect_of i size regs control m tlb).tlb }
+        → AllPass test tlb
+        → AllPass test (effect_of i size regs control m tlb).tlb }
     ensures granted { (i : Instr) (size : ℕ) (regs : Regs) (control : Control) (m : List ℕ) (tlb : Translations)
-        (test : ℕ × Leaf → Bool)
+        (test : Claim)
         → IsWellFormed i → AreRegisters regs → length m % 4096 ≡ 0 → NamesFramesIn (length m) tlb
-        → IsWalked (view_of m control regs.cpl) test → All (λ pair. test pair ≡ true) tlb
+        → IsWalked (view_of m control regs.cpl) test → AllPass test tlb
         → IfOk (effect_of i size regs control m tlb).answer
         (λ effect. IfSome effect.write (IsGranted (view_of m control regs.cpl) test (length m))) }
 {
     access_law();
-    walk_law();
+    kept_law();
 }
 
 /// The numbers of the fault of a well-formed instruction have 64 bits, where registers have, and so have those of the

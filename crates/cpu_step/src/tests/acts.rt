@@ -1,8 +1,12 @@
 //! What instructions ask of the processor (SDM volume 2, each instruction's page; volume 3, 2.5 and 6.8.3).
 
-use super::{After, CONTROL, REGS, TABLES, delivered, ran, turn, with};
+use super::{
+    After, CONTROL, REGS, TABLES, cpu, delivered, memory, put, ran, turn, turned, with,
+};
 use crate::Stepped;
+use irq_plan::What;
 use nk_bits::Control;
+use std::test::Fail;
 use x86_regs::{RAX, Regs, Tables};
 
 /// The instruction ran, and left these control registers.
@@ -136,4 +140,20 @@ fn descriptor_table(rt: HostRuntime) {
         ..ran(&REGS, 3)
     };
     assert_eq!(rt; turn(rt.alloc(), b"\x0F\x01\x1B", &REGS), Some(loaded));
+}
+
+/// INVLPG at RBX drops the translation of page 1, and each upper entry, also one of the kernel slot's pages.
+#[test]
+fn invalidated_page(rt: HostRuntime) -> Result<(), Fail> {
+    let mut mem = memory(rt.alloc())?;
+    put(&mut mem, 0x8000, b"\x0F\x01\x3B");
+    let mut cpu = cpu(rt.alloc(), &REGS)?;
+    cpu.take_event(&mem, What::Fill(0x1000));
+    cpu.take_event(&mem, What::Fill(0x3000));
+    cpu.take_event(&mem, What::Keep(2, 0xFFFF_FF80_0000_0000));
+    assert_eq!(rt; turned(&mut cpu, &mut mem), Some(ran(&REGS, 3)));
+    assert!(rt; cpu.tlb().look(1).is_none());
+    assert!(rt; cpu.tlb().look(3).is_some());
+    assert!(rt; cpu.tlb().kept(2, 0xFFFF_FF80_0000_0).is_none());
+    Ok(())
 }

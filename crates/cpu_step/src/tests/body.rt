@@ -56,18 +56,23 @@ fn wp_is_clear(rt: HostRuntime) -> Result<(), Fail> {
     Ok(())
 }
 
-/// The page's translation is kept before, and goes.
+/// The page's translation is kept before, and goes with the upper entries that serve the page.
 #[test]
 fn wp_is_set(rt: HostRuntime) -> Result<(), Fail> {
     let mut mem = memory(rt.alloc())?;
     let mut cpu = cpu(rt.alloc(), &BODY)?;
     cpu.take_event(&mem, What::Fill(0xFFFF_FF80_0000_4000));
     cpu.take_event(&mem, What::Fill(0xFFFF_FF80_0000_3000));
+    cpu.take_event(&mem, What::Keep(2, 0xFFFF_FF80_0000_0000));
+    cpu.take_event(&mem, What::Keep(2, 0x1000));
     assert!(rt; cpu.tlb().look(PUSHED).is_some());
+    assert!(rt; cpu.tlb().kept(2, PUSHED).is_some());
     let fault = page_fault(&BODY, 3, 0xFFFF_FF80_0000_4FF8);
     assert_eq!(rt; turned(&mut cpu, &mut mem), Some(fault));
     assert!(rt; cpu.tlb().look(PUSHED).is_none());
     assert!(rt; cpu.tlb().look(PUSHED - 1).is_some());
+    assert!(rt; cpu.tlb().kept(2, PUSHED).is_none());
+    assert!(rt; cpu.tlb().kept(2, 1).is_some());
     Ok(())
 }
 

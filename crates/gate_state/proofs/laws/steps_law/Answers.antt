@@ -20,6 +20,23 @@ returns c =
         kept = c.access_law.ensures.kept;
         served = c.access_law.ensures.served;
       };
+      kept = record {
+        flushed = c.kept_law.ensures.flushed;
+        faulted = c.kept_law.ensures.faulted;
+        forgotten = c.kept_law.ensures.forgotten;
+        entry_forgotten = c.kept_law.ensures.entry_forgotten;
+        entry_kept = c.kept_law.ensures.entry_kept;
+        filled = c.kept_law.ensures.filled;
+        passes = c.kept_law.ensures.kept_passes;
+        found = c.kept_law.ensures.found;
+        after = c.kept_law.ensures.after;
+      };
+      upper = record {
+        covers = c.upper_law.ensures.covers;
+        same_span = c.upper_law.ensures.same_span;
+        same_slot = c.upper_law.ensures.same_slot;
+        first_page = c.upper_law.ensures.first_page;
+      };
       kind = record {
         storable = c.kind_law.ensures.storable;
         not_fetched = c.kind_law.ensures.not_fetched;
@@ -38,6 +55,9 @@ returns c =
       opening = record {
         slot_walk = c.slot_law.ensures.any;
         in_memory = c.slot_leaf_law.ensures.in_memory;
+        upper_any = c.slot_upper_law.ensures.any;
+        upper_in_memory = c.slot_upper_law.ensures.in_memory;
+        upper_below = c.slot_upper_law.ensures.below;
         executable = c.slot_leaf_law.ensures.executable;
         code = c.slot_leaf_law.ensures.code;
         writable = c.slot_leaf_law.ensures.writable;
@@ -54,6 +74,8 @@ returns c =
       };
       table = record {
         walk = c.sound_law.ensures.walk;
+        below = c.sound_law.ensures.below;
+        upper = c.sound_law.ensures.upper;
         slot = c.sound_law.ensures.slot;
         no_loose_leaf = c.count_law.ensures.no_loose_leaf;
         nested_stays = c.stores_law.ensures.nested;

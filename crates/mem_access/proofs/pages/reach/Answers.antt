@@ -15,6 +15,6 @@ place_of-requires c = record {
 
 pub returns-in-Some-clause-outcome : goal.returns-in-Some-clause-outcome
 returns-in-Some-clause-outcome c =
-    let kept : look c.args.tlb.now (page_of c.args.va) ≡ Some c.in-Some.kept = ap (look c.args.tlb.now) (sym c.page.ensures) ∙ sym c.look.ensures.found ∙ c.in-Some.is in
+    let kept : look c.args.tlb.now.pairs (page_of c.args.va) ≡ Some c.in-Some.kept = ap (look c.args.tlb.now.pairs) (sym c.page.ensures) ∙ sym c.look.ensures.found ∙ c.in-Some.is in
     ap (λ place. answered place c.args.tlb.now) c.place_of.ensures.place
     ∙ sym (c.access_law.ensures.held (view_of c.args.mem.now c.args.control.now c.args.cpl) c.args.access c.args.tlb.now c.args.va c.in-Some.kept kept (sym c.may.ensures ∙ c.if-may.true))

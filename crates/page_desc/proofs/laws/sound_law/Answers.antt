@@ -4,7 +4,7 @@ use Rattle.nk_bits.specs.declared.kind.Kind.TheVariants.{Data, Guarded}
 use Rattle.nk_bits.specs.Kinds.{is_data, is_guarded, kind_of, level_of}
 use Rattle.page_desc.proofs.KindsKept.{tables_freed, tables_guarded, tables_new, tables_old}
 use Rattle.page_desc.proofs.LawfulForms.{entry_form, lawful_leaf, lawful_link, leaf_allowed, link_leads, slot_entry_is, slot_form}
-use Rattle.page_desc.proofs.SoundWalk.{sound_walk}
+use Rattle.page_desc.proofs.SoundWalk.{sound_below, sound_upper, sound_walk}
 use Rattle.page_desc.proofs.TablesKept.{tables_elsewhere, tables_replaced}
 use Rattle.page_desc.proofs.laws.sound_law.Goals as goal
 
@@ -18,6 +18,8 @@ returns c =
     λ kinds f is. c.kind_law.ensures.guarded_in_memory kinds f (ap is_guarded is) in
     record {
       walk = sound_walk;
+      below = sound_below;
+      upper = sound_upper;
       replaced = tables_replaced;
       elsewhere = tables_elsewhere;
       new_table = λ kinds t a level tables is none. tables_new kinds t a tables (free kinds a is) (table kinds) is none level;

@@ -6,7 +6,12 @@ use Rattle.x86_regs.proofs.laws.grant_law.Goals as goal
 
 pub returns : goal.returns
 returns c =
-    let laws : AccessLaws = record { kept = c.access_law.ensures.kept; served = c.access_law.ensures.served; in_memory = c.walk_law.ensures.in_memory } in
+    let laws : AccessLaws = record {
+      kept = c.access_law.ensures.kept;
+      served = c.access_law.ensures.served;
+      lies = c.kept_law.ensures.lies;
+      lies_walked = c.kept_law.ensures.lies_walked;
+    } in
     record {
       registers = keeps_registers;
       calm = loads_nothing;

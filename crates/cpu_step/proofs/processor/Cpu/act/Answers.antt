@@ -11,4 +11,4 @@ pub returns-in-Out-clause-sound : goal.returns-in-Out-clause-sound
 returns-in-Out-clause-sound c = c.output.ensures.sound (length c.args.mem.now) c.requires.sound
 
 pub returns-in-DropPage-clause-sound : goal.returns-in-DropPage-clause-sound
-returns-in-DropPage-clause-sound c = c.drop_page.ensures.sound (length c.args.mem.now) c.requires.sound
+returns-in-DropPage-clause-sound c = c.invalidate.ensures.sound (length c.args.mem.now) c.requires.sound

@@ -20,7 +20,7 @@ kept c =
     c.forget.ensures.page (c.translation_law.ensures.dropped_other c.self.inside.pairs.items c.args.page))
 
 pub invariant_of-self : goal.invariant_of-self
-invariant_of-self c = (grind (arith, common_steps), grind (arith, common_steps), distinct c, kept c)
+invariant_of-self c = (grind (arith, common_steps), grind (arith, common_steps), distinct c, kept c, c.self.invariant.4, c.self.invariant.5)
 
 pub returns-clause-distinct : goal.returns-clause-distinct
 returns-clause-distinct c = distinct c

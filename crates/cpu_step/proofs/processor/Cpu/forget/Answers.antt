@@ -1,0 +1,11 @@
+use Rattle.std.proofs.Common.{subst, sym}
+use Rattle.nk_bits.specs.Translations.{NamesFramesIn, Translations}
+use Rattle.cpu_step.proofs.TurnLemmas.{sound_without}
+use Rattle.cpu_step.proofs.processor.Cpu.forget.Goals as goal
+
+pub returns-clause-sound : goal.returns-clause-sound
+returns-clause-sound c size s =
+    sound_without size _ c.args.self.now c.forget.new.self
+    (λ within.
+    subst (λ (t : Translations). NamesFramesIn size t) (sym c.forget.ensures.forgotten)
+    (c.named_law.ensures.entry_forgotten size c.self.inside.tlb c.args.level c.args.page within)) c.self.view_is s
