@@ -1,6 +1,6 @@
 -- The upper entries of the kernel slot's pages: a walk in any tables that hold the slot comes to those of the opening, and
 -- below each of them it finds the slot's linear layout.
-use Rattle.std.proofs.Common.{◌≡◌, ℕ, zero, suc, ◌+◌, ◌-◌, ◌^◌, ◌<◌, ◌≤◌, List, Option, Some, None, refl, sym, ap, subst, ◌∙◌, arith}
+use Rattle.std.proofs.Common.{◌≡◌, ℕ, zero, suc, ◌+◌, ◌-◌, ◌^◌, ◌<◌, ◌≤◌, List, Option, Some, None, sym, ap, subst, ◌∙◌, arith}
 use Rattle.std.specs.Prelude.{IfSome}
 use Rattle.std.specs.Result.{result_ok}
 use Rattle.nk_bits.specs.declared.leaf.Rights.{Rights}
@@ -8,7 +8,7 @@ use Rattle.nk_bits.specs.declared.leaf.Upper.{Upper}
 use Rattle.nk_bits.specs.Paging.{all_rights, page_index, slot_value, upper_from, upper_walk, walk_below, walk_from}
 use Rattle.elf_image.specs.Pages.{IsPageList, pages_of}
 use Rattle.boot_map.specs.FixedFrames.{opening_root, slot_table}
-use Rattle.boot_map.specs.Division.{Division, IsLayout, division_of, free_start}
+use Rattle.boot_map.specs.Division.{IsLayout, division_of, free_start}
 use Rattle.boot_map.specs.OpeningEntries.{link, opening_entry}
 use Rattle.boot_map.specs.KernelSlot.{HoldsSlot, slot_leaf, slot_start, slot_upper}
 use Rattle.boot_map.proofs.SlotLaws.{root_entry_511, slot_indices, slot_walk, upper_step_link}

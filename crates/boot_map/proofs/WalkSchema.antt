@@ -1,5 +1,5 @@
 -- The walk by recursion on the level, and what holds along it.
-use Rattle.std.proofs.Common.{◌≡◌, ℕ, zero, suc, ◌+◌, ◌≤◌, Bool, true, false, Option, Some, None, refl, sym, subst, ◌∙◌, arith}
+use Rattle.std.proofs.Common.{◌≡◌, ℕ, zero, suc, ◌+◌, Bool, true, false, Option, None, refl, subst, arith}
 use Rattle.std.specs.Prelude.{Err, IfSome, if◌then◌else◌}
 use Rattle.nk_bits.specs.declared.leaf.Rights.{Rights}
 use Rattle.nk_bits.specs.Paging.{all_rights, common, frame_of, is_missing, page_index, rights_of, upper_from, walk, walk_from}
