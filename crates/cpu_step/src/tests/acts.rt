@@ -1,8 +1,6 @@
 //! What instructions ask of the processor (SDM volume 2, each instruction's page; volume 3, 2.5 and 6.8.3).
 
-use super::{
-    After, CONTROL, REGS, TABLES, cpu, delivered, memory, put, ran, turn, turned, with,
-};
+use super::{After, CONTROL, REGS, TABLES, cpu, delivered, memory, put, ran, turn, turned, with};
 use crate::Stepped;
 use irq_plan::What;
 use nk_bits::Control;
