@@ -1,9 +1,11 @@
 mod EntryPlaces
 mod FrameBytes
+mod MaskedBytes
 mod MemoryLaws
 mod Patches
 mod Rows
 mod RunLaws
 mod Sharing
 mod Words
+mod WorkedMasks
 mod WorkedMemory

@@ -1,8 +1,9 @@
 //! What follows from the definitions of memory for those who read it after stores: elsewhere a read finds what it found
 //! before, and at the same place what was stored.
 
-ghost use Rattle.std.specs.Prelude.{◌≡◌, ◌≢◌, ◌⊎◌, ℕ, ◌+◌, ◌*◌, ◌/◌, ◌%◌, ◌^◌, ◌<◌, ◌≤◌, ◌++◌, List, length, All};
+ghost use Rattle.std.specs.Prelude.{◌≡◌, ◌≢◌, ◌⊎◌, ℕ, ◌+◌, ◌*◌, ◌/◌, ◌%◌, ◌^◌, ◌<◌, ◌≤◌, ◌++◌, Bool, true, false, List, length, All};
 ghost use Rattle.phys_mem.specs.Memory.{IsBytes, byte_at, number_at, entry_in, stores, stored, frame_bytes, frame_zeroed};
+ghost use Rattle.phys_mem.specs.MaskedMemory.{masked};
 
 /// Bytes and numbers after stores.
 pub fn memory_law()
@@ -45,4 +46,33 @@ pub fn frame_law()
         → frame_bytes (frame_zeroed m a) f ≡ frame_bytes m f }
     ensures within_frame { (n p v f : ℕ) → 4096 * f ≤ p → p + n ≤ 4096 * f + 4096
         → All (λ w. w.0 / 4096 ≡ f) (stores n p v) }
+{}
+
+/// Memory with frames hidden, by any test of a frame's number: elsewhere all stays, stores elsewhere are made there too, and
+/// stores in hidden frames don't show. Where what is hidden is 0, it is the memory itself.
+pub fn mask_law()
+    ensures length { (hidden : ℕ → Bool) (m : List ℕ) → length (masked hidden m) ≡ length m }
+    ensures byte_hidden { (hidden : ℕ → Bool) (m : List ℕ) (p : ℕ) → hidden (p / 4096) ≡ true
+        → byte_at (masked hidden m) p ≡ 0 }
+    ensures byte_seen { (hidden : ℕ → Bool) (m : List ℕ) (p : ℕ) → hidden (p / 4096) ≡ false
+        → byte_at (masked hidden m) p ≡ byte_at m p }
+    ensures number_seen { (hidden : ℕ → Bool) (m : List ℕ) (n p : ℕ) → p % 4096 + n ≤ 4096
+        → hidden (p / 4096) ≡ false → number_at (masked hidden m) n p ≡ number_at m n p }
+    ensures entry_seen { (hidden : ℕ → Bool) (m : List ℕ) (f i : ℕ) → i < 512 → hidden f ≡ false
+        → entry_in (masked hidden m) f i ≡ entry_in m f i }
+    ensures entry_hidden { (hidden : ℕ → Bool) (m : List ℕ) (f i : ℕ) → i < 512 → hidden f ≡ true
+        → entry_in (masked hidden m) f i ≡ 0 }
+    ensures frame_seen { (hidden : ℕ → Bool) (m : List ℕ) (f : ℕ) → 4096 * f + 4096 ≤ length m → hidden f ≡ false
+        → frame_bytes (masked hidden m) f ≡ frame_bytes m f }
+    ensures stored_seen { (hidden : ℕ → Bool) (m : List ℕ) (ws : List (ℕ × ℕ))
+        → All (λ w. hidden (w.0 / 4096) ≡ false) ws → masked hidden (stored m ws) ≡ stored (masked hidden m) ws }
+    ensures stored_hidden { (hidden : ℕ → Bool) (m : List ℕ) (ws : List (ℕ × ℕ))
+        → All (λ w. hidden (w.0 / 4096) ≡ true) ws → masked hidden (stored m ws) ≡ masked hidden m }
+    ensures zeroed_seen { (hidden : ℕ → Bool) (m : List ℕ) (f : ℕ) → 4096 * f + 4096 ≤ length m → hidden f ≡ false
+        → masked hidden (frame_zeroed m f) ≡ frame_zeroed (masked hidden m) f }
+    ensures bytes { (hidden : ℕ → Bool) (m : List ℕ) → IsBytes m → IsBytes (masked hidden m) }
+    ensures unhidden { (hidden : ℕ → Bool) (m : List ℕ)
+        → ((p : ℕ) → hidden (p / 4096) ≡ true → byte_at m p ≡ 0) → masked hidden m ≡ m }
+    ensures alike { (hidden : ℕ → Bool) (m n : List ℕ) → length m ≡ length n
+        → ((p : ℕ) → hidden (p / 4096) ≡ false → byte_at m p ≡ byte_at n p) → masked hidden m ≡ masked hidden n }
 {}

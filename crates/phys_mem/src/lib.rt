@@ -17,5 +17,5 @@ mod laws;
 #[cfg(test)]
 mod tests;
 
-pub use laws::{frame_law, memory_law};
+pub use laws::{frame_law, mask_law, memory_law};
 pub use memory::{NoMemory, PhysMem};
