@@ -1,5 +1,5 @@
--- Memory with some frames hidden: what is read of it by those who may not know what stands there. The nested kernel's books
--- are hidden so: 26 frames at fixed places, and behind frame 63 the frames of descriptors, 16 bytes for each frame.
+-- Memory with some frames hidden: what is read of it by those who may not know what stands there. The nested kernel's
+-- books are hidden so: frames 26 to 63, and behind them the frames of descriptors, which have 16 bytes for each frame.
 use Rattle.std.specs.Prelude.{ℕ, ◌+◌, ◌/◌, Bool, ◌&&◌, nat_le, nat_lt, if◌then◌else◌, List, length, map}
 use Rattle.std.specs.List.{range_with_len}
 use Rattle.phys_mem.specs.Memory.{byte_at}

@@ -48,8 +48,8 @@ pub fn frame_law()
         → All (λ w. w.0 / 4096 ≡ f) (stores n p v) }
 {}
 
-/// Memory with frames hidden, by any test of a frame's number: elsewhere all stays, stores elsewhere are made there too, and
-/// stores in hidden frames don't show. Where what is hidden is 0, it is the memory itself.
+/// Memory with frames hidden, by any test of a frame's number: elsewhere all stays, stores elsewhere are made there
+/// too, and stores in hidden frames don't show. Where what is hidden is 0, it is the memory itself.
 pub fn mask_law()
     ensures length { (hidden : ℕ → Bool) (m : List ℕ) → length (masked hidden m) ≡ length m }
     ensures byte_hidden { (hidden : ℕ → Bool) (m : List ℕ) (p : ℕ) → hidden (p / 4096) ≡ true
@@ -62,7 +62,7 @@ pub fn mask_law()
         → entry_in (masked hidden m) f i ≡ entry_in m f i }
     ensures entry_hidden { (hidden : ℕ → Bool) (m : List ℕ) (f i : ℕ) → i < 512 → hidden f ≡ true
         → entry_in (masked hidden m) f i ≡ 0 }
-    ensures frame_seen { (hidden : ℕ → Bool) (m : List ℕ) (f : ℕ) → 4096 * f + 4096 ≤ length m → hidden f ≡ false
+    ensures frame_seen { (hidden : ℕ → Bool) (m : List ℕ) (f : ℕ) → hidden f ≡ false
         → frame_bytes (masked hidden m) f ≡ frame_bytes m f }
     ensures stored_seen { (hidden : ℕ → Bool) (m : List ℕ) (ws : List (ℕ × ℕ))
         → All (λ w. hidden (w.0 / 4096) ≡ false) ws → masked hidden (stored m ws) ≡ stored (masked hidden m) ws }
