@@ -182,9 +182,19 @@ static uint64_t undo_tables(const struct memory *memory, nk_frame table, unsigne
         return undo_table(memory, table);
 }
 
+/* CR3 holds the root's address. */
+static nk_frame root_in_use(void)
+{
+        nk_address root;
+        __asm__ volatile("movq %%cr3, %0" : "=r"(root));
+        return root / NK_PAGE;
+}
+
 uint64_t undo_root(const struct memory *memory, nk_frame root)
 {
         struct place direct_map = {root, NK_DIRECT_MAP_INDEX};
+        if (root == root_in_use())
+                return NK_STILL_LINKED;
         uint64_t answer = undo_entry(direct_map);
         return answer == NK_ACCEPTED ? undo_tables(memory, root, 4) : answer;
 }

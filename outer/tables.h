@@ -1,5 +1,5 @@
-/* Page tables by the nested kernel's calls. Each function answers with the value of the call that decided:
- * NK_ACCEPTED, or the number of the rule that was broken (nk.h). */
+/* Page tables by the nested kernel's calls. Each function answers NK_ACCEPTED, or the number of the rule that was
+ * broken (nk.h): the value of the call that decided, or its own where it refuses before any call. */
 #ifndef TABLES_H
 #define TABLES_H
 
@@ -59,9 +59,9 @@ nk_entry read_entry(struct place place);
 uint64_t make_root(struct memory *memory, nk_frame *root);
 uint64_t load_root(nk_frame root);
 
-/* Undoes a root that isn't loaded, and all tables below it but the direct map's; no other root may link one of these.
- * They are free frames again. What their leaves named stays as it is. It begins with the direct map's link, and doesn't
- * look whether the root is loaded: the one in use faults then. */
+/* Undoes a root, and all tables below it but the direct map's; no other root may link one of these. They are free
+ * frames again. What their leaves named stays as it is. Of the root in use the answer is NK_STILL_LINKED, without a
+ * call: without the direct map's link, which goes first, the kernel would reach no table any more. */
 uint64_t undo_root(const struct memory *memory, nk_frame root);
 
 /* Maps a page to a frame below a root, with the rights of nk.h, and takes frames for the tables that are missing. What
