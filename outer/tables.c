@@ -141,9 +141,20 @@ static uint64_t link_new_table(struct memory *memory, struct place place, unsign
         return answer == NK_ACCEPTED ? link_table(place, table) : answer;
 }
 
+/* Bits 63 to 47 are equal. */
+static int is_canonical(nk_address address)
+{
+        uint64_t upper = address >> 47;
+        return upper == 0 || upper == 0x1FFFF;
+}
+
 uint64_t map_page(struct memory *memory, nk_frame root, nk_address address, nk_frame frame, unsigned rights)
 {
         struct place place = place_in(root, 4, address);
+        if (!is_canonical(address))
+                return NK_NOT_CANONICAL;
+        if (place.index == NK_KERNEL_SLOT_INDEX)
+                return NK_KERNEL_SLOT;
         for (unsigned level = 3; level >= 1; level--) {
                 if (!(read_entry(place) & NK_PRESENT)) {
                         uint64_t answer = link_new_table(memory, place, level);

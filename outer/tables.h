@@ -65,7 +65,9 @@ uint64_t load_root(nk_frame root);
 uint64_t undo_root(const struct memory *memory, nk_frame root);
 
 /* Maps a page to a frame below a root, with the rights of nk.h, and takes frames for the tables that are missing. What
- * the page was mapped to before is replaced, in the direct map too; an address that isn't canonical isn't refused. */
+ * the page was mapped to before is replaced. Before a frame is taken NK_NOT_CANONICAL refuses an address that isn't
+ * canonical, and NK_KERNEL_SLOT one in the kernel slot. A page of the direct map isn't refused: its tables are those of
+ * every root that links them, and frame_bytes of its own frame then leads to another. */
 uint64_t map_page(struct memory *memory, nk_frame root, nk_address address, nk_frame frame, unsigned rights);
 
 /* The leaf of a page that map_page has mapped below this root. */
