@@ -168,12 +168,17 @@ uint64_t map_page(struct memory *memory, nk_frame root, nk_address address, nk_f
         return answer;
 }
 
-struct place leaf_of_page(nk_frame root, nk_address address)
+struct place entry_of_page(nk_frame root, nk_address address, unsigned level)
 {
         struct place place = place_in(root, 4, address);
-        for (unsigned level = 3; level >= 1; level--)
-                place = place_in(linked_table(place), level, address);
+        for (unsigned lower = 3; lower >= level; lower--)
+                place = place_in(linked_table(place), lower, address);
         return place;
+}
+
+struct place leaf_of_page(nk_frame root, nk_address address)
+{
+        return entry_of_page(root, address, 1);
 }
 
 /* The root's last entry is the nested kernel's, and no call changes it. */

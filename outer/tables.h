@@ -70,7 +70,9 @@ uint64_t undo_root(const struct memory *memory, nk_frame root);
  * every root that links them, and frame_bytes of its own frame then leads to another. */
 uint64_t map_page(struct memory *memory, nk_frame root, nk_address address, nk_frame frame, unsigned rights);
 
-/* The leaf of a page that map_page has mapped below this root. */
+/* Of a page that map_page has mapped below this root, the entry in the table of a level, 4 to 1: a link, and at level 1
+ * the leaf. Its place names the table of that level. */
+struct place entry_of_page(nk_frame root, nk_address address, unsigned level);
 struct place leaf_of_page(nk_frame root, nk_address address);
 
 #endif
