@@ -141,9 +141,20 @@ static uint64_t link_new_table(struct memory *memory, struct place place, unsign
         return answer == NK_ACCEPTED ? link_table(place, table) : answer;
 }
 
+/* Bits 63 to 47 are equal. */
+static int is_canonical(nk_address address)
+{
+        uint64_t upper = address >> 47;
+        return upper == 0 || upper == 0x1FFFF;
+}
+
 uint64_t map_page(struct memory *memory, nk_frame root, nk_address address, nk_frame frame, unsigned rights)
 {
         struct place place = place_in(root, 4, address);
+        if (!is_canonical(address))
+                return NK_NOT_CANONICAL;
+        if (place.index == NK_KERNEL_SLOT_INDEX)
+                return NK_KERNEL_SLOT;
         for (unsigned level = 3; level >= 1; level--) {
                 if (!(read_entry(place) & NK_PRESENT)) {
                         uint64_t answer = link_new_table(memory, place, level);
@@ -157,12 +168,17 @@ uint64_t map_page(struct memory *memory, nk_frame root, nk_address address, nk_f
         return answer;
 }
 
-struct place leaf_of_page(nk_frame root, nk_address address)
+struct place entry_of_page(nk_frame root, nk_address address, unsigned level)
 {
         struct place place = place_in(root, 4, address);
-        for (unsigned level = 3; level >= 1; level--)
-                place = place_in(linked_table(place), level, address);
+        for (unsigned lower = 3; lower >= level; lower--)
+                place = place_in(linked_table(place), lower, address);
         return place;
+}
+
+struct place leaf_of_page(nk_frame root, nk_address address)
+{
+        return entry_of_page(root, address, 1);
 }
 
 /* The root's last entry is the nested kernel's, and no call changes it. */
@@ -182,9 +198,19 @@ static uint64_t undo_tables(const struct memory *memory, nk_frame table, unsigne
         return undo_table(memory, table);
 }
 
+/* CR3 holds the root's address. */
+static nk_frame root_in_use(void)
+{
+        nk_address root;
+        __asm__ volatile("movq %%cr3, %0" : "=r"(root));
+        return root / NK_PAGE;
+}
+
 uint64_t undo_root(const struct memory *memory, nk_frame root)
 {
         struct place direct_map = {root, NK_DIRECT_MAP_INDEX};
+        if (root == root_in_use())
+                return NK_STILL_LINKED;
         uint64_t answer = undo_entry(direct_map);
         return answer == NK_ACCEPTED ? undo_tables(memory, root, 4) : answer;
 }

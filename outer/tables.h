@@ -1,5 +1,5 @@
-/* Page tables by the nested kernel's calls. Each function answers with the value of the call that decided:
- * NK_ACCEPTED, or the number of the rule that was broken (nk.h). */
+/* Page tables by the nested kernel's calls. Each function answers NK_ACCEPTED, or the number of the rule that was
+ * broken (nk.h): the value of the call that decided, or its own where it refuses before any call. */
 #ifndef TABLES_H
 #define TABLES_H
 
@@ -59,16 +59,20 @@ nk_entry read_entry(struct place place);
 uint64_t make_root(struct memory *memory, nk_frame *root);
 uint64_t load_root(nk_frame root);
 
-/* Undoes a root that isn't loaded, and all tables below it but the direct map's; no other root may link one of these.
- * They are free frames again. What their leaves named stays as it is. It begins with the direct map's link, and doesn't
- * look whether the root is loaded: the one in use faults then. */
+/* Undoes a root, and all tables below it but the direct map's; no other root may link one of these. They are free
+ * frames again. What their leaves named stays as it is. Of the root in use the answer is NK_STILL_LINKED, without a
+ * call: without the direct map's link, which goes first, the kernel would reach no table any more. */
 uint64_t undo_root(const struct memory *memory, nk_frame root);
 
 /* Maps a page to a frame below a root, with the rights of nk.h, and takes frames for the tables that are missing. What
- * the page was mapped to before is replaced, in the direct map too; an address that isn't canonical isn't refused. */
+ * the page was mapped to before is replaced. Before a frame is taken NK_NOT_CANONICAL refuses an address that isn't
+ * canonical, and NK_KERNEL_SLOT one in the kernel slot. A page of the direct map isn't refused: its tables are those of
+ * every root that links them, and frame_bytes of its own frame then leads to another. */
 uint64_t map_page(struct memory *memory, nk_frame root, nk_address address, nk_frame frame, unsigned rights);
 
-/* The leaf of a page that map_page has mapped below this root. */
+/* Of a page that map_page has mapped below this root, the entry in the table of a level, 4 to 1: a link, and at level 1
+ * the leaf. Its place names the table of that level. */
+struct place entry_of_page(nk_frame root, nk_address address, unsigned level);
 struct place leaf_of_page(nk_frame root, nk_address address);
 
 #endif
