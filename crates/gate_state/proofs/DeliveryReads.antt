@@ -1,5 +1,5 @@
 -- What the reads of a delivery find in a scene: the numbers that stand in the first frame.
-use Rattle.std.proofs.Common.{◌≡◌, ℕ, ◌+◌, ◌*◌, ◌-◌, ◌%◌, ◌^◌, ◌<◌, ◌≤◌, Bool, List, refl, sym, ap, subst, ◌∙◌, arith}
+use Rattle.std.proofs.Common.{◌≡◌, ℕ, ◌+◌, ◌*◌, ◌-◌, ◌%◌, ◌^◌, ◌<◌, ◌≤◌, List, refl, sym, ap, subst, ◌∙◌, arith}
 use Rattle.std.specs.Prelude.{Some, Result, Ok}
 use Rattle.nk_bits.specs.declared.access.Access.TheVariants.{Read}
 use Rattle.nk_bits.specs.declared.control.Control.{Control}

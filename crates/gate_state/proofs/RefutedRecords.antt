@@ -1,5 +1,5 @@
 -- Records that aren't the same, since memory holds another byte or another entry: what is guarded leaves none of them out.
-use Rattle.std.proofs.Common.{◌≡◌, ◌≢◌, ◌∙◌, ℕ, ◌+◌, ◌*◌, Bool, true, List, ap, sym}
+use Rattle.std.proofs.Common.{◌≡◌, ◌≢◌, ◌∙◌, ℕ, ◌+◌, ◌*◌, true, List, ap, sym}
 use Rattle.std.specs.Prelude.{◌&&◌, not, nat_lt}
 use Rattle.std.proofs.lemmas.Bool.{cond-true}
 use Rattle.nk_bits.specs.declared.kind.Kind.{Kind}

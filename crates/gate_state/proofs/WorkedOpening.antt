@@ -1,5 +1,5 @@
 -- The processor of the opening at worked values: its control registers by the manual's bits, and each general register.
-use Rattle.std.proofs.Common.{◌≡◌, ℕ, ◌+◌, ◌-◌, ◌*◌, ◌^◌, refl}
+use Rattle.std.proofs.Common.{◌≡◌, ◌+◌, ◌-◌, ◌*◌, ◌^◌, refl}
 use Rattle.std.specs.Prelude.{slice_index, length}
 use Rattle.elf_image.specs.Pages.{entry_of}
 use Rattle.boot_map.specs.Division.{need}

@@ -64,9 +64,9 @@ unfoldable pub leads : Opening → List Kind → KeptEntry → Bool
 leads o kinds entry =
     nat_le 2 entry.0 && nat_le entry.0 4
     && (if is_slot_page (first_page entry.0 entry.1)
-        then is_upper (slot_upper o.image o.frames (first_page entry.0 entry.1) entry.0) entry.2
-        else level_of (kind_of kinds entry.2.frame) + 1 == entry.0
-            && has_all entry.2.rights)
+    then is_upper (slot_upper o.image o.frames (first_page entry.0 entry.1) entry.0) entry.2
+    else level_of (kind_of kinds entry.2.frame) + 1 == entry.0
+    && has_all entry.2.rights)
 
 -- what holds of all that the processor keeps: each pair respects the kinds, and each upper entry leads where it may
 abbrev pub respecting : Opening → List Kind → Claim

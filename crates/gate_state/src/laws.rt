@@ -26,7 +26,8 @@ ghost use Rattle.gate_state.specs.StepsTaken.{Counts};
 ghost use Rattle.gate_state.specs.WindowLeft.{ComesNearer, IsNearer, IsShortWindow, left};
 
 use boot_map::{
-    opening_bytes_law, opening_entries_law, opening_kinds_law, slot_law, slot_leaf_law, slot_upper_law,
+    opening_bytes_law, opening_entries_law, opening_kinds_law, slot_law, slot_leaf_law,
+    slot_upper_law,
 };
 use cpu_step::{fetch_law, pending_law};
 use decode_fields::{longer_law, prefixes_law};

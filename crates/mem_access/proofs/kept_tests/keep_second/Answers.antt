@@ -4,4 +4,6 @@ use Rattle.nk_bits.specs.Translations.{NamesFramesIn}
 use Rattle.mem_access.proofs.kept_tests.keep_second.Goals as goal
 
 pub returns : goal.returns
-returns c = subst (NamesFramesIn 65536) (sym c.keep.ensures.kept) (c.named_law.ensures.entry_kept 65536 c.args.tlb.now 2 0 (Some _) c.requires.frames (omega arith))
+returns c = record {
+  frames = subst (NamesFramesIn 65536) (sym c.keep.ensures.kept) (c.named_law.ensures.entry_kept 65536 c.args.tlb.now 2 0 (Some _) c.requires.frames (omega arith));
+}
