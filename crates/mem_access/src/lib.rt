@@ -1,8 +1,8 @@
 //! Accesses to memory by linear address (SDM volume 3, 4.6, 4.7 and 4.10): loads, stores and instruction fetches of the
-//! processor, over the translations kept and else a walk of the page tables, which begins at an upper entry where one is
-//! kept, exactly as `nk_bits` and `page_walk` define an access. A check touches what is kept alone; only `commit` and
-//! `store` write memory, and only the bytes of the access. The accesses that an instruction plans are made in the order
-//! of their faults. No call takes memory. Which accesses those are, and what a fault leads to, is left to the
+//! processor, over the translations kept and else a walk of the page tables, which begins at an upper entry where one
+//! is kept, exactly as `nk_bits` and `page_walk` define an access. A check touches what is kept alone; only `commit`
+//! and `store` write memory, and only the bytes of the access. The accesses that an instruction plans are made in the
+//! order of their faults. No call takes memory. Which accesses those are, and what a fault leads to, is left to the
 //! instructions. Floor: memory.
 #![tactic(auto)]
 

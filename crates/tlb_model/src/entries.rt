@@ -49,8 +49,8 @@ impl Entries {
         find_upper(&self.list, level, span(level, page))
     }
 
-    /// Keeps an entry as the youngest, in place of an older one of the same pages, or else of the oldest of all where as
-    /// many are kept as there is room for.
+    /// Keeps an entry as the youngest, in place of an older one of the same pages, or else of the oldest of all where
+    /// as many are kept as there is room for.
     pub(crate) fn keep(&mut self, level: u8, page: u64, upper: Upper)
         requires level { (2 ≤ level) × (level ≤ 4) }
         ensures kept { self.new ≡ with_entry self.old level page upper }

@@ -1,5 +1,5 @@
-//! The lists at worked values: youngest last, 1,024 translations and 64 upper entries at most. Pages whose numbers are 256
-//! apart share a slot of the index. An entry of level 2 serves 512 pages, and the pages below 2^18 share those above.
+//! The lists at worked values: youngest last, 1,024 translations and 64 upper entries at most. Pages whose numbers are
+//! 256 apart share a slot of the index. An entry of level 2 serves 512 pages, and the pages below 2^18 share those above.
 
 use crate::Tlb;
 use nk_bits::{Leaf, Rights, Upper};
