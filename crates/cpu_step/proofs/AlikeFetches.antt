@@ -19,7 +19,6 @@ use Rattle.x86_decode.specs.declared.instruction.Decoded.{Decoded}
 use Rattle.x86_decode.specs.declared.instruction.Decoded.TheVariants.{Whole, Short, TooLong, Unknown}
 use Rattle.x86_decode.specs.declared.instruction.Instr.{Instr}
 use Rattle.x86_regs.specs.AlikeMemories.{AreAlike}
-use Rattle.x86_regs.specs.declared.effects.Effect.{Effect}
 use Rattle.x86_regs.specs.declared.faults.Fault.{Fault}
 use Rattle.x86_regs.specs.declared.registers.Regs.{Regs}
 use Rattle.x86_regs.specs.Effects.{effect_of}

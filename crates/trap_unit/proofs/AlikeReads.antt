@@ -1,5 +1,5 @@
 -- The reads of a delivery over two memories that are alike are the same.
-use Rattle.std.proofs.Common.{◌≡◌, ℕ, ◌+◌, ◌*◌, ◌/◌, ◌^◌, ◌<◌, ◌≤◌, Bool, true, false, List, refl, ap, ◌∙◌, inr, lit<, mod-lt, arith}
+use Rattle.std.proofs.Common.{◌≡◌, ℕ, ◌+◌, ◌*◌, ◌^◌, ◌<◌, ◌≤◌, Bool, true, false, List, refl, ap, ◌∙◌, inr, lit<, mod-lt, arith}
 use Rattle.std.specs.Prelude.{Result, Ok, Err, if◌then◌else◌, nat_le}
 use Rattle.nk_bits.specs.declared.access.Access.{Access}
 use Rattle.nk_bits.specs.declared.access.Access.TheVariants.{Read}
@@ -14,10 +14,9 @@ use Rattle.page_walk.specs.MemoryAccess.{loaded, value_at, view_of}
 use Rattle.x86_regs.specs.declared.delivery.Tables.{Tables}
 use Rattle.x86_regs.specs.AlikeMemories.{AreAlike}
 use Rattle.x86_regs.specs.Operands.{wrapped}
-use Rattle.trap_unit.specs.declared.delivery.Entry.{Entry}
 use Rattle.trap_unit.specs.declared.gate.Gate.{Gate}
 use Rattle.trap_unit.specs.declared.shutdown.Shut.{Shut}
-use Rattle.trap_unit.specs.TrapDelivery.{entry_found, gate_address, gate_found, gate_offset, gate_read, gate_level, if_good, interrupt_allowed, is_good, or_shut, passes_limit, read_at, shut}
+use Rattle.trap_unit.specs.TrapDelivery.{entry_found, gate_address, gate_found, gate_read, gate_level, if_good, interrupt_allowed, is_good, or_shut, passes_limit, read_at, shut}
 
 -- what is used of the laws of accesses and of alike memories
 pub record ReadLaws : Type 0 where

@@ -6,14 +6,13 @@ use Rattle.nk_bits.specs.declared.access.Access.{Access}
 use Rattle.nk_bits.specs.declared.access.Access.TheVariants.{Read, Write, Fetch}
 use Rattle.nk_bits.specs.declared.control.Control.{Control}
 use Rattle.nk_bits.specs.declared.fault.AccessFault.{AccessFault}
-use Rattle.nk_bits.specs.declared.fault.AccessFault.TheVariants.{NonCanonical}
 use Rattle.nk_bits.specs.declared.leaf.Leaf.{Leaf}
 use Rattle.nk_bits.specs.declared.leaf.Target.{Target}
 use Rattle.nk_bits.specs.Paging.{is_canonical, page_of, walk, walk_below}
 use Rattle.nk_bits.specs.UpperEntries.{KeptEntry, covers, walk_by}
 use Rattle.nk_bits.specs.Translations.{Translations, fill_walked, look, or_walked}
 use Rattle.nk_bits.specs.Claims.{AllPass, Claim}
-use Rattle.nk_bits.specs.Outcomes.{Outcome, and_then, answered, outcome_of, refused, then_by}
+use Rattle.nk_bits.specs.Outcomes.{Outcome, and_then, answered, outcome_of, then_by}
 use Rattle.nk_bits.specs.Accesses.{IsAccessSize, IsWalked, Serves, View, accessed, completed, crosses, first_part, has_canonical_bytes, judged, kept_after, next_page, reached}
 use Rattle.phys_mem.specs.Memory.{byte_at, entry_in, number_at}
 use Rattle.page_walk.specs.declared.plan.Plan.{Plan}

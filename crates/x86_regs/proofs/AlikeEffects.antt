@@ -4,10 +4,9 @@ use Rattle.std.specs.Prelude.{IfSome, Result, Ok, Err, slice_index}
 use Rattle.x86_decode.specs.WellFormed.{IsWellFormed}
 use Rattle.x86_decode.specs.declared.instruction.Instr.{Instr}
 use Rattle.nk_bits.specs.declared.control.Control.{Control}
-use Rattle.nk_bits.specs.declared.leaf.Target.{Target}
 use Rattle.nk_bits.specs.Accesses.{IsWalked, View}
 use Rattle.nk_bits.specs.Claims.{AllPass, Claim}
-use Rattle.nk_bits.specs.Outcomes.{Outcome, and_then, answered}
+use Rattle.nk_bits.specs.Outcomes.{Outcome}
 use Rattle.nk_bits.specs.Translations.{Translations}
 use Rattle.page_walk.specs.declared.plan.Gathered.{Gathered}
 use Rattle.page_walk.specs.declared.plan.Plan.{Plan}
@@ -17,8 +16,6 @@ use Rattle.page_walk.specs.declared.plan.SpanFault.{SpanFault}
 use Rattle.page_walk.specs.MemoryAccess.{view_of}
 use Rattle.page_walk.specs.AccessPlans.{checked, gathered}
 use Rattle.x86_regs.specs.declared.registers.Regs.{Regs}
-use Rattle.x86_regs.specs.declared.delivery.Frame.{Frame}
-use Rattle.x86_regs.specs.declared.effects.Act.TheVariants as act
 use Rattle.x86_regs.specs.declared.effects.Change.{Change}
 use Rattle.x86_regs.specs.declared.effects.Effect.{Effect}
 use Rattle.x86_regs.specs.declared.faults.Fault.{Fault}
