@@ -56,8 +56,8 @@ pub fn turn_stores_law()
     delivery_law();
 }
 
-/// Over two memories that are alike where translations that pass a claim lead, the same instruction is fetched, or the same
-/// fault raised; and one that is well formed has the same effect.
+/// Over two memories that are alike where translations that pass a claim lead, the same instruction is fetched, or the
+/// same fault raised; and one that is well formed has the same effect.
 pub fn alike_fetch_law()
     ensures instruction { (test : Claim) (control : Control) (cpl : ℕ) (m n : List ℕ) (rip : ℕ) (tlb : Translations)
         → AreAlike test control.root m n → IsWalked (view_of m control cpl) test → AllPass test tlb

@@ -53,7 +53,8 @@ module _ (laws : ReadLaws) (test : Claim) (control : Control) (tables : Tables) 
       read_at control (wrapped address) m tlb ≡ read_at control (wrapped address) n tlb
   read_same address tlb pass =
       ap (λ (read : Outcome AccessFault ℕ). outcome_of (or_shut read.answer) read.tlb)
-      (laws.loaded_same test control 0 m n tlb (wrapped address) 8 alike walked pass (below_64 address) (inr (inr (inr refl))))
+      (laws.loaded_same test control 0 m n tlb (wrapped address) 8 alike walked pass (below_64 address)
+      (inr (inr (inr refl))))
 
   read_passes : (address : ℕ) (tlb : Translations) → AllPass test tlb →
       AllPass test (read_at control (wrapped address) m tlb).tlb

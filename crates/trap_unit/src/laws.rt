@@ -43,8 +43,8 @@ pub fn return_law()
         (λ after. (after.cpl ≡ 3) ⊎ ((regs.cpl ≡ 0) × (after.cpl ≡ 0))) }
 {}
 
-/// Over two memories that are alike where translations that pass a claim lead, a delivery's reads, of the gate and of the
-/// stack's top, are the same, and so is the question whether an interrupt is allowed.
+/// Over two memories that are alike where translations that pass a claim lead, a delivery's reads, of the gate and of
+/// the stack's top, are the same, and so is the question whether an interrupt is allowed.
 pub fn alike_reads_law()
     ensures entry { (test : Claim) (control : Control) (tables : Tables) (vector : ℕ) (m n : List ℕ)
         (tlb : Translations)

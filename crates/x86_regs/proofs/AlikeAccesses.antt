@@ -113,7 +113,8 @@ module _ (laws : AlikeLaws) (test : Claim) (control : Control) (cpl : ℕ) (m n 
       chosen_same (crosses va width) _ _ _
       (λ two.
       ap (λ (o : Outcome AccessFault ℕ).
-      and_then o (λ second after. answered {F = AccessFault} {A = Target} (record { first = first; second = second }) after))
+      and_then o (λ second after.
+      answered {F = AccessFault} {A = Target} (record { first = first; second = second }) after))
       (reached_same access tlb (next_page va) pass))
 
   pub accessed_same : (access : Access) (tlb : Translations) (va width : ℕ) → va < 2 ^ 64 → 1 ≤ width →
@@ -208,4 +209,5 @@ module _ (laws : AlikeLaws) (test : Claim) (control : Control) (cpl : ℕ) (m n 
       let from = taken m here plan.from to.tlb in
       same_on both (checked there plan.both tlb) _ _ (checked_same plan.both tlb is.both pass)
       (λ _ _. same_on to (taken n there plan.to both.tlb) _ _ (taken_same plan.to both.tlb is.to kept_both)
-      (λ _ _. same_on from (taken n there plan.from to.tlb) _ _ (taken_same plan.from to.tlb is.from kept_to) (λ _ _. refl)))
+      (λ _ _. same_on from (taken n there plan.from to.tlb) _ _ (taken_same plan.from to.tlb is.from kept_to)
+      (λ _ _. refl)))

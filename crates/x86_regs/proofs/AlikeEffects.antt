@@ -91,7 +91,8 @@ module _ (laws : AlikeLaws) (test : Claim) (control : Control) (regs : Regs) (m 
         (ap in_faults (gathered_same laws test control regs.cpl m n alike walked plan tlb is pass))
         (λ found _.
         concluded_same plan found (outcome_by by i (next_of regs size) regs control one.frames found) after is.last kept
-        ∙ ap (λ frames. concluded other plan found (outcome_by by i (next_of regs size) regs control frames found) after)
+        ∙ ap (λ frames.
+        concluded other plan found (outcome_by by i (next_of regs size) regs control frames found) after)
         (frames_same laws test control regs.cpl m n alike walked))
 
     form_same : (by : Form) →

@@ -71,8 +71,8 @@ pub fn bound_law()
     access_law();
 }
 
-/// Over two memories that are alike where translations that pass a claim lead, an access, a load, the fetch of a byte and
-/// an effect are the same: the answer or the fault, and what is kept afterwards.
+/// Over two memories that are alike where translations that pass a claim lead, an access, a load, the fetch of a byte
+/// and an effect are the same: the answer or the fault, and what is kept afterwards.
 pub fn alike_law()
     ensures accessed { (test : Claim) (control : Control) (cpl : ℕ) (m n : List ℕ) (access : Access)
         (tlb : Translations) (va width : ℕ)
