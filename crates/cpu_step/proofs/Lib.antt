@@ -1,3 +1,4 @@
+mod AlikeFetches
 pub mod FetchFaults
 pub mod Fetches
 pub mod LongerCode

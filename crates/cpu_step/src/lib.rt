@@ -27,7 +27,7 @@ mod turn;
 mod laws;
 
 pub use fetch::Fetched;
-pub use laws::{fetch_law, pending_law, turn_stores_law};
+pub use laws::{alike_fetch_law, fetch_law, pending_law, turn_stores_law};
 pub use processor::{Cpu, NoMemory};
 pub use stepped::Stepped;
 

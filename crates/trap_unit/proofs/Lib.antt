@@ -1,3 +1,4 @@
+mod AlikeReads
 mod DeliveryLaws
 mod StoresMade
 mod WorkedDeliveries

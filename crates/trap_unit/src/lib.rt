@@ -23,7 +23,7 @@ mod laws;
 
 pub use delivery::deliver;
 pub use gate::interrupt_allowed;
-pub use laws::{delivery_law, return_law};
+pub use laws::{alike_reads_law, delivery_law, return_law};
 pub use shutdown::Shut;
 pub use trap_return::iretq;
 

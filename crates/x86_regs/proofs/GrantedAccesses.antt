@@ -52,10 +52,10 @@ pub record IsPlanned (plan : Plan) : Type 0 where
   pub from : IsSpanOf plan.from
   pub last : IfSome plan.last IsSpan
 
-size_some : (width : ℕ) → IsAccessSize width → 1 ≤ width
+pub size_some : (width : ℕ) → IsAccessSize width → 1 ≤ width
 size_some width sized = omega arith
 
-size_few : (width : ℕ) → IsAccessSize width → width ≤ 8
+pub size_few : (width : ℕ) → IsAccessSize width → width ≤ 8
 size_few width sized = omega arith
 
 -- what passes after an outcome, and after the next step from each answer, passes after both
@@ -102,15 +102,15 @@ record IsNamed (size va place : ℕ) : Type 0 where
 frame_ends : (size frame : ℕ) → size % 4096 ≡ 0 → 4096 * frame < size → 4096 * frame + 4096 ≤ size
 frame_ends size frame whole within = omega arith
 
-next_starts : (va : ℕ) → next_page va % 4096 ≡ 0
+pub next_starts : (va : ℕ) → next_page va % 4096 ≡ 0
 unfolding next_page
 next_starts va = omega arith
 
-part_room : (va width : ℕ) → first_part va width ≤ 4096 - va % 4096
+pub part_room : (va width : ℕ) → first_part va width ≤ 4096 - va % 4096
 unfolding first_part
 part_room va width = min-le_right width (4096 - va % 4096)
 
-part_whole : (va width : ℕ) → crosses va width ≡ false → first_part va width ≡ width
+pub part_whole : (va width : ℕ) → crosses va width ≡ false → first_part va width ≡ width
 unfolding first_part crosses
 part_whole va width one =
     let within : va % 4096 + width ≤ 4096 = ltb-false 4096 (va % 4096 + width) one in min-eq_left (omega arith)

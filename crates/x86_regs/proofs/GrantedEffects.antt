@@ -43,7 +43,7 @@ module _ (laws : AccessLaws) (view : View) (test : Claim) (walked : IsWalked vie
       let kept = checked_kept laws view test walked plan.last tlb is pass in
       kept_on test (in_faults (checked view plan.last tlb)) _ kept (λ last. kept)
 
-  popped_kept : (m : List ℕ) (regs : Regs) (place : ℕ) (tlb : Translations) → AllPass test tlb →
+  pub popped_kept : (m : List ℕ) (regs : Regs) (place : ℕ) (tlb : Translations) → AllPass test tlb →
       AllPass test (popped m view regs place tlb).tlb
   popped_kept m regs place tlb pass =
       taken_kept laws view test walked m (At (stack_span (wrapped (slice_index regs.general rsp + 8 * place)) 64)) tlb

@@ -1,3 +1,5 @@
+mod AlikeAccesses
+mod AlikeEffects
 mod CalmActs
 mod ConditionTable
 mod EffectLaws
@@ -5,6 +7,7 @@ mod GrantedAccesses
 mod GrantedEffects
 mod KeptRegisters
 mod PlannedSpans
+mod RefutedMemories
 mod SmallActs
 mod SmallFaults
 mod WorkedEffectsAccesses

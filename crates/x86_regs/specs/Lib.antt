@@ -7,3 +7,4 @@ pub mod OperandPlans
 pub mod OperandOutcomes
 pub mod Effects
 pub mod EffectsKept
+pub mod AlikeMemories

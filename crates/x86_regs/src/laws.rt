@@ -1,20 +1,22 @@
 //! What follows from the definition of an effect, for those who say what a turn of the processor keeps.
 
-ghost use Rattle.std.specs.Prelude.{◌≡◌, ℕ, ◌%◌, Bool, true, false, List, length, IfErr, IfOk, IfSome};
+ghost use Rattle.std.specs.Prelude.{◌≡◌, ℕ, ◌%◌, ◌^◌, ◌<◌, ◌≤◌, Bool, true, false, List, length, IfErr, IfOk, IfSome};
 ghost use Rattle.x86_decode.specs.declared.instruction.Instr.{Instr};
 ghost use Rattle.x86_decode.specs.Conditions.{is_protected};
 ghost use Rattle.x86_decode.specs.WellFormed.{IsWellFormed};
+ghost use Rattle.nk_bits.specs.declared.access.Access.{Access};
 ghost use Rattle.nk_bits.specs.declared.control.Control.{Control};
 ghost use Rattle.nk_bits.specs.declared.fault.AccessFault.{AccessFault};
-ghost use Rattle.nk_bits.specs.Accesses.{IsSmallAccessFault, IsWalked};
+ghost use Rattle.nk_bits.specs.Accesses.{IsAccessSize, IsSmallAccessFault, IsWalked, accessed};
 ghost use Rattle.nk_bits.specs.Claims.{AllPass, Claim};
 ghost use Rattle.nk_bits.specs.Translations.{NamesFramesIn, Translations};
-ghost use Rattle.page_walk.specs.MemoryAccess.{view_of};
+ghost use Rattle.page_walk.specs.MemoryAccess.{fetched, loaded, view_of};
 ghost use Rattle.x86_regs.specs.declared.registers.Regs.{Regs};
 ghost use Rattle.x86_regs.specs.Effects.{LeavesToDelivery, LoadsFrameIn, effect_of, raised};
 ghost use Rattle.x86_regs.specs.EffectsKept.{AreRegisters, IsGranted, IsSmallAct, IsSmallFault, LoadsNothing};
+ghost use Rattle.x86_regs.specs.AlikeMemories.{AreAlike};
 
-use nk_bits::{access_law, kept_law};
+use nk_bits::{access_law, kept_law, span_law};
 
 /// What no instruction does by itself: it leaves the CPL and SS, and loads CR3 with a frame in memory alone. An
 /// interrupt or a return moves RIP on, and leaves all else to its delivery.
@@ -67,4 +69,30 @@ pub fn bound_law()
     ensures raised { (stack : Bool) (it : AccessFault) → IsSmallAccessFault it → IsSmallFault (raised stack it) }
 {
     access_law();
+}
+
+/// Over two memories that are alike where translations that pass a claim lead, an access, a load, the fetch of a byte
+/// and an effect are the same: the answer or the fault, and what is kept afterwards.
+pub fn alike_law()
+    ensures accessed { (test : Claim) (control : Control) (cpl : ℕ) (m n : List ℕ) (access : Access)
+        (tlb : Translations) (va width : ℕ)
+        → AreAlike test control.root m n → IsWalked (view_of m control cpl) test → AllPass test tlb
+        → va < 2 ^ 64 → 1 ≤ width
+        → accessed (view_of m control cpl) access tlb va width ≡ accessed (view_of n control cpl) access tlb va width }
+    ensures loaded { (test : Claim) (control : Control) (cpl : ℕ) (m n : List ℕ) (tlb : Translations) (va width : ℕ)
+        → AreAlike test control.root m n → IsWalked (view_of m control cpl) test → AllPass test tlb
+        → va < 2 ^ 64 → IsAccessSize width
+        → loaded m (view_of m control cpl) tlb va width ≡ loaded n (view_of n control cpl) tlb va width }
+    ensures fetched { (test : Claim) (control : Control) (cpl : ℕ) (m n : List ℕ) (tlb : Translations) (va : ℕ)
+        → AreAlike test control.root m n → IsWalked (view_of m control cpl) test → AllPass test tlb → va < 2 ^ 64
+        → fetched m (view_of m control cpl) tlb va ≡ fetched n (view_of n control cpl) tlb va }
+    ensures effect { (i : Instr) (size : ℕ) (regs : Regs) (control : Control) (m n : List ℕ) (tlb : Translations)
+        (test : Claim)
+        → AreAlike test control.root m n → IsWalked (view_of m control regs.cpl) test → AllPass test tlb
+        → IsWellFormed i → AreRegisters regs
+        → effect_of i size regs control m tlb ≡ effect_of i size regs control n tlb }
+{
+    access_law();
+    kept_law();
+    span_law();
 }

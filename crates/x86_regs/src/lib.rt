@@ -29,7 +29,7 @@ pub use effects::{ASKED_NOTHING, Act, Asked, Change, Effect, Write};
 pub use faults::Fault;
 pub use flag_changes::{DF, IF, change_flag, flags_popped};
 pub use form::{Form, instr_form};
-pub use laws::{bound_law, effect_law, grant_law};
+pub use laws::{alike_law, bound_law, effect_law, grant_law};
 pub use operands::{
     RAX, RBP, RCX, RDI, RDX, RSI, RSP, fallen, from_address, from_source, going_on, lowered,
     next_of, place_span, pop_source, push_span, risen, stack_span, string_span, to_source,
