@@ -19,7 +19,7 @@ use nk_body::Source;
 use phys_mem::PhysMem;
 use tlb_model::Tlb;
 
-/// Reads what a call takes from an address on, if it takes any; all else stays but translations.
+/// Reads what a call takes from an address on, if it takes any; all else stays but what is kept of walks.
 pub(crate) fn take_source(
     cpu: &mut Cpu,
     mem: &PhysMem,
