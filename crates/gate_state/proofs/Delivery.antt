@@ -130,7 +130,7 @@ module _ (laws : LowerLaws) (o : Opening) (ks : List Kind) (scenes : SceneLaws o
         (sym (cond-false (passes_limit opening_tables vector) (refused shut tlb) found (within_limit vector few))) good
 
     -- the entry of a delivery: the vector's stub, and the top of the trap stack
-    entry_gives : (vector : ℕ) (tlb : Translations) → vector < 48 → AllPass (respecting o ks) tlb
+    pub entry_gives : (vector : ℕ) (tlb : Translations) → vector < 48 → AllPass (respecting o ks) tlb
         → Gives (respecting o ks) Shut Entry (entry_found control opening_tables vector m tlb)
         (record { handler = gate_offset (laid_gate vector); top = number_from idt_and_tss_byte 8 1060 / 16 * 16 })
     unfolding entry_found

@@ -97,7 +97,7 @@ module _ (laws : LowerLaws) (o : Opening) (ks : List Kind) (scenes : SceneLaws o
         pass = scenes.accessed_pass m control 0 Write tlb at 8 scene pass fits (omega arith);
       })
 
-  push_gives : (control : Control) (value top : ℕ) (m : List ℕ) (tlb : Translations) → IsScene o ks m control
+  pub push_gives : (control : Control) (value top : ℕ) (m : List ℕ) (tlb : Translations) → IsScene o ks m control
       → AllPass (respecting o ks) tlb → 0xFFFFFF8000003000 + 8 ≤ top → top ≤ 0xFFFFFF8000004000
       → IsPushed o ks m (top - 8) (pushed control value top m tlb) (push_stores control value top m tlb)
   push_gives control value top m tlb scene pass low high =

@@ -69,3 +69,11 @@ pub mod CallThrough
 mod WorkedOpening
 mod RefutedRecords
 mod RefutedRuns
+mod MaskLaws
+mod BookFrames
+mod MaskedTables
+mod MaskedScenes
+mod MaskedDeliveries
+mod MaskedTurns
+mod MaskedSources
+mod MaskedStates

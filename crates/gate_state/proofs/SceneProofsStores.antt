@@ -37,7 +37,7 @@ module _ (ks : List Kind) (ws : List (ℕ × ℕ)) (storable : All (λ w. is_sto
         All-weaker (λ w. is_storable (kind_of ks (w.0 / 4096)) ≡ true) (λ w. w.0 / 4096 ≢ frame)
         (λ w is same. never (sym (ap (λ f. is_storable (kind_of ks f)) same) ∙ is)) ws storable
 
-    place_apart : (place : ℕ) → (is_storable (kind_of ks (place / 4096)) ≡ true → ⊥) → All (λ w. w.0 ≢ place) ws
+    pub place_apart : (place : ℕ) → (is_storable (kind_of ks (place / 4096)) ≡ true → ⊥) → All (λ w. w.0 ≢ place) ws
     place_apart place never =
         All-weaker (λ w. w.0 / 4096 ≢ place / 4096) (λ w. w.0 ≢ place) (λ w apart same. apart (ap (λ p. p / 4096) same))
         ws (frame_apart (place / 4096) never)

@@ -106,10 +106,10 @@ module _ (laws : LowerLaws) (o : Opening) (ks : List Kind) (admitted : IsAdmitte
     same_pages : span_of level (first_page level bits) ≡ span_of level page
     same_pages = laws.upper.first_page level bits ∙ under
 
-    same_side : is_slot_page (first_page level bits) ≡ is_slot_page page
+    pub same_side : is_slot_page (first_page level bits) ≡ is_slot_page page
     same_side = laws.upper.same_slot (first_page level bits) page level (omega (arith, least)) most same_pages
 
-    same_laid : slot_upper o.image o.frames (first_page level bits) level ≡ slot_upper o.image o.frames page level
+    pub same_laid : slot_upper o.image o.frames (first_page level bits) level ≡ slot_upper o.image o.frames page level
     unfolding slot_upper
     same_laid =
         laws.upper.same_span (opening_entry o.image o.frames) o.frames opening_root (first_page level bits) page level

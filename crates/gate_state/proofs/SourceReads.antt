@@ -81,7 +81,7 @@ module _ (laws : KeptLaws) (test : Claim) (m : List ℕ) (control : Control) (wa
   looked_keeps None tlb page all = laws.faulted test tlb page all
   looked_keeps (Some leaf) tlb page all = all
 
-  byte_keeps : (tlb : Translations) (va : ℕ) → AllPass test tlb → AllPass test (source_tlb m root tlb va)
+  pub byte_keeps : (tlb : Translations) (va : ℕ) → AllPass test tlb → AllPass test (source_tlb m root tlb va)
   byte_keeps tlb va all = choice (is_readable va) refl
     where
       found : Option Leaf

@@ -86,7 +86,7 @@ module _ (laws : LowerLaws) (o : Opening) (admitted : IsAdmitted o) where
     abbrev made : List (ℕ × ℕ)
     made = turn_stores s.processor s.memory
 
-    kept : Kept o s.kinds (wp_of s.processor.control.cr0) s.processor.control.root s.memory (turned s.processor s.memory) made
+    pub kept : Kept o s.kinds (wp_of s.processor.control.cr0) s.processor.control.root s.memory (turned s.processor s.memory) made
     kept = turn_kept laws o s.kinds (scenes_of s.kinds guarded.kinds) facts (stack_storable s.kinds guarded.kinds) s.processor s.memory (ready s guarded) takes.no_body takes.runs guarded.window
 
     pub turn_guarded : IsGuarded o (after_turn s)
