@@ -1,6 +1,6 @@
 //! What follows from the definitions: the invariant holds in every state of every run, and what it holds of is safe.
 
-ghost use Rattle.std.specs.Prelude.{◌≡◌, ◌⊎◌, ℕ, ◌^◌, ◌<◌, ◌≤◌, List, length, false, true};
+ghost use Rattle.std.specs.Prelude.{◌≡◌, ◌⊎◌, ℕ, ◌/◌, ◌^◌, ◌<◌, ◌≤◌, List, length, false, true};
 ghost use Rattle.irq_plan.specs.declared.event.Event.{Event};
 ghost use Rattle.irq_plan.specs.declared.event.What.{What};
 ghost use Rattle.irq_plan.specs.PlannedEvents.{IsPlan, IsPlannable};
@@ -8,10 +8,12 @@ ghost use Rattle.nk_bits.specs.Accesses.{wp_of};
 ghost use Rattle.nk_bits.specs.EntryForms.{has_form, has_leaf_form, has_table_form};
 ghost use Rattle.nk_bits.specs.Kinds.{kind_of, level_of};
 ghost use Rattle.nk_bits.specs.Paging.{is_present};
-ghost use Rattle.phys_mem.specs.Memory.{entry_in};
+ghost use Rattle.phys_mem.specs.MaskedMemory.{is_book_frame, masked};
+ghost use Rattle.phys_mem.specs.Memory.{byte_at, entry_in};
 ghost use Rattle.boot_map.specs.KernelSlot.{IsNamedIn};
+ghost use Rattle.cpu_step.specs.EventsTaken.{event_taken};
 ghost use Rattle.cpu_step.specs.Processor.{IsSound, Processor};
-ghost use Rattle.cpu_step.specs.Turns.{enters_body};
+ghost use Rattle.cpu_step.specs.Turns.{enters_body, turned};
 ghost use Rattle.nk_body.specs.NestedRecord.{AreBooks, Books};
 ghost use Rattle.gate_state.specs.AnyVector.{DeliversAny};
 ghost use Rattle.gate_state.specs.GateCalls.{IsCalledThrough, IsCalling};
@@ -22,6 +24,7 @@ ghost use Rattle.gate_state.specs.MachineStates.{MachineState, Opening, nested_o
 ghost use Rattle.gate_state.specs.MachineSteps.{after_event, after_turn, calls, made_by_all, move_of, nested_after, next, seen_by, served, shown_by_turn, state, turn_of};
 ghost use Rattle.gate_state.specs.SafeStates.{IsSafe, TakesTurn};
 ghost use Rattle.gate_state.specs.ShownSteps.{IsShown, IsShownCall};
+ghost use Rattle.gate_state.specs.SourceBytes.{source_read};
 ghost use Rattle.gate_state.specs.StepsTaken.{Counts};
 ghost use Rattle.gate_state.specs.WindowLeft.{ComesNearer, IsNearer, IsShortWindow, left};
 
@@ -29,22 +32,23 @@ use boot_map::{
     opening_bytes_law, opening_entries_law, opening_kinds_law, slot_law, slot_leaf_law,
     slot_upper_law,
 };
-use cpu_step::{fetch_law, pending_law};
+use cpu_step::{alike_fetch_law, fetch_law, pending_law, turn_stores_law};
 use decode_fields::{longer_law, prefixes_law};
 use elf_image::entry_law;
 use gate_text::listing_law;
-use nk_bits::{access_law, kept_law, kind_law, upper_law};
+use nk_bits::{access_law, kept_law, kind_law, upper_law, walk_law};
 use nk_body::{call_law, call_leaves_law, opening_sound_law, stores_law};
 use page_desc::{count_law, sound_law};
-use phys_mem::{frame_law, memory_law};
+use phys_mem::{frame_law, mask_law, memory_law};
+use trap_unit::alike_reads_law;
 use x86_alu::flag_law;
 use x86_decode::{decoding_law, spelling_law};
-use x86_regs::{bound_law, effect_law, grant_law};
+use x86_regs::{alike_law, bound_law, effect_law, grant_law};
 
 /// Each kind of step keeps the invariant, over which a state is safe, the processor sound and, with WP clear, in the gates
 /// or at the body; books stay those of memory
 /// over a turn. What a turn and a call show are bytes, and numbers of 64 bits. With WP clear, a turn sets it or leaves
-/// fewer turns until it is set, and so does the body.
+/// fewer turns until it is set, and so does the body. Bytes in the books' frames change none of this.
 pub(crate) fn steps_law()
     ensures opening { (o : Opening) (input : List ℕ) → IsAdmitted o → IsGuarded o (opening_state o input) }
     ensures event { (o : Opening) (s : MachineState) (what : What) → IsAdmitted o → IsPlannable what
@@ -77,6 +81,21 @@ pub(crate) fn steps_law()
         → wp_of s.processor.control.cr0 ≡ false → IsNearer s.processor (after_turn s).processor }
     ensures body_left { (o : Opening) (s : MachineState) → IsAdmitted o → enters_body s.processor ≡ true
         → IsGuarded o s → left (served s).processor < left s.processor }
+    ensures masked_turn { (o : Opening) (s : MachineState) (m : List ℕ) → IsAdmitted o → TakesTurn s.processor
+        → IsGuarded o s → masked (is_book_frame o.frames) m ≡ s.memory
+        → ((turned s.processor m).processor ≡ (turn_of s).processor)
+        × ((turned s.processor m).stepped ≡ (turn_of s).stepped)
+        × (masked (is_book_frame o.frames) (turned s.processor m).memory ≡ (turn_of s).memory) }
+    ensures masked_stays { (o : Opening) (s : MachineState) (m : List ℕ) (place : ℕ) → IsAdmitted o → TakesTurn s.processor
+        → IsGuarded o s → masked (is_book_frame o.frames) m ≡ s.memory → is_book_frame o.frames (place / 4096) ≡ true
+        → byte_at (turned s.processor m).memory place ≡ byte_at m place }
+    ensures masked_event { (o : Opening) (s : MachineState) (m : List ℕ) (what : What) → IsAdmitted o → IsGuarded o s
+        → masked (is_book_frame o.frames) m ≡ s.memory
+        → event_taken what m s.processor ≡ event_taken what s.memory s.processor }
+    ensures masked_source { (o : Opening) (s : MachineState) (m : List ℕ) (va count : ℕ) → IsAdmitted o → IsGuarded o s
+        → masked (is_book_frame o.frames) m ≡ s.memory
+        → source_read m s.processor.control.root s.processor.tlb va count
+        ≡ source_read s.memory s.processor.control.root s.processor.tlb va count }
 {
     access_law();
     kept_law();
@@ -108,6 +127,12 @@ pub(crate) fn steps_law()
     call_law();
     call_leaves_law();
     stores_law();
+    mask_law();
+    walk_law();
+    alike_law();
+    alike_reads_law();
+    alike_fetch_law();
+    turn_stores_law();
 }
 
 /// Every state of every run is guarded, and so safe: in the opening, and after each step under any plan. In a guarded
@@ -159,6 +184,28 @@ pub fn shown_law()
         → IsShown (seen_by (move_of plan s) s) }
     ensures called { (o : Opening) (s : MachineState) → IsAdmitted o → IsGuarded o s → s.turns < 2 ^ 62
         → IsShownCall s }
+{
+    steps_law();
+}
+
+/// Over a memory of which a guarded state's is what is seen where the books' frames are hidden, a turn does what it does
+/// over the state's memory, and leaves the books' bytes; and an event and the reading of a source do the same.
+pub fn masked_law()
+    ensures turn { (o : Opening) (s : MachineState) (m : List ℕ) → IsAdmitted o → TakesTurn s.processor
+        → IsGuarded o s → masked (is_book_frame o.frames) m ≡ s.memory
+        → ((turned s.processor m).processor ≡ (turn_of s).processor)
+        × ((turned s.processor m).stepped ≡ (turn_of s).stepped)
+        × (masked (is_book_frame o.frames) (turned s.processor m).memory ≡ (turn_of s).memory) }
+    ensures stays { (o : Opening) (s : MachineState) (m : List ℕ) (place : ℕ) → IsAdmitted o → TakesTurn s.processor
+        → IsGuarded o s → masked (is_book_frame o.frames) m ≡ s.memory → is_book_frame o.frames (place / 4096) ≡ true
+        → byte_at (turned s.processor m).memory place ≡ byte_at m place }
+    ensures event { (o : Opening) (s : MachineState) (m : List ℕ) (what : What) → IsAdmitted o → IsGuarded o s
+        → masked (is_book_frame o.frames) m ≡ s.memory
+        → event_taken what m s.processor ≡ event_taken what s.memory s.processor }
+    ensures source { (o : Opening) (s : MachineState) (m : List ℕ) (va count : ℕ) → IsAdmitted o → IsGuarded o s
+        → masked (is_book_frame o.frames) m ≡ s.memory
+        → source_read m s.processor.control.root s.processor.tlb va count
+        ≡ source_read s.memory s.processor.control.root s.processor.tlb va count }
 {
     steps_law();
 }

@@ -4,6 +4,8 @@ use Rattle.gate_state.proofs.Assembly.{turn_facts}
 use Rattle.gate_state.proofs.BodyKept.{body_guarded, body_serves, body_stands}
 use Rattle.gate_state.proofs.CallThrough.{called_through}
 use Rattle.gate_state.proofs.LowerLaws.{LowerLaws}
+use Rattle.gate_state.proofs.MaskLaws.{MaskLaws}
+use Rattle.gate_state.proofs.MaskedStates.{masked_event, masked_source, masked_stays, masked_turn}
 use Rattle.gate_state.proofs.OpeningGuarded.{opening_guarded}
 use Rattle.gate_state.proofs.SceneProofs.{scene_laws}
 use Rattle.gate_state.proofs.ShownStates.{call_shown}
@@ -129,6 +131,28 @@ returns c =
         vector = c.pending_law.ensures.vector;
       };
     } in
+    let masks : MaskLaws = record {
+      hidden = record {
+        length = c.mask_law.ensures.length;
+        byte_seen = c.mask_law.ensures.byte_seen;
+        entry_seen = c.mask_law.ensures.entry_seen;
+        stored_seen = c.mask_law.ensures.stored_seen;
+      };
+      walk = record {
+        by_level = c.walk_law.ensures.by_level;
+        by_same = c.kept_law.ensures.walk_by_same;
+        translated = c.kept_law.ensures.translated;
+        link = c.sound_law.ensures.link;
+      };
+      alike = record {
+        accessed = c.alike_law.ensures.accessed;
+        effect = c.alike_law.ensures.effect;
+        entry = c.alike_reads_law.ensures.entry;
+        allowed = c.alike_reads_law.ensures.allowed;
+        fetch = c.alike_fetch_law.ensures.instruction;
+        stores = c.turn_stores_law.ensures;
+      };
+    } in
     let facts : (o : Opening) (s : MachineState) → IsAdmitted o → IsGuarded o s → TurnFacts o s.kinds =
     λ o s admitted guarded. turn_facts laws o s.kinds (scene_laws laws o s.kinds admitted guarded.kinds) in
     record {
@@ -150,4 +174,10 @@ returns c =
       shown_call = λ o s admitted guarded few. call_shown laws o s guarded few;
       turn_left = λ o s admitted takes guarded clear. turn_left laws o admitted s guarded (facts o s admitted guarded) takes clear;
       body_left = λ o s admitted enters guarded. body_left laws o admitted s guarded enters;
+      masked_turn = λ o s m admitted takes guarded is.
+          masked_turn laws masks o admitted s guarded m is (facts o s admitted guarded) takes;
+      masked_stays = λ o s m place admitted takes guarded is.
+          masked_stays laws masks o admitted s guarded m is (facts o s admitted guarded) takes place;
+      masked_event = λ o s m what admitted guarded is. masked_event laws masks o admitted s guarded m is what;
+      masked_source = λ o s m va count admitted guarded is. masked_source laws masks o admitted s guarded m is va count;
     }

@@ -1,0 +1,9 @@
+use Rattle.gate_state.proofs.laws.masked_law.Goals as goal
+
+pub returns : goal.returns
+returns c = record {
+  turn = c.steps_law.ensures.masked_turn;
+  stays = c.steps_law.ensures.masked_stays;
+  event = c.steps_law.ensures.masked_event;
+  source = c.steps_law.ensures.masked_source;
+}
