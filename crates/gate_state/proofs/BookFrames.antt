@@ -1,8 +1,8 @@
 -- The frames of the nested kernel's books are hidden, and no translation that respects the kinds names one.
-use Rattle.std.proofs.Common.{◌≡◌, ℕ, ◌+◌, ◌-◌, ◌*◌, ◌/◌, ◌<◌, ◌≤◌, ◌==◌, ◌&&◌, ◌||◌, Bool, true, false, List, refl, sym, ap, subst, ◌∙◌, arith, inl, inr}
+use Rattle.std.proofs.Common.{◌≡◌, ℕ, ◌+◌, ◌-◌, ◌/◌, ◌<◌, ◌≤◌, ◌==◌, ◌&&◌, ◌||◌, Bool, true, false, List, refl, sym, ap, subst, ◌∙◌, arith, inl, inr}
 use Rattle.std.specs.Prelude.{IfSome, Option, Some, None, nat_le, nat_lt, if◌then◌else◌}
 use Rattle.std.specs.List.{position}
-use Rattle.std.proofs.lemmas.Bool.{agree_below, agree_below_at, and_parts, cases_Bool, cases_lt, cond-false, cond-true, false_from_ne_true, false≢true, le-ltb, leb-true, lt-ltb, ltb-true}
+use Rattle.std.proofs.lemmas.Bool.{agree_below_at, and_parts, cases_Bool, cases_lt, cond-false, cond-true, false_from_ne_true, false≢true, le-ltb, leb-true, lt-ltb, ltb-true}
 use Rattle.nk_bits.specs.declared.kind.Kind.{Kind}
 use Rattle.nk_bits.specs.declared.kind.Kind.TheVariants.{Data, Code, Table, Fixed, Trap, Guarded, Hidden}
 use Rattle.nk_bits.specs.declared.leaf.Leaf.{Leaf}
@@ -103,7 +103,8 @@ laid_apart : (b : List ℕ) (frames page : ℕ) → Apart frames (slot_leaf b fr
 unfolding slot_leaf
 laid_apart b frames page =
     apart_choice frames (nat_lt page (slot_start + 32)) _ _ (λ is. area_apart frames (page - slot_start))
-    (image_apart b frames (pages_start (division_of b frames)) page (position (λ m. m == page) (pages_of b)) (omega arith))
+    (image_apart b frames (pages_start (division_of b frames)) page (position (λ m. m == page) (pages_of b))
+    (omega arith))
 
 module _ (laws : LowerLaws) (o : Opening) (ks : List Kind) (admitted : IsAdmitted o) (kinds_are : AreKinds o ks) where
   abbrev pub is_book : ℕ → Bool

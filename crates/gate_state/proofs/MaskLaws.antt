@@ -59,14 +59,16 @@ pub record AlikeLaws : Type 0 where
       (va width : ℕ) → AreAlike test control.root m n → IsWalked (view_of m control cpl) test → AllPass test tlb
       → va < 2 ^ 64 → 1 ≤ width
       → accessed (view_of m control cpl) access tlb va width ≡ accessed (view_of n control cpl) access tlb va width
-  pub effect : (i : Instr) (size : ℕ) (regs : Regs) (control : Control) (m n : List ℕ) (tlb : Translations) (test : Claim)
+  pub effect : (i : Instr) (size : ℕ) (regs : Regs) (control : Control) (m n : List ℕ) (tlb : Translations)
+      (test : Claim)
       → AreAlike test control.root m n → IsWalked (view_of m control regs.cpl) test → AllPass test tlb
       → IsWellFormed i → AreRegisters regs
       → effect_of i size regs control m tlb ≡ effect_of i size regs control n tlb
   pub entry : (test : Claim) (control : Control) (tables : Tables) (vector : ℕ) (m n : List ℕ) (tlb : Translations)
       → AreAlike test control.root m n → IsWalked (view_of m control 0) test → AllPass test tlb
       → entry_found control tables vector m tlb ≡ entry_found control tables vector n tlb
-  pub allowed : (test : Claim) (control : Control) (tables : Tables) (cpl vector : ℕ) (m n : List ℕ) (tlb : Translations)
+  pub allowed : (test : Claim) (control : Control) (tables : Tables) (cpl vector : ℕ) (m n : List ℕ)
+      (tlb : Translations)
       → AreAlike test control.root m n → IsWalked (view_of m control 0) test → AllPass test tlb
       → interrupt_allowed control tables cpl vector m tlb ≡ interrupt_allowed control tables cpl vector n tlb
   pub fetch : (test : Claim) (control : Control) (cpl : ℕ) (m n : List ℕ) (rip : ℕ) (tlb : Translations)

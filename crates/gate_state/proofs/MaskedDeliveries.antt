@@ -1,5 +1,5 @@
 -- A delivery over a memory of which a scene is seen: it ends as over the scene, and makes the same stores.
-use Rattle.std.proofs.Common.{◌≡◌, ℕ, suc, ◌+◌, ◌*◌, ◌-◌, ◌/◌, ◌%◌, ◌^◌, ◌<◌, ◌≤◌, List, [], ◌∷◌, ◌++◌, length, refl, sym, ap, subst, ◌∙◌, arith, lit<, mod-lt}
+use Rattle.std.proofs.Common.{◌≡◌, ℕ, ◌+◌, ◌*◌, ◌-◌, ◌/◌, ◌<◌, ◌≤◌, List, [], ◌∷◌, ◌++◌, length, refl, sym, ap, subst, ◌∙◌, arith}
 use Rattle.std.specs.Prelude.{Option, Some, None, Result, Ok, Err}
 use Rattle.nk_bits.specs.declared.access.Access.TheVariants.{Write}
 use Rattle.nk_bits.specs.declared.control.Control.{Control}
@@ -59,12 +59,14 @@ record IsFirst (m : List ℕ) (one other : Pushed) (ws vs : List (ℕ × ℕ)) :
   pub memory : other.memory ≡ stored m ws
 
 -- the registers at the handler, where the pushes were made
-arrived_any : (regs : Regs) (handler : ℕ) (answer : Result ℕ Shut) (m n : List ℕ) (tlb : Translations) (ws : List (ℕ × ℕ))
+arrived_any : (regs : Regs) (handler : ℕ) (answer : Result ℕ Shut) (m n : List ℕ) (tlb : Translations)
+    (ws : List (ℕ × ℕ))
     → brought (arrived regs handler answer m tlb) ws ≡ brought (arrived regs handler answer n tlb) ws
 arrived_any regs handler (Ok top) m n tlb ws = refl
 arrived_any regs handler (Err it) m n tlb ws = refl
 
-arrived_same : (regs : Regs) (handler : ℕ) (one other : Pushed) (ws vs : List (ℕ × ℕ)) → left_by one ws ≡ left_by other vs
+arrived_same : (regs : Regs) (handler : ℕ) (one other : Pushed) (ws vs : List (ℕ × ℕ))
+    → left_by one ws ≡ left_by other vs
     → brought (arrived regs handler one.answer one.memory one.tlb) ws
     ≡ brought (arrived regs handler other.answer other.memory other.tlb) vs
 arrived_same regs handler one other ws vs same =
@@ -78,7 +80,8 @@ few_codes (Some code) = omega arith
 module _ (laws : LowerLaws) (masks : MaskLaws) (o : Opening) (ks : List Kind) (scenes : SceneLaws o ks) where
   first_same : (control : Control) (value top : ℕ) (m n : List ℕ) (tlb : Translations) → IsSeen o ks m n control
       → AllPass (respecting o ks) tlb
-      → IsFirst m (pushed control value top n tlb) (pushed control value top m tlb) (push_stores control value top n tlb)
+      → IsFirst m (pushed control value top n tlb) (pushed control value top m tlb)
+      (push_stores control value top n tlb)
       (push_stores control value top m tlb)
   unfolding pushed push_stores
   first_same control value top m n tlb seen pass =
@@ -126,7 +129,8 @@ module _ (laws : LowerLaws) (masks : MaskLaws) (o : Opening) (ks : List Kind) (s
       ap (λ answer. On answer one.memory one.tlb ws) done.answers
       ∙ ap (λ (x : Pushes). (x.0, x.1, ws ++ x.2))
       (pushes_same control values (top - 8) other.memory one.memory one.tlb
-      (first_seen control m n (top - 8) one other ws vs seen done first) done.pass (omega (arith, low)) (omega (arith, high)))
+      (first_seen control m n (top - 8) one other ws vs seen done first) done.pass (omega (arith, low))
+      (omega (arith, high)))
       ∙ ap (λ answer. On answer other.memory one.tlb ws) (sym done.answers)
       ∙ (λ j. On (first.answers j) other.memory (first.tlb j) (first.stores j))
 
@@ -141,7 +145,8 @@ module _ (laws : LowerLaws) (masks : MaskLaws) (o : Opening) (ks : List Kind) (s
       let few : length (codes_of code) ≤ 1 = few_codes code in
       arrived_same regs entry.handler (pushes control values entry.top n tlb) (pushes control values entry.top m tlb)
       (pushes_stores control values entry.top n tlb) (pushes_stores control values entry.top m tlb)
-      (pushes_same control values entry.top m n tlb seen pass (omega (arith, count, few, stands)) (omega (arith, stands)))
+      (pushes_same control values entry.top m n tlb seen pass (omega (arith, count, few, stands))
+      (omega (arith, stands)))
 
   here_same : (regs : Regs) (control : Control) (vector : ℕ) (code : Option ℕ) (m n : List ℕ) (tlb : Translations)
       → IsSeen o ks m n control → AllPass (respecting o ks) tlb → vector < 48
@@ -169,10 +174,15 @@ module _ (laws : LowerLaws) (masks : MaskLaws) (o : Opening) (ks : List Kind) (s
       ∙ ap (λ (x : Outcome Shut Entry). Of x.answer m x.tlb) same
 
   pub delivered_same : (regs : Regs) (control : Control) (tables : Tables) (vector : ℕ) (code : Option ℕ) (m n : List ℕ)
-      (tlb : Translations) → IsSeen o ks m n control → tables ≡ opening_tables → AllPass (respecting o ks) tlb → vector < 48
-      → brought (delivered regs control tables vector code n tlb) (delivery_stores regs control tables vector code n tlb)
-      ≡ brought (delivered regs control tables vector code m tlb) (delivery_stores regs control tables vector code m tlb)
+      (tlb : Translations) → IsSeen o ks m n control → tables ≡ opening_tables → AllPass (respecting o ks) tlb
+      → vector < 48
+      → brought (delivered regs control tables vector code n tlb)
+      (delivery_stores regs control tables vector code n tlb)
+      ≡ brought (delivered regs control tables vector code m tlb)
+      (delivery_stores regs control tables vector code m tlb)
   delivered_same regs control tables vector code m n tlb seen are pass few =
-      subst (λ (x : Tables). brought (delivered regs control x vector code n tlb) (delivery_stores regs control x vector code n tlb)
-      ≡ brought (delivered regs control x vector code m tlb) (delivery_stores regs control x vector code m tlb)) (sym are)
+      subst (λ (x : Tables).
+      brought (delivered regs control x vector code n tlb) (delivery_stores regs control x vector code n tlb)
+      ≡ brought (delivered regs control x vector code m tlb)
+      (delivery_stores regs control x vector code m tlb)) (sym are)
       (here_same regs control vector code m n tlb seen pass few)

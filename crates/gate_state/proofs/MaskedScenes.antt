@@ -1,9 +1,9 @@
--- A memory that is a scene's but for the books' frames: to the processor the two are alike, and they stay so over stores.
+-- A memory that is a scene's but for the books' frames: to the processor the two are alike, and they stay so over
+-- stores.
 use Rattle.std.proofs.Common.{◌≡◌, ℕ, ◌+◌, ◌-◌, ◌*◌, ◌/◌, ◌<◌, false, true, List, length, All, sym, ap, ◌∙◌, arith}
 use Rattle.std.proofs.lemmas.List.Elements.{All-weaker}
 use Rattle.nk_bits.specs.declared.control.Control.{Control}
 use Rattle.nk_bits.specs.declared.kind.Kind.{Kind}
-use Rattle.nk_bits.specs.declared.leaf.Leaf.{Leaf}
 use Rattle.nk_bits.specs.Kinds.{is_storable, kind_of}
 use Rattle.nk_bits.specs.Paging.{all_rights, walk, walk_below}
 use Rattle.nk_bits.specs.UpperEntries.{KeptEntry, covers}
@@ -11,7 +11,7 @@ use Rattle.phys_mem.specs.MaskedMemory.{is_book_frame, masked}
 use Rattle.phys_mem.specs.Memory.{byte_at, entry_in, stored}
 use Rattle.x86_regs.specs.AlikeMemories.{AreAlike}
 use Rattle.gate_state.specs.MachineStates.{Opening}
-use Rattle.gate_state.specs.RespectedKinds.{leads, respecting, respects}
+use Rattle.gate_state.specs.RespectedKinds.{leads, respecting}
 use Rattle.gate_state.proofs.BookFrames.{respected_apart, storable_apart}
 use Rattle.gate_state.proofs.LowerLaws.{LowerLaws}
 use Rattle.gate_state.proofs.MaskLaws.{MaskLaws}
@@ -79,14 +79,16 @@ module _ (laws : LowerLaws) (masks : MaskLaws) (o : Opening) (ks : List Kind) (m
   stores_apart ws are =
       All-weaker (λ (w : ℕ × ℕ). is_storable (kind_of ks (w.0 / 4096)) ≡ true)
       (λ (w : ℕ × ℕ). is_book_frame o.frames (w.0 / 4096) ≡ false)
-      (λ w storable. storable_apart laws o ks seen.scene.admitted seen.scene.kinds_are (w.0 / 4096) storable) ws are.places
+      (λ w storable. storable_apart laws o ks seen.scene.admitted seen.scene.kinds_are (w.0 / 4096) storable) ws
+      are.places
 
   pub masked_stored : (ws : List (ℕ × ℕ)) → AreStores ks ws
       → masked (is_book_frame o.frames) (stored m ws) ≡ stored n ws
   masked_stored ws are =
       masks.hidden.stored_seen (is_book_frame o.frames) m ws (stores_apart ws are) ∙ ap (λ x. stored x ws) seen.masks
 
-  pub seen_stored : SceneLaws o ks → (ws : List (ℕ × ℕ)) → AreStores ks ws → IsSeen o ks (stored m ws) (stored n ws) control
+  pub seen_stored : SceneLaws o ks → (ws : List (ℕ × ℕ)) → AreStores ks ws
+      → IsSeen o ks (stored m ws) (stored n ws) control
   seen_stored scenes ws are = record {
     scene = scene_stored o ks scenes n control ws seen.scene are;
     masks = masked_stored ws are;

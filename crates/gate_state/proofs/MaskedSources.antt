@@ -1,18 +1,16 @@
 -- An event and the source of a call over a memory of which a scene is seen: they are as over the scene.
-use Rattle.std.proofs.Common.{◌≡◌, ℕ, zero, suc, ◌+◌, ◌-◌, ◌*◌, ◌/◌, ◌%◌, ◌^◌, ◌<◌, Bool, true, false, List, length, refl, sym, ap, ◌∙◌, arith}
+use Rattle.std.proofs.Common.{◌≡◌, ℕ, zero, suc, ◌+◌, ◌-◌, ◌/◌, ◌%◌, ◌^◌, Bool, true, false, List, length, refl, ap, ◌∙◌, arith}
 use Rattle.std.specs.Prelude.{IfSome, Option, None, Some, Result, nat_lt, if◌then◌else◌}
 use Rattle.std.proofs.lemmas.Bool.{and_parts}
 use Rattle.nk_bits.specs.declared.kind.Kind.{Kind}
 use Rattle.nk_bits.specs.declared.leaf.Leaf.{Leaf}
 use Rattle.nk_bits.specs.declared.leaf.Upper.{Upper}
 use Rattle.nk_bits.specs.declared.control.Control.{Control}
-use Rattle.nk_bits.specs.Accesses.{place_in}
 use Rattle.nk_bits.specs.Claims.{AllPass}
-use Rattle.nk_bits.specs.Paging.{all_rights, is_canonical, page_of, upper_from, upper_walk}
-use Rattle.nk_bits.specs.Translations.{Translations, entry_kept, fill_walked, look, or_walked, tlb_after, translation}
+use Rattle.nk_bits.specs.Paging.{all_rights, is_canonical, page_of, upper_walk}
+use Rattle.nk_bits.specs.Translations.{Translations, entry_kept, fill_walked, look, or_walked, translation}
 use Rattle.nk_bits.specs.UpperEntries.{walk_by}
-use Rattle.phys_mem.specs.MaskedMemory.{is_book_frame}
-use Rattle.phys_mem.specs.Memory.{byte_at, entry_in}
+use Rattle.phys_mem.specs.Memory.{entry_in}
 use Rattle.page_walk.specs.MemoryAccess.{view_of}
 use Rattle.irq_plan.specs.declared.event.What.{What}
 use Rattle.irq_plan.specs.declared.event.What.TheVariants.{Irq, Drop, Fill, Keep, Forget}
@@ -34,12 +32,15 @@ module _ (laws : LowerLaws) (masks : MaskLaws) (o : Opening) (ks : List Kind) (s
   abbrev found_in : List ℕ → Translations → ℕ → Result Leaf ℕ
   found_in memory tlb page = walk_by (entry_in memory) (length memory / 4096) control.root tlb.upper page
 
-  found_same : (tlb : Translations) (page : ℕ) → AllPass (respecting o ks) tlb → found_in n tlb page ≡ found_in m tlb page
+  found_same : (tlb : Translations) (page : ℕ) → AllPass (respecting o ks) tlb
+      → found_in n tlb page ≡ found_in m tlb page
   found_same tlb page pass =
-      masks.walk.by_same (entry_in n) (entry_in m) (length n / 4096) control.root control.root page (respecting o ks) tlb pass
+      masks.walk.by_same (entry_in n) (entry_in m) (length n / 4096) control.root control.root page
+      (respecting o ks) tlb pass
       (λ entry is covered. below_same laws masks o ks m n control seen entry page is covered)
       (walk_same laws masks o ks m n control seen page)
-      ∙ ap (λ frames. walk_by (entry_in m) frames control.root tlb.upper page) (frames_same laws masks o ks m n control seen)
+      ∙ ap (λ frames. walk_by (entry_in m) frames control.root tlb.upper page)
+      (frames_same laws masks o ks m n control seen)
 
   upper_found : (page level : ℕ) → upper_walk (entry_in n) (length n / 4096) control.root page level
       ≡ upper_walk (entry_in m) (length m / 4096) control.root page level
@@ -47,7 +48,8 @@ module _ (laws : LowerLaws) (masks : MaskLaws) (o : Opening) (ks : List Kind) (s
       upper_same laws masks o ks seen.scene.admitted seen.scene.kinds_are n control.root seen.scene.tables (entry_in m)
       (entry_same laws masks o ks m n control seen) (length n / 4096) page (5 - level) 4 control.root all_rights
       (root_table laws masks o ks seen.scene.admitted seen.scene.kinds_are n control.root seen.scene.tables)
-      ∙ ap (λ frames. upper_walk (entry_in m) frames control.root page level) (frames_same laws masks o ks m n control seen)
+      ∙ ap (λ frames. upper_walk (entry_in m) frames control.root page level)
+      (frames_same laws masks o ks m n control seen)
 
   -- one byte of a source, and what is kept
   byte_found : (va : ℕ) (found : Option Leaf) → IfSome found (λ leaf. respects o ks (page_of va, leaf) ≡ true)

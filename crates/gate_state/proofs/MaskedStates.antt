@@ -1,7 +1,7 @@
 -- A turn, an event and a source over a memory of which a guarded state's is seen, as they are over the state's memory.
-use Rattle.std.proofs.Common.{◌≡◌, ℕ, ◌/◌, true, List, All, refl, sym, ap, ◌∙◌}
+use Rattle.std.proofs.Common.{◌≡◌, ℕ, ◌/◌, true, List, sym, ap, ◌∙◌}
 use Rattle.std.proofs.lemmas.Bool.{false≢true}
-use Rattle.nk_bits.specs.Kinds.{is_storable, kind_of}
+use Rattle.nk_bits.specs.Kinds.{is_storable}
 use Rattle.phys_mem.specs.MaskedMemory.{is_book_frame, masked}
 use Rattle.phys_mem.specs.Memory.{byte_at, stored}
 use Rattle.cpu_step.specs.TurnStores.{turn_stores}
@@ -52,12 +52,13 @@ module _ (laws : LowerLaws) (masks : MaskLaws) (o : Opening) (admitted : IsAdmit
     pub masked_turn : ((turned s.processor m).processor ≡ (turned s.processor s.memory).processor)
         × ((turned s.processor m).stepped ≡ (turned s.processor s.memory).stepped)
         × (masked (is_book_frame o.frames) (turned s.processor m).memory ≡ (turned s.processor s.memory).memory)
-    masked_turn =
-        (ap (λ (x : Left). x.0) (sym turn_left),
-        ap (λ (x : Left). x.1) (sym turn_left),
-        ap (masked (is_book_frame o.frames)) turn_memory
-        ∙ masked_stored laws masks o s.kinds m s.memory s.processor.control seen made storable
-        ∙ sym (masks.alike.stores s.processor s.memory))
+    masked_turn = (
+      ap (λ (x : Left). x.0) (sym turn_left),
+      ap (λ (x : Left). x.1) (sym turn_left),
+      ap (masked (is_book_frame o.frames)) turn_memory
+          ∙ masked_stored laws masks o s.kinds m s.memory s.processor.control seen made storable
+          ∙ sym (masks.alike.stores s.processor s.memory),
+    )
 
     pub masked_stays : (place : ℕ) → is_book_frame o.frames (place / 4096) ≡ true
         → byte_at (turned s.processor m).memory place ≡ byte_at m place
@@ -65,7 +66,8 @@ module _ (laws : LowerLaws) (masks : MaskLaws) (o : Opening) (admitted : IsAdmit
         ap (λ x. byte_at x place) turn_memory
         ∙ laws.store.byte_elsewhere m made place
         (place_apart s.kinds made storable.places place (λ may.
-        false≢true (sym (ap is_storable (book_hidden laws o s.kinds admitted guarded.kinds (place / 4096) book)) ∙ may)))
+        false≢true (sym (ap is_storable (book_hidden laws o s.kinds admitted guarded.kinds (place / 4096) book))
+        ∙ may)))
 
   pub masked_event : (what : What) → event_taken what m s.processor ≡ event_taken what s.memory s.processor
   masked_event what =

@@ -1,15 +1,14 @@
--- Walks over two records of the tables that agree in each frame but the books': they are the same, from the root and below
--- each upper entry that leads where it may.
-use Rattle.std.proofs.Common.{◌≡◌, ◌⊎◌, ℕ, zero, suc, ◌+◌, ◌-◌, ◌*◌, ◌/◌, ◌%◌, ◌^◌, ◌<◌, ◌≤◌, ◌==◌, ◌&&◌, ◌||◌, Bool, true, false, not, List, length, refl, sym, ap, subst, ◌∙◌, arith, inl, inr, lit<, mod-lt}
-use Rattle.std.specs.Prelude.{Option, Some, None, Result, Ok, Err, nat_le, if◌then◌else◌}
-use Rattle.std.proofs.lemmas.Bool.{and_parts, cases_Bool, eqb-true, false≢true, not-false, or_parts}
+-- Walks over two records of the tables that agree in each frame but the books': they are the same, from the root and
+-- below each upper entry that leads where it may.
+use Rattle.std.proofs.Common.{◌≡◌, ◌⊎◌, ℕ, zero, suc, ◌+◌, ◌-◌, ◌<◌, ◌≤◌, ◌==◌, ◌&&◌, ◌||◌, Bool, true, false, not, List, refl, sym, ap, subst, ◌∙◌, arith, inl, inr, lit<, mod-lt}
+use Rattle.std.specs.Prelude.{Option, Some, None, Err, nat_le, if◌then◌else◌}
+use Rattle.std.proofs.lemmas.Bool.{and_parts, cases_Bool, eqb-true, not-false, or_parts}
 use Rattle.nk_bits.specs.declared.kind.Kind.{Kind}
 use Rattle.nk_bits.specs.declared.kind.Kind.TheVariants.{Fixed}
-use Rattle.nk_bits.specs.declared.leaf.Leaf.{Leaf}
 use Rattle.nk_bits.specs.declared.leaf.Rights.{Rights}
 use Rattle.nk_bits.specs.declared.leaf.Upper.{Upper}
 use Rattle.nk_bits.specs.Kinds.{kind_of, level_of}
-use Rattle.nk_bits.specs.Paging.{all_rights, common, frame_of, is_large, is_missing, is_present, is_slot_entry, is_slot_page, page_index, rights_of, slot_value, upper_from, upper_walk, walk, walk_below, walk_from}
+use Rattle.nk_bits.specs.Paging.{all_rights, common, frame_of, is_large, is_missing, is_present, is_slot_entry, is_slot_page, page_index, rights_of, slot_value, upper_from, upper_walk, walk_from}
 use Rattle.nk_bits.specs.UpperEntries.{KeptEntry, covers, first_page}
 use Rattle.phys_mem.specs.Memory.{entry_in}
 use Rattle.boot_map.specs.KernelSlot.{IsNamedIn, slot_upper}
@@ -21,7 +20,7 @@ use Rattle.gate_state.proofs.BookFrames.{fixed_apart, is_book, table_apart}
 use Rattle.gate_state.proofs.LowerLaws.{LowerLaws}
 use Rattle.gate_state.proofs.MaskLaws.{MaskLaws}
 use Rattle.gate_state.proofs.SceneProofsRespects.{slot_bounds}
-use Rattle.gate_state.proofs.SceneProofsUppers.{Leading, frames_are, leading, same_laid, same_side}
+use Rattle.gate_state.proofs.SceneProofsUppers.{Leading, leading, same_laid, same_side}
 
 -- one of the kernel slot's own tables, of this level
 abbrev IsSlotTable : (ℕ → ℕ → ℕ) → ℕ → ℕ → Type 0
@@ -89,7 +88,8 @@ module _ (laws : LowerLaws) (masks : MaskLaws) (o : Opening) (ks : List Kind) (a
         ap (t f) (eqb-true i 511 parts.1) ∙ laws.table.slot ks t f tables.tables four in
         inr (inr (inl (omega (arith, four, is), ap frame_of value ∙ slot_frame)))
     | inr other ↦
-        let below = (masks.walk.link ks t f i tables.tables small (omega (arith, is)) (tables.levels f) other present).0 in
+        let below =
+        (masks.walk.link ks t f i tables.tables small (omega (arith, is)) (tables.levels f) other present).0 in
         inr (inl (omega (arith, below, is)))
   ]
 
@@ -107,15 +107,19 @@ module _ (laws : LowerLaws) (masks : MaskLaws) (o : Opening) (ks : List Kind) (a
       elim second.1 [
         | inl seven ↦
             let is : t f i ≡ t 7 i = ap (λ frame. t frame i) seven in
-            inr (inr (inr (inr (one, inl (ap frame_of is ∙ tables.area_names i small (sym (ap is_present is) ∙ present))))))
+            let names = tables.area_names i small (sym (ap is_present is) ∙ present) in
+            inr (inr (inr (inr (one, inl (ap frame_of is ∙ names)))))
         | inr nine ↦
             let is : t f i ≡ t 9 i = ap (λ frame. t frame i) nine in
-            inr (inr (inr (inr (one, inr (record {
-              at = i;
-              inside = small;
-              present = sym (ap is_present is) ∙ present;
-              names = sym (ap frame_of is);
-            })))))
+            inr (inr (inr (inr (
+              one,
+              inr (record {
+                at = i;
+                inside = small;
+                present = sym (ap is_present is) ∙ present;
+                names = sym (ap frame_of is);
+              }),
+            ))))
       ]
   slot_leads level f i small (inr (inr first)) present = inl (omega (arith, first.0))
 
@@ -128,7 +132,8 @@ module _ (laws : LowerLaws) (masks : MaskLaws) (o : Opening) (ks : List Kind) (a
 
   module _ (u : ℕ → ℕ → ℕ) (same : (f i : ℕ) → i < 512 → is_book laws o ks admitted kinds_are f ≡ false → t f i ≡ u f i)
       (frames page : ℕ) where
-    same_entry : (level f : ℕ) → IsTable (suc level) f → t f (page_index page (suc level)) ≡ u f (page_index page (suc level))
+    same_entry : (level f : ℕ) → IsTable (suc level) f
+        → t f (page_index page (suc level)) ≡ u f (page_index page (suc level))
     same_entry level f is =
         same f (page_index page (suc level)) (index_small page (suc level)) (apart (suc level) f (omega arith) is)
 
@@ -165,7 +170,8 @@ module _ (laws : LowerLaws) (masks : MaskLaws) (o : Opening) (ks : List Kind) (a
   otherwise true found it is = absurd (cc)
   otherwise false found it is = (refl, is)
 
-  upper_table : (rest left level : ℕ) (frames page f : ℕ) (r : Rights) (it : Upper) → left + rest ≡ level → IsTable level f
+  upper_table : (rest left level : ℕ) (frames page f : ℕ) (r : Rights) (it : Upper) → left + rest ≡ level
+      → IsTable level f
       → upper_from t frames page left level f r ≡ Some it → IsTable rest it.frame
   unfolding upper_from
   upper_table rest zero level frames page f r it sum is found =
@@ -184,7 +190,8 @@ module _ (laws : LowerLaws) (masks : MaskLaws) (o : Opening) (ks : List Kind) (a
   root_table = inr (inl tables.root_level)
 
   -- an upper entry that leads names one
-  pub led_table : (held : IsHeld o ks n) (entry : KeptEntry) (page : ℕ) → leads o ks entry ≡ true → covers page entry ≡ true
+  pub led_table : (held : IsHeld o ks n) (entry : KeptEntry) (page : ℕ) → leads o ks entry ≡ true
+      → covers page entry ≡ true
       → IsTable (entry.0 - 1) entry.2.frame
   led_table held entry page is covered =
       let level : ℕ = entry.0 in

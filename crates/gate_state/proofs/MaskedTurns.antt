@@ -1,6 +1,6 @@
--- A turn over a memory of which a guarded state's is seen: processor and what is shown are as over the state's memory, and
--- so are the stores.
-use Rattle.std.proofs.Common.{◌≡◌, ◌⊎◌, ℕ, ◌+◌, ◌-◌, ◌*◌, ◌/◌, ◌^◌, ◌<◌, Bool, true, false, List, [], ◌∷◌, ◌++◌, length, All, refl, sym, ap, subst, ◌∙◌, arith, inl, inr}
+-- A turn over a memory of which a guarded state's is seen: processor and what is shown are as over the state's memory,
+-- and so are the stores.
+use Rattle.std.proofs.Common.{◌≡◌, ◌⊎◌, ℕ, ◌+◌, ◌*◌, ◌/◌, ◌^◌, ◌<◌, Bool, true, false, List, [], ◌∷◌, ◌++◌, All, refl, sym, ap, subst, ◌∙◌, arith, inl, inr}
 use Rattle.std.specs.Prelude.{Option, None, Some, Result, Ok, Err, if◌then◌else◌}
 use Rattle.std.proofs.lemmas.List.Elements.{All-cons, All-head, All-nil, All-tail}
 use Rattle.nk_bits.specs.declared.kind.Kind.{Kind}
@@ -11,7 +11,6 @@ use Rattle.nk_bits.specs.Translations.{Translations, faulted}
 use Rattle.phys_mem.specs.Memory.{stored}
 use Rattle.page_walk.specs.MemoryAccess.{view_of}
 use Rattle.port_bus.specs.PortWords.{console_byte}
-use Rattle.x86_decode.specs.WellFormed.{IsWellFormed}
 use Rattle.x86_regs.specs.declared.effects.Act.{Act}
 use Rattle.x86_regs.specs.declared.effects.Act.TheVariants as act
 use Rattle.x86_regs.specs.declared.effects.Effect.{Effect}
@@ -74,8 +73,8 @@ module _ (laws : LowerLaws) (masks : MaskLaws) (o : Opening) (ks : List Kind) (s
   unfolding trapped
   trap_same vector code p m n over few =
       ap (λ (x : Deliveries). (record p { regs = x.0; tlb = x.1 }, shown_by x.2 (delivery_of vector code p), x.3))
-      (delivered_same laws masks o ks scenes p.regs p.control p.tables vector code m n p.tlb over.seen over.tables over.pass
-      few)
+      (delivered_same laws masks o ks scenes p.regs p.control p.tables vector code m n p.tlb over.seen over.tables
+      over.pass few)
 
   with_cr2 : (p : Processor) (m n : List ℕ) (value : ℕ) → IsOver o ks p m n
       → IsOver o ks (record p { control = record p.control { cr2 = value } }) m n
@@ -101,19 +100,23 @@ module _ (laws : LowerLaws) (masks : MaskLaws) (o : Opening) (ks : List Kind) (s
   raise_same fault.Stack p m n over = trap_same 12 (Some 0) p m n over (omega arith)
   raise_same (fault.General code) p m n over = trap_same 13 (Some code) p m n over (omega arith)
   raise_same (fault.Page code address) p m n over =
-      trap_same 14 (Some code) (record p { control = record p.control { cr2 = address } }) m n (with_cr2 p m n address over)
+      trap_same 14 (Some code) (record p { control = record p.control { cr2 = address } }) m n
+      (with_cr2 p m n address over)
       (omega arith)
 
   -- with other registers, and other translations
-  with_registers : (p : Processor) (m n : List ℕ) (regs : Regs) → IsOver o ks p m n → IsOver o ks (record p { regs = regs }) m n
+  with_registers : (p : Processor) (m n : List ℕ) (regs : Regs) → IsOver o ks p m n
+      → IsOver o ks (record p { regs = regs }) m n
   with_registers p m n regs over = record { seen = over.seen; tables = over.tables; pass = over.pass }
 
-  with_translations : (p : Processor) (m n : List ℕ) (tlb : Translations) → IsOver o ks p m n → AllPass (respecting o ks) tlb
+  with_translations : (p : Processor) (m n : List ℕ) (tlb : Translations) → IsOver o ks p m n
+      → AllPass (respecting o ks) tlb
       → IsOver o ks (record p { tlb = tlb }) m n
   with_translations p m n tlb over pass = record { seen = over.seen; tables = over.tables; pass = pass }
 
   -- what an instruction asks of the processor
-  shown_same : (byte : Option ℕ) (p : Processor) (m n : List ℕ) → left_by (shown byte p n) [] ≡ left_by (shown byte p m) []
+  shown_same : (byte : Option ℕ) (p : Processor) (m n : List ℕ)
+      → left_by (shown byte p n) [] ≡ left_by (shown byte p m) []
   shown_same None p m n = refl
   shown_same (Some byte) p m n = refl
 
@@ -122,11 +125,13 @@ module _ (laws : LowerLaws) (masks : MaskLaws) (o : Opening) (ks : List Kind) (s
       → left_by (interrupted_by allowed vector before p n) (interrupt_stores allowed vector before p n)
       ≡ left_by (interrupted_by allowed vector before p m) (interrupt_stores allowed vector before p m)
   interrupt_same allowed vector before p m n (inl refused) over =
-      subst (λ (a : Result Bool Shut). left_by (interrupted_by a vector before p n) (interrupt_stores a vector before p n)
+      subst (λ (a : Result Bool Shut).
+      left_by (interrupted_by a vector before p n) (interrupt_stores a vector before p n)
       ≡ left_by (interrupted_by a vector before p m) (interrupt_stores a vector before p m)) (sym refused)
       (raise_same (fault.General (8 * vector + 2)) (record p { regs = before }) m n (with_registers p m n before over))
   interrupt_same allowed vector before p m n (inr asked) over =
-      subst (λ (a : Result Bool Shut). left_by (interrupted_by a vector before p n) (interrupt_stores a vector before p n)
+      subst (λ (a : Result Bool Shut).
+      left_by (interrupted_by a vector before p n) (interrupt_stores a vector before p n)
       ≡ left_by (interrupted_by a vector before p m) (interrupt_stores a vector before p m)) (sym asked.0)
       (trap_same vector None p m n over asked.1)
 
@@ -134,7 +139,8 @@ module _ (laws : LowerLaws) (masks : MaskLaws) (o : Opening) (ks : List Kind) (s
       → left_by (returned_by answer before p n) (return_stores answer before p n)
       ≡ left_by (returned_by answer before p m) (return_stores answer before p m)
   return_same (Ok regs) before p m n over = refl
-  return_same (Err it) before p m n over = raise_same it (record p { regs = before }) m n (with_registers p m n before over)
+  return_same (Err it) before p m n over =
+      raise_same it (record p { regs = before }) m n (with_registers p m n before over)
 
   act_same : (a : Act) (before : Regs) (p : Processor) (m n : List ℕ) → IsOver o ks p m n
       → left_by (acted a before p n) (act_stores a before p n) ≡ left_by (acted a before p m) (act_stores a before p m)
@@ -198,7 +204,8 @@ module _ (laws : LowerLaws) (masks : MaskLaws) (o : Opening) (ks : List Kind) (s
     behind_same (Err it) is = refl
     behind_same (Ok it) is =
         masks.alike.effect it.instr it.size p.regs p.control n m fetched.tlb (respecting o ks)
-        (alike laws masks o ks m n p.control over.seen) (scenes.walked n p.control p.regs.cpl over.seen.scene) fetch_passes
+        (alike laws masks o ks m n p.control over.seen)
+        (scenes.walked n p.control p.regs.cpl over.seen.scene) fetch_passes
         (facts.fetch_formed n p.control p.regs.cpl p.regs.rip p.tlb over.seen.scene it is) registers
 
     made_same : instruction_made p n ≡ instruction_made p m
@@ -207,10 +214,12 @@ module _ (laws : LowerLaws) (masks : MaskLaws) (o : Opening) (ks : List Kind) (s
         ∙ ap (λ (x : Outcome Fault Fetched). then_by x.answer x.tlb
         (λ it after. effect_of it.instr it.size p.regs p.control m after))
         (masks.alike.fetch (respecting o ks) p.control p.regs.cpl n m p.regs.rip p.tlb
-        (alike laws masks o ks m n p.control over.seen) (scenes.walked n p.control p.regs.cpl over.seen.scene) over.pass)
+        (alike laws masks o ks m n p.control over.seen)
+        (scenes.walked n p.control p.regs.cpl over.seen.scene) over.pass)
 
     behind_passes : (answer : Result Fetched Fault) → fetched.answer ≡ answer
-        → let made : Outcome Fault Effect = then_by answer fetched.tlb (λ it after. effect_of it.instr it.size p.regs p.control n after) in
+        → let made : Outcome Fault Effect = then_by answer fetched.tlb
+        (λ it after. effect_of it.instr it.size p.regs p.control n after) in
         AllPass (respecting o ks) made.tlb
     behind_passes (Err it) is = fetch_passes
     behind_passes (Ok it) is =
@@ -226,7 +235,8 @@ module _ (laws : LowerLaws) (masks : MaskLaws) (o : Opening) (ks : List Kind) (s
     made_turn are =
         let made : Outcome Fault Effect = instruction_made p n in
         effect_same made.answer p m n made.tlb over (behind_passes fetched.answer refl) are
-        ∙ ap (λ (x : Outcome Fault Effect). left_by (turned_by x.answer p m x.tlb) (effect_stores x.answer p m x.tlb)) made_same
+        ∙ ap (λ (x : Outcome Fault Effect).
+        left_by (turned_by x.answer p m x.tlb) (effect_stores x.answer p m x.tlb)) made_same
 
     instructed_same : AreStores ks (instruction_stores p n)
         → left_by (instructed p n) (instruction_stores p n) ≡ left_by (instructed p m) (instruction_stores p m)
@@ -256,7 +266,8 @@ module _ (laws : LowerLaws) (masks : MaskLaws) (o : Opening) (ks : List Kind) (s
           → left_by (turned_unless vector p n) (stores_unless vector p n)
           ≡ left_by (turned_unless vector p m) (stores_unless vector p m)
       by_vector (Some vector) is are =
-          trap_same vector None (woken vector p) m n (record { seen = over.seen; tables = over.tables; pass = over.pass })
+          trap_same vector None (woken vector p) m n
+          (record { seen = over.seen; tables = over.tables; pass = over.pass })
           (laws.pending.vector p vector pending is).1
       by_vector None is are =
           instructed_same (record p { shielded = false }) m n

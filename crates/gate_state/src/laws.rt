@@ -86,9 +86,9 @@ pub(crate) fn steps_law()
         → ((turned s.processor m).processor ≡ (turn_of s).processor)
         × ((turned s.processor m).stepped ≡ (turn_of s).stepped)
         × (masked (is_book_frame o.frames) (turned s.processor m).memory ≡ (turn_of s).memory) }
-    ensures masked_stays { (o : Opening) (s : MachineState) (m : List ℕ) (place : ℕ) → IsAdmitted o → TakesTurn s.processor
-        → IsGuarded o s → masked (is_book_frame o.frames) m ≡ s.memory → is_book_frame o.frames (place / 4096) ≡ true
-        → byte_at (turned s.processor m).memory place ≡ byte_at m place }
+    ensures masked_stays { (o : Opening) (s : MachineState) (m : List ℕ) (place : ℕ) → IsAdmitted o
+        → TakesTurn s.processor → IsGuarded o s → masked (is_book_frame o.frames) m ≡ s.memory
+        → is_book_frame o.frames (place / 4096) ≡ true → byte_at (turned s.processor m).memory place ≡ byte_at m place }
     ensures masked_event { (o : Opening) (s : MachineState) (m : List ℕ) (what : What) → IsAdmitted o → IsGuarded o s
         → masked (is_book_frame o.frames) m ≡ s.memory
         → event_taken what m s.processor ≡ event_taken what s.memory s.processor }
@@ -188,17 +188,17 @@ pub fn shown_law()
     steps_law();
 }
 
-/// Over a memory of which a guarded state's is what is seen where the books' frames are hidden, a turn does what it does
-/// over the state's memory, and leaves the books' bytes; and an event and the reading of a source do the same.
+/// Over a memory of which a guarded state's is what is seen where the books' frames are hidden, a turn does what it
+/// does over the state's memory, and leaves the books' bytes; an event and the reading of a source do the same there.
 pub fn masked_law()
     ensures turn { (o : Opening) (s : MachineState) (m : List ℕ) → IsAdmitted o → TakesTurn s.processor
         → IsGuarded o s → masked (is_book_frame o.frames) m ≡ s.memory
         → ((turned s.processor m).processor ≡ (turn_of s).processor)
         × ((turned s.processor m).stepped ≡ (turn_of s).stepped)
         × (masked (is_book_frame o.frames) (turned s.processor m).memory ≡ (turn_of s).memory) }
-    ensures stays { (o : Opening) (s : MachineState) (m : List ℕ) (place : ℕ) → IsAdmitted o → TakesTurn s.processor
-        → IsGuarded o s → masked (is_book_frame o.frames) m ≡ s.memory → is_book_frame o.frames (place / 4096) ≡ true
-        → byte_at (turned s.processor m).memory place ≡ byte_at m place }
+    ensures stays { (o : Opening) (s : MachineState) (m : List ℕ) (place : ℕ) → IsAdmitted o
+        → TakesTurn s.processor → IsGuarded o s → masked (is_book_frame o.frames) m ≡ s.memory
+        → is_book_frame o.frames (place / 4096) ≡ true → byte_at (turned s.processor m).memory place ≡ byte_at m place }
     ensures event { (o : Opening) (s : MachineState) (m : List ℕ) (what : What) → IsAdmitted o → IsGuarded o s
         → masked (is_book_frame o.frames) m ≡ s.memory
         → event_taken what m s.processor ≡ event_taken what s.memory s.processor }
