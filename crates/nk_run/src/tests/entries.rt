@@ -26,8 +26,7 @@ fn goes_on(alloc: Global, texts: &[&[u8]], plan: &str, lines: &str) -> Result<bo
         text.extend_from_slice(piece)?;
     }
     let ran = run_planned(alloc, &text, plan, "100")?;
-    let whole = format!(
-        in alloc;
+    let whole = format!(in alloc;
         "k 3 45 0 0 0 - 0 -\n{lines}\nroot 5\ntrap ffffff80000011da\nt 69 0 0000000000000000\n"
     )?;
     Ok(gives(&ran, 0, &whole))
@@ -46,7 +45,10 @@ fn a_kept_entry_serves_a_page_that_is_unlinked(rt: HostRuntime) -> Result<(), Fa
             "0 keep 2 ffff800000000000\n14 drop ffff800000047000",
             stores,
         ),
-        ("0 keep 2 ffff800000000000\n14 forget 2 ffff8000001ff000", faults),
+        (
+            "0 keep 2 ffff800000000000\n14 forget 2 ffff8000001ff000",
+            faults,
+        ),
         // The entry of the next 2 MiB is missing, and those of levels 3 and 4 lead to the entry that is 0.
         ("0 keep 2 ffff800000200000", faults),
         (
@@ -61,7 +63,10 @@ fn a_kept_entry_serves_a_page_that_is_unlinked(rt: HostRuntime) -> Result<(), Fa
         ),
     ];
     for (plan, lines) in cases {
-        assert!(rt; goes_on(alloc, &[&UNLINKS, &STORES], plan, lines)?, "{plan}");
+        assert!(rt;
+            goes_on(alloc, &[&UNLINKS, &STORES], plan, lines)?,
+            "{plan}"
+        );
     }
     Ok(())
 }
