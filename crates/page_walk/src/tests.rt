@@ -1,5 +1,7 @@
 //! The tables of the machine's opening layout, and entries that are missing.
 
+ghost use Rattle.std.specs.Prelude.{◌≡◌, IfOk, length};
+
 use super::{Leaf, Missing, Upper, upper, walk, walk_below};
 use nk_bits::Rights;
 use phys_mem::PhysMem;
@@ -103,7 +105,9 @@ fn large_pages_and_frames_outside_memory_are_missing(rt: HostRuntime) -> Result<
 }
 
 /// Four tables, each with one entry: at level 4 it denies fetches, at level 3 writes, at level 2 the user.
-fn chain(rt: &HostRuntime) -> Result<PhysMem, Fail> {
+fn chain(rt: &HostRuntime) -> Result<PhysMem, Fail>
+    ensures { IfOk result (λ memory. length memory ≡ 65536) }
+{
     let mut memory = PhysMem::new(rt.alloc(), 16)?;
     memory.store64(0x1000, 0x8000_0000_0000_2027);
     memory.store64(0x2000, 0x3025);
@@ -120,7 +124,9 @@ fn rights(can_write: bool, user: bool, exec: bool) -> Rights {
     }
 }
 
-fn names(frame: u32, rights: Rights) -> Upper {
+fn names(frame: u32, rights: Rights) -> Upper
+    ensures { result.frame ≡ frame }
+{
     Upper { frame, rights }
 }
 
