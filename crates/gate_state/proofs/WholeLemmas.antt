@@ -1,6 +1,6 @@
 -- The whole machine after each kind of step, from what the parts say.
-use Rattle.std.proofs.Common.{◌≡◌, ℕ, ◌+◌, false, List, refl, sym, ap, subst, ◌∙◌}
-use Rattle.std.specs.Prelude.{Option, not, ◌==◌, ◌&&◌}
+use Rattle.std.proofs.Common.{◌≡◌, ℕ, ◌+◌, ◌*◌, ◌/◌, Bool, true, false, List, length, refl, sym, ap, subst, ◌∙◌, arith}
+use Rattle.std.specs.Prelude.{Option, None, Some, not, ◌==◌, ◌&&◌}
 use Rattle.std.proofs.lemmas.Bool.{and_right}
 use Rattle.nk_bits.specs.declared.call.Answer.{Answer}
 use Rattle.nk_bits.specs.declared.call.CallWords.{CallWords}
@@ -8,18 +8,21 @@ use Rattle.nk_bits.specs.Accesses.{wp_of}
 use Rattle.irq_plan.specs.declared.event.Event.{Event}
 use Rattle.irq_plan.specs.declared.event.What.{What}
 use Rattle.irq_plan.specs.declared.event.What.TheVariants.{Irq, Drop, Fill, Keep, Forget}
-use Rattle.nk_body.specs.NestedRecord.{AreBooks, Books, Nested, nested_by, nested_in}
+use Rattle.phys_mem.specs.MaskedMemory.{is_book_frame, masked, seen}
+use Rattle.phys_mem.specs.Memory.{byte_at}
+use Rattle.page_desc.specs.DescriptorBytes.{kinds_in}
+use Rattle.nk_body.specs.NestedRecord.{AreBooks, Books, HoldsBooks, Nested, OwnState, books_in, nested_by, nested_in}
 use Rattle.nk_body.specs.CallRules.{Sourced, after_call, answer_to, memory_after_call, stand_of, wants}
 use Rattle.cpu_step.specs.declared.stepped.Stepped.{Stepped}
 use Rattle.cpu_step.specs.EventsTaken.{event_taken}
-use Rattle.cpu_step.specs.Processor.{Processor}
+use Rattle.cpu_step.specs.Processor.{IsSound, Processor}
 use Rattle.cpu_step.specs.Turns.{Turned, enters_body, turned}
 use Rattle.gate_state.specs.declared.moves.Move.{Move}
 use Rattle.gate_state.specs.GuardedStates.{IsGuarded}
 use Rattle.gate_state.specs.MachineStates.{MachineState, Opening, nested_of}
-use Rattle.gate_state.specs.MachineSteps.{after_event, after_reading, after_turn, answer_in, answered_with, call_in, move_of, nested_after, next, next_by, served, source_of}
+use Rattle.gate_state.specs.MachineSteps.{after_event, after_reading, after_turn, answer_in, answered_with, call_in, move_of, nested_after, next, next_by, served, source_of, turn_of}
 use Rattle.gate_state.specs.MachineSteps.{wanted as wanted_in}
-use Rattle.gate_state.specs.SourceBytes.{source_by, tlb_by}
+use Rattle.gate_state.specs.SourceBytes.{SourceRead, source_by, source_read, source_with, tlb_by}
 use Rattle.gate_state.specs.WholeMachine.{IsWhole}
 
 -- the step by the move
@@ -35,30 +38,133 @@ event_root (Fill page) m p = refl
 event_root (Keep level page) m p = refl
 event_root (Forget level page) m p = refl
 
-pub event_whole : (o : Opening) (s : MachineState) (books : Books) (what : What) (p : Processor) → IsWhole o s books → IsGuarded o (after_event what s) → p ≡ event_taken what s.memory s.processor
-    → IsWhole o (record s { processor = p; taken = s.taken + 1 }) books
-event_whole o s books what p whole guarded is =
-    subst (λ (q : Processor). IsWhole o (record s { processor = q; taken = s.taken + 1 }) books) (sym is)
-    (record { admitted = whole.admitted; guarded = guarded; kept = whole.kept; root = whole.root ∙ sym (event_root what s.memory s.processor) })
+-- the state that processor, memory with the books in it, and what is kept beside memory stand for
+abbrev pub state_by : Processor → List ℕ → OwnState → ℕ → ℕ → MachineState
+state_by p m own turns taken = record {
+  processor = p;
+  memory = seen m;
+  kinds = kinds_in m;
+  ledger = (books_in own m).ledger;
+  turns = turns;
+  taken = taken;
+}
 
--- the state after a turn
-pub turn_is : (s : MachineState) (p : Processor) (m : List ℕ) (stepped : Stepped) → record { processor = p; memory = m; stepped = stepped } ≡ turned s.processor s.memory
-    → record s { processor = p; memory = m; turns = s.turns + 1 } ≡ after_turn s
-unfolding after_turn
-turn_is s p m stepped is = ap (λ (t : Turned). record s { processor = t.processor; memory = t.memory; turns = s.turns + 1 }) is
+-- what hides bytes leaves the length, so what is seen of memory hides the books of as many frames as the machine has
+abbrev KeepLength : Type 0
+KeepLength = (hidden : ℕ → Bool) (m : List ℕ) → length (masked hidden m) ≡ length m
 
-pub turn_whole : (o : Opening) (s : MachineState) (books : Books) (p : Processor) (m : List ℕ) (stepped : Stepped) → IsWhole o s books → IsGuarded o (after_turn s)
-    → nested_of (after_turn s) ≡ nested_of s → AreBooks books (after_turn s).memory → record { processor = p; memory = m; stepped = stepped } ≡ turned s.processor s.memory
-    → IsWhole o (record s { processor = p; memory = m; turns = s.turns + 1 }) books
-turn_whole o s books p m stepped whole guarded stays kept is =
-    let now : MachineState = record s { processor = p; memory = m; turns = s.turns + 1 } in
-    let equal : now ≡ after_turn s = turn_is s p m stepped is in
-    record {
+module _ (keep : KeepLength) (o : Opening) (s : MachineState) (own : OwnState) (m : List ℕ) (whole : IsWhole o s own m) where
+  pub size_is : length m ≡ 4096 * o.frames
+  size_is =
+      sym (keep (is_book_frame (length m / 4096)) m) ∙ ap length (sym whole.memory) ∙ whole.guarded.memory.size
+
+  pub masked_is : masked (is_book_frame o.frames) m ≡ s.memory
+  masked_is =
+      let frames : length m / 4096 ≡ o.frames = omega (arith, size_is) in
+      ap (λ n. masked (is_book_frame n) m) (sym frames) ∙ sym whole.memory
+
+  pub sound_is : (p : Processor) → IsSound (length s.memory) p → IsSound (length m) p
+  sound_is p = subst (λ n. IsSound n p) (whole.guarded.memory.size ∙ sym size_is)
+
+  -- the source, which is read in the memory with the books
+  module _ (read : (m : List ℕ) (va count : ℕ) → masked (is_book_frame o.frames) m ≡ s.memory
+      → source_read m s.processor.control.root s.processor.tlb va count
+      ≡ source_read s.memory s.processor.control.root s.processor.tlb va count) where
+    pub source_seen : (va : ℕ) (wanted : Option ℕ)
+        → source_by m s.processor.control.root s.processor.tlb va wanted
+        ≡ source_by s.memory s.processor.control.root s.processor.tlb va wanted
+    source_seen va None = refl
+    source_seen va (Some count) = ap (λ (it : SourceRead). source_with it.bytes) (read m va count masked_is)
+
+    pub tlb_seen : (va : ℕ) (wanted : Option ℕ)
+        → tlb_by m s.processor.control.root s.processor.tlb va wanted
+        ≡ tlb_by s.memory s.processor.control.root s.processor.tlb va wanted
+    tlb_seen va None = refl
+    tlb_seen va (Some count) = ap (λ (it : SourceRead). it.tlb) (read m va count masked_is)
+
+pub event_whole : (o : Opening) (s : MachineState) (own : OwnState) (m : List ℕ) (what : What) (p : Processor)
+    → IsWhole o s own m → IsGuarded o (after_event what s) → p ≡ event_taken what s.memory s.processor
+    → IsWhole o (record s { processor = p; taken = s.taken + 1 }) own m
+event_whole o s own m what p whole guarded is =
+    subst (λ (q : Processor). IsWhole o (record s { processor = q; taken = s.taken + 1 }) own m) (sym is)
+    (record {
       admitted = whole.admitted;
-      guarded = subst (IsGuarded o) (sym equal) guarded;
-      kept = subst (λ (t : MachineState). AreBooks books t.memory) (sym equal) kept;
-      root = whole.root ∙ sym (ap (λ (nk : Nested). nk.tables.root) (ap nested_of equal ∙ stays));
-    }
+      guarded = guarded;
+      memory = whole.memory;
+      kept = whole.kept;
+      root = whole.root ∙ sym (event_root what s.memory s.processor);
+    })
+
+-- what of a turn over the memory with the books is that of the turn over what is seen
+abbrev Alike : Opening → MachineState → Turned → Type 0
+Alike o s t =
+    (t.processor ≡ (turn_of s).processor) × (t.stepped ≡ (turn_of s).stepped)
+    × (masked (is_book_frame o.frames) t.memory ≡ (turn_of s).memory)
+
+-- bytes of the books' frames stay
+abbrev Stay : ℕ → List ℕ → List ℕ → Type 0
+Stay frames m n = (p : ℕ) → is_book_frame frames (p / 4096) ≡ true → byte_at n p ≡ byte_at m p
+
+-- a turn from the state that processor, memory and own stand for, to processor p and memory n
+module _ (keep : KeepLength) (o : Opening) (was : Processor) (m : List ℕ) (own : OwnState) (turns taken : ℕ)
+    (whole : IsWhole o (state_by was m own turns taken) own m)
+    (p : Processor) (n : List ℕ) (stepped : Stepped)
+    (is : record { processor = p; memory = n; stepped = stepped } ≡ turned was m)
+    (alike : Alike o (state_by was m own turns taken) (turned was m))
+    (guarded : IsGuarded o (after_turn (state_by was m own turns taken)))
+    (stays : (place : ℕ) → is_book_frame o.frames (place / 4096) ≡ true
+    → byte_at (turned was m).memory place ≡ byte_at m place)
+    (books : AreBooks (books_in own m) (after_turn (state_by was m own turns taken)).memory)
+    (held : (own : OwnState) (m n : List ℕ) → HoldsBooks own m → AreBooks (books_in own m) (seen n)
+    → length n ≡ length m → Stay own.frames m n → (books_in own n ≡ books_in own m) × HoldsBooks own n) where
+  abbrev State : MachineState
+  State = state_by was m own turns taken
+
+  memory_is : masked (is_book_frame o.frames) n ≡ (after_turn State).memory
+  unfolding after_turn
+  memory_is = ap (λ (t : Turned). masked (is_book_frame o.frames) t.memory) is ∙ alike.2
+
+  size_stays : length n ≡ 4096 * o.frames
+  size_stays = sym (keep (is_book_frame o.frames) n) ∙ ap length memory_is ∙ guarded.memory.size
+
+  pub seen_is : seen n ≡ (after_turn State).memory
+  seen_is =
+      let frames : length n / 4096 ≡ o.frames = omega (arith, size_stays) in
+      ap (λ k. masked (is_book_frame k) n) frames ∙ memory_is
+
+  still : (books_in own n ≡ books_in own m) × HoldsBooks own n
+  still =
+      let before : length m ≡ 4096 * o.frames = size_is keep o State own m whole in
+      let frames : o.frames ≡ own.frames = omega (arith, before, whole.kept.stored.size) in
+      held own m n whole.kept (subst (AreBooks (books_in own m)) (sym seen_is) books) (size_stays ∙ sym before)
+      (subst (λ k. Stay k m n) frames (λ place at. ap (λ (t : Turned). byte_at t.memory place) is ∙ stays place at))
+
+  -- the state after it
+  pub turn_is : state_by p n own (turns + 1) taken ≡ after_turn State
+  unfolding after_turn
+  turn_is =
+      let processor : p ≡ (turn_of State).processor = ap (λ (t : Turned). t.processor) is ∙ alike.0 in
+      λ i. record {
+        processor = processor i;
+        memory = seen_is i;
+        kinds = (still.0 i).frames.kinds;
+        ledger = (still.0 i).ledger;
+        turns = turns + 1;
+        taken = taken;
+      }
+
+  pub shown_is : stepped ≡ (turn_of State).stepped
+  shown_is = ap (λ (t : Turned). t.stepped) is ∙ alike.1
+
+  pub turn_whole : nested_of (after_turn State) ≡ nested_of State
+      → IsWhole o (state_by p n own (turns + 1) taken) own n
+  turn_whole same = record {
+    admitted = whole.admitted;
+    guarded = subst (IsGuarded o) (sym turn_is) guarded;
+    memory = refl;
+    kept = still.1;
+    root = whole.root ∙ sym (ap (λ (nk : Nested). nk.tables.root) (ap nested_of turn_is ∙ same));
+  }
 
 -- the state after the body
 module _ (s : MachineState) (books after : Books) (m : List ℕ) (call : CallWords) (wanted : Option ℕ) (source : Sourced) (answer : Answer) (root : ℕ)
@@ -103,14 +209,20 @@ module _ (s : MachineState) (books after : Books) (m : List ℕ) (call : CallWor
       processor_is ∙ (λ i. answered_with (answer_now i) (root_now i) (read_now i)) in
       λ i. record s { processor = processor_now i; memory = memory_now i; kinds = kinds_now i; ledger = ledger_now i; turns = s.turns + 1 }
 
-  pub served_whole_is : (o : Opening) → IsWhole o s books → IsGuarded o (served s) → AreBooks after m
-      → IsWhole o (record s { processor = p; memory = m; kinds = after.frames.kinds; ledger = after.ledger; turns = s.turns + 1 }) after
-  served_whole_is o whole guarded are = record {
-    admitted = whole.admitted;
-    guarded = subst (IsGuarded o) (sym served_is) guarded;
-    kept = are;
-    root = sym (ap (λ (q : Processor). q.control.root) processor_is ∙ root_after);
-  }
+  pub root_stays : after.root ≡ p.control.root
+  root_stays = sym (ap (λ (q : Processor). q.control.root) processor_is ∙ root_after)
+
+-- and it is whole
+pub served_whole_is : (o : Opening) (s : MachineState) (own after : OwnState) (m n : List ℕ) (p : Processor) → IsWhole o s own m
+    → IsGuarded o (served s) → state_by p n after (s.turns + 1) s.taken ≡ served s → after.root ≡ p.control.root → HoldsBooks after n
+    → IsWhole o (state_by p n after (s.turns + 1) s.taken) after n
+served_whole_is o s own after m n p whole guarded is root held = record {
+  admitted = whole.admitted;
+  guarded = subst (IsGuarded o) (sym is) guarded;
+  memory = refl;
+  kept = held;
+  root = root;
+}
 
 -- behind the body no body is to run
 pub behind_body : (answer : Answer) (root : ℕ) (p : Processor) → enters_body (answered_with answer root p) ≡ false

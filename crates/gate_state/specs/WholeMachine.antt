@@ -1,6 +1,7 @@
 -- The machine with the opening that its run began from, as the three states own it.
 use Rattle.std.specs.Prelude.{◌≡◌, ℕ, Bool, true, false, List}
-use Rattle.nk_body.specs.NestedRecord.{AreBooks, Books}
+use Rattle.phys_mem.specs.MaskedMemory.{seen}
+use Rattle.nk_body.specs.NestedRecord.{HoldsBooks, OwnState}
 use Rattle.irq_plan.specs.declared.event.Event.{Event}
 use Rattle.gate_state.specs.declared.moves.Move.{Move}
 use Rattle.gate_state.specs.declared.moves.Move.TheVariants as move
@@ -15,12 +16,14 @@ pub record WholeState : Type 0 where
   pub state : MachineState
   pub source : List ℕ
 
--- what holds of opening, state and books at each moment
-pub record IsWhole (opening : Opening) (state : MachineState) (books : Books) : Type 0 where
+-- what holds at each moment of opening and state, of what the nested kernel keeps outside memory, and of memory m with the
+-- books in it: the state's memory is what is seen of m, and m holds the books, of which the state has kinds and ledger
+pub record IsWhole (opening : Opening) (state : MachineState) (own : OwnState) (m : List ℕ) : Type 0 where
   pub admitted : IsAdmitted opening
   pub guarded : IsGuarded opening state
-  pub kept : AreBooks books state.memory
-  pub root : books.root ≡ state.processor.control.root
+  pub memory : state.memory ≡ seen m
+  pub kept : HoldsBooks own m
+  pub root : own.root ≡ state.processor.control.root
 
 -- the machine after a step, and after the body
 abbrev pub next_whole : List Event → WholeState → WholeState

@@ -1,7 +1,9 @@
 //! The machine in the gates: WP is clear, and the supervisor stands at a gate point that isn't the body's place.
 
 ghost use Rattle.std.specs.Prelude.{◌≡◌, ◌<◌, ◌≤◌, false, length, ◌*◌};
-ghost use Rattle.nk_body.specs.NestedRecord.{AreBooks};
+ghost use Rattle.phys_mem.specs.MaskedMemory.{seen};
+ghost use Rattle.page_desc.specs.DescriptorBytes.{kinds_in};
+ghost use Rattle.nk_body.specs.NestedRecord.{HoldsBooks, books_in};
 ghost use Rattle.cpu_step.specs.Turns.{enters_body};
 ghost use Rattle.gate_state.specs.MachineOf.{IsInGates, IsOf, whole_of};
 ghost use Rattle.gate_state.specs.MachineSteps.{move_of, seen_by};
@@ -93,12 +95,12 @@ impl<'i> GateMachine<'i> {
 
     /// Memory and books, at the end of a run.
     pub fn finish(self) -> Finished
-        ensures memory { result.mem ≡ self.entry.state.memory }
+        ensures memory { seen result.mem ≡ self.entry.state.memory }
         ensures size { length result.mem ≡ 4096 * self.entry.opening.frames }
-        ensures kinds { result.kernel.frames.kinds ≡ self.entry.state.kinds }
+        ensures kinds { kinds_in result.mem ≡ self.entry.state.kinds }
         ensures root { result.kernel.root ≡ self.entry.state.processor.control.root }
-        ensures ledger { result.kernel.ledger ≡ self.entry.state.ledger }
-        ensures books { AreBooks result.kernel result.mem }
+        ensures ledger { (books_in result.kernel result.mem).ledger ≡ self.entry.state.ledger }
+        ensures books { HoldsBooks result.kernel result.mem }
         ensures safe { IsSafe self.entry.opening self.entry.state }
         ensures in_gates { IsInGates self.entry.state.processor }
     {

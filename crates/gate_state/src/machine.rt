@@ -2,7 +2,9 @@
 
 ghost use Rattle.std.specs.Prelude.{◌≡◌, ◌<◌, false, length, ◌*◌};
 ghost use Rattle.cpu_step.specs.Turns.{enters_body};
-ghost use Rattle.nk_body.specs.NestedRecord.{AreBooks};
+ghost use Rattle.phys_mem.specs.MaskedMemory.{seen};
+ghost use Rattle.page_desc.specs.DescriptorBytes.{kinds_in};
+ghost use Rattle.nk_body.specs.NestedRecord.{HoldsBooks, books_in};
 ghost use Rattle.gate_state.specs.MachineOf.{IsOf, whole_of};
 ghost use Rattle.gate_state.specs.MachineSteps.{move_of, seen_by};
 ghost use Rattle.gate_state.specs.SafeStates.{IsSafe};
@@ -49,12 +51,12 @@ impl<'i> Machine<'i> {
 
     /// Memory and books, at the end of a run.
     pub fn finish(self) -> Finished
-        ensures memory { result.mem ≡ (whole_of self.entry).state.memory }
+        ensures memory { seen result.mem ≡ (whole_of self.entry).state.memory }
         ensures size { length result.mem ≡ 4096 * (whole_of self.entry).opening.frames }
-        ensures kinds { result.kernel.frames.kinds ≡ (whole_of self.entry).state.kinds }
+        ensures kinds { kinds_in result.mem ≡ (whole_of self.entry).state.kinds }
         ensures root { result.kernel.root ≡ (whole_of self.entry).state.processor.control.root }
-        ensures ledger { result.kernel.ledger ≡ (whole_of self.entry).state.ledger }
-        ensures books { AreBooks result.kernel result.mem }
+        ensures ledger { (books_in result.kernel result.mem).ledger ≡ (whole_of self.entry).state.ledger }
+        ensures books { HoldsBooks result.kernel result.mem }
         ensures safe { IsSafe (whole_of self.entry).opening (whole_of self.entry).state }
         ensures sorted { IsOf self.entry }
     {

@@ -1,7 +1,9 @@
 //! The machine at the nested kernel's body: WP is clear.
 
 ghost use Rattle.std.specs.Prelude.{◌≡◌, ◌<◌, ◌≤◌, false, true, length, ◌*◌};
-ghost use Rattle.nk_body.specs.NestedRecord.{AreBooks};
+ghost use Rattle.phys_mem.specs.MaskedMemory.{seen};
+ghost use Rattle.page_desc.specs.DescriptorBytes.{kinds_in};
+ghost use Rattle.nk_body.specs.NestedRecord.{HoldsBooks, books_in};
 ghost use Rattle.cpu_step.specs.Turns.{enters_body};
 ghost use Rattle.gate_state.specs.MachineOf.{IsAtBody, IsInGates};
 ghost use Rattle.gate_state.specs.MachineSteps.{called_in, move_of};
@@ -84,12 +86,12 @@ impl<'i> NestedMachine<'i> {
 
     /// Memory and books, at the end of a run.
     pub fn finish(self) -> Finished
-        ensures memory { result.mem ≡ self.entry.state.memory }
+        ensures memory { seen result.mem ≡ self.entry.state.memory }
         ensures size { length result.mem ≡ 4096 * self.entry.opening.frames }
-        ensures kinds { result.kernel.frames.kinds ≡ self.entry.state.kinds }
+        ensures kinds { kinds_in result.mem ≡ self.entry.state.kinds }
         ensures root { result.kernel.root ≡ self.entry.state.processor.control.root }
-        ensures ledger { result.kernel.ledger ≡ self.entry.state.ledger }
-        ensures books { AreBooks result.kernel result.mem }
+        ensures ledger { (books_in result.kernel result.mem).ledger ≡ self.entry.state.ledger }
+        ensures books { HoldsBooks result.kernel result.mem }
         ensures safe { IsSafe self.entry.opening self.entry.state }
         ensures at_body { IsAtBody self.entry.state.processor }
     {

@@ -5,7 +5,9 @@ ghost use Rattle.boot_map.specs.Division.{IsLayout};
 ghost use Rattle.boot_map.specs.Opening.{IsOpening};
 ghost use Rattle.boot_map.specs.OpeningKinds.{kinds};
 ghost use Rattle.byte_scanner.specs.FirstFound.{first_found};
-ghost use Rattle.nk_body.specs.NestedRecord.{AreBooks};
+ghost use Rattle.phys_mem.specs.MaskedMemory.{seen};
+ghost use Rattle.page_desc.specs.DescriptorBytes.{kinds_in};
+ghost use Rattle.nk_body.specs.NestedRecord.{HoldsBooks, books_in};
 ghost use Rattle.nk_body.specs.SourceWords.{opening_ledger};
 ghost use Rattle.cpu_step.specs.Turns.{enters_body};
 ghost use Rattle.gate_state.specs.MachineOf.{IsOf, IsOuter, whole_of};
@@ -63,11 +65,11 @@ impl<'i> OuterMachine<'i> {
         input: Vec<u8>,
     ) -> Result<OuterMachine<'i>, NoMemory>
         requires layout { IsLayout image.now layout.now }
-        requires opening { IsOpening image.now layout.now.frames mem }
-        requires kinds { kernel.frames.kinds ≡ kinds image.now layout.now.frames }
+        requires opening { IsOpening image.now layout.now.frames (seen mem) }
+        requires kinds { kinds_in mem ≡ kinds image.now layout.now.frames }
         requires root { kernel.root ≡ 5 }
-        requires ledger { kernel.ledger ≡ opening_ledger }
-        requires books { AreBooks kernel mem }
+        requires ledger { (books_in kernel mem).ledger ≡ opening_ledger }
+        requires books { HoldsBooks kernel mem }
         requires clean { first_found image.now ≡ None }
         ensures opening { IfOk result (λ machine. machine.opening ≡ record { image = image.now; frames = layout.now.frames }) }
         ensures state { IfOk result (λ machine. machine.state
@@ -137,12 +139,12 @@ impl<'i> OuterMachine<'i> {
 
     /// Memory and books, at the end of a run.
     pub fn finish(self) -> Finished
-        ensures memory { result.mem ≡ self.entry.state.memory }
+        ensures memory { seen result.mem ≡ self.entry.state.memory }
         ensures size { length result.mem ≡ 4096 * self.entry.opening.frames }
-        ensures kinds { result.kernel.frames.kinds ≡ self.entry.state.kinds }
+        ensures kinds { kinds_in result.mem ≡ self.entry.state.kinds }
         ensures root { result.kernel.root ≡ self.entry.state.processor.control.root }
-        ensures ledger { result.kernel.ledger ≡ self.entry.state.ledger }
-        ensures books { AreBooks result.kernel result.mem }
+        ensures ledger { (books_in result.kernel result.mem).ledger ≡ self.entry.state.ledger }
+        ensures books { HoldsBooks result.kernel result.mem }
         ensures safe { IsSafe self.entry.opening self.entry.state }
         ensures outer { IsOuter self.entry.state.processor }
     {

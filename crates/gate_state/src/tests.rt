@@ -14,7 +14,9 @@ ghost use Rattle.boot_map.specs.Division.{IsLayout};
 ghost use Rattle.boot_map.specs.Opening.{IsOpening};
 ghost use Rattle.boot_map.specs.OpeningKinds.{kinds};
 ghost use Rattle.byte_scanner.specs.FirstFound.{first_found};
-ghost use Rattle.nk_body.specs.NestedRecord.{AreBooks};
+ghost use Rattle.phys_mem.specs.MaskedMemory.{seen};
+ghost use Rattle.page_desc.specs.DescriptorBytes.{kinds_in};
+ghost use Rattle.nk_body.specs.NestedRecord.{HoldsBooks, books_in};
 ghost use Rattle.nk_body.specs.SourceWords.{opening_ledger};
 
 use crate::{Called, Finished, Machine, OuterMachine, Seen};
@@ -165,7 +167,7 @@ fn advanced<'i>(machine: Machine<'i>, plan: &Plan, log: &mut Log) -> Machine<'i>
 }
 
 fn finished(machine: Machine) -> Finished
-    ensures { AreBooks result.kernel result.mem }
+    ensures { HoldsBooks result.kernel result.mem }
 {
     match machine {
         Machine::Outer(outer) => outer.finish(),
@@ -176,7 +178,7 @@ fn finished(machine: Machine) -> Finished
 
 /// The handler of traps by the books, and in memory.
 fn handlers(end: &Finished) -> [u64; 2]
-    requires { AreBooks end.now.kernel end.now.mem }
+    requires { HoldsBooks end.now.kernel end.now.mem }
 {
     [end.kernel.trap(), end.mem.load64(0x2000)]
 }
@@ -212,16 +214,16 @@ struct Opened {
 /// Memory and books of the opening; None for want of memory.
 fn open(alloc: Global, image: &Image, layout: &Layout) -> Option<Opened>
     requires { IsLayout image.now layout.now }
-    ensures opening { IfSome result (λ it. IsOpening image.now layout.now.frames it.mem) }
-    ensures kinds { IfSome result (λ it. it.kernel.frames.kinds ≡ kinds image.now layout.now.frames) }
+    ensures opening { IfSome result (λ it. IsOpening image.now layout.now.frames (seen it.mem)) }
+    ensures kinds { IfSome result (λ it. kinds_in it.mem ≡ kinds image.now layout.now.frames) }
     ensures root { IfSome result (λ it. it.kernel.root ≡ 5) }
-    ensures ledger { IfSome result (λ it. it.kernel.ledger ≡ opening_ledger) }
-    ensures books { IfSome result (λ it. AreBooks it.kernel it.mem) }
+    ensures ledger { IfSome result (λ it. (books_in it.kernel it.mem).ledger ≡ opening_ledger) }
+    ensures books { IfSome result (λ it. HoldsBooks it.kernel it.mem) }
 {
-    let Ok(mem) = prepare(alloc, image, layout) else {
+    let Ok(mut mem) = prepare(alloc, image, layout) else {
         return None;
     };
-    match Kernel::start(alloc, &mem, image, layout) {
+    match Kernel::start(alloc, &mut mem, image, layout) {
         Ok(kernel) => Some(Opened { kernel, mem }),
         Err(_) => None,
     }

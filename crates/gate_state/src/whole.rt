@@ -4,7 +4,9 @@ ghost use Rattle.std.specs.Prelude.{◌≡◌, ℕ, ◌+◌, ◌<◌, ◌≤◌,
 ghost use Rattle.irq_plan.specs.PlannedEvents.{IsPlannable};
 ghost use Rattle.nk_bits.specs.Accesses.{wp_of};
 ghost use Rattle.cpu_step.specs.Turns.{enters_body};
-ghost use Rattle.nk_body.specs.NestedRecord.{AreBooks};
+ghost use Rattle.phys_mem.specs.MaskedMemory.{seen};
+ghost use Rattle.page_desc.specs.DescriptorBytes.{kinds_in};
+ghost use Rattle.nk_body.specs.NestedRecord.{HoldsBooks, books_in};
 ghost use Rattle.gate_state.specs.EventMoves.{IfTaken};
 ghost use Rattle.gate_state.specs.MachineOf.{IsAtBody, IsInGates};
 ghost use Rattle.gate_state.specs.MachineSteps.{after_event, after_turn, answered_with, call_in, called_in, move_by, move_of, next, seen_by, served, shown_by_turn, turn_of, waits};
@@ -22,12 +24,12 @@ use cpu_step::{Cpu, Stepped};
 use elf_image::Image;
 use irq_plan::{Event, Plan, What};
 use nk_bits::{Answer, CallWords};
-use nk_body::Kernel;
-use phys_mem::PhysMem;
+use nk_body::{Kernel, held_law};
+use phys_mem::{PhysMem, mask_law};
 use std::marker::Model;
 use x86_regs::{Regs, bit};
 
-/// Processor, memory and books, with how many turns and events were taken.
+/// Processor, memory with the books in it, and what the nested kernel keeps beside it, with how many turns and events were taken.
 pub(crate) struct Whole<'i> {
     pub cpu: Cpu,
     pub mem: PhysMem,
@@ -42,6 +44,9 @@ pub(crate) struct Whole<'i> {
 
 impl<'i> Model for Whole<'i> {
     ghost use Rattle.std.specs.Prelude.{◌≤◌, vec_capacity};
+    ghost use Rattle.phys_mem.specs.MaskedMemory.{seen};
+    ghost use Rattle.page_desc.specs.DescriptorBytes.{kinds_in};
+    ghost use Rattle.nk_body.specs.NestedRecord.{books_in};
     ghost use Rattle.gate_state.specs.WholeMachine.{IsWhole, WholeState};
 
     ghost Value = { WholeState };
@@ -50,9 +55,9 @@ impl<'i> Model for Whole<'i> {
       opening = record { image = w.image.now; frames = w.layout.now.frames };
       state = record {
         processor = w.cpu;
-        memory = w.mem;
-        kinds = w.kernel.frames.kinds;
-        ledger = w.kernel.ledger;
+        memory = seen w.mem;
+        kinds = kinds_in w.mem;
+        ledger = (books_in w.kernel w.mem).ledger;
         turns = w.turns;
         taken = w.taken;
       };
@@ -62,12 +67,12 @@ impl<'i> Model for Whole<'i> {
     ghost invariant = { λ w. IsWhole (record { image = w.image.now; frames = w.layout.now.frames })
         (record {
           processor = w.cpu;
-          memory = w.mem;
-          kinds = w.kernel.frames.kinds;
-          ledger = w.kernel.ledger;
+          memory = seen w.mem;
+          kinds = kinds_in w.mem;
+          ledger = (books_in w.kernel w.mem).ledger;
           turns = w.turns;
           taken = w.taken;
-        }) w.kernel × (65536 ≤ vec_capacity w.source) };
+        }) w.kernel w.mem × (65536 ≤ vec_capacity w.source) };
 }
 
 impl<'i> Whole<'i> {
@@ -105,6 +110,7 @@ impl<'i> Whole<'i> {
         ensures seen { result ≡ Seen.Event }
     {
         steps_law();
+        mask_law();
         self.cpu.take_event(&self.mem, what);
         self.taken += 1;
         Seen::Event
@@ -118,6 +124,8 @@ impl<'i> Whole<'i> {
         ensures seen { result ≡ shown_by_turn (turn_of self.old.state).stepped }
     {
         steps_law();
+        mask_law();
+        held_law();
         let stepped = self.cpu.step(&mut self.mem);
         self.turns += 1;
         seen_of(stepped)
@@ -131,8 +139,9 @@ impl<'i> Whole<'i> {
         ensures called { result ≡ called_in self.old.state }
     {
         steps_law();
+        mask_law();
         let call = call_in(self.cpu.regs());
-        let wanted = self.kernel.wants(&call);
+        let wanted = self.kernel.wants(&self.mem, &call);
         let took = take_source(&mut self.cpu, &self.mem, call.c, wanted, &mut self.source);
         let source = sourced(took, &self.source);
         let answer = self.kernel.serve(&mut self.mem, &call, source);
@@ -234,13 +243,14 @@ impl<'i> Whole<'i> {
 
     /// Memory and books.
     pub fn finish(self) -> Finished
-        ensures memory { result.mem ≡ self.entry.state.memory }
+        ensures memory { seen result.mem ≡ self.entry.state.memory }
         ensures size { length result.mem ≡ 4096 * self.entry.opening.frames }
-        ensures kinds { result.kernel.frames.kinds ≡ self.entry.state.kinds }
+        ensures kinds { kinds_in result.mem ≡ self.entry.state.kinds }
         ensures root { result.kernel.root ≡ self.entry.state.processor.control.root }
-        ensures ledger { result.kernel.ledger ≡ self.entry.state.ledger }
-        ensures books { AreBooks result.kernel result.mem }
+        ensures ledger { (books_in result.kernel result.mem).ledger ≡ self.entry.state.ledger }
+        ensures books { HoldsBooks result.kernel result.mem }
     {
+        mask_law();
         let Whole {
             cpu: _,
             mem,

@@ -1,5 +1,5 @@
 -- What a call leaves of kinds and bytes.
-use Rattle.std.proofs.Common.{◌≡◌, ◌≢◌, ◌⊎◌, ℕ, zero, suc, ◌+◌, ◌*◌, ◌/◌, ◌<◌, ◌≤◌, Bool, true, false, List, [], ◌∷◌, length, arith, refl, sym, ap, subst, ◌∙◌, inl, inr}
+use Rattle.std.proofs.Common.{◌≡◌, ◌≢◌, ◌⊎◌, ℕ, suc, ◌+◌, ◌*◌, ◌/◌, ◌<◌, ◌≤◌, Bool, true, false, List, [], ◌∷◌, length, arith, refl, sym, ap, subst, ◌∙◌, inl, inr}
 use Rattle.std.specs.Prelude.{All, Option, None, Some, if◌then◌else◌, ◌==◌, ◌||◌}
 use Rattle.std.proofs.lemmas.Bool.{cases_Bool, cases_lt, eqb-true, false≢true}
 use Rattle.std.proofs.lemmas.List.Elements.{All-weaker}
@@ -8,13 +8,13 @@ use Rattle.nk_bits.specs.declared.kind.Kind.{Kind}
 use Rattle.nk_bits.specs.declared.kind.Kind.TheVariants.{Data, Code, Table, Fixed, Trap, Guarded, Hidden}
 use Rattle.nk_bits.specs.declared.rule.Rule.{Rule}
 use Rattle.nk_bits.specs.Kinds.{is_guarded, is_storable, kind_of}
-use Rattle.phys_mem.specs.Memory.{IsBytes, byte_at, entry_in, number_at, stored}
+use Rattle.phys_mem.specs.Memory.{IsBytes, byte_at, entry_in, stored}
 use Rattle.page_desc.specs.FrameCounts.{loose_in}
-use Rattle.page_desc.specs.PageTables.{HoldsSoundTables, loose_of}
+use Rattle.page_desc.specs.PageTables.{loose_of}
 use Rattle.policy_book.specs.PolicyRules.{stores_written}
-use Rattle.region_book.specs.RegionCalls.{guarded, room}
+use Rattle.region_book.specs.RegionCalls.{guarded}
 use Rattle.nk_body.specs.CallLeft.{IsCalled, left_in, memory_left}
-use Rattle.nk_body.specs.CallRules.{Sourced, bytes_read, frames_of_call, made, made_unless, mapped_by, stand_of, verdict, with_pages, with_pool, written, written_unless, zeros_of}
+use Rattle.nk_body.specs.CallRules.{Sourced, bytes_read, made, made_unless, mapped_by, stand_of, verdict, with_pages, with_pool, written, written_unless, zeros_of}
 use Rattle.nk_body.specs.KindsKept.{is_reserved, is_settled}
 use Rattle.nk_body.specs.NestedRecord.{Ledger, Nested, nested_in}
 use Rattle.nk_body.proofs.CallFacts.{pool_stores, write_facts, write_guarded, zeros_small}
@@ -23,7 +23,7 @@ use Rattle.nk_body.proofs.GuardedFrames.{among, kind_guarded}
 use Rattle.nk_body.proofs.LowerLaws.{LowerLaws}
 use Rattle.nk_body.proofs.NumbersLeft.{number_same}
 use Rattle.nk_body.proofs.RegionFrames.{InGuarded, in_memory}
-use Rattle.nk_body.proofs.RegionRules.{IsDeclarable, alloc_facts, declare_facts}
+use Rattle.nk_body.proofs.RegionRules.{alloc_facts, declare_facts}
 use Rattle.nk_body.proofs.RegionStores.{written_bytes}
 use Rattle.nk_body.proofs.TableChanges.{IsTablesLeft, declared_left, handler_left, nothing_left, removed_left, written_left}
 

@@ -1,5 +1,5 @@
 -- What calls on regions do that break no rule: which region, which bytes, and where they are stored.
-use Rattle.std.proofs.Common.{◌≡◌, ℕ, ◌+◌, ◌*◌, ◌/◌, ◌<◌, ◌≤◌, true, List, length, arith, refl, sym, ap, ◌∙◌, subst}
+use Rattle.std.proofs.Common.{◌≡◌, ℕ, ◌+◌, ◌<◌, ◌≤◌, true, List, length, arith, sym, ap, ◌∙◌, subst}
 use Rattle.std.specs.Prelude.{All, Option, Some, None, replicate, ◌&&◌, ◌==◌, if◌then◌else◌}
 use Rattle.std.proofs.lemmas.List.Elements.{All-nil, All-replicate}
 use Rattle.nk_bits.specs.declared.call.CallWords.{CallWords}
@@ -8,12 +8,11 @@ use Rattle.policy_book.specs.PolicyRules.{bounds_of, policy_of, policy_rule, sto
 use Rattle.region_book.specs.RegionCalls.{fits_in, fits_region, room}
 use Rattle.region_book.specs.RegionRecords.{Region, region_of}
 use Rattle.nk_body.specs.CallRules.{IsSourceOf, Sourced, bytes_read, new_region, source_rule, wants, zeros_of}
-use Rattle.nk_body.specs.CallRules.{Bytes as BytesRead}
 use Rattle.nk_body.specs.NestedRecord.{IsKept, Ledger, Nested}
 use Rattle.nk_body.proofs.CallNumbers.{writing_rule}
 use Rattle.nk_body.proofs.RegionFrames.{InGuarded, stores_bytes}
 use Rattle.nk_body.proofs.RegionRules.{IsAllocable, bounds_facts, source_facts, writing_facts}
-use Rattle.nk_body.proofs.RegionStores.{written_bytes, written_guarded, zeros_guarded}
+use Rattle.nk_body.proofs.RegionStores.{written_guarded, zeros_guarded}
 
 -- bytes that are written in a live region
 pub record IsWriting (ledger : Ledger) (call : CallWords) (source : Sourced) : Type 0 where

@@ -1,5 +1,5 @@
 -- What each call leaves, from what the part that makes it says.
-use Rattle.std.proofs.Common.{◌≡◌, ◌≢◌, ℕ, ◌^◌, ◌<◌, List, length, true, false, arith, refl, sym, ap, subst, ◌∙◌}
+use Rattle.std.proofs.Common.{◌≡◌, ◌≢◌, ℕ, List, true, false, refl, sym, ap, subst, ◌∙◌}
 use Rattle.std.specs.Prelude.{OnErr, OnOk, Result, Ok, Err, Option, None, Some, not}
 use Rattle.std.proofs.lemmas.List.Elements.{All-weaker}
 use Rattle.phys_mem.specs.Memory.{stored, stores}
@@ -10,37 +10,47 @@ use Rattle.nk_bits.specs.declared.rule.Rule.{Rule}
 use Rattle.nk_bits.specs.declared.rule.Rule.TheVariants.{BadCall, NotCanonical}
 use Rattle.nk_bits.specs.Kinds.{kind_of}
 use Rattle.nk_bits.specs.Paging.{is_canonical}
-use Rattle.page_desc.specs.PageTables.{AreDescribed, HoldsSoundTables, Tables}
+use Rattle.page_desc.specs.PageTables.{AreDescribed, Tables}
 use Rattle.region_book.specs.RegionRecords.{Book, Region}
+use Rattle.region_book.specs.RegionBytes.{RegionIndex}
+use Rattle.write_log.specs.LogBytes.{LogCounts}
 use Rattle.write_log.specs.LogRecords.{LogRecord}
 use Rattle.nk_bits.specs.Rules.{rule_of}
 use Rattle.table_rules.specs.ValueRules.{broken}
+use Rattle.page_desc.specs.FrameDescriptors.{Descriptors}
 use Rattle.vmmu.specs.declared.tables.Tables4.{Tables4}
-use Rattle.nk_body.specs.NestedRecord.{AreBooks, Books, IsKept, Ledger, Nested, handler_in, nested_by, nested_in}
+use Rattle.nk_body.specs.NestedRecord.{AreBooks, Books, HoldsBooks, IsKept, Ledger, Nested, OwnState, books_in, nested_by}
 use Rattle.nk_body.specs.CallRules.{Sourced, made, stand_of, verdict, written}
 use Rattle.nk_body.specs.CallMade.{IsMade}
 use Rattle.nk_body.proofs.CallNumbers.{made_is, number_1, number_other, verdict_is, written_1}
 
-abbrev pub books_of : Tables4 → ℕ → Book → List LogRecord → Books
-books_of t trap book log = record { frames = t.frames; root = t.root; trap = trap; ledger = record { book = book; log = log } }
+abbrev pub books_of : Descriptors → ℕ → ℕ → Book → List LogRecord → Books
+books_of d root trap book log = record { frames = d; root = root; trap = trap; ledger = record { book = book; log = log } }
+
+-- what the nested kernel keeps outside memory, by its parts
+abbrev pub own_of : Tables4 → ℕ → RegionIndex → LogCounts → OwnState
+own_of t trap regions log = record { frames = t.frames; root = t.root; trap = trap; regions = regions; log = log }
 
 pub on_ok : {A B : Type 0} {P : Type 0} (r : Result A B) → P → OnOk r P
 on_ok (Ok a) p = p
 on_ok (Err b) p = tt
 
--- memory that no part changes
-pub on_err : {A B : Type 0} (P : Type 0) (m : List ℕ) (r : Result A B) → OnErr r P → OnErr r (P × (m ≡ m))
-on_err P m (Ok a) p = tt
-on_err P m (Err b) p = (p, refl)
-
 -- the books and the rule by other names
-pub made_as : {m later : List ℕ} {call : CallWords} {source : Sourced} {after : Books} (before books : Books) (one two : Option Rule)
-    → before ≡ books → two ≡ one → IsMade before m call source one after later → IsMade books m call source two after later
-made_as {m = m} {later = later} {call = call} {source = source} {after = after} before books one two view same is =
-    subst (λ (it : Books × Option Rule). IsMade it.0 m call source it.1 after later) (λ i. (view i, sym same i)) is
+pub made_as : (m : List ℕ) {seen later : List ℕ} {call : CallWords} {source : Sourced} {after : Books} (before own : OwnState) (one two : Option Rule)
+    → before ≡ own → two ≡ one → IsMade (books_in before m) seen call source one after later → IsMade (books_in own m) seen call source two after later
+made_as m {seen = seen} {later = later} {call = call} {source = source} {after = after} before own one two view same is =
+    subst (λ (it : OwnState × Option Rule). IsMade (books_in it.0 m) seen call source it.1 after later) (λ i. (view i, sym same i)) is
 
-pub are_before : (before books : Books) (m : List ℕ) → before ≡ books → AreBooks books m → AreBooks before m
-are_before before books m view are = subst (λ b. AreBooks b m) (sym view) are
+-- regions and log by what they were
+pub with_ledger : {seen later : List ℕ} {call : CallWords} {source : Sourced} {rule : Option Rule} {before : Books} (d : Descriptors) (root trap : ℕ)
+    {book one : Book} {log two : List LogRecord} → one ≡ book → two ≡ log
+    → IsMade before seen call source rule (books_of d root trap book log) later → IsMade before seen call source rule (books_of d root trap one two) later
+with_ledger {seen = seen} {later = later} {call = call} {source = source} {rule = rule} {before = before} d root trap books logs is =
+    subst (λ (it : Book × List LogRecord). IsMade before seen call source rule (books_of d root trap it.0 it.1) later)
+    (λ i. (sym books i, sym logs i)) is
+
+pub held_before : (before own : OwnState) (m : List ℕ) → before ≡ own → HoldsBooks own m → HoldsBooks before m
+held_before before own m view held = subst (λ o. HoldsBooks o m) (sym view) held
 
 -- other kinds under which every guarded frame is guarded
 pub kept_under : (kinds after : List Kind) (ledger : Ledger) → IsKept kinds ledger
@@ -87,24 +97,25 @@ module _ (books : Books) (m : List ℕ) (call : CallWords) (source : Sourced) (a
   }
 
 -- a call on page tables, which leaves handler and ledger
-module _ (t u : Tables4) (trap : ℕ) (book : Book) (log : List LogRecord) (m later : List ℕ) (call : CallWords) (source : Sourced) (after : Tables) (w : List ℕ) where
+module _ (d e : Descriptors) (root other trap : ℕ) (book : Book) (log : List LogRecord) (m later : List ℕ) (call : CallWords) (source : Sourced)
+    (after : Tables) (w : List ℕ) where
   abbrev before : Books
-  before = books_of t trap book log
+  before = books_of d root trap book log
 
   pub tables_made : {A : Type 0} (r : Result A Rule)
       → made (nested_by before m) call source (stand_of (nested_by before m) call m) ≡ record (nested_by before m) { tables = after }
       → written (nested_by before m) call source m ≡ w → AreBooks before m → rule_of r ≡ verdict (nested_by before m) call source
-      → OnErr r ((u ≡ t) × (later ≡ m)) → OnOk r (u.frames.kinds ≡ after.kinds)
-      → OnOk r (u.root ≡ after.root) → OnOk r (later ≡ w) → AreDescribed u.frames u.root later
-      → (verdict (nested_by before m) call source ≡ None → (f : ℕ) → kind_of t.frames.kinds f ≡ Guarded → kind_of after.kinds f ≡ Guarded)
-      → IsMade before m call source (rule_of r) (books_of u trap book log) later
+      → OnErr r ((e ≡ d) × (other ≡ root) × (later ≡ m)) → OnOk r (e.kinds ≡ after.kinds)
+      → OnOk r (other ≡ after.root) → OnOk r (later ≡ w) → AreDescribed e other later
+      → (verdict (nested_by before m) call source ≡ None → (f : ℕ) → kind_of d.kinds f ≡ Guarded → kind_of after.kinds f ≡ Guarded)
+      → IsMade before m call source (rule_of r) (books_of e other trap book log) later
   tables_made (Ok a) makes writes are judged err kinds root memory described stays =
-      accepted_made before m call source (books_of u trap book log) later _ w (sym judged) makes writes kinds root are.trap refl memory described
-      (kept_under t.frames.kinds u.frames.kinds before.ledger are.kept
+      accepted_made before m call source (books_of e other trap book log) later _ w (sym judged) makes writes kinds root are.trap refl memory described
+      (kept_under d.kinds e.kinds before.ledger are.kept
       (λ f is. ap (λ ks. kind_of ks f) kinds ∙ stays (sym judged) f is))
   tables_made (Err rule) makes writes are judged err kinds root memory described stays =
-      subst (λ (it : Tables4 × List ℕ). IsMade before m call source (Some rule) (books_of it.0 trap book log) it.1)
-      (λ i. (sym err.0 i, sym err.1 i)) (refused_made before m call source rule are judged)
+      subst (λ (it : Descriptors × ℕ × List ℕ). IsMade before m call source (Some rule) (books_of it.0 it.1 trap book log) it.2)
+      (λ i. (sym err.0 i, sym err.1 i, sym err.2 i)) (refused_made before m call source rule are judged)
 
 -- the handler is set
 pub trap_made : (books : Books) (m : List ℕ) (call : CallWords) (source : Sourced) → AreBooks books m → call.number ≡ 1 → is_canonical call.a ≡ true

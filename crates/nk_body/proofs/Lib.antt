@@ -9,11 +9,14 @@ pub mod RegionRules
 pub mod GuardedFrames
 pub mod KeptLedgers
 pub mod RegionStores
+pub mod HeldBooks
+pub mod RegionsHeld
 pub mod RegionsMade
 pub mod GuardedStays
 pub mod PagesMade
 pub mod StoresKept
 pub mod OpeningSound
+pub mod OpeningBooks
 pub mod TableChanges
 pub mod CallFacts
 pub mod NumbersLeft

@@ -1,17 +1,18 @@
 -- What a call leaves that declares pages, from what the part that makes it says.
 use Rattle.std.proofs.Common.{◌≡◌, ℕ, ◌/◌, ◌<◌, List, length, arith, refl, sym, ap, subst, ◌∙◌}
-use Rattle.std.specs.Prelude.{slice_index, IfSome, OnErr, OnOk, Result, Ok, Err, Option, None, Some}
+use Rattle.std.specs.Prelude.{slice_index, if◌then◌else◌, IfSome, OnErr, OnOk, Result, Ok, Err, Option, None, Some}
+use Rattle.phys_mem.specs.MaskedMemory.{seen}
 use Rattle.phys_mem.specs.Memory.{entry_in}
+use Rattle.nk_bits.specs.Paging.{is_canonical_page, walk}
 use Rattle.nk_bits.specs.declared.call.CallWords.{CallWords}
 use Rattle.nk_bits.specs.declared.kind.Kind.{Kind}
 use Rattle.nk_bits.specs.declared.rule.Rule.{Rule}
 use Rattle.page_desc.specs.FrameCounts.{loose_in}
 use Rattle.page_desc.specs.FrameDescriptors.{Descriptors}
 use Rattle.page_desc.specs.PageTables.{AreDescribed, HoldsSoundTables, loose_of, tables_in}
-use Rattle.region_book.specs.RegionCalls.{added, declare_rule, frames_from, guarded, mapped, page_region}
+use Rattle.region_book.specs.RegionCalls.{added, declare_rule, frames_from, guarded, leaf_frame, mapped, page_region}
 use Rattle.region_book.specs.RegionRecords.{Book, IsEachOnce}
 use Rattle.nk_bits.specs.Rules.{rule_of}
-use Rattle.vmmu.specs.declared.tables.Tables4.{Tables4}
 use Rattle.write_log.specs.LogRecords.{LogRecord}
 use Rattle.nk_body.specs.CallMade.{IsMade}
 use Rattle.nk_body.specs.CallRules.{Sourced, mapped_by, stand_of, with_pages}
@@ -28,41 +29,49 @@ abbrev pub LooseLaw : Type 0
 LooseLaw = (kinds : List Kind) (root : ℕ) (m : List ℕ) (frame : ℕ) → HoldsSoundTables kinds root m
     → loose_of (tables_in kinds root m) frame ≡ loose_in kinds (entry_in m) frame
 
-module _ (guard : GuardLaws) (walks : WalkLaws) (loose : LooseLaw) (t : Tables4) (frames : Descriptors) (trap : ℕ) (book after : Book)
-    (log : List LogRecord) (m : List ℕ) (call : CallWords) (source : Sourced) (are : AreBooks (books_of t trap book log) m) where
+-- where a page is mapped by all of memory, and by what is seen of it
+pub seen_map : (m : List ℕ) (root : ℕ) → length (seen m) ≡ length m
+    → ((page : ℕ) → walk (entry_in m) (length m / 4096) root page ≡ walk (entry_in (seen m)) (length m / 4096) root page)
+    → mapped (entry_in m) (length m / 4096) root ≡ mapped (entry_in (seen m)) (length (seen m) / 4096) root
+seen_map m root size walks =
+    (λ i page. if is_canonical_page page then leaf_frame (walks page i) else None)
+    ∙ ap (λ n. mapped (entry_in (seen m)) (n / 4096) root) (sym size)
+
+module _ (guard : GuardLaws) (walks : WalkLaws) (loose : LooseLaw) (d e : Descriptors) (root trap : ℕ) (book after : Book)
+    (log : List LogRecord) (m : List ℕ) (call : CallWords) (source : Sourced) (are : AreBooks (books_of d root trap book log) m) where
   abbrev before : Books
-  before = books_of t trap book log
+  before = books_of d root trap book log
 
   abbrev nk : Nested
   nk = nested_by before m
 
   abbrev kinds : List Kind
-  kinds = t.frames.kinds
+  kinds = d.kinds
 
   -- where a page is mapped by memory
   abbrev by_memory : ℕ → Option ℕ
-  by_memory = mapped (entry_in m) (length m / 4096) t.root
+  by_memory = mapped (entry_in m) (length m / 4096) root
 
   same_map : by_memory ≡ mapped_by nk
-  same_map = mapped_same walks kinds t.root m are.described.sound
+  same_map = mapped_same walks kinds root m are.described.sound
 
-  judged_same : declare_rule book kinds (slice_index t.frames.loose) by_memory call.a call.b call.c ≡ declaring_rule nk call
+  judged_same : declare_rule book kinds (slice_index d.loose) by_memory call.a call.b call.c ≡ declaring_rule nk call
   judged_same =
-      rule_same book kinds (slice_index t.frames.loose) (loose_of nk.tables) by_memory call.a call.b call.c
+      rule_same book kinds (slice_index d.loose) (loose_of nk.tables) by_memory call.a call.b call.c
       (λ page f found.
-      let within : f < length m / 4096 = mapped_inside walks (entry_in m) (length m / 4096) t.root page f found in
+      let within : f < length m / 4096 = mapped_inside walks (entry_in m) (length m / 4096) root page f found in
       let inside : f < length kinds = omega (arith, within, are.described.sound.size) in
-      are.described.counted.loose f inside ∙ sym (loose kinds t.root m f are.described.sound))
+      are.described.counted.loose f inside ∙ sym (loose kinds root m f are.described.sound))
       ∙ ap (λ at. declare_rule book kinds (loose_of nk.tables) at call.a call.b call.c) same_map
 
   pub pages_made : call.number ≡ 6 → (r : Result ℕ Rule)
-      → rule_of r ≡ declare_rule book kinds (slice_index t.frames.loose) by_memory call.a call.b call.c
-      → OnErr r ((after ≡ book) × (frames ≡ t.frames))
+      → rule_of r ≡ declare_rule book kinds (slice_index d.loose) by_memory call.a call.b call.c
+      → OnErr r ((after ≡ book) × (e ≡ d))
       → OnOk r (IfSome (frames_from by_memory (call.a / 4096) (call.b / 4096))
-      (λ fs. (after ≡ added book (page_region book call.a call.b call.c fs) (length fs)) × (frames ≡ record t.frames { kinds = guarded kinds fs })))
-      → IsMade before m call source (rule_of r) (books_of (record { frames = frames; root = t.root }) trap after log) m
+      (λ fs. (after ≡ added book (page_region book call.a call.b call.c fs) (length fs)) × (e ≡ record d { kinds = guarded kinds fs })))
+      → IsMade before m call source (rule_of r) (books_of e root trap after log) m
   pages_made number (Err rule) judged err region =
-      subst (λ (it : Descriptors × Book). IsMade before m call source (Some rule) (books_of (record { frames = it.0; root = t.root }) trap it.1 log) m)
+      subst (λ (it : Descriptors × Book). IsMade before m call source (Some rule) (books_of it.0 root trap it.1 log) m)
       (λ i. (sym err.1 i, sym err.0 i))
       (refused_made before m call source rule are
       (judged ∙ judged_same ∙ sym (verdict_is nk call source ∙ number_6 call.number _ _ _ _ _ _ _ _ _ _ number)))
@@ -74,18 +83,18 @@ module _ (guard : GuardLaws) (walks : WalkLaws) (loose : LooseLaw) (t : Tables4)
       let once : IsEachOnce fs = guard.once fs is.distinct in
       let found : frames_from by_memory (call.a / 4096) (call.b / 4096) ≡ Some fs =
       ap (λ at. frames_from at (call.a / 4096) (call.b / 4096)) same_map ∙ facts.1 in
-      let becomes : (after ≡ added book (page_region book call.a call.b call.c fs) (length fs)) × (frames ≡ record t.frames { kinds = guarded kinds fs }) =
+      let becomes : (after ≡ added book (page_region book call.a call.b call.c fs) (length fs)) × (e ≡ record d { kinds = guarded kinds fs }) =
       subst (λ (o : Option (List ℕ)). IfSome o (λ fs. (after ≡ added book (page_region book call.a call.b call.c fs) (length fs))
-      × (frames ≡ record t.frames { kinds = guarded kinds fs }))) found region in
+      × (e ≡ record d { kinds = guarded kinds fs }))) found region in
       let free : AreFree m kinds fs =
-      λ k d below. (is.free k d below, sym (loose kinds t.root m _ are.described.sound) ∙ is.none k d below) in
-      accepted_made before m call source (books_of (record { frames = frames; root = t.root }) trap after log) m
+      λ k d below. (is.free k d below, sym (loose kinds root m _ are.described.sound) ∙ is.none k d below) in
+      accepted_made before m call source (books_of e root trap after log) m
       (with_pages nk call (stand_of nk call m) (Some fs)) m
       (verdict_is nk call source ∙ number_6 call.number _ _ _ _ _ _ _ _ _ _ number ∙ none)
       (made_is nk call source _ ∙ number_6 call.number _ _ _ _ _ _ _ _ _ _ number ∙ ap (with_pages nk call (stand_of nk call m)) facts.1)
       (written_6 nk call source m number)
       (ap (λ (d : Descriptors). d.kinds) becomes.1) refl are.trap (λ i. record { book = becomes.0 i; log = log }) refl
-      (subst (λ d. AreDescribed d t.root m) (sym becomes.1) (guarded_described guard t.root m fs t.frames are.described once free))
+      (subst (λ d. AreDescribed d root m) (sym becomes.1) (guarded_described guard root m fs d are.described once free))
       (subst (λ (it : List Kind × Book). IsKept it.0 (record { book = it.1; log = log })) (λ i. (ap (λ (d : Descriptors). d.kinds) (sym becomes.1) i, sym becomes.0 i))
       (kept_pages kinds before.ledger are.kept (loose_of nk.tables) call.a call.b call.c fs is once
       (frames_count (mapped_by nk) (call.b / 4096) (call.a / 4096) fs facts.1)))

@@ -9,7 +9,7 @@ use Rattle.std.proofs.lemmas.List.Elements.{All-cons, All-nil, All-weaker}
 use Rattle.nk_bits.specs.declared.kind.Kind.{Kind}
 use Rattle.nk_bits.specs.declared.kind.Kind.TheVariants.{Fixed, Guarded, Hidden}
 use Rattle.nk_bits.specs.Kinds.{is_guarded, is_hidden, kind_of}
-use Rattle.phys_mem.specs.Memory.{byte_at, stored}
+use Rattle.phys_mem.specs.Memory.{stored}
 use Rattle.page_desc.specs.PageTables.{is_handler_byte, is_kept, is_table, is_unguarded}
 use Rattle.region_book.specs.RegionRecords.{Book, Region, byte_place, region_of, region_stores}
 use Rattle.nk_body.specs.NestedRecord.{handler_in}

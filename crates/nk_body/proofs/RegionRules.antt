@@ -1,7 +1,7 @@
 -- What calls on regions are that break no rule.
-use Rattle.std.proofs.Common.{◌≡◌, ◌≢◌, ℕ, zero, suc, ◌+◌, ◌*◌, ◌/◌, ◌%◌, ◌<◌, ◌≤◌, Bool, true, false, not, ◌&&◌, ◌||◌, List, [], ◌∷◌, ◌++◌, length, map, arith, refl, sym, ap, ◌∙◌, subst, inl, inr}
+use Rattle.std.proofs.Common.{◌≡◌, ◌≢◌, ℕ, ◌+◌, ◌*◌, ◌/◌, ◌%◌, ◌<◌, ◌≤◌, Bool, true, false, not, ◌&&◌, ◌||◌, List, [], ◌∷◌, length, map, arith, refl, sym, ap, ◌∙◌, inl, inr}
 use Rattle.std.specs.Prelude.{◌==◌, nat_le, nat_lt, All, Option, Some, None, is_none, if◌then◌else◌}
-use Rattle.std.specs.List.{find, list_any, range_with_len}
+use Rattle.std.specs.List.{list_any, range_with_len}
 use Rattle.std.proofs.lemmas.Bool.{and_parts, eqb-true, false≢true, leb-false, leb-true, ltb-false, not-false, not-true, or_parts}
 use Rattle.std.proofs.lemmas.Bool.Decides.{eqb_tells}
 use Rattle.std.proofs.lemmas.List.Elements.{All-cons, All-nil}
@@ -13,7 +13,7 @@ use Rattle.nk_bits.specs.Kinds.{is_data, kind_of}
 use Rattle.nk_bits.specs.Paging.{is_canonical}
 use Rattle.region_book.specs.RegionCalls.{alloc_rule, declare_rule, else_rule, fits_region, frames_from, frames_rule, free_rule_of, has_twice, is_bad_range, is_policy, is_taken, room}
 use Rattle.region_book.specs.RegionRecords.{Book, Region, is_written_in}
-use Rattle.policy_book.specs.PolicyRules.{bounds_of, first_rule, policy_of, policy_rule}
+use Rattle.policy_book.specs.PolicyRules.{bounds_of, first_rule, policy_rule}
 use Rattle.write_log.specs.LogRecords.{LogRecord, log_size, logged, room_of}
 use Rattle.nk_body.specs.CallRules.{IsSourceOf, NotTaken, Sourced, Unreadable, source_rule}
 use Rattle.nk_body.specs.CallRules.{Bytes as BytesRead}

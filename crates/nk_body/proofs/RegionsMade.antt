@@ -1,25 +1,24 @@
 -- What each call on regions leaves, from what the part that makes it says.
-use Rattle.std.proofs.Common.{◌≡◌, ℕ, ◌+◌, ◌-◌, ◌*◌, ◌/◌, ◌<◌, ◌≤◌, List, length, true, false, arith, refl, sym, ap, subst, ◌∙◌}
-use Rattle.std.specs.Prelude.{Bool, not, ◌&&◌, ◌==◌, if◌then◌else◌, slice_index, All, IfOk, IfSome, OnErr, OnOk, Result, Ok, Err, Option, None, Some, replicate}
+use Rattle.std.proofs.Common.{◌≡◌, ℕ, ◌+◌, ◌-◌, ◌*◌, ◌<◌, ◌≤◌, List, length, true, false, arith, refl, sym, ap, subst, ◌∙◌}
+use Rattle.std.specs.Prelude.{Bool, not, ◌&&◌, ◌==◌, if◌then◌else◌, All, IfOk, IfSome, OnErr, OnOk, Result, Ok, Err, Option, None, Some, replicate}
 use Rattle.std.proofs.lemmas.Bool.{false≢true}
 use Rattle.std.proofs.lemmas.List.Elements.{All-weaker}
-use Rattle.phys_mem.specs.Memory.{entry_in, stored}
+use Rattle.phys_mem.specs.Memory.{stored}
 use Rattle.nk_bits.specs.declared.call.CallWords.{CallWords}
 use Rattle.nk_bits.specs.declared.kind.Kind.TheVariants.{Guarded}
 use Rattle.nk_bits.specs.declared.rule.Rule.{Rule}
 use Rattle.nk_bits.specs.declared.rule.Rule.TheVariants.{BadSource, OutOfBounds}
 use Rattle.nk_bits.specs.Kinds.{kind_of}
 use Rattle.page_desc.specs.FrameDescriptors.{Descriptors}
-use Rattle.page_desc.specs.PageTables.{AreDescribed, is_unguarded, loose_of}
+use Rattle.page_desc.specs.PageTables.{AreDescribed, is_unguarded}
 use Rattle.policy_book.specs.PolicyRules.{book_written, bounds_of, first_rule, log_written, policy_of, stores_written, write_rule}
 use Rattle.region_book.specs.declared.regions.Granted.{Granted}
-use Rattle.region_book.specs.RegionCalls.{added, alloc_rule, declare_rule, else_rule, fits_in, fits_region, free_rule, freed, frames_from, guarded, mapped, page_region, pool_region, room}
+use Rattle.region_book.specs.RegionCalls.{added, alloc_rule, else_rule, fits_in, fits_region, free_rule, freed, pool_region, room}
 use Rattle.region_book.specs.RegionRecords.{Book, Region, pool_start, region_of, region_stores}
 use Rattle.nk_bits.specs.Rules.{rule_of}
-use Rattle.vmmu.specs.declared.tables.Tables4.{Tables4}
 use Rattle.write_log.specs.LogRecords.{LogRecord}
 use Rattle.nk_body.specs.CallMade.{IsMade}
-use Rattle.nk_body.specs.CallRules.{IsSourceOf, NotTaken, Sourced, Unreadable, bytes_read, source_rule, stand_of, verdict, wants, with_pages, with_pool, with_write, zeros_of}
+use Rattle.nk_body.specs.CallRules.{IsSourceOf, NotTaken, Sourced, Unreadable, source_rule, verdict, wants, with_pool, with_write, zeros_of}
 use Rattle.nk_body.specs.CallRules.{Bytes as BytesRead}
 use Rattle.nk_body.specs.NestedRecord.{AreBooks, Books, IsKept, Nested, nested_by}
 use Rattle.nk_body.proofs.CallNumbers.{made_is, number_7, number_8, number_9, verdict_is, written_7, written_8, written_9}
@@ -43,18 +42,18 @@ abbrev pub DescribedLaw : Type 0
 DescribedLaw = (d : Descriptors) (root : ℕ) (m : List ℕ) (ws : List (ℕ × ℕ)) → AreDescribed d root m
     → All (λ w. is_unguarded d.kinds w.0 ≡ true) ws → AreDescribed d root (stored m ws)
 
-module _ (t : Tables4) (trap : ℕ) (book after : Book) (log later_log : List LogRecord) (m later : List ℕ) (call : CallWords) (source : Sourced)
-    (are : AreBooks (books_of t trap book log) m) where
+module _ (d : Descriptors) (root trap : ℕ) (book after : Book) (log later_log : List LogRecord) (m later : List ℕ) (call : CallWords) (source : Sourced)
+    (are : AreBooks (books_of d root trap book log) m) where
   abbrev before : Books
-  before = books_of t trap book log
+  before = books_of d root trap book log
 
   abbrev nk : Nested
   nk = nested_by before m
 
   refused : (rule : Rule) → Some rule ≡ verdict nk call source → after ≡ book → later_log ≡ log → later ≡ m
-      → IsMade before m call source (Some rule) (books_of t trap after later_log) later
+      → IsMade before m call source (Some rule) (books_of d root trap after later_log) later
   refused rule judged books logs memory =
-      subst (λ (it : Book × List LogRecord × List ℕ). IsMade before m call source (Some rule) (books_of t trap it.0 it.1) it.2)
+      subst (λ (it : Book × List LogRecord × List ℕ). IsMade before m call source (Some rule) (books_of d root trap it.0 it.1) it.2)
       (λ i. (sym books i, sym logs i, sym memory i)) (refused_made before m call source rule are judged)
 
   -- a region of the pool is allocated
@@ -64,45 +63,45 @@ module _ (t : Tables4) (trap : ℕ) (book after : Book) (log later_log : List Lo
       × (room book.regions call.a ≡ Some (it.place - pool_start)))
       → IfOk r (λ it. after ≡ added book (pool_region book call.a call.b (it.place - pool_start)) 0)
       → IfOk r (λ it. later ≡ stored m (region_stores (pool_region book call.a call.b (it.place - pool_start)) 0 (replicate call.a 0)))
-      → IsMade before m call source (rule_of r) (books_of t trap after later_log) later
+      → IsMade before m call source (rule_of r) (books_of d root trap after later_log) later
   pool_made number described logs (Err rule) judged err found allocated memory =
       refused rule (judged ∙ sym (verdict_is nk call source ∙ number_7 call.number _ _ _ _ _ _ _ _ _ _ number)) err.0 logs err.1
   pool_made number described logs (Ok it) judged err found allocated memory =
       let p : ℕ = it.place - pool_start in
       let is = alloc_facts book call.a call.b (sym judged) in
       let ws : List (ℕ × ℕ) = region_stores (pool_region book call.a call.b p) 0 (replicate call.a 0) in
-      let kept : IsKept t.frames.kinds (record { book = book; log = log }) = are.kept in
-      accepted_made before m call source (books_of t trap after later_log) later (with_pool nk call (Some p)) (stored m ws)
+      let kept : IsKept d.kinds (record { book = book; log = log }) = are.kept in
+      accepted_made before m call source (books_of d root trap after later_log) later (with_pool nk call (Some p)) (stored m ws)
       (verdict_is nk call source ∙ number_7 call.number _ _ _ _ _ _ _ _ _ _ number ∙ sym judged)
       (made_is nk call source _ ∙ number_7 call.number _ _ _ _ _ _ _ _ _ _ number ∙ ap (with_pool nk call) found.3)
       (written_7 nk call source m number ∙ ap (λ (o : Option ℕ). stored m (zeros_of nk call o)) found.3)
       refl refl are.trap (λ i. record { book = allocated i; log = logs i }) memory
-      (subst (AreDescribed t.frames t.root) (sym memory)
-      (described t.frames t.root m ws are.described (unguarded t.frames.kinds ws (zeros_guarded t.frames.kinds _ kept call p is found.3))))
-      (subst (IsKept t.frames.kinds) (λ i. record { book = sym allocated i; log = sym logs i })
-      (kept_pool t.frames.kinds _ kept call.a call.b p is found.3))
+      (subst (AreDescribed d root) (sym memory)
+      (described d root m ws are.described (unguarded d.kinds ws (zeros_guarded d.kinds _ kept call p is found.3))))
+      (subst (IsKept d.kinds) (λ i. record { book = sym allocated i; log = sym logs i })
+      (kept_pool d.kinds _ kept call.a call.b p is found.3))
 
   -- a region of the pool is let go
   pub free_made : call.number ≡ 8 → later_log ≡ log → later ≡ m → {A : Type 0} (r : Result A Rule) → rule_of r ≡ free_rule book call.a
       → OnErr r (after ≡ book) → OnOk r (after ≡ freed book call.a)
-      → IsMade before m call source (rule_of r) (books_of t trap after later_log) later
+      → IsMade before m call source (rule_of r) (books_of d root trap after later_log) later
   free_made number logs memory (Err rule) judged err out =
       refused rule (judged ∙ sym (verdict_is nk call source ∙ number_8 call.number _ _ _ _ _ _ _ _ _ _ number)) err logs memory
   free_made number logs memory (Ok it) judged err out =
       let live = free_facts (region_of book call.a) (sym judged) in
-      accepted_made before m call source (books_of t trap after later_log) later _ m
+      accepted_made before m call source (books_of d root trap after later_log) later _ m
       (verdict_is nk call source ∙ number_8 call.number _ _ _ _ _ _ _ _ _ _ number ∙ sym judged)
       (made_is nk call source _ ∙ number_8 call.number _ _ _ _ _ _ _ _ _ _ number) (written_8 nk call source m number)
       refl refl are.trap (λ i. record { book = out i; log = logs i }) memory
-      (subst (AreDescribed t.frames t.root) (sym memory) are.described)
-      (subst (IsKept t.frames.kinds) (λ i. record { book = sym out i; log = sym logs i })
-      (kept_free t.frames.kinds _ are.kept call.a live.0 live.1 live.2))
+      (subst (AreDescribed d root) (sym memory) are.described)
+      (subst (IsKept d.kinds) (λ i. record { book = sym out i; log = sym logs i })
+      (kept_free d.kinds _ are.kept call.a live.0 live.1 live.2))
 
 -- bytes are written in a region
-module _ (t : Tables4) (trap : ℕ) (book after : Book) (log later_log : List LogRecord) (m later : List ℕ) (call : CallWords) (bytes : List ℕ)
-    (are : AreBooks (books_of t trap book log) m) (number : call.number ≡ 9) (count : length bytes ≡ call.d) where
+module _ (d : Descriptors) (root trap : ℕ) (book after : Book) (log later_log : List LogRecord) (m later : List ℕ) (call : CallWords) (bytes : List ℕ)
+    (are : AreBooks (books_of d root trap book log) m) (number : call.number ≡ 9) (count : length bytes ≡ call.d) where
   abbrev writing : Nested
-  writing = nested_by (books_of t trap book log) m
+  writing = nested_by (books_of d root trap book log) m
 
   verdict_write : verdict writing call (BytesRead bytes) ≡ write_rule book log call.a call.b (length bytes)
   verdict_write =
@@ -113,23 +112,23 @@ module _ (t : Tables4) (trap : ℕ) (book after : Book) (log later_log : List Lo
       → OnErr r ((after ≡ book) × (later_log ≡ log) × (later ≡ m)) → OnOk r (after ≡ book_written book call.a call.b (length bytes))
       → OnOk r (later_log ≡ log_written book log call.a call.b bytes)
       → OnOk r (later ≡ stored m (stores_written book call.a call.b bytes))
-      → IsMade (books_of t trap book log) m call (BytesRead bytes) (rule_of r) (books_of t trap after later_log) later
+      → IsMade (books_of d root trap book log) m call (BytesRead bytes) (rule_of r) (books_of d root trap after later_log) later
   write_made described (Err rule) judged err book_is log_is memory =
-      refused t trap book after log later_log m later call (BytesRead bytes) are rule (judged ∙ sym verdict_write) err.0 err.1 err.2
+      refused d root trap book after log later_log m later call (BytesRead bytes) are rule (judged ∙ sym verdict_write) err.0 err.1 err.2
   write_made described (Ok it) judged err book_is log_is memory =
       let facts = writing_facts (bounds_of (region_of book call.a) call.b (length bytes)) None
       (policy_of log (region_of book call.a) call.b (length bytes)) (sym judged) in
       let live = bounds_facts (region_of book call.a) call.b (length bytes) facts.0 in
       let ws : List (ℕ × ℕ) = stores_written book call.a call.b bytes in
-      accepted_made (books_of t trap book log) m call (BytesRead bytes) (books_of t trap after later_log) later
+      accepted_made (books_of d root trap book log) m call (BytesRead bytes) (books_of d root trap after later_log) later
       (with_write writing call bytes) (stored m ws) (verdict_write ∙ sym judged)
       (made_is writing call (BytesRead bytes) _ ∙ number_9 call.number _ _ _ _ _ _ _ _ _ _ number) (written_9 writing call (BytesRead bytes) m number)
       refl refl are.trap (λ i. record { book = book_is i; log = log_is i }) memory
-      (subst (AreDescribed t.frames t.root) (sym memory)
-      (described t.frames t.root m ws are.described
-      (unguarded t.frames.kinds ws (written_guarded t.frames.kinds _ are.kept call.a call.b bytes live.0 live.1 live.3))))
-      (subst (IsKept t.frames.kinds) (λ i. record { book = sym book_is i; log = sym log_is i })
-      (kept_written t.frames.kinds _ are.kept call.a call.b bytes live.0 live.1 live.3
+      (subst (AreDescribed d root) (sym memory)
+      (described d root m ws are.described
+      (unguarded d.kinds ws (written_guarded d.kinds _ are.kept call.a call.b bytes live.0 live.1 live.3))))
+      (subst (IsKept d.kinds) (λ i. record { book = sym book_is i; log = sym log_is i })
+      (kept_written d.kinds _ are.kept call.a call.b bytes live.0 live.1 live.3
       (sym (ap (λ o. policy_of log o call.b (length bytes)) live.1) ∙ facts.2)))
 
 -- a write for which no bytes were read

@@ -1,6 +1,6 @@
 -- What a call on page tables, or one that sets the handler, leaves of kinds and bytes.
-use Rattle.std.proofs.Common.{◌≡◌, ◌≢◌, ◌⊎◌, ℕ, zero, suc, ◌+◌, ◌*◌, ◌/◌, ◌<◌, ◌≤◌, true, false, List, length, arith, refl, sym, ap, subst, ◌∙◌, inl, inr}
-use Rattle.std.specs.Prelude.{slice_set, Option, None, Some}
+use Rattle.std.proofs.Common.{◌≡◌, ◌≢◌, ◌⊎◌, ℕ, ◌+◌, ◌*◌, ◌/◌, ◌<◌, ◌≤◌, true, false, List, length, arith, refl, sym, ap, subst, ◌∙◌, inl, inr}
+use Rattle.std.specs.Prelude.{slice_set}
 use Rattle.std.proofs.lemmas.Bool.{cases_Bool, cases_lt, false≢true}
 use Rattle.std.proofs.lemmas.Bool.Decides.{eqb_tells}
 use Rattle.std.proofs.lemmas.List.Elements.{All-weaker}
@@ -8,12 +8,12 @@ use Rattle.std.proofs.lemmas.List.{get_or-set_other, get_or-set_same, length-set
 use Rattle.nk_bits.specs.declared.kind.Kind.{Kind}
 use Rattle.nk_bits.specs.declared.kind.Kind.TheVariants.{Data, Code, Table, Fixed, Trap, Guarded, Hidden}
 use Rattle.nk_bits.specs.Kinds.{is_guarded, is_storable, kind_of, level_of}
-use Rattle.phys_mem.specs.Memory.{IsBytes, byte_at, entry_in, frame_zeroed, number_at, stored, stores}
+use Rattle.phys_mem.specs.Memory.{IsBytes, byte_at, entry_in, frame_zeroed, stored, stores}
 use Rattle.page_desc.specs.FrameCounts.{loose_in}
 use Rattle.page_desc.specs.FrameDescriptors.{last_value}
 use Rattle.page_desc.specs.PageTables.{HoldsSoundTables, tables_in}
 use Rattle.vmmu.specs.AcceptedCalls.{IsDeclarable, IsRemovable, IsWritable}
-use Rattle.nk_body.specs.NestedRecord.{IsKept, Ledger, handler_in, held_bytes}
+use Rattle.nk_body.specs.NestedRecord.{IsKept, Ledger, held_bytes}
 use Rattle.nk_body.specs.KindsKept.{is_settled}
 use Rattle.nk_body.proofs.CallsMade.{kept_under}
 use Rattle.nk_body.proofs.HeldBytes.{held_same}

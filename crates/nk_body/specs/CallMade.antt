@@ -1,10 +1,13 @@
--- What a call leaves, by the rule that it breaks, if any; and the source of a call as the code hands it over.
+-- What a call leaves, by the rule that it breaks, if any; and the forms of the books in memory, which every call keeps.
 use Rattle.std.specs.Prelude.{◌≡◌, List, ℕ, Option}
 use Rattle.nk_bits.specs.declared.call.CallWords.{CallWords}
 use Rattle.nk_bits.specs.declared.rule.Rule.{Rule}
+use Rattle.page_desc.specs.DescriptorBytes.{HoldsDescriptors}
 use Rattle.page_desc.specs.PageTables.{AreDescribed}
+use Rattle.region_book.specs.RegionBytes.{HoldsRegions}
+use Rattle.write_log.specs.LogBytes.{HoldsLog}
 use Rattle.nk_body.specs.CallRules.{Sourced, made_unless, stand_of, verdict, written_unless}
-use Rattle.nk_body.specs.NestedRecord.{Books, IsKept, Nested, nested_by}
+use Rattle.nk_body.specs.NestedRecord.{Books, IsKept, Nested, OwnState, nested_by}
 
 -- the record after a call, by the rule that it breaks
 abbrev pub left_by : Option Rule → Books → List ℕ → CallWords → Sourced → Nested
@@ -20,3 +23,9 @@ pub record IsMade (books : Books) (m : List ℕ) (call : CallWords) (source : So
   pub memory : later ≡ written_unless rule (nested_by books m) call source m
   pub described : AreDescribed after.frames after.root later
   pub keeps : IsKept after.frames.kinds after.ledger
+
+-- each book keeps its form in memory
+pub record KeepsForm (own : OwnState) (m : List ℕ) : Type 0 where
+  pub stored : HoldsDescriptors own.frames m
+  pub regions : HoldsRegions own.regions m
+  pub log : HoldsLog own.log m

@@ -1,12 +1,16 @@
 -- What the nested kernel guards, as plain data, and how memory holds it.
-use Rattle.std.specs.Prelude.{◌≡◌, ◌≤◌, ◌<◌, ℕ, ◌+◌, ◌*◌, ◌&&◌, nat_lt, if◌then◌else◌, List, length, All}
+use Rattle.std.specs.Prelude.{◌≡◌, ◌≤◌, ◌<◌, ℕ, ◌+◌, ◌*◌, true, ◌&&◌, nat_lt, if◌then◌else◌, List, length, All}
+use Rattle.phys_mem.specs.MaskedMemory.{is_book_frame, seen}
 use Rattle.phys_mem.specs.Memory.{byte_at, number_at}
 use Rattle.nk_bits.specs.declared.kind.Kind.{Kind}
-use Rattle.nk_bits.specs.declared.kind.Kind.TheVariants.{Guarded}
+use Rattle.nk_bits.specs.declared.kind.Kind.TheVariants.{Guarded, Hidden}
 use Rattle.nk_bits.specs.Kinds.{is_guarded, kind_of}
 use Rattle.page_desc.specs.FrameDescriptors.{Descriptors}
+use Rattle.page_desc.specs.DescriptorBytes.{HoldsDescriptors, descriptors_in, kinds_in}
 use Rattle.page_desc.specs.PageTables.{AreDescribed, Tables, tables_in}
+use Rattle.region_book.specs.RegionBytes.{HoldsRegions, RegionIndex, book_in}
 use Rattle.region_book.specs.RegionRecords.{Book, IsBook}
+use Rattle.write_log.specs.LogBytes.{HoldsLog, LogCounts, log_in}
 use Rattle.write_log.specs.LogRecords.{LogRecord, log_size}
 
 -- the regions that live, and the log of writes
@@ -47,7 +51,7 @@ pub record IsKept (kinds : List Kind) (ledger : Ledger) : Type 0 where
   pub pool : (f : ℕ) → 10 ≤ f → f < 26 → kind_of kinds f ≡ Guarded
   pub log : log_size ledger.log ≤ 65536
 
--- the books of the nested kernel: what it keeps beside memory
+-- the books of the nested kernel, as plain data
 pub record Books : Type 0 where
   pub frames : Descriptors
   pub root : ℕ
@@ -65,3 +69,34 @@ pub record AreBooks (books : Books) (m : List ℕ) : Type 0 where
   pub least : 512 ≤ length books.frames.kinds
   pub trap : books.trap ≡ handler_in m
   pub kept : IsKept books.frames.kinds books.ledger
+
+-- what the nested kernel keeps outside memory: how many frames there are, root and handler, in which slots regions live, and
+-- how long the log is
+pub record OwnState : Type 0 where
+  pub frames : ℕ
+  pub root : ℕ
+  pub trap : ℕ
+  pub regions : RegionIndex
+  pub log : LogCounts
+
+-- the books that it keeps there and in memory
+abbrev pub books_in : OwnState → List ℕ → Books
+books_in own m = record {
+  frames = descriptors_in m;
+  root = own.root;
+  trap = own.trap;
+  ledger = record { book = book_in own.regions m; log = log_in own.log m };
+}
+
+-- the record that they stand for, with the memory that is seen
+abbrev pub nested_held : OwnState → List ℕ → Nested
+nested_held own m = nested_by (books_in own m) (seen m)
+
+-- memory holds the books, in frames that are hidden, in their forms and with 0 wherever they don't stand; and the books and
+-- what is seen of memory stand for one record
+pub record HoldsBooks (own : OwnState) (m : List ℕ) : Type 0 where
+  pub books : AreBooks (books_in own m) (seen m)
+  pub stored : HoldsDescriptors own.frames m
+  pub hidden : (f : ℕ) → is_book_frame own.frames f ≡ true → kind_of (kinds_in m) f ≡ Hidden
+  pub regions : HoldsRegions own.regions m
+  pub log : HoldsLog own.log m

@@ -1,17 +1,19 @@
 //! The nested kernel's books, and the calls on them.
 
-ghost use Rattle.std.specs.Prelude.{◌≡◌, ◌≢◌, ◌<◌, ◌^◌, false, length, IfOk, None, Some};
+ghost use Rattle.std.specs.Prelude.{◌≡◌, ◌≢◌, ◌<◌, ◌^◌, false, length, IfOk, None, OnOk, Some};
+ghost use Rattle.phys_mem.specs.MaskedMemory.{seen};
 ghost use Rattle.phys_mem.specs.Memory.{entry_in};
 ghost use Rattle.boot_map.specs.Division.{IsLayout};
 ghost use Rattle.boot_map.specs.Opening.{IsOpening};
 ghost use Rattle.boot_map.specs.OpeningKinds.{kinds};
+ghost use Rattle.page_desc.specs.DescriptorBytes.{DiffersInDescriptors, HoldsDescriptors, descriptors_in, kinds_in};
 ghost use Rattle.page_desc.specs.FrameDescriptors.{AreCounted};
 ghost use Rattle.nk_bits.specs.Rules.{number_of, rule_of};
 ghost use Rattle.policy_book.specs.PolicyRules.{bounds_of};
 ghost use Rattle.region_book.specs.RegionCalls.{fits_in};
 ghost use Rattle.region_book.specs.RegionRecords.{region_of};
-ghost use Rattle.nk_body.specs.NestedRecord.{AreBooks, nested_by};
-ghost use Rattle.nk_body.specs.CallMade.{IsMade};
+ghost use Rattle.nk_body.specs.NestedRecord.{HoldsBooks, books_in, handler_in, nested_held};
+ghost use Rattle.nk_body.specs.CallMade.{IsMade, KeepsForm};
 ghost use Rattle.nk_body.specs.CallRules.{Bytes, IsSourceOf, Sourced, after_call, answer_to, flushes, memory_after_call, place_by, stand_of, value_by, wants};
 ghost use Rattle.nk_body.specs.SourceWords.{opening_ledger, sourced_of};
 
@@ -20,13 +22,15 @@ use crate::source::Source;
 use boot_map::{Layout, OPENING_ROOT, opening_kinds_law};
 use elf_image::Image;
 use nk_bits::{Answer, CallWords, Kind, Rule, canonical, walk_law};
-use page_desc::{Frames, guarded_law, page_tables_law, record_walk_law};
-use phys_mem::{PhysMem, memory_law};
-use region_book::{Regions, declared_law};
+use page_desc::{
+    Frames, guarded_law, held_tables_law, page_tables_law, record_walk_law, stored_law,
+};
+use phys_mem::{PhysMem, mask_law, memory_law};
+use region_book::{Regions, declared_law, held_regions_law};
 use std::alloc::{AllocError, Global};
 use std::marker::Model;
 use vmmu::{Tables4, accepted_law};
-use write_log::Log;
+use write_log::{Log, held_log_law};
 
 /// The handler slot: the first eight bytes of frame 2.
 const HANDLER_SLOT: u64 = 0x2000;
@@ -77,65 +81,51 @@ pub struct Kernel {
 }
 
 impl Model for Kernel {
-    ghost use Rattle.nk_body.specs.NestedRecord.{Books};
+    ghost use Rattle.nk_body.specs.NestedRecord.{OwnState};
 
-    ghost Value = { Books };
+    ghost Value = { OwnState };
 
     ghost view = { λ k. record {
       frames = k.tables.frames;
       root = k.tables.root;
       trap = k.trap;
-      ledger = record { book = k.regions; log = k.log };
+      regions = k.regions;
+      log = k.log;
     } };
 }
 
 impl Kernel {
-    /// The books of the opening of an image whose layout this is, with its memory.
+    /// The books of the opening of an image whose layout this is, with its memory, into which the descriptors go.
     pub fn start(
         alloc: Global,
-        mem: &PhysMem,
+        mem: &mut PhysMem,
         image: &Image,
         layout: &Layout,
     ) -> Result<Kernel, NoMemory>
         requires layout { IsLayout image.now layout.now }
-        requires opening { IsOpening image.now layout.now.frames mem.now }
-        ensures kinds { IfOk result (λ kernel. kernel.frames.kinds ≡ kinds image.now layout.now.frames) }
+        requires opening { IsOpening image.now layout.now.frames mem.old }
+        ensures seen { seen mem.new ≡ mem.old }
+        ensures opening { IsOpening image.now layout.now.frames (seen mem.new) }
+        ensures kinds { OnOk result (kinds_in mem.new ≡ kinds image.now layout.now.frames) }
         ensures root { IfOk result (λ kernel. kernel.root ≡ 5) }
-        ensures ledger { IfOk result (λ kernel. kernel.ledger ≡ opening_ledger) }
-        ensures books { IfOk result (λ kernel. AreBooks kernel mem.now) }
+        ensures ledger { IfOk result (λ kernel. (books_in kernel mem.new).ledger ≡ opening_ledger) }
+        ensures books { IfOk result (λ kernel. HoldsBooks kernel mem.new) }
     {
         opening_kinds_law();
         opening_sound_law();
         let _pages = image.pages();
-        let frames = match describe(alloc, mem, image, layout) {
-            Ok(frames) => frames,
-            Err(fault) => return Err(fault),
-        };
-        let regions = match Regions::start(alloc) {
-            Ok(regions) => regions,
-            Err(_) => return Err(NoMemory),
-        };
-        let log = match Log::start(alloc) {
-            Ok(log) => log,
-            Err(_) => return Err(NoMemory),
-        };
-        let tables = Tables4 {
-            frames,
-            root: OPENING_ROOT,
-        };
-        Ok(Kernel {
-            tables,
-            trap: mem.load64(HANDLER_SLOT),
-            regions,
-            log,
-        })
+        match describe(alloc, mem, image, layout) {
+            Ok(frames) => Ok(opened(mem, frames)),
+            Err(fault) => Err(fault),
+        }
     }
 
     /// How many bytes the call takes from memory; None where it takes none.
-    pub fn wants(&self, call: &CallWords) -> Option<u64>
-        ensures { result ≡ wants self.now.ledger.book call.now }
+    pub fn wants(&self, mem: &PhysMem, call: &CallWords) -> Option<u64>
+        requires books { HoldsBooks self.now mem.now }
+        ensures { result ≡ wants (books_in self.now mem.now).ledger.book call.now }
     {
-        if call.number == WRITE && self.regions.fits(call.a, call.b, call.d) {
+        if call.number == WRITE && self.regions.fits(mem, call.a, call.b, call.d) {
             Some(call.d)
         } else {
             None
@@ -144,14 +134,14 @@ impl Kernel {
 
     /// Makes a call, for which these bytes were read.
     pub fn serve(&mut self, mem: &mut PhysMem, call: &CallWords, source: Source) -> Answer
-        requires books { AreBooks self.old mem.old }
-        requires source { IsSourceOf (wants self.old.ledger.book call.now) (sourced_of source) }
-        requires next { self.old.ledger.book.next < 2 ^ 63 }
-        ensures answer { result ≡ answer_to (nested_by self.old mem.old) call.now (sourced_of source.entry) }
-        ensures nested { nested_by self.new mem.new ≡ after_call (nested_by self.old mem.old) call.now (sourced_of source.entry)
-            (stand_of (nested_by self.old mem.old) call.now mem.old) }
-        ensures memory { mem.new ≡ memory_after_call (nested_by self.old mem.old) call.now (sourced_of source.entry) mem.old }
-        ensures books { AreBooks self.new mem.new }
+        requires books { HoldsBooks self.old mem.old }
+        requires source { IsSourceOf (wants (books_in self.old mem.old).ledger.book call.now) (sourced_of source) }
+        requires next { (books_in self.old mem.old).ledger.book.next < 2 ^ 63 }
+        ensures answer { result ≡ answer_to (nested_held self.old mem.old) call.now (sourced_of source.entry) }
+        ensures nested { nested_held self.new mem.new ≡ after_call (nested_held self.old mem.old) call.now (sourced_of source.entry)
+            (stand_of (nested_held self.old mem.old) call.now (seen mem.old)) }
+        ensures memory { seen mem.new ≡ memory_after_call (nested_held self.old mem.old) call.now (sourced_of source.entry) (seen mem.old) }
+        ensures books { HoldsBooks self.new mem.new }
     {
         call_law();
         call_leaves_law();
@@ -169,12 +159,14 @@ impl Kernel {
         call: &CallWords,
         source: Source,
     ) -> Result<Accepted, Rule>
-        requires books { AreBooks self.old mem.old }
-        requires source { IsSourceOf (wants self.old.ledger.book call.now) (sourced_of source) }
-        requires next { self.old.ledger.book.next < 2 ^ 63 }
-        ensures made { IsMade self.old mem.old call.now (sourced_of source.entry) (rule_of result) self.new mem.new }
-        ensures shows { IfOk result (λ it. (it.value ≡ value_by (nested_by self.old mem.old) call.now)
-            × (it.place ≡ place_by (nested_by self.old mem.old) call.now)) }
+        requires books { HoldsBooks self.old mem.old }
+        requires source { IsSourceOf (wants (books_in self.old mem.old).ledger.book call.now) (sourced_of source) }
+        requires next { (books_in self.old mem.old).ledger.book.next < 2 ^ 63 }
+        ensures made { IsMade (books_in self.old mem.old) (seen mem.old) call.now (sourced_of source.entry) (rule_of result) (books_in self.new mem.new) (seen mem.new) }
+        ensures frames { self.new.frames ≡ self.old.frames }
+        ensures form { KeepsForm self.new mem.new }
+        ensures shows { IfOk result (λ it. (it.value ≡ value_by (nested_held self.old mem.old) call.now)
+            × (it.place ≡ place_by (nested_held self.old mem.old) call.now)) }
     {
         match call.number {
             SET_TRAP => self.set_trap(mem, call),
@@ -192,13 +184,18 @@ impl Kernel {
 
     /// The handler of traps stands at a canonical address from now on.
     fn set_trap(&mut self, mem: &mut PhysMem, call: &CallWords) -> Result<Accepted, Rule>
-        requires books { AreBooks self.old mem.old }
+        requires books { HoldsBooks self.old mem.old }
         requires number { call.now.number ≡ 1 }
-        ensures made { (source : Sourced) → IsMade self.old mem.old call.now source (rule_of result) self.new mem.new }
+        ensures made { (source : Sourced) → IsMade (books_in self.old mem.old) (seen mem.old) call.now source (rule_of result) (books_in self.new mem.new) (seen mem.new) }
+        ensures frames { self.new.frames ≡ self.old.frames }
+        ensures form { KeepsForm self.new mem.new }
         ensures shows { IfOk result (λ it. (it.value ≡ 0) × (it.place ≡ None)) }
     {
         page_tables_law();
+        held_tables_law();
         memory_law();
+        held_regions_law();
+        held_log_law();
         if !canonical(call.a) {
             return Err(Rule::NotCanonical);
         }
@@ -208,12 +205,16 @@ impl Kernel {
     }
 
     fn declare_table(&mut self, mem: &mut PhysMem, call: &CallWords) -> Result<Accepted, Rule>
-        requires books { AreBooks self.old mem.old }
+        requires books { HoldsBooks self.old mem.old }
         requires number { call.now.number ≡ 2 }
-        ensures made { (source : Sourced) → IsMade self.old mem.old call.now source (rule_of result) self.new mem.new }
+        ensures made { (source : Sourced) → IsMade (books_in self.old mem.old) (seen mem.old) call.now source (rule_of result) (books_in self.new mem.new) (seen mem.new) }
+        ensures frames { self.new.frames ≡ self.old.frames }
+        ensures form { KeepsForm self.new mem.new }
         ensures shows { IfOk result (λ it. (it.value ≡ 0) × (it.place ≡ None)) }
     {
         accepted_law();
+        held_regions_law();
+        held_log_law();
         match self.tables.declare_table(mem, call.a, call.b) {
             Ok(()) => Ok(DONE),
             Err(rule) => Err(rule),
@@ -221,11 +222,15 @@ impl Kernel {
     }
 
     fn write_entry(&mut self, mem: &mut PhysMem, call: &CallWords) -> Result<Accepted, Rule>
-        requires books { AreBooks self.old mem.old }
+        requires books { HoldsBooks self.old mem.old }
         requires number { call.now.number ≡ 3 }
-        ensures made { (source : Sourced) → IsMade self.old mem.old call.now source (rule_of result) self.new mem.new }
+        ensures made { (source : Sourced) → IsMade (books_in self.old mem.old) (seen mem.old) call.now source (rule_of result) (books_in self.new mem.new) (seen mem.new) }
+        ensures frames { self.new.frames ≡ self.old.frames }
+        ensures form { KeepsForm self.new mem.new }
         ensures shows { IfOk result (λ it. (it.value ≡ 0) × (it.place ≡ None)) }
     {
+        held_regions_law();
+        held_log_law();
         match self.tables.write_entry(mem, call.a, call.b, call.c) {
             Ok(()) => Ok(DONE),
             Err(rule) => Err(rule),
@@ -233,12 +238,16 @@ impl Kernel {
     }
 
     fn remove_table(&mut self, mem: &mut PhysMem, call: &CallWords) -> Result<Accepted, Rule>
-        requires books { AreBooks self.old mem.old }
+        requires books { HoldsBooks self.old mem.old }
         requires number { call.now.number ≡ 4 }
-        ensures made { (source : Sourced) → IsMade self.old mem.old call.now source (rule_of result) self.new mem.new }
+        ensures made { (source : Sourced) → IsMade (books_in self.old mem.old) (seen mem.old) call.now source (rule_of result) (books_in self.new mem.new) (seen mem.new) }
+        ensures frames { self.new.frames ≡ self.old.frames }
+        ensures form { KeepsForm self.new mem.new }
         ensures shows { IfOk result (λ it. (it.value ≡ 0) × (it.place ≡ None)) }
     {
         accepted_law();
+        held_regions_law();
+        held_log_law();
         match self.tables.remove_table(mem, call.a) {
             Ok(()) => Ok(DONE),
             Err(rule) => Err(rule),
@@ -246,31 +255,38 @@ impl Kernel {
     }
 
     fn load_root(&mut self, mem: &mut PhysMem, call: &CallWords) -> Result<Accepted, Rule>
-        requires books { AreBooks self.old mem.old }
+        requires books { HoldsBooks self.old mem.old }
         requires number { call.now.number ≡ 5 }
-        ensures made { (source : Sourced) → IsMade self.old mem.old call.now source (rule_of result) self.new mem.new }
+        ensures made { (source : Sourced) → IsMade (books_in self.old mem.old) (seen mem.old) call.now source (rule_of result) (books_in self.new mem.new) (seen mem.new) }
+        ensures frames { self.new.frames ≡ self.old.frames }
+        ensures form { KeepsForm self.new mem.new }
         ensures shows { IfOk result (λ it. (it.value ≡ 0) × (it.place ≡ None)) }
     {
         let _frames = mem.frames();
-        match self.tables.load_root(call.a) {
+        match self.tables.load_root(mem, call.a) {
             Ok(()) => Ok(DONE),
             Err(rule) => Err(rule),
         }
     }
 
     /// Makes the frames of a range of pages a protected region.
-    fn declare_pages(&mut self, mem: &PhysMem, call: &CallWords) -> Result<Accepted, Rule>
-        requires books { AreBooks self.old mem.now }
+    fn declare_pages(&mut self, mem: &mut PhysMem, call: &CallWords) -> Result<Accepted, Rule>
+        requires books { HoldsBooks self.old mem.old }
         requires number { call.now.number ≡ 6 }
-        requires next { self.old.ledger.book.next < 2 ^ 63 }
-        ensures made { (source : Sourced) → IsMade self.old mem.now call.now source (rule_of result) self.new mem.now }
-        ensures shows { IfOk result (λ it. (it.value ≡ self.old.ledger.book.next) × (it.place ≡ None)) }
+        requires next { (books_in self.old mem.old).ledger.book.next < 2 ^ 63 }
+        ensures made { (source : Sourced) → IsMade (books_in self.old mem.old) (seen mem.old) call.now source (rule_of result) (books_in self.new mem.new) (seen mem.new) }
+        ensures frames { self.new.frames ≡ self.old.frames }
+        ensures form { KeepsForm self.new mem.new }
+        ensures shows { IfOk result (λ it. (it.value ≡ (books_in self.old mem.old).ledger.book.next) × (it.place ≡ None)) }
     {
         page_tables_law();
+        held_tables_law();
+        mask_law();
         record_walk_law();
         guarded_law();
         declared_law();
         walk_law();
+        held_log_law();
         let root = self.tables.root;
         let frames = &mut self.tables.frames;
         match self
@@ -284,14 +300,18 @@ impl Kernel {
 
     /// Allocates a region of the pool.
     fn allocate(&mut self, mem: &mut PhysMem, call: &CallWords) -> Result<Accepted, Rule>
-        requires books { AreBooks self.old mem.old }
+        requires books { HoldsBooks self.old mem.old }
         requires number { call.now.number ≡ 7 }
-        requires next { self.old.ledger.book.next < 2 ^ 63 }
-        ensures made { (source : Sourced) → IsMade self.old mem.old call.now source (rule_of result) self.new mem.new }
-        ensures shows { IfOk result (λ it. (it.value ≡ self.old.ledger.book.next)
-            × (it.place ≡ place_by (nested_by self.old mem.old) call.now)) }
+        requires next { (books_in self.old mem.old).ledger.book.next < 2 ^ 63 }
+        ensures made { (source : Sourced) → IsMade (books_in self.old mem.old) (seen mem.old) call.now source (rule_of result) (books_in self.new mem.new) (seen mem.new) }
+        ensures frames { self.new.frames ≡ self.old.frames }
+        ensures form { KeepsForm self.new mem.new }
+        ensures shows { IfOk result (λ it. (it.value ≡ (books_in self.old mem.old).ledger.book.next)
+            × (it.place ≡ place_by (nested_held self.old mem.old) call.now)) }
     {
         page_tables_law();
+        stored_law();
+        held_log_law();
         match self.regions.alloc(mem, call.a, call.b) {
             Ok(granted) => Ok(Accepted {
                 value: granted.id,
@@ -302,14 +322,18 @@ impl Kernel {
     }
 
     /// Lets a region of the pool go.
-    fn free(&mut self, mem: &PhysMem, call: &CallWords) -> Result<Accepted, Rule>
-        requires books { AreBooks self.old mem.now }
+    fn free(&mut self, mem: &mut PhysMem, call: &CallWords) -> Result<Accepted, Rule>
+        requires books { HoldsBooks self.old mem.old }
         requires number { call.now.number ≡ 8 }
-        ensures made { (source : Sourced) → IsMade self.old mem.now call.now source (rule_of result) self.new mem.now }
+        ensures made { (source : Sourced) → IsMade (books_in self.old mem.old) (seen mem.old) call.now source (rule_of result) (books_in self.new mem.new) (seen mem.new) }
+        ensures frames { self.new.frames ≡ self.old.frames }
+        ensures form { KeepsForm self.new mem.new }
         ensures shows { IfOk result (λ it. (it.value ≡ 0) × (it.place ≡ None)) }
     {
-        let _frames = mem.frames();
-        match self.regions.free(call.a) {
+        stored_law();
+        held_regions_law();
+        held_log_law();
+        match self.regions.free(mem, call.a) {
             Ok(()) => Ok(DONE),
             Err(rule) => Err(rule),
         }
@@ -322,26 +346,29 @@ impl Kernel {
         call: &CallWords,
         source: Source,
     ) -> Result<Accepted, Rule>
-        requires books { AreBooks self.old mem.old }
+        requires books { HoldsBooks self.old mem.old }
         requires number { call.now.number ≡ 9 }
-        requires source { IsSourceOf (wants self.old.ledger.book call.now) (sourced_of source) }
-        ensures made { IsMade self.old mem.old call.now (sourced_of source.entry) (rule_of result) self.new mem.new }
+        requires source { IsSourceOf (wants (books_in self.old mem.old).ledger.book call.now) (sourced_of source) }
+        ensures made { IsMade (books_in self.old mem.old) (seen mem.old) call.now (sourced_of source.entry) (rule_of result) (books_in self.new mem.new) (seen mem.new) }
+        ensures frames { self.new.frames ≡ self.old.frames }
+        ensures form { KeepsForm self.new mem.new }
         ensures shows { IfOk result (λ it. (it.value ≡ 0) × (it.place ≡ None)) }
     {
         match source {
             // The range isn't one of a live region, or its region isn't: no bytes were read.
-            Source::NotTaken => Err(self.judge_bounds(call)),
+            Source::NotTaken => Err(self.judge_bounds(mem, call)),
             Source::Unreadable => Err(Rule::BadSource),
             Source::Bytes(bytes) => self.write_bytes(mem, call, bytes),
         }
     }
 
     /// The rule that the range of a write breaks.
-    fn judge_bounds(&self, call: &CallWords) -> Rule
-        requires { fits_in self.now.ledger.book call.now.a call.now.b call.now.d ≡ false }
-        ensures { Some result ≡ bounds_of (region_of self.now.ledger.book call.now.a) call.now.b call.now.d }
+    fn judge_bounds(&self, mem: &PhysMem, call: &CallWords) -> Rule
+        requires books { HoldsBooks self.now mem.now }
+        requires bounds { fits_in (books_in self.now mem.now).ledger.book call.now.a call.now.b call.now.d ≡ false }
+        ensures { Some result ≡ bounds_of (region_of (books_in self.now mem.now).ledger.book call.now.a) call.now.b call.now.d }
     {
-        match self.regions.find(call.a) {
+        match self.regions.find(mem, call.a) {
             Some(_) => Rule::OutOfBounds,
             None => Rule::BadRegion,
         }
@@ -354,13 +381,18 @@ impl Kernel {
         call: &CallWords,
         bytes: &[u8],
     ) -> Result<Accepted, Rule>
-        requires books { AreBooks self.old mem.old }
+        requires books { HoldsBooks self.old mem.old }
         requires number { call.now.number ≡ 9 }
         requires count { length bytes.now ≡ call.now.d }
-        ensures made { IsMade self.old mem.old call.now (Bytes bytes.now) (rule_of result) self.new mem.new }
+        ensures made { IsMade (books_in self.old mem.old) (seen mem.old) call.now (Bytes bytes.now) (rule_of result) (books_in self.new mem.new) (seen mem.new) }
+        ensures frames { self.new.frames ≡ self.old.frames }
+        ensures form { KeepsForm self.new mem.new }
         ensures shows { IfOk result (λ it. (it.value ≡ 0) × (it.place ≡ None)) }
     {
         page_tables_law();
+        held_tables_law();
+        stored_law();
+        mask_law();
         match policy_book::write(&mut self.regions, &mut self.log, mem, call.a, call.b, bytes) {
             Ok(()) => Ok(DONE),
             Err(rule) => Err(rule),
@@ -369,10 +401,10 @@ impl Kernel {
 
     /// A call of a number that is none is refused, and changes nothing.
     fn refuse_number(&self, mem: &PhysMem, call: &CallWords) -> Result<Accepted, Rule>
-        requires books { AreBooks self.now mem.now }
+        requires books { HoldsBooks self.now mem.now }
         requires number { (call.now.number ≢ 1) × (call.now.number ≢ 2) × (call.now.number ≢ 3) × (call.now.number ≢ 4) × (call.now.number ≢ 5)
             × (call.now.number ≢ 6) × (call.now.number ≢ 7) × (call.now.number ≢ 8) × (call.now.number ≢ 9) }
-        ensures made { (source : Sourced) → IsMade self.now mem.now call.now source (rule_of result) self.now mem.now }
+        ensures made { (source : Sourced) → IsMade (books_in self.now mem.now) (seen mem.now) call.now source (rule_of result) (books_in self.now mem.now) (seen mem.now) }
         ensures shows { IfOk result (λ it. (it.value ≡ 0) × (it.place ≡ None)) }
     {
         let _root = self.tables.root;
@@ -396,14 +428,14 @@ impl Kernel {
 
     /// The regions that live.
     pub fn regions(&self) -> &Regions
-        ensures { result.now ≡ self.now.ledger.book }
+        ensures { result.now ≡ self.now.regions }
     {
         &self.regions
     }
 
     /// The log of writes.
     pub fn log(&self) -> &Log
-        ensures { result.now ≡ self.now.ledger.log }
+        ensures { result.now ≡ self.now.log }
     {
         &self.log
     }
@@ -450,22 +482,59 @@ fn refused(rule: Rule) -> Answer
     }
 }
 
-/// The descriptors of the opening's frames, counted in its memory.
+/// Puts the descriptors of the opening's frames into its memory, counted there.
 fn describe(
     alloc: Global,
-    mem: &PhysMem,
+    mem: &mut PhysMem,
     image: &Image,
     layout: &Layout,
 ) -> Result<Frames, NoMemory>
     requires layout { IsLayout image.now layout.now }
-    requires opening { IsOpening image.now layout.now.frames mem.now }
-    ensures kinds { IfOk result (λ frames. frames.kinds ≡ kinds image.now layout.now.frames) }
-    ensures counted { IfOk result (λ frames. AreCounted frames (entry_in mem.now)) }
+    requires opening { IsOpening image.now layout.now.frames mem.old }
+    ensures kinds { OnOk result (kinds_in mem.new ≡ kinds image.now layout.now.frames) }
+    ensures counted { OnOk result (AreCounted (descriptors_in mem.new) (entry_in mem.old)) }
+    ensures count { IfOk result (λ frames. frames ≡ layout.now.frames) }
+    ensures held { IfOk result (λ frames. HoldsDescriptors frames mem.new) }
+    ensures elsewhere { DiffersInDescriptors mem.old mem.new }
+    ensures seen { seen mem.new ≡ mem.old }
 {
     opening_kinds_law();
+    opening_sound_law();
+    mask_law();
+    stored_law();
+    let _pages = image.pages();
     match opening_kinds(alloc, image, layout) {
-        Ok(kinds) => Frames::start(alloc, mem, kinds).map_err(|_| NoMemory),
+        Ok(kinds) => Ok(Frames::start(mem, &kinds)),
         Err(_) => Err(NoMemory),
+    }
+}
+
+/// The books over these descriptors, with regions and log empty from now on.
+fn opened(mem: &mut PhysMem, frames: Frames) -> Kernel
+    requires held { HoldsDescriptors frames mem.old }
+    ensures described { descriptors_in mem.new ≡ descriptors_in mem.old }
+    ensures seen { seen mem.new ≡ seen mem.old }
+    ensures frames { result.frames ≡ frames }
+    ensures root { result.root ≡ 5 }
+    ensures trap { result.trap ≡ handler_in (seen mem.new) }
+    ensures ledger { (books_in result mem.new).ledger ≡ opening_ledger }
+    ensures form { KeepsForm result mem.new }
+{
+    mask_law();
+    stored_law();
+    held_regions_law();
+    held_log_law();
+    let regions = Regions::start(mem);
+    let log = Log::start(mem);
+    let tables = Tables4 {
+        frames,
+        root: OPENING_ROOT,
+    };
+    Kernel {
+        tables,
+        trap: mem.load64(HANDLER_SLOT),
+        regions,
+        log,
     }
 }
 

@@ -1,6 +1,7 @@
 //! What follows from the definitions for those who say what a whole machine keeps.
 
 ghost use Rattle.std.specs.Prelude.{◌≡◌, ◌≢◌, None, ◌⊎◌, ◌≤◌, ◌<◌, ◌+◌, ◌/◌, ◌^◌, ℕ, List, All, IfSome, false, length, true};
+ghost use Rattle.phys_mem.specs.MaskedMemory.{is_book_frame, seen};
 ghost use Rattle.phys_mem.specs.Memory.{IsBytes, byte_at, entry_in, stored};
 ghost use Rattle.nk_bits.specs.declared.call.CallWords.{CallWords};
 ghost use Rattle.nk_bits.specs.declared.kind.Kind.{Kind};
@@ -10,20 +11,22 @@ ghost use Rattle.elf_image.specs.Pages.{IsPageList, pages_of};
 ghost use Rattle.boot_map.specs.Division.{IsLayout, division_of};
 ghost use Rattle.boot_map.specs.Opening.{IsOpening};
 ghost use Rattle.boot_map.specs.OpeningKinds.{kinds};
+ghost use Rattle.page_desc.specs.DescriptorBytes.{kinds_in};
 ghost use Rattle.page_desc.specs.FrameCounts.{loose_in};
 ghost use Rattle.page_desc.specs.PageTables.{HoldsSoundTables};
-ghost use Rattle.nk_body.specs.NestedRecord.{AreBooks, Books, IsKept, Ledger, Nested, nested_in};
+ghost use Rattle.nk_body.specs.NestedRecord.{AreBooks, Books, HoldsBooks, IsKept, Ledger, Nested, OwnState, books_in, nested_in};
 ghost use Rattle.nk_body.specs.CallRules.{Sourced, answer_to, bytes_read};
 ghost use Rattle.nk_body.specs.CallLeft.{IsCalled, left_in, memory_left};
 ghost use Rattle.nk_body.specs.KindsKept.{is_reserved, is_settled};
 ghost use Rattle.nk_body.specs.SourceWords.{opening_ledger};
 
-use boot_map::{held_law, opening_entries_law, opening_kinds_law};
+use boot_map::{opening_entries_law, opening_kinds_law};
 use nk_bits::walk_law;
-use page_desc::{guarded_law, page_tables_law, record_walk_law, sound_law};
+use page_desc::{guarded_law, page_tables_law, record_walk_law, sound_law, stored_law};
 use phys_mem::{frame_law, memory_law};
-use region_book::declared_law;
+use region_book::{declared_law, held_regions_law};
 use vmmu::{accepted_law, table_calls_law};
+use write_log::held_log_law;
 
 /// Memory after a call stands for the record that the call makes, whose tables are sound and whose regions lie in guarded
 /// frames.
@@ -118,13 +121,26 @@ pub fn stores_law()
     page_tables_law();
 }
 
+/// The books stay held over other bytes in frames that aren't the books', under which they and what is seen of memory stand
+/// for one record.
+pub fn held_law()
+    ensures stays { (own : OwnState) (m n : List ℕ) → HoldsBooks own m → AreBooks (books_in own m) (seen n)
+        → length n ≡ length m
+        → ((p : ℕ) → is_book_frame own.frames (p / 4096) ≡ true → byte_at n p ≡ byte_at m p)
+        → (books_in own n ≡ books_in own m) × HoldsBooks own n }
+{
+    stored_law();
+    held_regions_law();
+    held_log_law();
+}
+
 /// The opening's memory holds sound tables under the opening's root, and its ledger is kept: the pool is guarded.
 pub fn opening_sound_law()
     ensures sound { (b m : List ℕ) (frames : ℕ) → IsLayout b (division_of b frames) → IsPageList b (pages_of b)
         → IsOpening b frames m → HoldsSoundTables (kinds b frames) 5 m }
     ensures kept { (b : List ℕ) (frames : ℕ) → IsLayout b (division_of b frames) → IsKept (kinds b frames) opening_ledger }
 {
-    held_law();
+    boot_map::held_law();
     opening_kinds_law();
     opening_entries_law();
     sound_law();

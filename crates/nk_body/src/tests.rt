@@ -2,18 +2,19 @@
 //! and 70, and frame 71 is the first free one, which entry 71 of frame 70 maps for writing. The handler stands in memory
 //! from 2000 on, the pool from A000 on.
 
+mod books;
+mod descriptors;
 mod rule_order;
 
 ghost use Rattle.std.specs.Prelude.{◌≡◌, ◌≤◌, IfSome};
 ghost use Rattle.nk_body.specs.CallRules.{IsSourceOf};
-ghost use Rattle.nk_body.specs.NestedRecord.{AreBooks};
+ghost use Rattle.nk_body.specs.NestedRecord.{HoldsBooks};
 ghost use Rattle.nk_body.specs.SourceWords.{sourced_of};
 
 use crate::{Kernel, Source};
 use boot_map::{Layout, prepare};
 use elf_image::Image;
 use nk_bits::{Answer, CallWords, Control, Kind};
-use page_desc::Frames;
 use phys_mem::PhysMem;
 use region_book::Region;
 use std::alloc::{AllocError, Global};
@@ -57,7 +58,7 @@ fn image(alloc: Global) -> Option<Image> {
 /// Memory and books of the opening in so many frames; None for want of memory.
 fn open(alloc: Global, frames: u32) -> Option<Opened>
     requires { (512 ≤ frames) × (frames ≤ 16384) }
-    ensures { IfSome result (λ it. AreBooks it.kernel it.mem) }
+    ensures { IfSome result (λ it. HoldsBooks it.kernel it.mem) }
 {
     let Some(image) = image(alloc) else {
         return None;
@@ -65,10 +66,10 @@ fn open(alloc: Global, frames: u32) -> Option<Opened>
     let Ok(layout) = Layout::of(&image, frames) else {
         return None;
     };
-    let Ok(mem) = prepare(alloc, &image, &layout) else {
+    let Ok(mut mem) = prepare(alloc, &image, &layout) else {
         return None;
     };
-    match Kernel::start(alloc, &mem, &image, &layout) {
+    match Kernel::start(alloc, &mut mem, &image, &layout) {
         Ok(kernel) => Some(Opened { kernel, mem }),
         Err(_) => None,
     }
@@ -169,14 +170,14 @@ fn read<'s>(wanted: Option<u64>, data: &'s Option<Vec<u8>>) -> Source<'s>
 
 /// Makes a call, the source of which is loaded.
 fn serve(alloc: Global, kernel: &mut Kernel, mem: &mut PhysMem, call: &Row) -> Option<Answer>
-    requires { AreBooks kernel.old mem.old }
-    ensures { AreBooks kernel.new mem.new }
+    requires { HoldsBooks kernel.old mem.old }
+    ensures { HoldsBooks kernel.new mem.new }
 {
     if kernel.regions().next() >= 1 << 63 {
         return None;
     }
     let call = words(call);
-    let wanted = kernel.wants(&call);
+    let wanted = kernel.wants(mem, &call);
     let data = match wanted {
         None => None,
         Some(count) => bytes_at(alloc, mem, kernel.root(), call.c, count),
@@ -203,8 +204,8 @@ fn answered(call: &Row, value: u64) -> Answer {
 
 /// Makes the calls in turn, to the first that isn't answered by the number beside it; gives how many were.
 fn play(alloc: Global, kernel: &mut Kernel, mem: &mut PhysMem, rows: &[(Row, u64)]) -> usize
-    requires books { AreBooks kernel.old mem.old }
-    ensures books { AreBooks kernel.new mem.new }
+    requires books { HoldsBooks kernel.old mem.old }
+    ensures books { HoldsBooks kernel.new mem.new }
 {
     for (index, (call, value)) in rows.iter().enumerate() {
         if serve(alloc, kernel, mem, call) != Some(answered(call, *value)) {
@@ -241,14 +242,16 @@ struct State {
 }
 
 /// What books and memory are.
-fn seen(kernel: &Kernel, mem: &PhysMem, answered: usize) -> State {
+fn seen(kernel: &Kernel, mem: &PhysMem, answered: usize) -> State
+    requires { HoldsBooks kernel.now mem.now }
+{
     State {
         answered,
         root: kernel.root(),
         trap: kernel.trap(),
         slot: [load(mem, 0x1FF8), load(mem, 0x2000), load(mem, 0x2008)],
         leaf: load(mem, 0x46238),
-        kind: kernel.tables().frames.kind(71),
+        kind: kernel.tables().frames.kind(mem, 71),
         next: kernel.regions().next(),
         regions: kernel.regions().count(),
         records: kernel.log().len(),
@@ -605,9 +608,11 @@ const LOGGED: [(Row, u64); 4] = [
 /// What is told of the log: how many bytes are left, the records, and the region.
 type Told = (usize, u64, Option<Noted>, Option<Noted>, Option<Region>);
 
-fn record(kernel: &Kernel, i: u64) -> Option<Noted> {
+fn record(kernel: &Kernel, mem: &PhysMem, i: u64) -> Option<Noted>
+    requires { HoldsBooks kernel.now mem.now }
+{
     if i < kernel.log().len() {
-        Some(kernel.log().entry(i))
+        Some(kernel.log().entry(mem, i))
     } else {
         None
     }
@@ -621,9 +626,9 @@ fn log_filled(alloc: Global) -> Option<Told> {
     Some((
         answered,
         it.kernel.log().room(),
-        record(&it.kernel, 0),
-        record(&it.kernel, 1),
-        it.kernel.regions().find(256),
+        record(&it.kernel, &it.mem, 0),
+        record(&it.kernel, &it.mem, 1),
+        it.kernel.regions().find(&it.mem, 256),
     ))
 }
 
@@ -650,87 +655,13 @@ fn the_log_is_full(rt: HostRuntime) {
     );
 }
 
-/// The kinds of all frames now.
-fn kinds(alloc: Global, kernel: &Kernel) -> Result<Vec<Kind>, AllocError> {
-    let mut kinds = Vec::new(alloc);
-    let frames = &kernel.tables().frames;
-    for frame in 0..frames.frames() {
-        kinds.push(frames.kind(frame))?;
-    }
-    Ok(kinds)
-}
-
-/// Counts all frames anew, where there are kinds for all of them.
-fn count(alloc: Global, mem: &PhysMem, kinds: Vec<Kind>) -> Option<Frames> {
-    if mem.frames() as usize == kinds.len() {
-        Frames::start(alloc, mem, kinds).ok()
-    } else {
-        None
-    }
-}
-
-/// Whether the counts that the books carry are those that are made anew.
-fn is_counted(carried: &Frames, anew: &Frames) -> bool {
-    (0..carried.frames()).all(|frame| {
-        carried.loose(frame) == anew.loose(frame) && carried.links(frame) == anew.links(frame)
-    })
-}
-
-/// Whether the books carry the right counts after these calls, in so many frames; None for want of memory.
-fn counts_stay(alloc: Global, frames: u32, rows: &[(Row, u64)]) -> Option<(usize, bool)>
-    requires { (512 ≤ frames) × (frames ≤ 16384) }
-{
-    let Some(mut it) = open(alloc, frames) else {
-        return None;
-    };
-    let answered = play(alloc, &mut it.kernel, &mut it.mem, rows);
-    let Ok(kinds) = kinds(alloc, &it.kernel) else {
-        return None;
-    };
-    match count(alloc, &it.mem, kinds) {
-        Some(anew) => Some((answered, is_counted(&it.kernel.tables().frames, &anew))),
-        None => None,
-    }
-}
-
-/// In 16,384 frames entry 511 of frame 163 maps the last frame.
-const LAST: [(Row, u64); 6] = [
-    ((2, 2, 16_383, 0), 5),
-    ((3, 163, 511, 0x8000_0000_03FF_F021), 0),
-    ((2, 2, 16_383, 0), 0),
-    ((2, 2, 16_384, 0), 2),
-    ((3, 16_383, 511, 0xA3027), 0),
-    ((4, 163, 0, 0), 12),
-];
-
-#[test]
-fn counts_are_those_made_anew(rt: HostRuntime) {
-    for rows in [
-        &TABLE[..0],
-        &TABLE[..7],
-        &TABLE[..],
-        &ROOTS[..],
-        &REFUSED[..],
-        &DECLARED[..],
-    ] {
-        assert_eq!(rt;
-            counts_stay(rt.alloc(), 512, rows),
-            Some((rows.len(), true))
-        );
-    }
-    assert_eq!(rt;
-        counts_stay(rt.alloc(), 16_384, &LAST),
-        Some((LAST.len(), true))
-    );
-}
-
 /// Root and handler of the opening, and what call 9 takes from memory where no region lives.
 fn begun(alloc: Global) -> Option<(u32, u64, Option<u64>)> {
     match open(alloc, 512) {
         Some(it) => Some((
             it.kernel.root(),
             it.kernel.trap(),
-            it.kernel.wants(&words(&(9, 256, 0, 1))),
+            it.kernel.wants(&it.mem, &words(&(9, 256, 0, 1))),
         )),
         None => None,
     }

@@ -7,7 +7,7 @@ use Rattle.nk_host.specs.Files.{HoldsBytes}
 use Rattle.nk_host.specs.Told.{IfTold}
 use Rattle.byte_scanner.specs.FirstFound.{first_found}
 use Rattle.boot_map.specs.Division.{Division, IsLayout}
-use Rattle.nk_body.specs.NestedRecord.{AreBooks, Books, nested_by}
+use Rattle.nk_body.specs.NestedRecord.{HoldsBooks, OwnState, nested_held}
 use Rattle.gate_state.specs.MachineOpening.{opening_state}
 use Rattle.report_text.specs.ClosingSection.{section}
 use Rattle.nk_run.specs.declared.command_line.Command.{Command}
@@ -161,16 +161,16 @@ pub record IsReady (words : List (List ℕ)) (told : Option Files) (steps frames
         (opening_state (record { image = image; frames = frames }) input);
   }))
 
--- a replay was made: the image has its layout, books and memory stand for one record, and where files are told the closing
+-- a replay was made: the image has its layout, memory holds the books, and where files are told the closing
 -- section of that record is the outcome's text
 pub record IsReplayedFrom (words : List (List ℕ)) (told : Option Files) (frames : ℕ) (image : List ℕ) (layout : Division)
-    (books : Books) (memory : List ℕ) : Type 0 where
+    (own : OwnState) (memory : List ℕ) : Type 0 where
   pub layout_is : IsLayout image layout
-  pub books_are : AreBooks books memory
+  pub books_are : HoldsBooks own memory
   pub size : length memory ≡ 4096 * layout.frames
   pub outcome_is : IfTold told (λ files. outcome words files ≡ Some (record {
     status = 0;
-    text = section image layout.frames (nested_by books memory);
+    text = section image layout.frames (nested_held own memory);
   }))
 
 -- a run of the image of a number may begin: it was made, holds no protected encoding, and has its layout in 4,096 frames

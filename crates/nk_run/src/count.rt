@@ -1,7 +1,8 @@
 //! The loop of a run that is counted: step after step of the machine, and the summary in the end.
-ghost use Rattle.std.specs.Prelude.{◌≡◌, ◌<◌, ◌≤◌, ◌+◌, ◌++◌, ℕ, List, false, filter, length};
+ghost use Rattle.std.specs.Prelude.{◌≡◌, ◌<◌, ◌≤◌, ◌+◌, ◌++◌, false, filter, length};
 ghost use Rattle.page_desc.specs.PageTables.{is_table};
-ghost use Rattle.nk_body.specs.NestedRecord.{nested_by};
+ghost use Rattle.page_desc.specs.DescriptorBytes.{HoldsDescriptors, kinds_in};
+ghost use Rattle.nk_body.specs.NestedRecord.{HoldsBooks, nested_held};
 ghost use Rattle.gate_state.specs.MachineOf.{whole_of};
 ghost use Rattle.gate_state.specs.MachineStates.{nested_of};
 ghost use Rattle.gate_state.specs.MachineSteps.{move_of, next};
@@ -20,8 +21,10 @@ use irq_plan::Plan;
 use nk_bits::{Answer, Kind};
 use nk_body::Kernel;
 use nk_host::Sink;
-use page_desc::Frames;
+use page_desc::{Frames, stored_law};
+use phys_mem::PhysMem;
 use report_text::{RunCounts, ending, summary};
+use write_log::held_log_law;
 
 /// How many turns the run of a made image may take.
 const STEPS: u64 = 2_000_000;
@@ -130,7 +133,7 @@ fn sum_up<'i, O: Sink>(machine: Machine<'i>, reason: Ending, tally: &Tally, sink
 {
     let turns = machine.turns();
     let finished = machine.finish();
-    let counts = summed(&finished.kernel, tally);
+    let counts = summed(&finished.kernel, &finished.mem, tally);
     match ending(sink, reason.is_halted(), turns) {
         Ok(()) => put_counts(&counts, sink),
         Err(_) => 4,
@@ -149,14 +152,16 @@ fn put_counts<O: Sink>(counts: &RunCounts, sink: &mut O) -> u8
 }
 
 /// What was counted, and what the books have in the end.
-fn summed(kernel: &Kernel, tally: &Tally) -> RunCounts
-    ensures { (memory : List ℕ) → result ≡ summary_of tally.now (nested_by kernel.now memory) }
+fn summed(kernel: &Kernel, mem: &PhysMem, tally: &Tally) -> RunCounts
+    requires { HoldsBooks kernel.now mem.now }
+    ensures { result ≡ summary_of tally.now (nested_held kernel.now mem.now) }
 {
+    held_log_law();
     RunCounts {
         calls: tally.calls,
         accepted: tally.accepted,
         deliveries: tally.deliveries,
-        tables: count_tables(&kernel.tables().frames),
+        tables: count_tables(&kernel.tables().frames, mem),
         regions: kernel.regions().count() as u64,
         records: kernel.log().len(),
         log_bytes: LOG_BYTES - kernel.log().room(),
@@ -164,12 +169,14 @@ fn summed(kernel: &Kernel, tally: &Tally) -> RunCounts
 }
 
 /// How many frames are page tables.
-fn count_tables(frames: &Frames) -> u64
-    ensures { result ≡ length (filter is_table frames.now.kinds) }
+fn count_tables(frames: &Frames, mem: &PhysMem) -> u64
+    requires { HoldsDescriptors frames.now mem.now }
+    ensures { result ≡ length (filter is_table (kinds_in mem.now)) }
 {
+    stored_law();
     let mut count = 0;
     for frame in 0..frames.frames() {
-        count += u64::from(is_table(frames.kind(frame)));
+        count += u64::from(is_table(frames.kind(mem, frame)));
     }
     count
 }

@@ -5,7 +5,7 @@ ghost use Rattle.nk_host.specs.FaultCounts.{RoseTo};
 ghost use Rattle.nk_host.specs.Taken.{AppendsPrefix};
 ghost use Rattle.boot_map.specs.Division.{IsLayout};
 ghost use Rattle.nk_body.specs.CallRules.{Sourced, bytes_read};
-ghost use Rattle.nk_body.specs.NestedRecord.{AreBooks, nested_by};
+ghost use Rattle.nk_body.specs.NestedRecord.{HoldsBooks, nested_held};
 ghost use Rattle.nk_body.specs.SourceWords.{sourced_of};
 ghost use Rattle.gate_state.specs.MachineOf.{whole_of};
 ghost use Rattle.gate_state.specs.MachineStates.{nested_of};
@@ -162,12 +162,12 @@ fn close<O: Sink>(
     sink: &mut O,
 ) -> u8
     requires layout { IsLayout image.now layout.now }
-    requires books { AreBooks finished.now.kernel finished.now.mem }
+    requires books { HoldsBooks finished.now.kernel finished.now.mem }
     requires size { length finished.now.mem ≡ 4096 * layout.now.frames }
     ensures never_falls { O.faults sink.old ≤ O.faults sink.new }
     ensures written { IsWritten (sink_change O.taken O.faults sink.old sink.new) 0
         (ending_line (is_halted ending) ++ (turns_line turns
-        ++ section image.now layout.now.frames (nested_by finished.now.kernel finished.now.mem))) result }
+        ++ section image.now layout.now.frames (nested_held finished.now.kernel finished.now.mem))) result }
 {
     match report_text::ending(sink, ending.is_halted(), turns) {
         Ok(()) => finish(finished, image, layout, sink),
@@ -178,11 +178,11 @@ fn close<O: Sink>(
 /// Writes the closing section.
 fn finish<O: Sink>(finished: &Finished, image: &Image, layout: &Layout, sink: &mut O) -> u8
     requires layout { IsLayout image.now layout.now }
-    requires books { AreBooks finished.now.kernel finished.now.mem }
+    requires books { HoldsBooks finished.now.kernel finished.now.mem }
     requires size { length finished.now.mem ≡ 4096 * layout.now.frames }
     ensures never_falls { O.faults sink.old ≤ O.faults sink.new }
     ensures written { IsWritten (sink_change O.taken O.faults sink.old sink.new) 0
-        (section image.now layout.now.frames (nested_by finished.now.kernel finished.now.mem)) result }
+        (section image.now layout.now.frames (nested_held finished.now.kernel finished.now.mem)) result }
 {
     match report_text::section(sink, image, layout, &finished.mem, &finished.kernel) {
         Ok(()) => 0,

@@ -1,11 +1,13 @@
 //! What a run and a replay begin from: the division of memory, the opening's memory with the nested kernel's books, and the
 //! machine.
-ghost use Rattle.std.specs.Prelude.{◌≡◌, ◌≤◌, None, IfSome, MatchResult};
+ghost use Rattle.std.specs.Prelude.{◌≡◌, ◌≤◌, ◌*◌, length, None, IfSome, MatchResult};
+ghost use Rattle.phys_mem.specs.MaskedMemory.{seen};
 ghost use Rattle.byte_scanner.specs.FirstFound.{first_found};
 ghost use Rattle.boot_map.specs.Division.{IsLayout, need};
 ghost use Rattle.boot_map.specs.Opening.{IsOpening};
 ghost use Rattle.boot_map.specs.OpeningKinds.{kinds};
-ghost use Rattle.nk_body.specs.NestedRecord.{AreBooks};
+ghost use Rattle.page_desc.specs.DescriptorBytes.{kinds_in};
+ghost use Rattle.nk_body.specs.NestedRecord.{HoldsBooks, books_in};
 ghost use Rattle.nk_body.specs.SourceWords.{opening_ledger};
 ghost use Rattle.gate_state.specs.MachineOpening.{opening_state};
 ghost use Rattle.nk_run.specs.Outcome.{passes, roomy};
@@ -18,10 +20,10 @@ use boot_map::{Layout, prepare};
 use elf_image::Image;
 use gate_state::OuterMachine;
 use nk_body::Kernel;
-use phys_mem::PhysMem;
+use phys_mem::{PhysMem, mask_law};
 use std::alloc::Global;
 
-/// The opening's memory, and the books over it.
+/// The opening's memory with the books in it, and what the nested kernel keeps beside it.
 #[derive(Drop)]
 pub(crate) struct Guarded {
     pub memory: PhysMem,
@@ -43,20 +45,22 @@ pub(crate) fn divide(alloc: Global, image: &Image, frames: u32) -> Result<Layout
     }
 }
 
-/// The opening's memory and books, None where there is no memory for them.
+/// The opening's memory with the books in it, None where there is no memory for them.
 pub(crate) fn guard(alloc: Global, image: &Image, layout: &Layout) -> Option<Guarded>
     requires layout { IsLayout image.now layout.now }
-    ensures opening { IfSome result (λ it. IsOpening image.now layout.now.frames it.memory) }
-    ensures kinds { IfSome result (λ it. it.kernel.frames.kinds ≡ kinds image.now layout.now.frames) }
+    ensures opening { IfSome result (λ it. IsOpening image.now layout.now.frames (seen it.memory)) }
+    ensures size { IfSome result (λ it. length it.memory ≡ 4096 * layout.now.frames) }
+    ensures kinds { IfSome result (λ it. kinds_in it.memory ≡ kinds image.now layout.now.frames) }
     ensures root { IfSome result (λ it. it.kernel.root ≡ 5) }
-    ensures ledger { IfSome result (λ it. it.kernel.ledger ≡ opening_ledger) }
-    ensures books { IfSome result (λ it. AreBooks it.kernel it.memory) }
+    ensures ledger { IfSome result (λ it. (books_in it.kernel it.memory).ledger ≡ opening_ledger) }
+    ensures books { IfSome result (λ it. HoldsBooks it.kernel it.memory) }
 {
-    let memory = match prepare(alloc, image, layout) {
+    mask_law();
+    let mut memory = match prepare(alloc, image, layout) {
         Ok(memory) => memory,
         Err(_) => return None,
     };
-    match Kernel::start(alloc, &memory, image, layout) {
+    match Kernel::start(alloc, &mut memory, image, layout) {
         Ok(kernel) => Some(Guarded { memory, kernel }),
         Err(_) => None,
     }

@@ -4,7 +4,7 @@ ghost use Rattle.std.specs.String.{string_bytes};
 ghost use Rattle.nk_host.specs.Told.{IfTold};
 ghost use Rattle.byte_scanner.specs.FirstFound.{first_found};
 ghost use Rattle.boot_map.specs.Division.{IsLayout};
-ghost use Rattle.nk_body.specs.NestedRecord.{AreBooks, nested_by};
+ghost use Rattle.nk_body.specs.NestedRecord.{HoldsBooks, nested_held};
 ghost use Rattle.report_text.specs.ClosingSection.{section};
 ghost use Rattle.replay_core.specs.ReplayedCalls.{replay_of};
 ghost use Rattle.nk_run.specs.CommandLine.{command_of, word_count, IsBounded};
@@ -78,8 +78,8 @@ fn make_calls(
     requires { IsLayout image.now layout.now }
     ensures { let from = opened (record { image = image.now; frames = layout.now.frames }) in MatchResult result
         (λ left. ((replay_of journal.now from).bad ≡ None)
-        × (nested_by left.kernel left.memory ≡ (replay_of journal.now from).made.nested)
-        × AreBooks left.kernel left.memory
+        × (nested_held left.kernel left.memory ≡ (replay_of journal.now from).made.nested)
+        × HoldsBooks left.kernel left.memory
         × (length left.memory ≡ 4096 * layout.now.frames))
         (λ reply. RefusesBy 6 (journaled (replay_of journal.now from).bad) reply.status (bytes_of reply.line)) }
 {
@@ -158,11 +158,11 @@ pub(crate) fn replay<S: Shelf, O: Sink>(
 /// Writes the closing section; gives 0, or 4 after a fault of the sink.
 fn show<O: Sink>(replayed: &Replayed, sink: &mut O) -> u8
     requires layout { IsLayout replayed.now.image replayed.now.layout }
-    requires books { AreBooks replayed.now.left.kernel replayed.now.left.memory }
+    requires books { HoldsBooks replayed.now.left.kernel replayed.now.left.memory }
     requires size { length replayed.now.left.memory ≡ 4096 * replayed.now.layout.frames }
     ensures { IsWritten (sink_change O.taken O.faults sink.old sink.new) 0
         (section replayed.now.image replayed.now.layout.frames
-        (nested_by replayed.now.left.kernel replayed.now.left.memory)) result }
+        (nested_held replayed.now.left.kernel replayed.now.left.memory)) result }
 {
     match report_text::section(
         sink,

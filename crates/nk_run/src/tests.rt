@@ -1,7 +1,9 @@
 //! Worked cases of the command line, over a shelf and a sink in memory.
+mod books;
 mod calls;
 mod compiled;
 mod deliveries;
+mod descriptors;
 mod entries;
 mod journals;
 mod long_files;

@@ -22,7 +22,7 @@ table_holds Trap low = absurd (omega arith)
 table_holds Guarded low = absurd (omega arith)
 table_holds Hidden low = absurd (omega arith)
 
-link_low : (level : ℕ) → is_link_level level ≡ true → 1 ≤ level
+pub link_low : (level : ℕ) → is_link_level level ≡ true → 1 ≤ level
 link_low level is = grind arith
 
 -- a conjunction whose second part counts where the first passes

@@ -1,20 +1,18 @@
 -- Stores outside page tables and outside the bytes that never change leave what memory's tables stand for, and keep the
 -- tables sound and described.
-use Rattle.std.proofs.Common.{◌≡◌, ◌≢◌, ◌⊎◌, ℕ, ◌+◌, ◌*◌, ◌/◌, ◌%◌, ◌<◌, Bool, true, false, not, ◌&&◌, ◌||◌, ◌==◌, List, length, All, arith, refl, sym, ap, subst, ◌∙◌, inl, inr}
+use Rattle.std.proofs.Common.{◌≡◌, ◌≢◌, ℕ, ◌+◌, ◌*◌, ◌/◌, ◌%◌, ◌<◌, Bool, true, false, not, ◌&&◌, ◌||◌, ◌==◌, List, length, All, arith, refl, sym, ap, ◌∙◌, inl, inr}
 use Rattle.std.specs.Prelude.{nat_lt, if◌then◌else◌}
 use Rattle.std.proofs.lemmas.Bool.{and_parts, eqb-true, false≢true, ltb-true, or_cases}
 use Rattle.std.proofs.lemmas.List.Elements.{All-weaker}
 use Rattle.nk_bits.specs.declared.kind.Kind.{Kind}
 use Rattle.nk_bits.specs.declared.kind.Kind.TheVariants.{Fixed}
 use Rattle.nk_bits.specs.Kinds.{kind_of}
-use Rattle.nk_bits.specs.Paging.{frame_of, is_present}
 use Rattle.phys_mem.specs.Memory.{byte_at, entry_in, stored}
 use Rattle.page_desc.specs.FrameCounts.{links_in, loose_in}
 use Rattle.page_desc.specs.FrameDescriptors.{Descriptors}
 use Rattle.page_desc.specs.PageTables.{AreDescribed, HoldsSoundTables, Tables, is_handler_byte, is_kept, is_table, is_unguarded, kept_bytes, links_of, loose_of, table_entries, tables_in}
-use Rattle.page_desc.proofs.KindChanges.{fixed_tables}
-use Rattle.page_desc.proofs.PageTableValues.{links_are, loose_is, table_at}
-use Rattle.page_desc.proofs.TablesKept.{tables_elsewhere}
+use Rattle.page_desc.proofs.PageTableValues.{links_are, loose_is}
+use Rattle.page_desc.proofs.SoundWhere.{sound_where}
 
 -- what is used of the laws of memory
 pub record StoreLaws : Type 0 where
@@ -24,7 +22,7 @@ pub record StoreLaws : Type 0 where
   pub entry_elsewhere : (m : List ℕ) (ws : List (ℕ × ℕ)) (f i : ℕ) → i < 512 → All (λ w. w.0 / 4096 ≢ f) ws
       → entry_in (stored m ws) f i ≡ entry_in m f i
 
-choice_same : {A : Type 0} (b : Bool) (x y z : A) → (b ≡ true → x ≡ y) → (if b then x else z) ≡ (if b then y else z)
+pub choice_same : {A : Type 0} (b : Bool) (x y z : A) → (b ≡ true → x ≡ y) → (if b then x else z) ≡ (if b then y else z)
 choice_same true x y z same = same refl
 choice_same false x y z same = refl
 
@@ -109,37 +107,8 @@ module _ (laws : StoreLaws) (kinds : List Kind) (m : List ℕ) (ws : List (ℕ �
       λ j. record { kinds = kinds; entries = entries j; fixed = bytes j; root = root }
 
   module _ (root : ℕ) (sound : HoldsSoundTables kinds root m) where
-    directory_stays : (i : ℕ) → i < 512 → entry_in (stored m ws) 9 i ≡ entry_in m 9 i
-    directory_stays i small = fixed_stays 9 i small sound.slot.directory (λ two. absurd (omega (arith, two)))
-
-    slot_stays : (i : ℕ) → i < 512 → entry_in (stored m ws) 6 i ≡ entry_in m 6 i
-    slot_stays i small = fixed_stays 6 i small sound.slot_root (λ two. absurd (omega (arith, two)))
-
-    area_stays : (i : ℕ) → i < 512 → entry_in (stored m ws) 7 i ≡ entry_in m 7 i
-    area_stays i small = fixed_stays 7 i small sound.area_root (λ two. absurd (omega (arith, two)))
-
     pub sound_stays : HoldsSoundTables kinds root (stored m ws)
-    sound_stays = record {
-      size = laws.length m ws ∙ sound.size;
-      levels = sound.levels;
-      tables =
-          tables_elsewhere kinds (entry_in m) (entry_in (stored m ws)) sound.tables
-          (λ f i small level. table_stays f i small (table_at kinds f level));
-      root_level = sound.root_level;
-      slot = fixed_tables kinds (entry_in m) (entry_in (stored m ws)) sound.slot directory_stays;
-      handler = sound.handler;
-      apart = λ i small present two.
-          sound.apart i small (sym (ap is_present (directory_stays i small)) ∙ present)
-          (sym (ap frame_of (directory_stays i small)) ∙ two);
-      slot_root = sound.slot_root;
-      area_root = sound.area_root;
-      slot_names = λ i small present.
-          subst (λ e. (frame_of e ≡ 7) ⊎ (frame_of e ≡ 9)) (sym (slot_stays i small))
-          (sound.slot_names i small (sym (ap is_present (slot_stays i small)) ∙ present));
-      area_names = λ i small present.
-          ap frame_of (area_stays i small)
-          ∙ sound.area_names i small (sym (ap is_present (area_stays i small)) ∙ present);
-    }
+    sound_stays = sound_where kinds root m (stored m ws) (laws.length m ws) table_stays fixed_stays sound
 
     loose_stays : (frame : ℕ) → loose_in kinds (entry_in (stored m ws)) frame ≡ loose_in kinds (entry_in m) frame
     loose_stays frame =

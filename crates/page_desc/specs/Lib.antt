@@ -3,3 +3,6 @@ pub mod FrameCounts
 pub mod FrameDescriptors
 pub mod SoundTables
 pub mod PageTables
+pub mod DescriptorBytes
+-- Words of private clauses and proofs.
+pub mod FieldChanges

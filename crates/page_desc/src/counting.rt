@@ -1,12 +1,17 @@
-//! All counts anew, from the page tables in memory.
+//! All descriptors anew: the kind of each frame, and all counts, from the page tables in memory. These are read while the
+//! counts are put, since no table lies among the books.
 
-ghost use Rattle.std.specs.Prelude.{◌≡◌, ◌<◌, ◌≤◌, ◌⊎◌, ℕ, ◌+◌, ◌*◌, ◌^◌, true, false, ◌&&◌, ◌||◌, ◌==◌, nat_lt, length, slice_index};
+ghost use Rattle.std.specs.Prelude.{◌≡◌, ◌<◌, ◌≤◌, ℕ, ◌+◌, ◌-◌, ◌*◌, ◌^◌, true, false, ◌&&◌, ◌||◌, ◌==◌, nat_lt, length};
+ghost use Rattle.phys_mem.specs.MaskedMemory.{is_book_frame};
 ghost use Rattle.phys_mem.specs.Memory.{entry_in};
 ghost use Rattle.nk_bits.specs.Kinds.{kind_of, level_of};
 ghost use Rattle.nk_bits.specs.Paging.{is_present};
+ghost use Rattle.page_desc.specs.DescriptorBytes.{DiffersInDescriptors, field_in, kind_by, word_of};
+ghost use Rattle.page_desc.specs.FieldChanges.{DiffersInField, IsReadable};
 ghost use Rattle.page_desc.specs.FrameCounts.{holds_leaves, holds_links, is_link_level, is_link_to, is_loose, is_loose_leaf, is_slot_leaf_table, links_in, loose_in, one_if, sum_below};
 
-use crate::count::raise;
+use crate::count::{is_link_level, is_loose, raise};
+use crate::fields::{KIND, LINKS, LOOSE, field, put, word_of};
 use nk_bits::{Entry, Kind};
 use phys_mem::PhysMem;
 
@@ -19,16 +24,8 @@ const AREA_TABLE: u32 = 8;
 /// The kernel slot's table of level 2 for the image, whose entries name tables of level 1.
 const IMAGE_DIRECTORY: u32 = 9;
 
-/// Whether the entry is a loose leaf, where it is one of a table of level 1.
-pub fn is_loose(entry: Entry) -> bool
-    ensures { result ≡ is_loose entry.0 }
-{
-    let rights = entry.rights();
-    entry.is_present() && (rights.can_write || rights.user)
-}
-
-/// The level of a table; 0 for every other kind.
-pub fn level_of(kind: Kind) -> u8
+// The level of a table; 0 for every other kind.
+fn level_of(kind: Kind) -> u8
     ensures { result ≡ level_of kind }
 {
     match kind {
@@ -37,16 +34,9 @@ pub fn level_of(kind: Kind) -> u8
     }
 }
 
-/// Whether the entries of a table of this level are links.
-pub fn is_link_level(level: u8) -> bool
-    ensures { result ≡ is_link_level level }
-{
-    2 <= level && level <= 4
-}
-
-// An entry of the table in a frame of memory.
+/// An entry of the table in a frame of memory.
 #[tactic(auto, unfolding(phys_mem::specs::Memory::entry_in))]
-fn entry(mem: &PhysMem, frame: u32, index: u32) -> Entry
+pub fn entry(mem: &PhysMem, frame: u32, index: u32) -> Entry
     requires frame { 4096 * frame + 4096 ≤ length mem.now }
     requires index { index < 512 }
     ensures { result.0 ≡ entry_in mem.now frame index }
@@ -54,45 +44,43 @@ fn entry(mem: &PhysMem, frame: u32, index: u32) -> Entry
     Entry(mem.load64(4096 * u64::from(frame) + 8 * u64::from(index)))
 }
 
+// The kind of a frame in memory.
+fn kind_at(kinds: &[Kind], frame: u32) -> Kind
+    requires { frame < length kinds.now }
+    ensures { result ≡ kind_of kinds.now frame }
+{
+    kinds[frame as usize]
+}
+
 // Counts each loose leaf in a frame.
-fn add_leaves(mem: &PhysMem, frame: u32, loose: &mut Vec<u32>)
-    requires frame { 4096 * frame + 4096 ≤ length mem.now }
-    requires room { (other : ℕ) → other < length loose.old.items → slice_index loose.old.items other ≤ 2 ^ 31 }
-    ensures each { (other : ℕ) → other < length loose.old.items
-        → slice_index loose.new.items other ≡ slice_index loose.old.items other
-        + sum_below 512 (λ i. one_if (is_loose_leaf other (entry_in mem.now frame i))) }
-    ensures length { length loose.new.items ≡ length loose.old.items }
+fn add_leaves(mem: &mut PhysMem, count: u32, frame: u32)
+    requires memory { (length mem.old ≡ 4096 * count) × (65 ≤ count) }
+    requires frame { frame < count }
+    requires apart { is_book_frame count frame ≡ false }
+    requires room { (other : ℕ) → other < count → field_in mem.old 4 other ≤ 2 ^ 31 }
+    ensures each { (other : ℕ) → other < count → field_in mem.new 4 other
+        ≡ field_in mem.old 4 other + sum_below 512 (λ i. one_if (is_loose_leaf other (entry_in mem.old frame i))) }
+    ensures differs { DiffersInField count 4 mem.old mem.new }
 {
     for index in 0..ENTRIES {
         let entry = entry(mem, frame, index);
-        raise(loose, is_loose(entry), entry.frame());
+        raise(mem, LOOSE, count, is_loose(entry), entry.frame());
     }
 }
 
 // Counts each link in a frame.
-fn add_links(mem: &PhysMem, frame: u32, links: &mut Vec<u32>)
-    requires frame { 4096 * frame + 4096 ≤ length mem.now }
-    requires room { (other : ℕ) → other < length links.old.items → slice_index links.old.items other ≤ 2 ^ 31 }
-    ensures each { (other : ℕ) → other < length links.old.items
-        → slice_index links.new.items other ≡ slice_index links.old.items other
-        + sum_below 512 (λ i. one_if (is_link_to other (entry_in mem.now frame i))) }
-    ensures length { length links.new.items ≡ length links.old.items }
+fn add_links(mem: &mut PhysMem, count: u32, frame: u32)
+    requires memory { (length mem.old ≡ 4096 * count) × (65 ≤ count) }
+    requires frame { frame < count }
+    requires apart { is_book_frame count frame ≡ false }
+    requires room { (other : ℕ) → other < count → field_in mem.old 8 other ≤ 2 ^ 31 }
+    ensures each { (other : ℕ) → other < count → field_in mem.new 8 other
+        ≡ field_in mem.old 8 other + sum_below 512 (λ i. one_if (is_link_to other (entry_in mem.old frame i))) }
+    ensures differs { DiffersInField count 8 mem.old mem.new }
 {
     for index in 0..ENTRIES {
         let entry = entry(mem, frame, index);
-        raise(links, entry.is_present(), entry.frame());
-    }
-}
-
-/// Counts each present entry of frame 9, so that a count above 0 marks the kernel slot's tables of level 1 but for frame 8.
-pub fn mark_slot_tables(mem: &PhysMem, marks: &mut Vec<u32>)
-    requires zero { (other : ℕ) → slice_index marks.old.items other ≡ 0 }
-    ensures each { (other : ℕ) → other < length marks.old.items
-        → slice_index marks.new.items other ≡ sum_below 512 (λ i. one_if (is_link_to other (entry_in mem.now 9 i))) }
-    ensures length { length marks.new.items ≡ length marks.old.items }
-{
-    if mem.frames() > IMAGE_DIRECTORY {
-        add_links(mem, IMAGE_DIRECTORY, marks);
+        raise(mem, LINKS, count, entry.is_present(), entry.frame());
     }
 }
 
@@ -104,71 +92,105 @@ fn holds_leaves(kind: Kind, frame: u32, mark: u32) -> bool
 }
 
 // Counts each loose leaf in a frame, where it holds leaves.
-fn count_loose_in(
-    mem: &PhysMem,
-    kinds: &Vec<Kind>,
-    marks: &Vec<u32>,
-    frame: u32,
-    loose: &mut Vec<u32>,
-)
-    requires frame { frame < length kinds.now.items }
-    requires frames { length mem.now ≡ 4096 * length kinds.now.items }
-    requires length { length marks.now.items ≡ length kinds.now.items }
-    requires marked { slice_index marks.now.items frame
-        ≡ sum_below 512 (λ i. one_if (is_link_to frame (entry_in mem.now 9 i))) }
-    requires room { (other : ℕ) → other < length loose.old.items → slice_index loose.old.items other ≤ 2 ^ 31 }
-    ensures each { (other : ℕ) → other < length loose.old.items
-        → slice_index loose.new.items other ≡ slice_index loose.old.items other
-        + sum_below 512 (λ i. one_if (holds_leaves kinds.now.items (entry_in mem.now) frame && is_loose_leaf other (entry_in mem.now frame i))) }
-    ensures length { length loose.new.items ≡ length loose.old.items }
+fn count_loose_in(mem: &mut PhysMem, count: u32, kinds: &[Kind], frame: u32)
+    requires count { count ≡ length kinds.now }
+    requires frame { frame < count }
+    requires readable { IsReadable kinds.now mem.old }
+    requires marked { field_in mem.old 8 frame ≡ sum_below 512 (λ i. one_if (is_link_to frame (entry_in mem.old 9 i))) }
+    requires room { (other : ℕ) → other < count → field_in mem.old 4 other ≤ 2 ^ 31 }
+    ensures each { (other : ℕ) → other < count → field_in mem.new 4 other ≡ field_in mem.old 4 other
+        + sum_below 512 (λ i. one_if (holds_leaves kinds.now (entry_in mem.old) frame && is_loose_leaf other (entry_in mem.old frame i))) }
+    ensures differs { DiffersInField count 4 mem.old mem.new }
 {
-    if holds_leaves(kinds[frame as usize], frame, marks[frame as usize]) {
-        add_leaves(mem, frame, loose);
+    let mark = field(mem, LINKS, frame);
+    if holds_leaves(kind_at(kinds, frame), frame, mark) {
+        add_leaves(mem, count, frame);
     }
 }
 
 // Counts each link in a frame, where it holds links.
-fn count_links_in(mem: &PhysMem, kinds: &Vec<Kind>, frame: u32, links: &mut Vec<u32>)
-    requires frame { frame < length kinds.now.items }
-    requires frames { length mem.now ≡ 4096 * length kinds.now.items }
-    requires room { (other : ℕ) → other < length links.old.items → slice_index links.old.items other ≤ 2 ^ 31 }
-    ensures each { (other : ℕ) → other < length links.old.items
-        → slice_index links.new.items other ≡ slice_index links.old.items other
-        + sum_below 512 (λ i. one_if (holds_links kinds.now.items frame && is_link_to other (entry_in mem.now frame i))) }
-    ensures length { length links.new.items ≡ length links.old.items }
+fn count_links_in(mem: &mut PhysMem, count: u32, kinds: &[Kind], frame: u32)
+    requires count { count ≡ length kinds.now }
+    requires frame { frame < count }
+    requires readable { IsReadable kinds.now mem.old }
+    requires room { (other : ℕ) → other < count → field_in mem.old 8 other ≤ 2 ^ 31 }
+    ensures each { (other : ℕ) → other < count → field_in mem.new 8 other ≡ field_in mem.old 8 other
+        + sum_below 512 (λ i. one_if (holds_links kinds.now frame && is_link_to other (entry_in mem.old frame i))) }
+    ensures differs { DiffersInField count 8 mem.old mem.new }
 {
-    if is_link_level(level_of(kinds[frame as usize])) {
-        add_links(mem, frame, links);
+    if is_link_level(level_of(kind_at(kinds, frame))) {
+        add_links(mem, count, frame);
     }
 }
 
-/// Counts the loose leaves of every frame.
-pub fn count_loose(mem: &PhysMem, kinds: &Vec<Kind>, marks: &Vec<u32>, loose: &mut Vec<u32>)
-    requires frames { length mem.now ≡ 4096 * length kinds.now.items }
-    requires marks { length marks.now.items ≡ length kinds.now.items }
-    requires marked { (frame : ℕ) → frame < length kinds.now.items → slice_index marks.now.items frame
-        ≡ sum_below 512 (λ i. one_if (is_link_to frame (entry_in mem.now 9 i))) }
-    requires length { length loose.old.items ≡ length kinds.now.items }
-    requires zero { (other : ℕ) → slice_index loose.old.items other ≡ 0 }
-    ensures each { (other : ℕ) → other < length kinds.now.items
-        → slice_index loose.new.items other ≡ loose_in kinds.now.items (entry_in mem.now) other }
-    ensures length { length loose.new.items ≡ length loose.old.items }
+// Counts the loose leaves of every frame, by the marks that stand for the kernel slot's tables of level 1 but frame 8.
+fn count_loose(mem: &mut PhysMem, count: u32, kinds: &[Kind])
+    requires count { count ≡ length kinds.now }
+    requires most { count ≤ 16384 }
+    requires readable { IsReadable kinds.now mem.old }
+    requires marked { (frame : ℕ) → frame < count
+        → field_in mem.old 8 frame ≡ sum_below 512 (λ i. one_if (is_link_to frame (entry_in mem.old 9 i))) }
+    requires zero { (other : ℕ) → other < count → field_in mem.old 4 other ≡ 0 }
+    ensures each { (other : ℕ) → other < count → field_in mem.new 4 other ≡ loose_in kinds.now (entry_in mem.old) other }
+    ensures differs { DiffersInField count 4 mem.old mem.new }
 {
-    for frame in 0..mem.frames() {
-        count_loose_in(mem, kinds, marks, frame, loose);
+    for frame in 0..count {
+        count_loose_in(mem, count, kinds, frame);
     }
 }
 
-/// Counts the links of every frame.
-pub fn count_links(mem: &PhysMem, kinds: &Vec<Kind>, links: &mut Vec<u32>)
-    requires frames { length mem.now ≡ 4096 * length kinds.now.items }
-    requires length { length links.old.items ≡ length kinds.now.items }
-    requires zero { (other : ℕ) → slice_index links.old.items other ≡ 0 }
-    ensures each { (other : ℕ) → other < length kinds.now.items
-        → slice_index links.new.items other ≡ links_in kinds.now.items (entry_in mem.now) other }
-    ensures length { length links.new.items ≡ length links.old.items }
+// Counts the links of every frame.
+fn count_links(mem: &mut PhysMem, count: u32, kinds: &[Kind])
+    requires count { count ≡ length kinds.now }
+    requires most { count ≤ 16384 }
+    requires readable { IsReadable kinds.now mem.old }
+    requires zero { (other : ℕ) → other < count → field_in mem.old 8 other ≡ 0 }
+    ensures each { (other : ℕ) → other < count → field_in mem.new 8 other ≡ links_in kinds.now (entry_in mem.old) other }
+    ensures differs { DiffersInField count 8 mem.old mem.new }
 {
-    for frame in 0..mem.frames() {
-        count_links_in(mem, kinds, frame, links);
+    for frame in 0..count {
+        count_links_in(mem, count, kinds, frame);
     }
+}
+
+// No link is counted.
+fn clear_links(mem: &mut PhysMem, count: u32)
+    requires memory { (length mem.old ≡ 4096 * count) × (65 ≤ count) }
+    ensures each { (other : ℕ) → other < count → field_in mem.new 8 other ≡ 0 }
+    ensures differs { DiffersInField count 8 mem.old mem.new }
+{
+    for frame in 0..count {
+        put(mem, LINKS, count, frame, 0);
+    }
+}
+
+/// Puts the kind of each frame into its descriptor.
+pub fn put_kinds(mem: &mut PhysMem, count: u32, kinds: &[Kind])
+    requires count { count ≡ length kinds.now }
+    requires memory { (length mem.old ≡ 4096 * count) × (65 ≤ count) }
+    ensures words { (f : ℕ) → f < count → field_in mem.new 0 f ≡ word_of (kind_of kinds.now f) }
+    ensures kinds { (f : ℕ) → f < count → kind_by (field_in mem.new 0 f) ≡ kind_of kinds.now f }
+    ensures differs { DiffersInField count 0 mem.old mem.new }
+{
+    for frame in 0..count {
+        put(mem, KIND, count, frame, word_of(kind_at(kinds, frame)));
+    }
+}
+
+/// Counts all loose leaves and all links, where none is counted. The counts of links first mark the kernel slot's tables of
+/// level 1 but frame 8: those that a present entry of frame 9 names.
+pub fn count_all(mem: &mut PhysMem, count: u32, kinds: &[Kind])
+    requires count { count ≡ length kinds.now }
+    requires most { count ≤ 16384 }
+    requires readable { IsReadable kinds.now mem.old }
+    requires zero { (f : ℕ) → f < count → (field_in mem.old 4 f ≡ 0) × (field_in mem.old 8 f ≡ 0) }
+    ensures loose { (f : ℕ) → f < count → field_in mem.new 4 f ≡ loose_in kinds.now (entry_in mem.old) f }
+    ensures links { (f : ℕ) → f < count → field_in mem.new 8 f ≡ links_in kinds.now (entry_in mem.old) f }
+    ensures others { (f : ℕ) → f < count → (field_in mem.new 0 f ≡ field_in mem.old 0 f) × (field_in mem.new 12 f ≡ field_in mem.old 12 f) }
+    ensures elsewhere { DiffersInDescriptors mem.old mem.new }
+{
+    add_links(mem, count, IMAGE_DIRECTORY);
+    count_loose(mem, count, kinds);
+    clear_links(mem, count);
+    count_links(mem, count, kinds);
 }

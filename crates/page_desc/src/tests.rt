@@ -1,19 +1,27 @@
-//! Counts at worked values: a memory of 16 frames with the opening's tables in small.
+//! Counts at worked values: a memory of 80 frames with the opening's tables in small.
 
-ghost use Rattle.std.specs.Prelude.{◌≡◌, ◌*◌, IfOk, length};
+mod changes;
 
-use crate::counting::{is_link_level, is_loose};
-use crate::{Frames, NoMemory};
-use nk_bits::{Entry, Kind};
-use phys_mem::PhysMem;
+ghost use Rattle.std.specs.Prelude.{◌≡◌, ◌<◌, ◌≤◌, ℕ, ◌*◌, ◌/◌, true, IfOk, IfSome, length};
+ghost use Rattle.phys_mem.specs.MaskedMemory.{is_book_frame};
+ghost use Rattle.phys_mem.specs.Memory.{byte_at, entry_in};
+ghost use Rattle.nk_bits.specs.declared.kind.Kind.TheVariants.{Fixed, Hidden};
+ghost use Rattle.nk_bits.specs.Kinds.{kind_of};
+ghost use Rattle.page_desc.specs.DescriptorBytes.{HoldsDescriptors};
+ghost use Rattle.page_desc.specs.FrameCounts.{IsSlotFixed};
+
+use crate::Frames;
+use crate::counting::entry;
+use nk_bits::Kind;
+use phys_mem::{NoMemory, PhysMem};
 use std::alloc::{AllocError, Global};
 use std::test::Fail;
 
-/// Data but for a root, the kernel slot's tables 6 to 10, and a table of each level from 3 down.
+/// Data but for a root, the kernel slot's tables 6 to 10, a table of each level from 3 down, and the books.
 fn kinds(alloc: Global) -> Result<Vec<Kind>, AllocError>
-    ensures { IfOk result (λ kinds. length kinds.items ≡ 16) }
+    ensures { IfOk result (λ kinds. length kinds.items ≡ 80) }
 {
-    let mut kinds = vec![in alloc; Kind::Data; 16]?;
+    let mut kinds = vec![in alloc; Kind::Data; 80]?;
     kinds[5] = Kind::Table(4);
     for frame in 6..11 {
         kinds[frame] = Kind::Fixed;
@@ -21,6 +29,9 @@ fn kinds(alloc: Global) -> Result<Vec<Kind>, AllocError>
     kinds[11] = Kind::Table(3);
     kinds[12] = Kind::Table(2);
     kinds[13] = Kind::Table(1);
+    for frame in 26..65 {
+        kinds[frame] = Kind::Hidden;
+    }
     Ok(kinds)
 }
 
@@ -44,98 +55,114 @@ const ENTRIES: [(u64, u64); 16] = [
     (0xE000, 0x2067),
 ];
 
-fn store(memory: &mut PhysMem, at: u64, value: u64) {
+fn store(memory: &mut PhysMem, at: u64, value: u64)
+    ensures { length memory.new ≡ length memory.old }
+{
     if at < 0xFFFF && at + 8 <= 4096 * u64::from(memory.frames()) {
         memory.store64(at, value);
     }
 }
 
-fn count(alloc: Global, memory: &PhysMem, kinds: Vec<Kind>) -> Result<Frames, NoMemory> {
-    if memory.frames() as usize == kinds.len() {
-        Frames::start(alloc, memory, kinds)
+/// Whether a frame of memory is fixed.
+fn is_fixed(kinds: &[Kind], frame: u64) -> bool
+    ensures { result ≡ true → kind_of kinds.now frame ≡ Fixed }
+{
+    frame < kinds.len() as u64 && matches!(kinds[frame as usize], Kind::Fixed)
+}
+
+/// Whether a frame of memory is hidden.
+fn is_hidden(kinds: &[Kind], frame: u64) -> bool
+    ensures { result ≡ true → kind_of kinds.now frame ≡ Hidden }
+{
+    frame < kinds.len() as u64 && matches!(kinds[frame as usize], Kind::Hidden)
+}
+
+/// Whether the kernel slot's tables are fixed.
+fn is_slot_fixed(memory: &PhysMem, kinds: &[Kind]) -> bool
+    requires { length memory.now ≡ 4096 * 80 }
+    ensures { result ≡ true → IsSlotFixed kinds.now (entry_in memory.now) }
+{
+    for index in 0..512 {
+        let entry = entry(memory, 9, index);
+        if entry.is_present() && !is_fixed(kinds, entry.frame()) {
+            return false;
+        }
+    }
+    is_fixed(kinds, 8) && is_fixed(kinds, 9)
+}
+
+/// Whether the books are hidden.
+#[tactic(auto, unfolding(phys_mem::specs::MaskedMemory::is_book_frame))]
+fn are_books_hidden(kinds: &[Kind]) -> bool
+    ensures { result ≡ true → (f : ℕ) → is_book_frame 80 f ≡ true → kind_of kinds.now f ≡ Hidden }
+{
+    for frame in 26..65 {
+        if !is_hidden(kinds, frame) {
+            return false;
+        }
+    }
+    true
+}
+
+/// Whether the frame of descriptors holds 0.
+#[tactic(auto, unfolding(phys_mem::specs::MaskedMemory::is_book_frame))]
+fn are_zero(memory: &PhysMem) -> bool
+    requires { length memory.now ≡ 4096 * 80 }
+    ensures { result ≡ true
+        → (p : ℕ) → 0x40000 ≤ p → is_book_frame 80 (p / 4096) ≡ true → byte_at memory.now p ≡ 0 }
+{
+    for at in 0x40000..0x41000 {
+        if memory.load8(at) != 0 {
+            return false;
+        }
+    }
+    true
+}
+
+/// Starts the descriptors, where memory and kinds admit it.
+fn begin(memory: &mut PhysMem, kinds: &[Kind]) -> Option<Frames>
+    requires memory { length memory.old ≡ 4096 * 80 }
+    requires kinds { length kinds.now ≡ 80 }
+    ensures { IfSome result (λ frames. HoldsDescriptors frames memory.new) }
+{
+    if is_slot_fixed(memory, kinds) & are_books_hidden(kinds) & are_zero(memory) {
+        Some(Frames::start(memory, kinds))
     } else {
-        Err(NoMemory)
+        None
     }
 }
 
-fn start(alloc: Global) -> Result<Frames, Fail> {
-    let mut memory = PhysMem::new(alloc, 16)?;
+/// That memory and its descriptors.
+fn start(alloc: Global) -> Result<(PhysMem, Frames), Fail>
+    ensures { IfOk result (λ it. HoldsDescriptors it.1 it.0) }
+{
+    let mut memory = PhysMem::new(alloc, 80)?;
     for (at, value) in ENTRIES {
         store(&mut memory, at, value);
     }
-    Ok(count(alloc, &memory, kinds(alloc)?)?)
+    let kinds = kinds(alloc)?;
+    match begin(&mut memory, &kinds) {
+        Some(frames) => Ok((memory, frames)),
+        None => Err(NoMemory.into()),
+    }
 }
 
 #[test]
 fn counts_at_the_start(rt: HostRuntime) -> Result<(), Fail> {
-    let frames = start(rt.alloc())?;
-    for (frame, loose) in [(1, 0), (2, 3), (3, 1), (16, 0)] {
-        assert_eq!(rt; frames.loose(frame), loose, "loose leaves of {frame}");
+    let (memory, frames) = start(rt.alloc())?;
+    for (frame, loose) in [(1, 0), (2, 3), (3, 1), (80, 0)] {
+        assert_eq!(rt;
+            frames.loose(&memory, frame),
+            loose,
+            "loose leaves of {frame}"
+        );
     }
     for (frame, links) in [(6, 1), (7, 0), (8, 0), (10, 0), (11, 1), (12, 1), (13, 1)] {
-        assert_eq!(rt; frames.links(frame), links, "links of {frame}");
+        assert_eq!(rt; frames.links(&memory, frame), links, "links of {frame}");
     }
-    Ok(())
-}
-
-/// Replaces an entry, where the counts admit it.
-fn replace(frames: &mut Frames, level: u8, old: Entry, new: Entry) -> bool {
-    let from = (old.frame() & 15) as u32;
-    let to = (new.frame() & 15) as u32;
-    let was_loose = level == 1 && is_loose(old);
-    let was_link = is_link_level(level) && old.is_present();
-    let is_counted = (!was_loose || frames.loose(from) > 0)
-        && (!was_link || frames.links(from) > 0);
-    let has_room = frames.loose(to) < u32::MAX && frames.links(to) < u32::MAX;
-    let is_named = old.frame() < 16 && new.frame() < 16;
-    if is_counted && has_room && is_named {
-        frames.replace(level, old, new);
-    }
-    is_counted && has_room && is_named
-}
-
-#[test]
-fn counts_follow_entries(rt: HostRuntime) -> Result<(), Fail> {
-    let mut frames = start(rt.alloc())?;
-    for (level, old, new, loose, links) in [
-        (1, 0x2025, 0x3025, 2, 0),
-        (1, 0x2021, 0x2023, 3, 0),
-        (1, 0x2023, 0x2027, 3, 0),
-        (1, 0x2027, 0x2026, 2, 0),
-        (2, 0, 0x2027, 2, 1),
-        (4, 0, 0x2027, 2, 2),
-        (3, 0x2027, 0, 2, 1),
-        (0, 0, 0x2027, 2, 1),
-        (5, 0, 0x2027, 2, 1),
-    ] {
-        assert!(rt; replace(&mut frames, level, Entry(old), Entry(new)));
-        assert_eq!(rt;
-            frames.loose(2),
-            loose,
-            "{old:x} to {new:x} at level {level}"
-        );
-        assert_eq!(rt;
-            frames.links(2),
-            links,
-            "{old:x} to {new:x} at level {level}"
-        );
-    }
-    assert_eq!(rt; frames.loose(3), 2);
-    Ok(())
-}
-
-#[test]
-fn kinds_change_alone(rt: HostRuntime) -> Result<(), Fail> {
-    let mut frames = start(rt.alloc())?;
-    assert_eq!(rt; frames.frames(), 16);
-    assert_eq!(rt; frames.kind(13), Kind::Table(1));
-    assert_eq!(rt; frames.kind(15), Kind::Data);
-    assert_eq!(rt; frames.kind(16), Kind::Hidden);
-    if frames.frames() == 16 {
-        frames.set_kind(15, Kind::Guarded);
-    }
-    assert_eq!(rt; frames.kind(15), Kind::Guarded);
-    assert_eq!(rt; frames.kind(14), Kind::Data);
-    assert_eq!(rt; frames.loose(2), 3);
+    assert_eq!(rt; frames.frames(), 80);
+    assert_eq!(rt; frames.kind(&memory, 12), Kind::Table(2));
+    assert_eq!(rt; frames.kind(&memory, 64), Kind::Hidden);
+    assert_eq!(rt; frames.kind(&memory, 79), Kind::Data);
     Ok(())
 }

@@ -1,4 +1,5 @@
 mod FoundRegions
+mod OtherBooks
 mod PoolFrames
 mod Writes
 mod WorkedPolicies

@@ -1,14 +1,17 @@
-//! Writes by each policy, in regions of the pool in a memory of 32 frames. The pool's first byte stands at A000.
+//! Writes by each policy, in regions of the pool in a memory of 80 frames. The pool's first byte stands at A000.
 
-ghost use Rattle.std.specs.Prelude.{◌≡◌, ◌≤◌, ◌+◌, ◌*◌, All, IfSome, length, true};
+ghost use Rattle.std.specs.Prelude.{◌≡◌, ◌≤◌, ◌+◌, ◌*◌, ◌/◌, All, IfSome, false, length, true};
+ghost use Rattle.phys_mem.specs.MaskedMemory.{is_book_frame};
+ghost use Rattle.region_book.specs.RegionBytes.{HoldsRegions, book_in};
 ghost use Rattle.region_book.specs.RegionRecords.{IsBook, region_of};
+ghost use Rattle.write_log.specs.LogBytes.{HoldsLog};
 
 use crate::write;
 use phys_mem::PhysMem;
-use region_book::Regions;
+use region_book::{Regions, held_regions_law};
 use std::alloc::{AllocError, Global};
 use std::test::Fail;
-use write_log::Log;
+use write_log::{Log, held_log_law};
 
 const LETTERS: [u8; 16] = *b"abcdefghijklmnop";
 
@@ -21,18 +24,28 @@ struct Opened {
 
 /// None for want of memory.
 fn open(alloc: Global) -> Option<Opened>
-    ensures { IfSome result (λ it. IsBook it.regions) }
+    ensures held { IfSome result (λ it. HoldsRegions it.regions it.mem) }
+    ensures held_log { IfSome result (λ it. HoldsLog it.log it.mem) }
+    ensures book { IfSome result (λ it. IsBook (book_in it.regions it.mem)) }
 {
-    let Ok(mem) = PhysMem::new(alloc, 32) else {
+    let Ok(mut mem) = PhysMem::new(alloc, 80) else {
         return None;
     };
-    let Ok(log) = Log::start(alloc) else {
-        return None;
-    };
-    match Regions::start(alloc) {
-        Ok(regions) => Some(Opened { regions, log, mem }),
-        Err(_) => None,
-    }
+    let regions = Regions::start(&mut mem);
+    let log = start_log(&regions, &mut mem);
+    Some(Opened { regions, log, mem })
+}
+
+/// An empty log beside the regions.
+fn start_log(regions: &Regions, mem: &mut PhysMem) -> Log
+    requires held { HoldsRegions regions.now mem.old }
+    requires book { IsBook (book_in regions.now mem.old) }
+    ensures held { HoldsRegions regions.now mem.new }
+    ensures held_log { HoldsLog result mem.new }
+    ensures book { IsBook (book_in regions.now mem.new) }
+{
+    held_regions_law();
+    Log::start(mem)
 }
 
 /// A step with what it is to answer.
@@ -57,11 +70,16 @@ enum Step {
     Noted(u64, u32, u8),
 }
 
-fn allocate(regions: &mut Regions, mem: &mut PhysMem, size: u64, policy: u64) -> u64
-    requires book { IsBook regions.old }
-    ensures book { IsBook regions.new }
+fn allocate(regions: &mut Regions, log: &Log, mem: &mut PhysMem, size: u64, policy: u64) -> u64
+    requires held { HoldsRegions regions.old mem.old }
+    requires held_log { HoldsLog log.now mem.old }
+    requires book { IsBook (book_in regions.old mem.old) }
+    ensures held { HoldsRegions regions.new mem.new }
+    ensures held_log { HoldsLog log.now mem.new }
+    ensures book { IsBook (book_in regions.new mem.new) }
 {
-    if mem.frames() < 26 || regions.next() >= 1 << 63 {
+    held_log_law();
+    if regions.next() >= 1 << 63 {
         return 0;
     }
     match regions.alloc(mem, size, policy) {
@@ -70,13 +88,29 @@ fn allocate(regions: &mut Regions, mem: &mut PhysMem, size: u64, policy: u64) ->
     }
 }
 
-/// Whether no region is live of this identifier, or its frames are in memory, as those of the pool are.
-fn is_within(regions: &Regions, mem: &PhysMem, id: u64) -> bool
-    requires book { IsBook regions.now }
-    ensures { result ≡ true → IfSome (region_of regions.now id) (λ r. All (λ f. 4096 * f + 4096 ≤ length mem.now) r.frames) }
+fn free(regions: &mut Regions, log: &Log, mem: &mut PhysMem, id: u64) -> bool
+    requires held { HoldsRegions regions.old mem.old }
+    requires held_log { HoldsLog log.now mem.old }
+    requires book { IsBook (book_in regions.old mem.old) }
+    ensures held { HoldsRegions regions.new mem.new }
+    ensures held_log { HoldsLog log.now mem.new }
+    ensures book { IsBook (book_in regions.new mem.new) }
 {
-    match regions.find(id) {
-        Some(region) => region.pooled && mem.frames() >= 26,
+    held_log_law();
+    regions.free(mem, id).is_ok()
+}
+
+/// Whether no region is live of this identifier, or its frames are in memory and none of the books', as those of the pool are.
+fn is_within(regions: &Regions, mem: &PhysMem, id: u64) -> bool
+    requires held { HoldsRegions regions.now mem.now }
+    requires book { IsBook (book_in regions.now mem.now) }
+    ensures within { result ≡ true → IfSome (region_of (book_in regions.now mem.now) id)
+        (λ r. All (λ f. 4096 * f + 4096 ≤ length mem.now) r.frames) }
+    ensures apart { result ≡ true → IfSome (region_of (book_in regions.now mem.now) id)
+        (λ r. All (λ f. is_book_frame (length mem.now / 4096) f ≡ false) r.frames) }
+{
+    match regions.find(mem, id) {
+        Some(region) => region.pooled,
         None => true,
     }
 }
@@ -90,13 +124,16 @@ fn put(
     offset: u64,
     bytes: &[u8],
 ) -> u64
-    requires book { IsBook regions.old }
-    ensures book { IsBook regions.new }
+    requires held { HoldsRegions regions.old mem.old }
+    requires held_log { HoldsLog log.old mem.old }
+    requires book { IsBook (book_in regions.old mem.old) }
+    ensures held { HoldsRegions regions.new mem.new }
+    ensures held_log { HoldsLog log.new mem.new }
+    ensures book { IsBook (book_in regions.new mem.new) }
 {
     if !is_within(regions, mem, id) {
         return 99;
     }
-    let _room = log.room();
     match write(regions, log, mem, id, offset, bytes) {
         Ok(()) => 0,
         Err(rule) => rule.number(),
@@ -117,27 +154,33 @@ fn load(mem: &PhysMem, at: u64) -> u8 {
     }
 }
 
-fn tail(regions: &Regions, id: u64) -> Option<u32> {
-    match regions.find(id) {
+fn tail(regions: &Regions, mem: &PhysMem, id: u64) -> Option<u32>
+    requires { HoldsRegions regions.now mem.now }
+{
+    match regions.find(mem, id) {
         Some(region) => Some(region.tail),
         None => None,
     }
 }
 
-fn logged(log: &Log, i: u64) -> Option<(u64, u32, u32)> {
+fn logged(log: &Log, mem: &PhysMem, i: u64) -> Option<(u64, u32, u32)>
+    requires { HoldsLog log.now mem.now }
+{
     if i < log.len() {
-        let noted = log.entry(i);
+        let noted = log.entry(mem, i);
         Some((noted.region, noted.offset, noted.length))
     } else {
         None
     }
 }
 
-fn noted(log: &Log, i: u64, at: u32) -> Option<u8> {
+fn noted(log: &Log, mem: &PhysMem, i: u64, at: u32) -> Option<u8>
+    requires { HoldsLog log.now mem.now }
+{
     if i < log.len() {
-        let noted = log.entry(i);
+        let noted = log.entry(mem, i);
         if at < noted.length {
-            return Some(log.byte(i, at));
+            return Some(log.byte(mem, i, at));
         }
     }
     None
@@ -151,20 +194,25 @@ fn is_answered(
     bytes: &[u8],
     step: &Step,
 ) -> bool
-    requires book { IsBook regions.old }
-    ensures book { IsBook regions.new }
+    requires held { HoldsRegions regions.old mem.old }
+    requires held_log { HoldsLog log.old mem.old }
+    requires book { IsBook (book_in regions.old mem.old) }
+    ensures held { HoldsRegions regions.new mem.new }
+    ensures held_log { HoldsLog log.new mem.new }
+    ensures book { IsBook (book_in regions.new mem.new) }
 {
     match *step {
-        Step::Alloc(size, policy, answer) => allocate(regions, mem, size, policy) == answer,
-        Step::Free(id, answer) => regions.free(id).is_ok() == answer,
+        Step::Alloc(size, policy, answer) => allocate(regions, log, mem, size, policy) == answer,
+        Step::Free(id, answer) => free(regions, log, mem, id) == answer,
         Step::Write(id, offset, first, count, answer) => {
             put(regions, log, mem, id, offset, part(bytes, first, count)) == answer
         }
         Step::Stored(at, answer) => load(mem, at) == answer,
-        Step::Tail(id, answer) => tail(regions, id) == Some(answer),
+        Step::Tail(id, answer) => tail(regions, mem, id) == Some(answer),
         Step::Room(answer) => log.room() == answer,
-        Step::Logged(i, region, offset, count) => logged(log, i) == Some((region, offset, count)),
-        Step::Noted(i, at, answer) => noted(log, i, at) == Some(answer),
+        Step::Logged(i, region, offset, count) => logged(log, mem, i)
+            == Some((region, offset, count)),
+        Step::Noted(i, at, answer) => noted(log, mem, i, at) == Some(answer),
     }
 }
 
@@ -175,7 +223,9 @@ fn count_answered(
     bytes: &[u8],
     steps: &[Step],
 ) -> usize
-    requires book { IsBook regions.old }
+    requires held { HoldsRegions regions.old mem.old }
+    requires held_log { HoldsLog log.old mem.old }
+    requires book { IsBook (book_in regions.old mem.old) }
 {
     for (index, each) in steps.iter().enumerate() {
         if !is_answered(regions, log, mem, bytes, each) {

@@ -16,7 +16,7 @@ module _ (rows : List Row) (bits : List ℕ) (next declared : ℕ) (now : Book)
     (is_taken now.regions row.size (row.first - pool_start) ≡ false))
     (paged : row.pooled ≡ false → (row.size ≡ 4096 * pages) × (row.slot ≡ now.declared))
     (most : now.declared + pages ≤ 128) where
-  new : IsNew rows declared pages row
+  pub new : IsNew rows declared pages row
   new = record {
     size = small;
     pooled = λ e. let is = pooled e in (

@@ -1,6 +1,6 @@
 -- The book after a region was let go, by its rows and bits.
 use Rattle.std.proofs.Common.{◌≡◌, ℕ, Bool, true, false, not, ◌==◌, List, refl, sym, ap, ◌∙◌, subst}
-use Rattle.std.specs.Prelude.{Option, Some, None, filter}
+use Rattle.std.specs.Prelude.{IsSome, Option, Some, None, filter}
 use Rattle.nk_bits.specs.declared.rule.Rule.TheVariants.{BadRegion, NotAllocated}
 use Rattle.region_book.specs.declared.row.Row.{Row}
 use Rattle.region_book.specs.RegionCalls.{else_rule, free_rule, free_rule_of, freed}
@@ -25,8 +25,13 @@ module _ (rows : List Row) (bits : List ℕ) (next declared : ℕ) (now : Book) 
       ap (λ rs. record (book_of rows bits next declared) { regions = rs })
       (map_filter (λ r. not (r.id == id)) (region_at bits) rows) ∙ ap (λ book. freed book id) view
 
-  pub freed_book : IsBook now → free_rule now id ≡ None →
-      IsBook (book_of (filter (λ row. not (row.id == id)) rows) bits next declared)
-  freed_book sound none =
-      let live = free_rule_none (region_of now id) none in
-      subst IsBook (sym freed_is) (removed_sound now sound id live.0 live.1 live.2)
+-- a region that may be freed is live, and the book without it is sound
+pub freed_live : (now : Book) (id : ℕ) → free_rule now id ≡ None → IsSome (region_of now id)
+freed_live now id none =
+    let live = free_rule_none (region_of now id) none in
+    subst IsSome (sym live.1) refl
+
+pub freed_sound : (now : Book) (id : ℕ) → IsBook now → free_rule now id ≡ None → IsBook (freed now id)
+freed_sound now id sound none =
+    let live = free_rule_none (region_of now id) none in
+    removed_sound now sound id live.0 live.1 live.2

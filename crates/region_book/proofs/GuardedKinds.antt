@@ -1,5 +1,6 @@
--- Kinds of frames after some are guarded: each frame's, and those after the first of the frames and then the others.
-use Rattle.std.proofs.Common.{◌≡◌, ℕ, ◌<◌, Bool, true, false, ◌==◌, ◌||◌, List, [], ◌∷◌, length, set, arith, refl, sym, ap, ◌∙◌, inl, inr, slice_index_or}
+-- Kinds of frames after some are guarded: each frame's, and those after the first of the frames and then the others; and
+-- that two changes of descriptors alone are one.
+use Rattle.std.proofs.Common.{◌≡◌, ℕ, ◌<◌, ◌/◌, Bool, true, false, ◌==◌, ◌||◌, List, [], ◌∷◌, length, set, arith, refl, sym, ap, ◌∙◌, inl, inr, slice_index_or}
 use Rattle.std.specs.Prelude.{if◌then◌else◌}
 use Rattle.std.specs.List.{list_any}
 use Rattle.std.proofs.lemmas.Bool.Decides.{eqb_tells}
@@ -8,6 +9,7 @@ use Rattle.std.proofs.lemmas.List.FromFn.{get_or-map-range_with_len, length-map-
 use Rattle.nk_bits.specs.declared.kind.Kind.{Kind}
 use Rattle.nk_bits.specs.declared.kind.Kind.TheVariants.{Guarded, Hidden}
 use Rattle.nk_bits.specs.Kinds.{kind_of}
+use Rattle.page_desc.specs.DescriptorBytes.{DiffersInDescriptors}
 use Rattle.region_book.specs.RegionCalls.{guarded}
 
 abbrev among : ℕ → List ℕ → Bool
@@ -61,3 +63,14 @@ guarded_more kinds g frames =
           ∙ ap (λ k. if among f frames then Guarded else k)
           (sym (get_or-set_other kinds g f Guarded Hidden (λ same. apart.1 (sym same))))
     ]
+
+pub differs_twice : (m n o : List ℕ) → DiffersInDescriptors m n → DiffersInDescriptors n o → DiffersInDescriptors m o
+differs_twice m n o first second = record {
+  size = second.size ∙ first.size;
+  elsewhere = λ p apart.
+      second.elsewhere p (elim apart [
+        | inl low ↦ inl low
+        | inr high ↦ inr (omega (arith, high, ap (λ n. n / 4096) first.size))
+      ])
+      ∙ first.elsewhere p apart;
+}

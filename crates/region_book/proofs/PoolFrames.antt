@@ -1,9 +1,12 @@
 -- The frames of a sound region of the pool are in a memory that has all of the pool's.
-use Rattle.std.proofs.Common.{◌≡◌, ℕ, ◌+◌, ◌-◌, ◌*◌, ◌/◌, ◌%◌, ◌<◌, ◌≤◌, true, arith, refl, sym, ap, ◌∙◌, subst}
+use Rattle.std.proofs.Common.{◌≡◌, ℕ, ◌+◌, ◌-◌, ◌*◌, ◌/◌, ◌%◌, ◌<◌, ◌≤◌, true, false, ◌&&◌, nat_lt, arith, refl, sym, ap, ◌∙◌, subst}
 use Rattle.std.specs.Prelude.{All, IfSome, Option, Some, None, option_map}
 use Rattle.std.specs.List.{range_with_len}
 use Rattle.std.proofs.lemmas.List.FromFn.{get_or-range_with_len, length-range_with_len}
+use Rattle.std.proofs.lemmas.Bool.{lt-leb}
+use Rattle.std.proofs.lemmas.List.Elements.{All-weaker}
 use Rattle.std.proofs.lemmas.Option.{same_Some}
+use Rattle.phys_mem.specs.MaskedMemory.{is_book_frame}
 use Rattle.region_book.specs.declared.regions.Region.{Region as ShownRegion}
 use Rattle.region_book.specs.RegionRecords.{Book, IsBook, IsRegion, Region, pool_start, region_of, shown}
 use Rattle.region_book.proofs.Found.{for_some}
@@ -39,3 +42,18 @@ shown_frames now id memory s book found pooled most =
     for_some (region_of now id) live.0 (λ r. All (λ f. 4096 * f + 4096 ≤ memory) r.frames) live.1
     (pool_frames now.next memory live.0 (region_sound now id live.0 book live.1)
     (ap (λ (s : ShownRegion). s.pooled) live.2 ∙ pooled) most)
+
+-- and they are no book frames
+low_frame : (size f : ℕ) → 4096 * f + 4096 ≤ 4096 * 26 → is_book_frame size f ≡ false
+unfolding is_book_frame
+low_frame size f low = ap (λ b. b && nat_lt f (64 + (size + 255) / 256)) (lt-leb 26 f (omega (arith, low)))
+
+pub shown_aside : (now : Book) (id size : ℕ) (s : ShownRegion) → IsBook now →
+    option_map shown (region_of now id) ≡ Some s → s.pooled ≡ true →
+    IfSome (region_of now id) (λ r. All (λ f. is_book_frame size f ≡ false) r.frames)
+shown_aside now id size s book found pooled =
+    let live = region_shown (region_of now id) s found in
+    for_some (region_of now id) live.0 (λ r. All (λ f. is_book_frame size f ≡ false) r.frames) live.1
+    (All-weaker (λ f. 4096 * f + 4096 ≤ 4096 * 26) (λ f. is_book_frame size f ≡ false) (low_frame size) live.0.frames
+    (pool_frames now.next (4096 * 26) live.0 (region_sound now id live.0 book live.1)
+    (ap (λ (s : ShownRegion). s.pooled) live.2 ∙ pooled) (omega arith)))

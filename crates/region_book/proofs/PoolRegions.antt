@@ -5,6 +5,7 @@ use Rattle.std.specs.List.{range_with_len}
 use Rattle.std.proofs.lemmas.Bool.{and_cases, and_parts, ltb-false, not-true, false≢true}
 use Rattle.std.proofs.lemmas.List.{length-replicate}
 use Rattle.std.proofs.lemmas.List.FromFn.{length-range_with_len}
+use Rattle.phys_mem.specs.MaskedMemory.{is_book_frame}
 use Rattle.phys_mem.specs.Memory.{stored}
 use Rattle.region_book.specs.declared.row.Row.{Row}
 use Rattle.region_book.specs.RegionCalls.{added, is_taken, meets, pool_region, room}
@@ -12,6 +13,7 @@ use Rattle.region_book.specs.RegionRecords.{Book, IsApart, IsBook, IsRegion, Reg
 use Rattle.region_book.specs.RegionRows.{IsHeld, frames_of_row, new_region, place_in, place_of_row, row_stores}
 use Rattle.region_book.proofs.Found.{found_place, none_any}
 use Rattle.region_book.proofs.RowPlaces.{region_stores_is}
+use Rattle.region_book.proofs.SeenStores.{low_is_no_book}
 use Rattle.region_book.proofs.SoundBooks.{added_sound}
 
 -- its row
@@ -44,6 +46,12 @@ pool_places row p size pooled first fits most k within =
     (ap (λ b. if b then 4096 * 10 + (row.first - pool_start) + k else 4096 * slice_index_or row.frames
     (k / 4096) 0 + k % 4096) pooled))
     (omega (arith, first, fits, most, within))
+
+-- which are no book frames
+pub pool_aside : (row : Row) (p frames : ℕ) → row.pooled ≡ true → row.first ≡ pool_start + p → p + row.size ≤ 65536 →
+    (k : ℕ) → k < row.size → is_book_frame frames (place_in row k / 4096) ≡ false
+pool_aside row p frames pooled first fits k within =
+    low_is_no_book frames (place_in row k) (pool_places row p (4096 * 26) pooled first fits (omega arith) k within)
 
 -- the room that is found is free
 pub room_free : (regions : List Region) (size p : ℕ) → room regions size ≡ Some p → is_taken regions size p ≡ false

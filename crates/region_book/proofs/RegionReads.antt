@@ -1,5 +1,5 @@
 -- What a region's byte and the bits of a range are, by the row that a look-up found.
-use Rattle.std.proofs.Common.{◌≡◌, ℕ, ◌+◌, ◌*◌, ◌<◌, ◌≤◌, Bool, ◌==◌, List, length, arith, sym, ap, ◌∙◌, subst}
+use Rattle.std.proofs.Common.{◌≡◌, ℕ, ◌+◌, ◌*◌, ◌/◌, ◌<◌, ◌≤◌, Bool, false, ◌==◌, List, length, arith, sym, ap, ◌∙◌, subst}
 use Rattle.std.specs.Prelude.{All, Option, Some, IfSome}
 use Rattle.std.specs.List.{list_any, range_with_len}
 use Rattle.phys_mem.specs.Memory.{stored}
@@ -8,7 +8,7 @@ use Rattle.region_book.specs.RegionRecords.{Book, IsBook, IsRegion, Region, byte
 use Rattle.region_book.specs.RegionRows.{IsHeld, bit_in, first_bit, place_in, region_at, region_with, row_stores}
 use Rattle.region_book.proofs.BookRows.{written_by_bits}
 use Rattle.region_book.proofs.Found.{for_some, found_holds, of_some}
-use Rattle.region_book.proofs.RowPlaces.{byte_place_is, place_within, region_stores_is}
+use Rattle.region_book.proofs.RowPlaces.{byte_place_is, frame_of_place, place_within, region_stores_is}
 
 -- a sound book's region is sound
 pub region_sound : (now : Book) (id : ℕ) (r : Region) → IsBook now → region_of now id ≡ Some r → IsRegion now.next r
@@ -35,6 +35,14 @@ module _ (now : Book) (id : ℕ) (o : Option Row) (row : Row) (is : o ≡ Some r
       (region_sound now id (region_with found.0 row) book found.1) within
       (of_some (region_of now id) (region_with found.0 row)
       (λ r. All (λ f. 4096 * f + 4096 ≤ size) r.frames) found.1 frames))
+
+  pub byte_aside : (test : ℕ → Bool) → IsBook now → IfSome (region_of now id) (λ r. All (λ f. test f ≡ false) r.frames) →
+      (k : ℕ) → k < row.size → test (place_in row k / 4096) ≡ false
+  byte_aside test book frames k within =
+      subst (λ p. test (p / 4096) ≡ false) (byte_place_is 128 row found.0 k held_row within)
+      (frame_of_place now.next k (region_with found.0 row) (λ f. test f ≡ false)
+      (region_sound now id (region_with found.0 row) book found.1) within
+      (of_some (region_of now id) (region_with found.0 row) (λ r. All (λ f. test f ≡ false) r.frames) found.1 frames))
 
   pub byte_is : (offset : ℕ) (read : ℕ → ℕ) (byte : ℕ) → offset < row.size → byte ≡ read (place_in row offset) →
       IfSome (region_of now id) (λ r. byte ≡ read (byte_place r offset))

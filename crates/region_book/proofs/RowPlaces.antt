@@ -60,6 +60,14 @@ place_within next size offset r is within frames =
     let frame = frames ((r.place + offset) / 4096) 0 (omega (arith, is.held)) in
     omega (arith, frame)
 
+-- what holds of each frame holds of a byte's
+pub frame_of_place : (next offset : ℕ) (r : Region) (P : ℕ → Type 0) → IsRegion next r → offset < r.size →
+    All P r.frames → P (byte_place r offset / 4096)
+frame_of_place next offset r P is within frames =
+    let frame = frames ((r.place + offset) / 4096) 0 (omega (arith, is.held)) in
+    let same : byte_place r offset / 4096 ≡ slice_index r.frames ((r.place + offset) / 4096) = omega arith in
+    subst P (sym same) frame
+
 -- the stores of a region are those of its row
 pub region_stores_is : (slots : ℕ) (row : Row) (written : List Bool) (offset : ℕ) (bytes : List ℕ) → IsHeld slots row →
     offset + length bytes ≤ row.size →

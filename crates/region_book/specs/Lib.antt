@@ -1,5 +1,8 @@
 -- What a reader must believe.
 pub mod RegionRecords
 pub mod RegionCalls
--- Words of private clauses and proofs.
 pub mod RegionRows
+pub mod RegionBytes
+-- Words of private clauses and proofs.
+pub mod BitChanges
+pub mod SlotChanges

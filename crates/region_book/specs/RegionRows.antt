@@ -1,4 +1,4 @@
--- Words of private clauses and proofs: the bits, and what the rows of the book stand for.
+-- The bits, and what the rows of the book stand for.
 use Rattle.std.specs.Prelude.{◌≡◌, ◌⊎◌, ◌≤◌, ℕ, ◌+◌, ◌-◌, ◌*◌, ◌/◌, ◌%◌, ◌^◌, Bool, true, false, ◌&&◌, ◌==◌, nat_le, nat_lt, if◌then◌else◌, List, [], ◌∷◌, length, map, replicate, take, slice_index, Option, All, AllPairs}
 use Rattle.std.specs.List.{find, range_with_len}
 use Rattle.region_book.specs.declared.row.Row.{Row}

@@ -2,13 +2,15 @@
 //! of its own, and the frames of a declaration stand once and become guarded.
 
 ghost use Rattle.std.specs.Prelude.{◌≡◌, ◌≢◌, ◌<◌, ◌≤◌, ℕ, ◌+◌, List, [], ◌∷◌, Some, false, length, slice_index_or, slice_set};
+ghost use Rattle.phys_mem.specs.MaskedMemory.{seen};
 ghost use Rattle.phys_mem.specs.Memory.{byte_at, stored};
 ghost use Rattle.nk_bits.specs.declared.kind.Kind.{Kind};
 ghost use Rattle.nk_bits.specs.declared.kind.Kind.TheVariants.{Guarded};
+ghost use Rattle.region_book.specs.RegionBytes.{DiffersInRegions, HoldsRegions, RegionIndex, book_in};
 ghost use Rattle.region_book.specs.RegionCalls.{guarded, has_twice};
 ghost use Rattle.region_book.specs.RegionRecords.{Book, IsBook, IsEachOnce, Region, byte_place, region_of, region_stores};
 
-use phys_mem::memory_law;
+use phys_mem::{mask_law, memory_law};
 
 /// In a sound book no byte of a live region stands where another byte of it stands, nor where one of another live region
 /// does; so a write to one region leaves every byte of all others. Each region of the list is the one of its identifier.
@@ -35,3 +37,14 @@ pub fn declared_law()
     ensures more { (kinds : List Kind) (f : ℕ) (frames : List ℕ)
         → guarded kinds (f ∷ frames) ≡ guarded (slice_set kinds f Guarded) frames }
 {}
+
+/// Regions in memory: a memory with the same bytes in their frames holds the same book, and a change of these bytes alone
+/// doesn't show.
+pub fn held_regions_law()
+    ensures agree { (index : RegionIndex) (m n : List ℕ) → HoldsRegions index m → length n ≡ length m
+        → ((p : ℕ) → 0x2A000 ≤ p → p < 0x40000 → byte_at n p ≡ byte_at m p)
+        → (book_in index n ≡ book_in index m) × HoldsRegions index n }
+    ensures unseen { (m n : List ℕ) → 0x40000 ≤ length m → DiffersInRegions m n → seen n ≡ seen m }
+{
+    mask_law();
+}

@@ -4,6 +4,7 @@ ghost use Rattle.std.specs.Prelude.{◌≡◌, ◌<◌, ◌≤◌, ℕ, ◌+◌,
 ghost use Rattle.std.specs.List.{list_any};
 ghost use Rattle.phys_mem.specs.Memory.{entry_in};
 ghost use Rattle.nk_bits.specs.Kinds.{is_data, kind_of};
+ghost use Rattle.page_desc.specs.DescriptorBytes.{DiffersInDescriptors, HoldsDescriptors, descriptors_in, kinds_in};
 ghost use Rattle.region_book.specs.RegionCalls.{declare_rule, frames_from, frames_rule, guarded, has_twice, is_bad_range, is_policy, mapped};
 ghost use Rattle.region_book.specs.RegionRecords.{Book, IsEachOnce};
 ghost use Rattle.nk_bits.specs.Rules.{rule_of};
@@ -74,6 +75,7 @@ pub(crate) fn pages_of(mem: &PhysMem, root: u32, va: u64, size: u64) -> Option<P
         ≡ Some (take p.count p.frames)) }
     ensures count { IfSome result (λ p. (4096 * p.count ≡ size) × (p.count ≤ 16)) }
     ensures frames { IfSome result (λ p. All (λ f. f < length mem.now / 4096) (take p.count p.frames)) }
+    ensures behind { IfSome result (λ p. (i : ℕ) → i < 16 → p.count ≤ i → slice_index p.frames i ≡ 0) }
 {
     let first = va / PAGE_BYTES;
     let count = (size / PAGE_BYTES) as u32;
@@ -119,28 +121,31 @@ fn has_twice(list: &[u16]) -> bool
 }
 
 // The frame holds data.
-fn is_data(frames: &Frames, frame: u16) -> bool
-    ensures { result ≡ is_data (kind_of frames.now.kinds frame) }
+fn is_data(frames: &Frames, mem: &PhysMem, frame: u16) -> bool
+    requires held { HoldsDescriptors frames.now mem.now }
+    ensures { result ≡ is_data (kind_of (kinds_in mem.now) frame) }
 {
-    match frames.kind(u32::from(frame)) {
+    match frames.kind(mem, u32::from(frame)) {
         Kind::Data => true,
         _ => false,
     }
 }
 
 // A frame of the list isn't data.
-fn has_other(frames: &Frames, list: &[u16]) -> bool
-    ensures { result ≡ list_any (λ f. not (is_data (kind_of frames.now.kinds f))) list.now }
+fn has_other(frames: &Frames, mem: &PhysMem, list: &[u16]) -> bool
+    requires held { HoldsDescriptors frames.now mem.now }
+    ensures { result ≡ list_any (λ f. not (is_data (kind_of (kinds_in mem.now) f))) list.now }
 {
-    list.iter().any(|frame| !is_data(frames, *frame))
+    list.iter().any(|frame| !is_data(frames, mem, *frame))
 }
 
 // A loose leaf names a frame of the list.
-fn has_loose(frames: &Frames, list: &[u16]) -> bool
-    ensures { result ≡ list_any (λ f. not (slice_index frames.now.loose f == 0)) list.now }
+fn has_loose(frames: &Frames, mem: &PhysMem, list: &[u16]) -> bool
+    requires held { HoldsDescriptors frames.now mem.now }
+    ensures { result ≡ list_any (λ f. not (slice_index (descriptors_in mem.now).loose f == 0)) list.now }
 {
     list.iter()
-        .any(|frame| frames.loose(u32::from(*frame)) != 0)
+        .any(|frame| frames.loose(mem, u32::from(*frame)) != 0)
 }
 
 // The policy is one of the four.
@@ -155,15 +160,17 @@ fn judge_frames(
     count: usize,
     declared: u32,
     frames: &Frames,
+    mem: &PhysMem,
     list: &[u16],
     policy: u64,
 ) -> Result<(), Rule>
+    requires held { HoldsDescriptors frames.now mem.now }
     ensures judged { (book : Book) → length book.regions ≡ count → book.declared ≡ declared → rule_of result
-        ≡ frames_rule book frames.now.kinds (slice_index frames.now.loose) policy (Some list.now) }
+        ≡ frames_rule book (kinds_in mem.now) (slice_index (descriptors_in mem.now).loose) policy (Some list.now) }
     ensures policy { OnOk result ((1 ≤ policy) × (policy ≤ 4)) }
     ensures room { OnOk result ((count < 256) × (declared + length list.now ≤ 128)) }
     ensures once { OnOk result (IsEachOnce list.now) }
-    ensures data { OnOk result (All (λ f. is_data (kind_of frames.now.kinds f) ≡ true) list.now) }
+    ensures data { OnOk result (All (λ f. is_data (kind_of (kinds_in mem.now) f) ≡ true) list.now) }
 {
     if has_twice(list) {
         return Err(Rule::BadRange);
@@ -177,10 +184,10 @@ fn judge_frames(
     if declared as usize + list.len() > MOST_PAGES {
         return Err(Rule::NoRoom);
     }
-    if has_other(frames, list) {
+    if has_other(frames, mem, list) {
         return Err(Rule::NotData);
     }
-    if has_loose(frames, list) {
+    if has_loose(frames, mem, list) {
         return Err(Rule::StillLoose);
     }
     Ok(())
@@ -199,9 +206,10 @@ pub(crate) fn judge_declare(
     size: u64,
     policy: u64,
 ) -> Result<Pages, Rule>
+    requires held { HoldsDescriptors frames.now mem.now }
     requires root { 4096 * root < length mem.now }
     ensures judged { (book : Book) → length book.regions ≡ count → book.declared ≡ declared → rule_of result
-        ≡ declare_rule book frames.now.kinds (slice_index frames.now.loose)
+        ≡ declare_rule book (kinds_in mem.now) (slice_index (descriptors_in mem.now).loose)
         (mapped (entry_in mem.now) (length mem.now / 4096) root) va size policy }
     ensures found { IfOk result (λ p. frames_from (mapped (entry_in mem.now) (length mem.now / 4096) root) (va / 4096) (size / 4096)
         ≡ Some (take p.count p.frames)) }
@@ -209,8 +217,9 @@ pub(crate) fn judge_declare(
     ensures policy { OnOk result ((1 ≤ policy) × (policy ≤ 4)) }
     ensures room { IfOk result (λ p. (count < 256) × (declared + p.count ≤ 128)) }
     ensures frames { IfOk result (λ p. All (λ f. f < length mem.now / 4096) (take p.count p.frames)) }
+    ensures behind { IfOk result (λ p. (i : ℕ) → i < 16 → p.count ≤ i → slice_index p.frames i ≡ 0) }
     ensures once { IfOk result (λ p. IsEachOnce (take p.count p.frames)) }
-    ensures data { IfOk result (λ p. All (λ f. is_data (kind_of frames.now.kinds f) ≡ true) (take p.count p.frames)) }
+    ensures data { IfOk result (λ p. All (λ f. is_data (kind_of (kinds_in mem.now) f) ≡ true) (take p.count p.frames)) }
 {
     if is_bad_range(va, size) {
         return Err(Rule::BadRange);
@@ -218,20 +227,25 @@ pub(crate) fn judge_declare(
     let Some(pages) = pages_of(mem, root, va, size) else {
         return Err(Rule::BadRange);
     };
-    if let Err(rule) = judge_frames(count, declared, frames, pages.list(), policy) {
+    if let Err(rule) = judge_frames(count, declared, frames, mem, pages.list(), policy) {
         return Err(rule);
     }
     Ok(pages)
 }
 
 /// Makes the frames guarded.
-pub(crate) fn guard(frames: &mut Frames, pages: &Pages)
+pub(crate) fn guard(frames: &mut Frames, mem: &mut PhysMem, pages: &Pages)
+    requires held { HoldsDescriptors frames.old mem.old }
     requires count { pages.now.count ≤ 16 }
-    requires within { All (λ f. f < length frames.old.kinds) (take pages.now.count pages.now.frames) }
-    ensures { frames.new ≡ record frames.old { kinds = guarded frames.old.kinds (take pages.now.count pages.now.frames) } }
+    requires within { All (λ f. f < frames.old) (take pages.now.count pages.now.frames) }
+    ensures stays { frames.new ≡ frames.old }
+    ensures guarded { descriptors_in mem.new
+        ≡ record (descriptors_in mem.old) { kinds = guarded (kinds_in mem.old) (take pages.now.count pages.now.frames) } }
+    ensures held { HoldsDescriptors frames.new mem.new }
+    ensures elsewhere { DiffersInDescriptors mem.old mem.new }
 {
     let list = pages.list();
     for frame in list {
-        frames.set_kind(u32::from(*frame), Kind::Guarded);
+        frames.set_kind(mem, u32::from(*frame), Kind::Guarded);
     }
 }

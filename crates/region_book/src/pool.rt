@@ -1,17 +1,21 @@
 //! The places of the pool that are free.
 
-ghost use Rattle.std.specs.Prelude.{◌≡◌, ◌<◌, ◌≤◌, ℕ, ◌+◌, ◌*◌, All, IfNone, IfSome, List, Bool, false, true, map};
+ghost use Rattle.std.specs.Prelude.{◌≡◌, ◌<◌, ◌≤◌, ℕ, ◌+◌, ◌*◌, All, IfNone, IfSome, List, Bool, false, true, length, map};
 ghost use Rattle.std.specs.List.{list_any};
 ghost use Rattle.region_book.specs.RegionCalls.{room};
+ghost use Rattle.region_book.specs.RegionBytes.{row_in};
 ghost use Rattle.region_book.specs.RegionRows.{IsHeld, region_at, row_meets};
 
-use crate::row::{POOL_SIZE, Row};
+use crate::row::POOL_SIZE;
+use crate::slots::{Slots, row_at};
+use phys_mem::PhysMem;
 
 /// The least multiple of 16 from which on so many bytes of the pool are free. Each round passes one region's end.
-pub(crate) fn room(rows: &Vec<Row>, size: u32) -> Option<u32>
-    requires held { All (IsHeld 128) rows.now.items }
+pub(crate) fn room(slots: &Slots, mem: &PhysMem, size: u32) -> Option<u32>
+    requires memory { 0x40000 ≤ length mem.now }
+    requires held { All (IsHeld 128) (map (row_in mem.now) slots.now) }
     requires size { (1 ≤ size) × (size ≤ 65536) }
-    ensures room { (bits : List ℕ) → result ≡ room (map (region_at bits) rows.now.items) size }
+    ensures room { (bits : List ℕ) → result ≡ room (map (region_at bits) (map (row_in mem.now) slots.now)) size }
     ensures within { IfSome result (λ place. place + size ≤ 65536) }
 {
     let mut place = 0;
@@ -19,7 +23,7 @@ pub(crate) fn room(rows: &Vec<Row>, size: u32) -> Option<u32>
         if place + size > POOL_SIZE {
             return None;
         }
-        match end_of_met(rows, size, place) {
+        match end_of_met(slots, mem, size, place) {
             Some(end) => place = (end + 15) / 16 * 16,
             None => return Some(place),
         }
@@ -28,14 +32,16 @@ pub(crate) fn room(rows: &Vec<Row>, size: u32) -> Option<u32>
 }
 
 /// The end of the first region that has a byte of a range of the pool.
-fn end_of_met(rows: &Vec<Row>, size: u32, place: u32) -> Option<u32>
-    requires held { All (IsHeld 128) rows.now.items }
+fn end_of_met(slots: &Slots, mem: &PhysMem, size: u32, place: u32) -> Option<u32>
+    requires memory { 0x40000 ≤ length mem.now }
+    requires held { All (IsHeld 128) (map (row_in mem.now) slots.now) }
     requires within { (size ≤ 65536) × (place ≤ 65536) }
-    ensures none { IfNone result (list_any (row_meets size place) rows.now.items ≡ false) }
+    ensures none { IfNone result (list_any (row_meets size place) (map (row_in mem.now) slots.now) ≡ false) }
     ensures some { IfSome result (λ end. (place < end) × (end ≤ 65536)
-        × ((q : ℕ) → place ≤ q → q < end → list_any (row_meets size q) rows.now.items ≡ true)) }
+        × ((q : ℕ) → place ≤ q → q < end → list_any (row_meets size q) (map (row_in mem.now) slots.now) ≡ true)) }
 {
-    for row in rows {
+    for i in 0..slots.count() as usize {
+        let row = row_at(mem, slots.at(i));
         if let Some(end) = row.end_of_met(size, place) {
             return Some(end);
         }

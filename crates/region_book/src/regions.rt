@@ -1,34 +1,32 @@
 //! The book of regions, and the calls on it.
 
-ghost use Rattle.std.specs.Prelude.{◌≡◌, ◌<◌, ◌≤◌, ℕ, ◌+◌, ◌-◌, ◌*◌, ◌/◌, ◌^◌, ◌==◌, ◌&&◌, ◌||◌, not, filter, nat_le, nat_lt, slice_index_or, slice_set, All, IfNone, IfOk, IfSome, IsSome, List, Bool, OnErr, OnOk, Some, None, [], length, option_map, replicate, slice_get, slice_index, false, true, vec_capacity, take};
+ghost use Rattle.std.specs.Prelude.{◌≡◌, ◌⊎◌, ◌<◌, ◌≤◌, ℕ, ◌+◌, ◌-◌, ◌*◌, ◌/◌, ◌^◌, ◌==◌, ◌&&◌, ◌||◌, not, filter, nat_le, nat_lt, slice_index_or, slice_set, All, IfNone, IfOk, IfSome, IsSome, List, Bool, OnErr, OnOk, Some, None, [], length, option_map, replicate, slice_get, slice_index, false, true, map, take};
+ghost use Rattle.phys_mem.specs.MaskedMemory.{is_book_frame, seen};
 ghost use Rattle.phys_mem.specs.Memory.{byte_at, entry_in, stored};
 ghost use Rattle.nk_bits.specs.Kinds.{is_data, kind_of};
 ghost use Rattle.nk_bits.specs.Rules.{rule_of};
+ghost use Rattle.page_desc.specs.DescriptorBytes.{DiffersInDescriptors, HoldsDescriptors, descriptors_in, kinds_in};
 ghost use Rattle.region_book.specs.RegionCalls.{added, alloc_rule, declare_rule, fits_in, frames_from, free_rule, freed, guarded, is_policy, is_taken, mapped, page_region, pool_region, room};
-ghost use Rattle.region_book.specs.RegionRecords.{IsBook, byte_place, is_written_in, marked, pool_start, region_of, region_stores, shown, with_region};
+ghost use Rattle.region_book.specs.RegionRecords.{Book, IsBook, byte_place, is_written_in, marked, pool_start, region_of, region_stores, shown, with_region};
 ghost use Rattle.region_book.specs.declared.row.Row.{Row};
-ghost use Rattle.region_book.specs.RegionRows.{IsHeld, moved, new_region, region_with};
+ghost use Rattle.region_book.specs.SlotChanges.{DiffersInSlot, IsStorableRow};
+ghost use Rattle.region_book.specs.RegionBytes.{DiffersInRegions, HasRowForm, HoldsRegions, book_in, row_in};
+ghost use Rattle.region_book.specs.RegionRows.{IsHeld, moved, new_region, region_with, row_of};
 
 use crate::bits::{any_set, clear_run, set_run};
+use crate::laws::held_regions_law;
 use crate::pages::{Pages, guard, judge_declare};
 use crate::pool::room;
-use crate::row::{POOL_SIZE, POOL_START, Row, live_at, locate};
-use crate::stores::{put, put_zeros};
+use crate::row::{POOL_SIZE, POOL_START, Row};
+use crate::slots::{Slots, clear_slot, locate, put_row, put_tail, row_at};
+use crate::stores::{clear_books, put, put_zeros};
 use nk_bits::Rule;
-use page_desc::Frames;
+use page_desc::{Frames, stored_law};
 use phys_mem::PhysMem;
-use std::alloc::Global;
 use std::marker::Model;
 
 /// The most regions that are live at once.
 const MOST_REGIONS: usize = 256;
-
-/// The bytes of the bits: a bit for each byte of the pool, and of each page that may be declared.
-const BIT_BYTES: usize = 73728;
-
-/// There is no room for the book.
-#[derive(Clone, Copy, Debug, PartialEq, Eq)]
-pub struct NoMemory;
 
 /// A region, as others see it.
 #[derive(Clone, Copy, Debug, PartialEq, Eq)]
@@ -54,44 +52,39 @@ pub struct Granted {
     pub place: u64,
 }
 
-/// The live regions in the order of their identifiers, with a bit for each byte, set where it was written.
+/// The live regions, which memory holds in frames that nobody else sees, each with a bit for each of its bytes, set where it
+/// was written. A contract sees in which slots they stand.
 #[derive(Drop)]
 pub struct Regions {
-    rows: Vec<Row>,
-    bits: Vec<u8>,
+    /// Those of the live regions, in the order of identifiers.
+    slots: Slots,
     next: u64,
     /// How many pages were declared.
     declared: u32,
 }
 
 impl Model for Regions {
-    ghost use Rattle.std.specs.Prelude.{◌≤◌, vec_capacity};
-    ghost use Rattle.region_book.specs.RegionRecords.{Book};
-    ghost use Rattle.region_book.specs.RegionRows.{IsKept, book_of};
+    ghost use Rattle.region_book.specs.RegionBytes.{RegionIndex};
 
-    ghost Value = { Book };
+    ghost Value = { RegionIndex };
 
-    ghost view = { λ r. book_of r.rows.items r.bits.items r.next r.declared };
-
-    ghost invariant = { λ r. IsKept r.rows.items r.bits.items r.declared × (256 ≤ vec_capacity r.rows) };
+    ghost view = { λ r. record { slots = r.slots; next = r.next; declared = r.declared } };
 }
 
 impl Regions {
-    /// No region; the next identifier is 256.
-    pub fn start(alloc: Global) -> Result<Regions, NoMemory>
-        ensures book { IfOk result (λ regions. regions ≡ record { regions = []; next = 256; declared = 0 }) }
+    /// No region, in slots and bits that are 0 from now on; the next identifier is 256.
+    pub fn start(mem: &mut PhysMem) -> Regions
+        requires size { 0x40000 ≤ length mem.old }
+        ensures index { result ≡ record { slots = []; next = 256; declared = 0 } }
+        ensures book { book_in result mem.new ≡ record { regions = []; next = 256; declared = 0 } }
+        ensures held { HoldsRegions result mem.new }
+        ensures elsewhere { DiffersInRegions mem.old mem.new }
     {
-        let Ok(rows) = Vec::with_capacity(alloc, MOST_REGIONS) else {
-            return Err(NoMemory);
-        };
-        match vec![in alloc; 0; BIT_BYTES] {
-            Ok(bits) => Ok(Regions {
-                rows,
-                bits,
-                next: 256,
-                declared: 0,
-            }),
-            Err(_) => Err(NoMemory),
+        clear_books(mem);
+        Regions {
+            slots: Slots::new(),
+            next: 256,
+            declared: 0,
         }
     }
 
@@ -104,36 +97,39 @@ impl Regions {
 
     /// How many regions are live, at most 256.
     pub fn count(&self) -> usize
-        ensures { result ≡ length self.now.regions }
+        ensures { result ≡ length self.now.slots }
     {
-        self.rows.len()
+        self.slots.count() as usize
     }
 
     /// A live region by its place in the order of identifiers, from 0 on.
-    pub fn nth(&self, i: usize) -> Region
-        requires { i < length self.now.regions }
-        ensures { Some result ≡ option_map shown (slice_get self.now.regions i) }
+    pub fn nth(&self, mem: &PhysMem, i: usize) -> Region
+        requires held { HoldsRegions self.now mem.now }
+        requires number { i < length self.now.slots }
+        ensures { Some result ≡ option_map shown (slice_get (book_in self.now mem.now).regions i) }
     {
-        self.rows[i].shown()
+        row_at(mem, self.slots.at(i)).shown()
     }
 
     // The row of a live region.
-    fn row(&self, id: u64) -> Option<Row>
-        ensures none { IfNone result (region_of self.now id ≡ None) }
+    fn row(&self, mem: &PhysMem, id: u64) -> Option<Row>
+        requires held { HoldsRegions self.now mem.now }
+        ensures none { IfNone result (region_of (book_in self.now mem.now) id ≡ None) }
         ensures held { IfSome result (λ row. IsHeld 128 row) }
-        ensures some { IfSome result (λ row. (written : List Bool) × (region_of self.now id ≡ Some (region_with written row))) }
+        ensures some { IfSome result (λ row. (written : List Bool) × (region_of (book_in self.now mem.now) id ≡ Some (region_with written row))) }
     {
-        match locate(&self.rows, id) {
-            Some(i) => Some(self.rows[i]),
+        match locate(&self.slots, mem, id) {
+            Some(i) => Some(row_at(mem, self.slots.at(i))),
             None => None,
         }
     }
 
     /// The live region that has this identifier.
-    pub fn find(&self, id: u64) -> Option<Region>
-        ensures { result ≡ option_map shown (region_of self.now id) }
+    pub fn find(&self, mem: &PhysMem, id: u64) -> Option<Region>
+        requires held { HoldsRegions self.now mem.now }
+        ensures { result ≡ option_map shown (region_of (book_in self.now mem.now) id) }
     {
-        match self.row(id) {
+        match self.row(mem, id) {
             Some(row) => Some(row.shown()),
             None => None,
         }
@@ -141,63 +137,101 @@ impl Regions {
 
     /// The byte at an offset of a live region.
     pub fn byte(&self, mem: &PhysMem, id: u64, offset: u32) -> u8
-        requires book { IsBook self.now }
-        requires live { IsSome (region_of self.now id) }
-        requires within { IfSome (region_of self.now id) (λ r. offset < r.size) }
-        requires frames { IfSome (region_of self.now id) (λ r. All (λ f. 4096 * f + 4096 ≤ length mem.now) r.frames) }
-        ensures { IfSome (region_of self.now id) (λ r. result ≡ byte_at mem.now (byte_place r offset)) }
+        requires held { HoldsRegions self.now mem.now }
+        requires book { IsBook (book_in self.now mem.now) }
+        requires live { IsSome (region_of (book_in self.now mem.now) id) }
+        requires within { IfSome (region_of (book_in self.now mem.now) id) (λ r. offset < r.size) }
+        requires frames { IfSome (region_of (book_in self.now mem.now) id) (λ r. All (λ f. 4096 * f + 4096 ≤ length mem.now) r.frames) }
+        ensures { IfSome (region_of (book_in self.now mem.now) id) (λ r. result ≡ byte_at mem.now (byte_place r offset)) }
     {
-        let row = self.row(id).unwrap();
+        let row = self.row(mem, id).unwrap();
         mem.load8(row.place(offset))
     }
 
     /// Whether a range isn't empty and lies in the live region of this identifier.
-    pub fn fits(&self, id: u64, offset: u64, length: u64) -> bool
-        ensures { result ≡ fits_in self.now id offset length }
+    pub fn fits(&self, mem: &PhysMem, id: u64, offset: u64, length: u64) -> bool
+        requires held { HoldsRegions self.now mem.now }
+        ensures { result ≡ fits_in (book_in self.now mem.now) id offset length }
     {
-        match self.row(id) {
+        match self.row(mem, id) {
             Some(row) => fits_size(row.size, offset, length),
             None => false,
         }
     }
 
     /// Whether a byte of the range was written before; none is in an empty one.
-    pub fn written(&self, id: u64, offset: u32, length: u32) -> bool
-        requires live { IsSome (region_of self.now id) }
-        requires within { IfSome (region_of self.now id) (λ r. offset + length ≤ r.size) }
-        ensures { IfSome (region_of self.now id) (λ r. result ≡ is_written_in r offset length) }
+    pub fn written(&self, mem: &PhysMem, id: u64, offset: u32, length: u32) -> bool
+        requires held { HoldsRegions self.now mem.now }
+        requires live { IsSome (region_of (book_in self.now mem.now) id) }
+        requires within { IfSome (region_of (book_in self.now mem.now) id) (λ r. offset + length ≤ r.size) }
+        ensures { IfSome (region_of (book_in self.now mem.now) id) (λ r. result ≡ is_written_in r offset length) }
     {
-        let row = self.rows[live_at(&self.rows, id)];
-        any_set(&self.bits, row.first_bit() + offset, length)
+        let i = self.live_at(mem, id);
+        let slot = self.slot_at(i);
+        let row = row_at(mem, slot);
+        any_set(mem, row.first_bit() + offset, length)
+    }
+
+    // Where the row of a live region stands in the order.
+    fn live_at(&self, mem: &PhysMem, id: u64) -> usize
+        requires held { HoldsRegions self.now mem.now }
+        requires live { IsSome (region_of (book_in self.now mem.now) id) }
+        ensures within { result < length self.now.slots }
+        ensures found { (d : Row) → row_of (map (row_in mem.now) self.now.slots) id ≡ Some (slice_index_or (map (row_in mem.now) self.now.slots) result d) }
+    {
+        locate(&self.slots, mem, id).unwrap()
+    }
+
+    // The slot of a live region, by its place in the order.
+    fn slot_at(&self, i: usize) -> u8
+        requires number { i < length self.now.slots }
+        ensures { slice_index self.now.slots i ≡ result }
+    {
+        self.slots.at(i)
     }
 
     /// Writes bytes in a region from an offset on, and marks them as written; the tail of an append-only region moves behind them.
     pub fn mark(&mut self, mem: &mut PhysMem, id: u64, offset: u32, bytes: &[u8])
-        requires book { IsBook self.old }
-        requires live { IsSome (region_of self.old id) }
-        requires within { IfSome (region_of self.old id) (λ r. offset + length bytes.now ≤ r.size) }
-        requires frames { IfSome (region_of self.old id) (λ r. All (λ f. 4096 * f + 4096 ≤ length mem.old) r.frames) }
-        ensures marked { IfSome (region_of self.old id) (λ r. self.new ≡ with_region self.old (marked r offset (length bytes.now))) }
-        ensures memory { IfSome (region_of self.old id) (λ r. mem.new ≡ stored mem.old (region_stores r offset bytes.now)) }
-        ensures book { IsBook self.new }
+        requires held { HoldsRegions self.old mem.old }
+        requires book { IsBook (book_in self.old mem.old) }
+        requires live { IsSome (region_of (book_in self.old mem.old) id) }
+        requires within { IfSome (region_of (book_in self.old mem.old) id) (λ r. offset + length bytes.now ≤ r.size) }
+        requires frames { IfSome (region_of (book_in self.old mem.old) id) (λ r. All (λ f. 4096 * f + 4096 ≤ length mem.old) r.frames) }
+        requires apart { IfSome (region_of (book_in self.old mem.old) id)
+            (λ r. All (λ f. is_book_frame (length mem.old / 4096) f ≡ false) r.frames) }
+        ensures marked { IfSome (region_of (book_in self.old mem.old) id)
+            (λ r. book_in self.new mem.new ≡ with_region (book_in self.old mem.old) (marked r offset (length bytes.now))) }
+        ensures memory { IfSome (region_of (book_in self.old mem.old) id)
+            (λ r. seen mem.new ≡ stored (seen mem.old) (region_stores r offset bytes.now)) }
+        ensures held { HoldsRegions self.new mem.new }
+        ensures others { (p : ℕ) → is_book_frame (length mem.old / 4096) (p / 4096) ≡ true → (p < 0x2A000) ⊎ (0x40000 ≤ p)
+            → byte_at mem.new p ≡ byte_at mem.old p }
+        ensures size { length mem.new ≡ length mem.old }
+        ensures book { IsBook (book_in self.new mem.new) }
     {
-        let row = self.row(id).unwrap();
+        held_regions_law();
+        let row = self.row(mem, id).unwrap();
         put(mem, &row, offset, bytes);
-        self.mark_range(id, offset, bytes.len() as u32);
+        self.mark_range(mem, id, offset, bytes.len() as u32);
     }
 
     // Marks a range as written.
-    fn mark_range(&mut self, id: u64, offset: u32, count: u32)
-        requires book { IsBook self.old }
-        requires live { IsSome (region_of self.old id) }
-        requires within { IfSome (region_of self.old id) (λ r. offset + count ≤ r.size) }
-        ensures marked { IfSome (region_of self.old id) (λ r. self.new ≡ with_region self.old (marked r offset count)) }
-        ensures book { IsBook self.new }
+    fn mark_range(&self, mem: &mut PhysMem, id: u64, offset: u32, count: u32)
+        requires held { HoldsRegions self.now mem.old }
+        requires book { IsBook (book_in self.now mem.old) }
+        requires live { IsSome (region_of (book_in self.now mem.old) id) }
+        requires within { IfSome (region_of (book_in self.now mem.old) id) (λ r. offset + count ≤ r.size) }
+        ensures marked { IfSome (region_of (book_in self.now mem.old) id)
+            (λ r. book_in self.now mem.new ≡ with_region (book_in self.now mem.old) (marked r offset count)) }
+        ensures held { HoldsRegions self.now mem.new }
+        ensures elsewhere { DiffersInRegions mem.old mem.new }
+        ensures book { IsBook (book_in self.now mem.new) }
     {
-        let i = live_at(&self.rows, id);
-        let row = self.rows[i];
-        set_run(&mut self.bits, row.first_bit() + offset, count);
-        move_tail(&mut self.rows, i, offset + count);
+        let i = self.live_at(mem, id);
+        let slot = self.slot_at(i);
+        let row = row_at(mem, slot);
+        set_run(mem, row.first_bit() + offset, count);
+        move_tail(mem, slot, offset + count);
     }
 
     /// Makes the frames of a range of pages a protected region, with the bytes that stand there. The frames of live regions
@@ -205,27 +239,36 @@ impl Regions {
     pub fn declare(
         &mut self,
         frames: &mut Frames,
-        mem: &PhysMem,
+        mem: &mut PhysMem,
         root: u32,
         va: u64,
         size: u64,
         policy: u64,
     ) -> Result<u64, Rule>
-        requires book { IsBook self.old }
+        requires described { HoldsDescriptors frames.old mem.old }
+        requires held { HoldsRegions self.old mem.old }
+        requires book { IsBook (book_in self.old mem.old) }
         requires next { self.old.next < 2 ^ 63 }
-        requires root { 4096 * root < length mem.now }
-        requires frames { length mem.now ≡ 4096 * length frames.old.kinds }
-        requires regions { All (λ r. All (λ f. is_data (kind_of frames.old.kinds f) ≡ false) r.frames) self.old.regions }
-        requires pool { (f : ℕ) → 10 ≤ f → f < 26 → is_data (kind_of frames.old.kinds f) ≡ false }
-        ensures judged { rule_of result ≡ declare_rule self.old frames.old.kinds (slice_index frames.old.loose)
-            (mapped (entry_in mem.now) (length mem.now / 4096) root) va size policy }
-        ensures refused { OnErr result ((self.new ≡ self.old) × (frames.new ≡ frames.old)) }
+        requires root { 4096 * root < length mem.old }
+        requires regions { All (λ r. All (λ f. is_data (kind_of (kinds_in mem.old) f) ≡ false) r.frames) (book_in self.old mem.old).regions }
+        requires pool { (f : ℕ) → 10 ≤ f → f < 26 → is_data (kind_of (kinds_in mem.old) f) ≡ false }
+        ensures judged { rule_of result ≡ declare_rule (book_in self.old mem.old) (kinds_in mem.old) (slice_index (descriptors_in mem.old).loose)
+            (mapped (entry_in mem.old) (length mem.old / 4096) root) va size policy }
+        ensures refused { OnErr result ((self.new ≡ self.old) × (mem.new ≡ mem.old)) }
         ensures declared { IfOk result (λ id. id ≡ self.old.next) }
-        ensures region { OnOk result (IfSome (frames_from (mapped (entry_in mem.now) (length mem.now / 4096) root) (va / 4096) (size / 4096))
-            (λ fs. (self.new ≡ added self.old (page_region self.old va size policy fs) (length fs))
-            × (frames.new ≡ record frames.old { kinds = guarded frames.old.kinds fs }))) }
-        ensures book { IsBook self.new }
+        ensures region { OnOk result (IfSome (frames_from (mapped (entry_in mem.old) (length mem.old / 4096) root) (va / 4096) (size / 4096))
+            (λ fs. (book_in self.new mem.new ≡ added (book_in self.old mem.old) (page_region (book_in self.old mem.old) va size policy fs) (length fs))
+            × (descriptors_in mem.new ≡ record (descriptors_in mem.old) { kinds = guarded (kinds_in mem.old) fs }))) }
+        ensures stays { frames.new ≡ frames.old }
+        ensures described { HoldsDescriptors frames.new mem.new }
+        ensures held { HoldsRegions self.new mem.new }
+        ensures unseen { seen mem.new ≡ seen mem.old }
+        ensures others { (p : ℕ) → p < 0x2A000 → byte_at mem.new p ≡ byte_at mem.old p }
+        ensures size { length mem.new ≡ length mem.old }
+        ensures book { IsBook (book_in self.new mem.new) }
     {
+        held_regions_law();
+        stored_law();
         match judge_declare(
             self.count(),
             self.declared(),
@@ -238,8 +281,8 @@ impl Regions {
         ) {
             Ok(pages) => {
                 let row = self.page_row(&pages, va, size as u32, policy as u8);
-                guard(frames, &pages);
-                self.admit(row, pages.count);
+                guard(frames, mem, &pages);
+                self.admit(mem, row, pages.count);
                 Ok(row.id)
             }
             Err(rule) => Err(rule),
@@ -255,10 +298,12 @@ impl Regions {
 
     // The row of a new region of pages.
     fn page_row(&self, pages: &Pages, va: u64, size: u32, policy: u8) -> Row
-        requires { size ≡ 4096 * pages.now.count }
-        ensures region { new_region result ≡ page_region self.now va size policy (take pages.now.count pages.now.frames) }
+        requires whole { size ≡ 4096 * pages.now.count }
+        requires none { (i : ℕ) → i < 16 → pages.now.count ≤ i → slice_index pages.now.frames i ≡ 0 }
+        ensures region { (book : Book) → book.next ≡ self.now.next → new_region result ≡ page_region book va size policy (take pages.now.count pages.now.frames) }
         ensures id { result.id ≡ self.now.next }
         ensures row { (result.size ≡ size) × (result.pooled ≡ false) × (result.slot ≡ self.now.declared) }
+        ensures storable { self.now.declared ≤ 128 → IsStorableRow result }
     {
         Row {
             id: self.next,
@@ -274,23 +319,29 @@ impl Regions {
 
     /// Allocates a region of the pool at the least multiple of 16 from which on it is free, and makes its bytes 0.
     pub fn alloc(&mut self, mem: &mut PhysMem, size: u64, policy: u64) -> Result<Granted, Rule>
-        requires book { IsBook self.old }
+        requires held { HoldsRegions self.old mem.old }
+        requires book { IsBook (book_in self.old mem.old) }
         requires next { self.old.next < 2 ^ 63 }
-        requires pool { 4096 * 26 ≤ length mem.old }
-        ensures judged { rule_of result ≡ alloc_rule self.old size policy }
+        ensures judged { rule_of result ≡ alloc_rule (book_in self.old mem.old) size policy }
         ensures refused { OnErr result ((self.new ≡ self.old) × (mem.new ≡ mem.old)) }
         ensures granted { IfOk result (λ it. (it.id ≡ self.old.next) × (pool_start ≤ it.place) × (it.place < pool_start + 65536)
-            × (room self.old.regions size ≡ Some (it.place - pool_start))) }
-        ensures allocated { IfOk result (λ it. self.new ≡ added self.old (pool_region self.old size policy (it.place - pool_start)) 0) }
-        ensures memory { IfOk result (λ it. mem.new
-            ≡ stored mem.old (region_stores (pool_region self.old size policy (it.place - pool_start)) 0 (replicate size 0))) }
-        ensures book { IsBook self.new }
+            × (room (book_in self.old mem.old).regions size ≡ Some (it.place - pool_start))) }
+        ensures allocated { IfOk result (λ it. book_in self.new mem.new
+            ≡ added (book_in self.old mem.old) (pool_region (book_in self.old mem.old) size policy (it.place - pool_start)) 0) }
+        ensures memory { IfOk result (λ it. seen mem.new ≡ stored (seen mem.old)
+            (region_stores (pool_region (book_in self.old mem.old) size policy (it.place - pool_start)) 0 (replicate size 0))) }
+        ensures held { HoldsRegions self.new mem.new }
+        ensures others { (p : ℕ) → is_book_frame (length mem.old / 4096) (p / 4096) ≡ true → (p < 0x2A000) ⊎ (0x40000 ≤ p)
+            → byte_at mem.new p ≡ byte_at mem.old p }
+        ensures size { length mem.new ≡ length mem.old }
+        ensures book { IsBook (book_in self.new mem.new) }
     {
-        match self.judge_alloc(size, policy) {
+        held_regions_law();
+        match self.judge_alloc(mem, size, policy) {
             Ok(place) => {
                 let row = self.pool_row(place, size as u32, policy as u8);
                 put_zeros(mem, &row);
-                self.admit(row, 0);
+                self.admit(mem, row, 0);
                 Ok(Granted {
                     id: row.id,
                     place: row.first,
@@ -302,12 +353,13 @@ impl Regions {
 
     // The place in the pool that an allocation gets, or the rule that it breaks.
     #[tactic(auto, unfolding(crate::specs::RegionCalls::alloc_rule))]
-    fn judge_alloc(&self, size: u64, policy: u64) -> Result<u32, Rule>
-        ensures judged { rule_of result ≡ alloc_rule self.now size policy }
-        ensures room { IfOk result (λ p. room self.now.regions size ≡ Some p) }
+    fn judge_alloc(&self, mem: &PhysMem, size: u64, policy: u64) -> Result<u32, Rule>
+        requires held { HoldsRegions self.now mem.now }
+        ensures judged { rule_of result ≡ alloc_rule (book_in self.now mem.now) size policy }
+        ensures room { IfOk result (λ p. room (book_in self.now mem.now).regions size ≡ Some p) }
         ensures within { IfOk result (λ p. (1 ≤ size) × (p + size ≤ 65536)) }
         ensures policy { IfOk result (λ p. (1 ≤ policy) × (policy ≤ 4)) }
-        ensures count { IfOk result (λ p. length self.now.regions < 256) }
+        ensures count { IfOk result (λ p. length self.now.slots < 256) }
     {
         if is_bad_size(size) {
             return Err(Rule::BadRange);
@@ -318,28 +370,30 @@ impl Regions {
         if self.count() >= MOST_REGIONS {
             return Err(Rule::TooManyRegions);
         }
-        match self.room(size as u32) {
+        match self.room(mem, size as u32) {
             Some(place) => Ok(place),
             None => Err(Rule::NoRoom),
         }
     }
 
     // The least multiple of 16 from which on so many bytes of the pool are free.
-    fn room(&self, size: u32) -> Option<u32>
+    fn room(&self, mem: &PhysMem, size: u32) -> Option<u32>
+        requires held { HoldsRegions self.now mem.now }
         requires size { (1 ≤ size) × (size ≤ 65536) }
-        ensures room { result ≡ room self.now.regions size }
+        ensures room { result ≡ room (book_in self.now mem.now).regions size }
         ensures within { IfSome result (λ place. place + size ≤ 65536) }
     {
-        room(&self.rows, size)
+        room(&self.slots, mem, size)
     }
 
     // The row of a new region at a place of the pool.
     fn pool_row(&self, place: u32, size: u32, policy: u8) -> Row
-        requires { place + size ≤ 65536 }
-        ensures region { new_region result ≡ pool_region self.now size policy place }
+        requires within { place + size ≤ 65536 }
+        ensures region { (book : Book) → book.next ≡ self.now.next → new_region result ≡ pool_region book size policy place }
         ensures first { result.first ≡ pool_start + place }
         ensures row { (result.size ≡ size) × (result.pooled ≡ true) }
         ensures held { IsHeld 128 result }
+        ensures storable { IsStorableRow result }
     {
         Row {
             id: self.next,
@@ -354,44 +408,69 @@ impl Regions {
     }
 
     // Makes a row that of the youngest region, with no byte written.
-    fn admit(&mut self, row: Row, pages: u32)
+    fn admit(&mut self, mem: &mut PhysMem, row: Row, pages: u32)
+        requires held { HoldsRegions self.old mem.old }
         requires next { self.old.next < 2 ^ 63 }
-        requires count { length self.old.regions < 256 }
+        requires count { length self.old.slots < 256 }
         requires most { self.old.declared + pages ≤ 128 }
         requires size { row.size ≤ 65536 }
         requires pooled { row.pooled ≡ true → (pool_start ≤ row.first) × (row.first + row.size ≤ pool_start + 65536)
-            × (is_taken self.old.regions row.size (row.first - pool_start) ≡ false) }
+            × (is_taken (book_in self.old mem.old).regions row.size (row.first - pool_start) ≡ false) }
         requires declared { row.pooled ≡ false → (row.size ≡ 4096 * pages) × (row.slot ≡ self.old.declared) }
-        ensures { self.new ≡ added self.old (new_region row) pages }
+        requires storable { IsStorableRow row }
+        ensures added { book_in self.new mem.new ≡ added (book_in self.old mem.old) (new_region row) pages }
+        ensures held { HoldsRegions self.new mem.new }
+        ensures elsewhere { DiffersInRegions mem.old mem.new }
     {
-        clear_run(&mut self.bits, row.first_bit(), row.size);
-        self.rows.push(row).unwrap();
+        let slot = self.slots.add();
+        put_row(mem, slot, &row);
         self.next += 1;
         self.declared += pages;
     }
 
-    /// Lets a region of the pool go; its bytes stay.
-    pub fn free(&mut self, id: u64) -> Result<(), Rule>
-        requires book { IsBook self.old }
-        ensures judged { rule_of result ≡ free_rule self.old id }
-        ensures refused { OnErr result (self.new ≡ self.old) }
-        ensures freed { OnOk result (self.new ≡ freed self.old id) }
-        ensures book { IsBook self.new }
+    /// Lets a region of the pool go: its slot and its bits are 0 from now on, its bytes stay.
+    pub fn free(&mut self, mem: &mut PhysMem, id: u64) -> Result<(), Rule>
+        requires held { HoldsRegions self.old mem.old }
+        requires book { IsBook (book_in self.old mem.old) }
+        ensures judged { rule_of result ≡ free_rule (book_in self.old mem.old) id }
+        ensures refused { OnErr result ((self.new ≡ self.old) × (mem.new ≡ mem.old)) }
+        ensures freed { OnOk result (book_in self.new mem.new ≡ freed (book_in self.old mem.old) id) }
+        ensures held { HoldsRegions self.new mem.new }
+        ensures elsewhere { DiffersInRegions mem.old mem.new }
+        ensures book { IsBook (book_in self.new mem.new) }
     {
-        match self.judge_free(id) {
+        match self.judge_free(mem, id) {
             Some(rule) => Err(rule),
             None => {
-                remove_row(&mut self.rows, id);
+                self.remove(mem, id);
                 Ok(())
             }
         }
     }
 
-    // The rule that freeing a region breaks.
-    fn judge_free(&self, id: u64) -> Option<Rule>
-        ensures { result ≡ free_rule self.now id }
+    // Lets a region go.
+    fn remove(&mut self, mem: &mut PhysMem, id: u64)
+        requires held { HoldsRegions self.old mem.old }
+        requires book { IsBook (book_in self.old mem.old) }
+        requires live { IsSome (region_of (book_in self.old mem.old) id) }
+        ensures freed { book_in self.new mem.new ≡ freed (book_in self.old mem.old) id }
+        ensures held { HoldsRegions self.new mem.new }
+        ensures elsewhere { DiffersInRegions mem.old mem.new }
     {
-        match self.row(id) {
+        let i = self.live_at(mem, id);
+        let slot = self.slot_at(i);
+        let row = row_at(mem, slot);
+        clear_run(mem, row.first_bit(), row.size);
+        clear_slot(mem, slot);
+        self.slots.remove(i);
+    }
+
+    // The rule that freeing a region breaks.
+    fn judge_free(&self, mem: &PhysMem, id: u64) -> Option<Rule>
+        requires held { HoldsRegions self.now mem.now }
+        ensures { result ≡ free_rule (book_in self.now mem.now) id }
+    {
+        match self.row(mem, id) {
             Some(row) => {
                 if row.pooled {
                     None
@@ -425,21 +504,14 @@ fn is_policy(policy: u64) -> bool
     (1 <= policy) & (policy <= 4)
 }
 
-/// Moves the tail of an append-only region.
-fn move_tail(rows: &mut Vec<Row>, i: usize, tail: u32)
-    requires { i < length rows.old.items }
-    ensures rows { (d : Row) → rows.new.items ≡ slice_set rows.old.items i (moved (slice_index_or rows.old.items i d) tail) }
-    ensures capacity { vec_capacity rows.new ≡ vec_capacity rows.old }
+/// Moves the tail of the row in a slot, where it is append-only.
+fn move_tail(mem: &mut PhysMem, slot: u8, tail: u32)
+    requires memory { 0x40000 ≤ length mem.old }
+    ensures row { row_in mem.new slot ≡ moved (row_in mem.old slot) tail }
+    ensures form { HasRowForm mem.old slot → HasRowForm mem.new slot }
+    ensures elsewhere { DiffersInSlot slot mem.old mem.new }
 {
-    if rows[i].policy == 2 {
-        rows[i].tail = tail;
+    if row_at(mem, slot).policy == 2 {
+        put_tail(mem, slot, tail);
     }
-}
-
-/// Removes the row of an identifier.
-fn remove_row(rows: &mut Vec<Row>, id: u64)
-    ensures rows { rows.new.items ≡ filter (λ row. not (row.id == id)) rows.old.items }
-    ensures capacity { vec_capacity rows.new ≡ vec_capacity rows.old }
-{
-    rows.retain(|row| row.id != id);
 }

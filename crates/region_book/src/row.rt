@@ -106,27 +106,3 @@ impl Row {
         }
     }
 }
-
-/// Where the row of an identifier stands.
-pub(crate) fn locate(rows: &Vec<Row>, id: u64) -> Option<usize>
-    ensures none { IfNone result (row_of rows.now.items id ≡ None) }
-    ensures some { IfSome result (λ i. (i < length rows.now.items)
-        × ((d : Row) → row_of rows.now.items id ≡ Some (slice_index_or rows.now.items i d))) }
-{
-    position_of(rows, id)
-}
-
-/// Where the row of a live region stands.
-pub(crate) fn live_at(rows: &Vec<Row>, id: u64) -> usize
-    requires { row_of rows.now.items id ≢ None }
-    ensures within { result < length rows.now.items }
-    ensures found { (d : Row) → row_of rows.now.items id ≡ Some (slice_index_or rows.now.items result d) }
-{
-    locate(rows, id).unwrap()
-}
-
-fn position_of(rows: &[Row], id: u64) -> Option<usize>
-    ensures { result ≡ position (λ row. row.id == id) rows.now }
-{
-    rows.iter().position(|row| row.id == id)
-}

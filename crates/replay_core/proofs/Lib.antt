@@ -1,4 +1,5 @@
 pub mod LineSizes
+pub mod SeenSizes
 pub mod Replaying
 pub mod SourceLemmas
 pub mod WantedBytes

@@ -1,9 +1,10 @@
 -- What the calls of a journal make of a record and of memory, without the processor, and the first line that isn't
 -- right.
 use Rattle.std.specs.Prelude.{◌≡◌, ℕ, ◌+◌, Bool, true, false, ◌&&◌, ◌==◌, if◌then◌else◌, List, [], ◌∷◌, length, Option, None, Some, ⊤}
+use Rattle.phys_mem.specs.MaskedMemory.{seen}
 use Rattle.nk_bits.specs.declared.call.Answer.{Answer}
 use Rattle.nk_body.specs.CallRules.{Bytes, NotTaken, Sourced, Unreadable, after_call, answer_to, memory_after_call, stand_of, wants}
-use Rattle.nk_body.specs.NestedRecord.{Books, Nested, nested_by}
+use Rattle.nk_body.specs.NestedRecord.{Books, Nested, OwnState, books_in, nested_by}
 use Rattle.text_lines.specs.TextLines.{lines, words}
 use Rattle.replay_core.specs.declared.fault.ReplayFault.{ReplayFault}
 use Rattle.replay_core.specs.declared.fault.ReplayFault.TheVariants.{Line, Memory}
@@ -17,6 +18,10 @@ pub record Replayed : Type 0 where
 -- what books and memory stand for
 abbrev pub standing_in : Books → List ℕ → Replayed
 standing_in books m = record { nested = nested_by books m; memory = m }
+
+-- what the nested kernel keeps and memory stand for: its books are in both, and memory is what is seen of it
+abbrev pub standing_held : OwnState → List ℕ → Replayed
+standing_held own m = standing_in (books_in own m) (seen m)
 
 -- what is noted of a source is what a call takes that wants so many bytes: all of them, or that one couldn't be read
 abbrev pub is_given : Option ℕ → Sourced → Bool

@@ -2,14 +2,14 @@
 
 ghost use Rattle.std.specs.Prelude.{◌≡◌, ◌≢◌, ◌≤◌, ◌<◌, ◌+◌, ◌*◌, ◌^◌, ◌==◌, ◌&&◌, ℕ, None, Err, IfErr, IfOk, Some, length, true};
 ghost use Rattle.nk_body.specs.CallRules.{wants};
-ghost use Rattle.nk_body.specs.NestedRecord.{AreBooks};
+ghost use Rattle.nk_body.specs.NestedRecord.{HoldsBooks, books_in};
 ghost use Rattle.nk_body.specs.SourceWords.{opening_ledger, sourced_of};
 ghost use Rattle.replay_core.specs.declared.fault.ReplayFault.TheVariants.{Memory};
 ghost use Rattle.replay_core.specs.declared.heard.Heard.TheVariants.{Calls};
 ghost use Rattle.replay_core.specs.HeardLines.{heard_in};
 ghost use Rattle.replay_core.specs.JournalLines.{heard_of};
 ghost use Rattle.replay_core.specs.ReplayedCalls.{IsFaultOf, Replay, Replayed, is_given, is_same_place, replay_of};
-ghost use Rattle.replay_core.specs.ReplayedCalls.{standing_in, with_call, with_line};
+ghost use Rattle.replay_core.specs.ReplayedCalls.{standing_held, with_call, with_line};
 ghost use Rattle.replay_core.specs.ReplaySteps.{after_step, noted_in};
 ghost use Rattle.text_lines.specs.TextLines.{words};
 
@@ -18,7 +18,7 @@ use crate::heard::{Heard, Noted, hear};
 use crate::source::{source, take};
 use nk_bits::Answer;
 use nk_body::{Kernel, Source, call_leaves_law};
-use phys_mem::PhysMem;
+use phys_mem::{PhysMem, mask_law};
 use std::alloc::Global;
 use text_lines::cut_line;
 
@@ -53,17 +53,18 @@ fn is_answer(answer: &Answer, noted: &Noted) -> bool
 
 /// Makes a call, and compares its answer with the one that is noted.
 fn make(kernel: &mut Kernel, mem: &mut PhysMem, noted: &Noted, source: Source) -> Step
-    requires books { AreBooks kernel.old mem.old }
-    requires next { kernel.old.ledger.book.next < 2 ^ 63 }
-    requires given { is_given (wants kernel.old.ledger.book noted.now.call) (sourced_of source) ≡ true }
+    requires books { HoldsBooks kernel.old mem.old }
+    requires next { (books_in kernel.old mem.old).ledger.book.next < 2 ^ 63 }
+    requires given { is_given (wants (books_in kernel.old mem.old).ledger.book noted.now.call) (sourced_of source) ≡ true }
     ensures step { (number : ℕ) (later : Replayed → Replay)
-        → with_call number (standing_in kernel.old mem.old) (noted_in noted.now (sourced_of source.entry)) later
-        ≡ after_step result number (standing_in kernel.new mem.new) later }
-    ensures books { AreBooks kernel.new mem.new }
-    ensures next { kernel.new.ledger.book.next ≤ kernel.old.ledger.book.next + 1 }
+        → with_call number (standing_held kernel.old mem.old) (noted_in noted.now (sourced_of source.entry)) later
+        ≡ after_step result number (standing_held kernel.new mem.new) later }
+    ensures books { HoldsBooks kernel.new mem.new }
+    ensures next { (books_in kernel.new mem.new).ledger.book.next ≤ (books_in kernel.old mem.old).ledger.book.next + 1 }
     ensures size { length mem.new ≡ length mem.old }
 {
     call_leaves_law();
+    mask_law();
     let answer = kernel.serve(mem, &noted.call, source);
     if is_answer(&answer, noted) {
         Step::Goes
@@ -73,20 +74,19 @@ fn make(kernel: &mut Kernel, mem: &mut PhysMem, noted: &Noted, source: Source) -
 }
 
 /// Makes the call of a line, where it takes what is noted of its source.
-#[tactic(auto, using(crate::proofs::WantedBytes::wants_most))]
 fn follow_call(kernel: &mut Kernel, mem: &mut PhysMem, buffer: &mut [u8], noted: &Noted) -> Step
-    requires books { AreBooks kernel.old mem.old }
-    requires next { kernel.old.ledger.book.next < 2 ^ 63 }
+    requires books { HoldsBooks kernel.old mem.old }
+    requires next { (books_in kernel.old mem.old).ledger.book.next < 2 ^ 63 }
     requires room { 65536 ≤ length buffer.old }
     ensures step { (number : ℕ) (later : Replayed → Replay)
-        → with_line number (standing_in kernel.old mem.old) (heard_in (Some (Calls noted.now))) later
-        ≡ after_step result number (standing_in kernel.new mem.new) later }
-    ensures books { AreBooks kernel.new mem.new }
-    ensures next { kernel.new.ledger.book.next ≤ kernel.old.ledger.book.next + 1 }
+        → with_line number (standing_held kernel.old mem.old) (heard_in (Some (Calls noted.now))) later
+        ≡ after_step result number (standing_held kernel.new mem.new) later }
+    ensures books { HoldsBooks kernel.new mem.new }
+    ensures next { (books_in kernel.new mem.new).ledger.book.next ≤ (books_in kernel.old mem.old).ledger.book.next + 1 }
     ensures size { length mem.new ≡ length mem.old }
     ensures room { length buffer.new ≡ length buffer.old }
 {
-    let wanted = kernel.wants(&noted.call);
+    let wanted = kernel.wants(mem, &noted.call);
     match take(buffer, wanted, noted.source) {
         Some(taken) => make(kernel, mem, noted, source(buffer, taken)),
         None => Step::Stops,
@@ -95,14 +95,14 @@ fn follow_call(kernel: &mut Kernel, mem: &mut PhysMem, buffer: &mut [u8], noted:
 
 /// Does what a line asks.
 fn follow_line(kernel: &mut Kernel, mem: &mut PhysMem, buffer: &mut [u8], line: &[u8]) -> Step
-    requires books { AreBooks kernel.old mem.old }
-    requires next { kernel.old.ledger.book.next < 2 ^ 63 }
+    requires books { HoldsBooks kernel.old mem.old }
+    requires next { (books_in kernel.old mem.old).ledger.book.next < 2 ^ 63 }
     requires room { 65536 ≤ length buffer.old }
     ensures step { (number : ℕ) (later : Replayed → Replay)
-        → with_line number (standing_in kernel.old mem.old) (heard_of (words line.now)) later
-        ≡ after_step result number (standing_in kernel.new mem.new) later }
-    ensures books { AreBooks kernel.new mem.new }
-    ensures next { 2 * kernel.new.ledger.book.next ≤ 2 * kernel.old.ledger.book.next + (length line.now + 1) }
+        → with_line number (standing_held kernel.old mem.old) (heard_of (words line.now)) later
+        ≡ after_step result number (standing_held kernel.new mem.new) later }
+    ensures books { HoldsBooks kernel.new mem.new }
+    ensures next { 2 * (books_in kernel.new mem.new).ledger.book.next ≤ 2 * (books_in kernel.old mem.old).ledger.book.next + (length line.now + 1) }
     ensures size { length mem.new ≡ length mem.old }
     ensures room { length buffer.new ≡ length buffer.old }
 {
@@ -121,12 +121,12 @@ fn replay_lines(
     buffer: &mut [u8],
     journal: &[u8],
 ) -> Option<u64>
-    requires books { AreBooks kernel.old mem.old }
-    requires ledger { kernel.old.ledger ≡ opening_ledger }
+    requires books { HoldsBooks kernel.old mem.old }
+    requires ledger { (books_in kernel.old mem.old).ledger ≡ opening_ledger }
     requires room { 65536 ≤ length buffer.old }
-    ensures replay { replay_of journal.now (standing_in kernel.old mem.old)
-        ≡ record { made = standing_in kernel.new mem.new; bad = result } }
-    ensures books { AreBooks kernel.new mem.new }
+    ensures replay { replay_of journal.now (standing_held kernel.old mem.old)
+        ≡ record { made = standing_held kernel.new mem.new; bad = result } }
+    ensures books { HoldsBooks kernel.new mem.new }
     ensures size { length mem.new ≡ length mem.old }
 {
     let mut rest = journal;
@@ -156,14 +156,14 @@ pub fn replay(
     mem: &mut PhysMem,
     journal: &[u8],
 ) -> Result<(), ReplayFault>
-    requires books { AreBooks kernel.old mem.old }
-    requires ledger { kernel.old.ledger ≡ opening_ledger }
-    ensures done { IfOk result (λ _. (replay_of journal.now (standing_in kernel.old mem.old)).bad ≡ None) }
-    ensures fault { IfErr result (IsFaultOf (replay_of journal.now (standing_in kernel.old mem.old))) }
+    requires books { HoldsBooks kernel.old mem.old }
+    requires ledger { (books_in kernel.old mem.old).ledger ≡ opening_ledger }
+    ensures done { IfOk result (λ _. (replay_of journal.now (standing_held kernel.old mem.old)).bad ≡ None) }
+    ensures fault { IfErr result (IsFaultOf (replay_of journal.now (standing_held kernel.old mem.old))) }
     ensures made { result ≢ Err Memory
-        → standing_in kernel.new mem.new ≡ (replay_of journal.now (standing_in kernel.old mem.old)).made }
+        → standing_held kernel.new mem.new ≡ (replay_of journal.now (standing_held kernel.old mem.old)).made }
     ensures untouched { result ≡ Err Memory → (kernel.new ≡ kernel.old) × (mem.new ≡ mem.old) }
-    ensures books { AreBooks kernel.new mem.new }
+    ensures books { HoldsBooks kernel.new mem.new }
     ensures size { length mem.new ≡ length mem.old }
 {
     let mut buffer = Vec::new(alloc);

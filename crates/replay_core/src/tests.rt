@@ -3,7 +3,7 @@
 //! in memory from 2000 on, the pool from A000 on.
 
 ghost use Rattle.std.specs.Prelude.{◌≡◌, IfSome};
-ghost use Rattle.nk_body.specs.NestedRecord.{AreBooks};
+ghost use Rattle.nk_body.specs.NestedRecord.{HoldsBooks, books_in};
 ghost use Rattle.nk_body.specs.SourceWords.{opening_ledger};
 
 use crate::{ReplayFault, replay};
@@ -55,8 +55,8 @@ fn image(alloc: Global) -> Option<Image> {
 
 /// Memory and books of the opening; None for want of memory.
 fn open(alloc: Global) -> Option<Opened>
-    ensures books { IfSome result (λ it. AreBooks it.kernel it.mem) }
-    ensures ledger { IfSome result (λ it. it.kernel.ledger ≡ opening_ledger) }
+    ensures books { IfSome result (λ it. HoldsBooks it.kernel it.mem) }
+    ensures ledger { IfSome result (λ it. (books_in it.kernel it.mem).ledger ≡ opening_ledger) }
 {
     let Some(image) = image(alloc) else {
         return None;
@@ -64,10 +64,10 @@ fn open(alloc: Global) -> Option<Opened>
     let Ok(layout) = Layout::of(&image, 512) else {
         return None;
     };
-    let Ok(mem) = prepare(alloc, &image, &layout) else {
+    let Ok(mut mem) = prepare(alloc, &image, &layout) else {
         return None;
     };
-    match Kernel::start(alloc, &mem, &image, &layout) {
+    match Kernel::start(alloc, &mut mem, &image, &layout) {
         Ok(kernel) => Some(Opened { kernel, mem }),
         Err(_) => None,
     }
@@ -111,13 +111,15 @@ fn load(mem: &PhysMem, at: u64) -> u64 {
 }
 
 /// What books and memory are.
-fn seen(kernel: &Kernel, mem: &PhysMem) -> State {
+fn seen(kernel: &Kernel, mem: &PhysMem) -> State
+    requires { HoldsBooks kernel.now mem.now }
+{
     State {
         root: kernel.root(),
         trap: kernel.trap(),
         slot: load(mem, 0x2000),
         leaf: load(mem, 0x46238),
-        kind: kernel.tables().frames.kind(71),
+        kind: kernel.tables().frames.kind(mem, 71),
         next: kernel.regions().next(),
         regions: kernel.regions().count(),
         records: kernel.log().len(),

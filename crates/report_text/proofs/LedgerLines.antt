@@ -10,6 +10,7 @@ use Rattle.nk_bits.specs.declared.kind.Kind.TheVariants.{Guarded}
 use Rattle.nk_bits.specs.Kinds.{is_guarded, kind_of}
 use Rattle.nk_body.specs.NestedRecord.{AreBooks, Books, Nested, held_bytes, nested_by}
 use Rattle.region_book.specs.declared.regions.Region.{Region as ShownRegion}
+use Rattle.region_book.specs.RegionBytes.{RegionIndex, book_in, row_in}
 use Rattle.region_book.specs.RegionRecords.{Book, IsBook, IsRegion, Region, byte_place, region_of, shown}
 use Rattle.write_log.specs.declared.log.Noted.{Noted}
 use Rattle.write_log.specs.LogRecords.{LogRecord, noted}
@@ -68,6 +69,14 @@ records_listed log =
     lines_alike (λ i. record_text i (slice_get log i)) (λ i. record_text (0 + i) (slice_get log i)) (length log) 0
     (λ i low. let same : i ≡ 0 + i = omega arith in ap (λ n. record_text n (slice_get log i)) same)
     ∙ records_from 0 log
+
+-- as many regions live as there are slots
+counted : {A B : Type 0} (f : A → B) (xs : List A) → length (map f xs) ≡ length xs
+counted f [] = refl
+counted f (x ∷ xs) = ap suc (counted f xs)
+
+pub slots_counted : (index : RegionIndex) (m : List ℕ) → length (book_in index m).regions ≡ length index.slots
+slots_counted index m = counted _ (map (row_in m) index.slots) ∙ counted (row_in m) index.slots
 
 -- A region that lives, and a record, by place.
 
@@ -170,41 +179,46 @@ mapped_alike f g (suc n) place same =
     ap (λ x. x ∷ map f (range_with_len (place + 1) n)) (same place (omega arith))
     ∙ ap (λ l. g place ∷ l) (mapped_alike f g n (place + 1) (λ o low. same o (omega (arith, low))))
 
-module _ (books : Books) (m : List ℕ) (are : AreBooks books m) (i : ℕ) (below : i < length books.ledger.book.regions)
-  where
-    region_bytes : (r : Region) → slice_get books.ledger.book.regions i ≡ Some r
-        → map (λ o. byte_at m (byte_place r o)) (range_with_len 0 r.size) ≡ bytes_of_region (nested_by books m) r
-    unfolding bytes_of_region
-    region_bytes r at =
-        let regions = books.ledger.book.regions in
-        let is : slice_index_or regions i r ≡ r = place_of regions i r below at in
-        let sound : IsRegion books.ledger.book.next r =
-        subst (IsRegion books.ledger.book.next) is (are.kept.book.each i r below) in
-        let guarded : All (λ f. kind_of books.frames.kinds f ≡ Guarded) r.frames =
-        subst (λ (r : Region). All (λ f. kind_of books.frames.kinds f ≡ Guarded) r.frames) is
-        (are.kept.frames i r below) in
-        mapped_alike _ _ r.size 0 (λ o low.
-        let frame : (r.place + o) / 4096 < length r.frames = omega (arith, low, sound.held) in
-        sym (held_is books.frames.kinds m (slice_index r.frames ((r.place + o) / 4096)) ((r.place + o) % 4096)
-        (guarded ((r.place + o) / 4096) 0 frame) (omega arith)))
+-- over a memory that has the bytes of guarded frames as this one does
+module _ (books : Books) (m n : List ℕ) (are : AreBooks books m)
+    (reads : (f o : ℕ) → kind_of books.frames.kinds f ≡ Guarded → o < 4096
+    → byte_at n (4096 * f + o) ≡ byte_at m (4096 * f + o)) (i : ℕ) (below : i < length books.ledger.book.regions) where
+  region_bytes : (r : Region) → slice_get books.ledger.book.regions i ≡ Some r
+      → map (λ o. byte_at n (byte_place r o)) (range_with_len 0 r.size) ≡ bytes_of_region (nested_by books m) r
+  unfolding bytes_of_region
+  region_bytes r at =
+      let regions = books.ledger.book.regions in
+      let is : slice_index_or regions i r ≡ r = place_of regions i r below at in
+      let sound : IsRegion books.ledger.book.next r =
+      subst (IsRegion books.ledger.book.next) is (are.kept.book.each i r below) in
+      let guarded : All (λ f. kind_of books.frames.kinds f ≡ Guarded) r.frames =
+      subst (λ (r : Region). All (λ f. kind_of books.frames.kinds f ≡ Guarded) r.frames) is
+      (are.kept.frames i r below) in
+      mapped_alike _ _ r.size 0 (λ o low.
+      let frame : (r.place + o) / 4096 < length r.frames = omega (arith, low, sound.held) in
+      let holds = guarded ((r.place + o) / 4096) 0 frame in
+      let offset : (r.place + o) % 4096 < 4096 = omega arith in
+      reads (slice_index r.frames ((r.place + o) / 4096)) ((r.place + o) % 4096) holds offset
+      ∙ sym (held_is books.frames.kinds m (slice_index r.frames ((r.place + o) / 4096)) ((r.place + o) % 4096) holds
+      offset))
 
-    -- the line of the region at this place
-    pub record IsListed : Type 0 where
-      pub region : Region
-      pub at : slice_get books.ledger.book.regions i ≡ Some region
-      pub text : region_line region (map (λ o. byte_at m (byte_place region o)) (range_with_len 0 region.size))
-          ≡ region_text (nested_by books m) (slice_get books.ledger.book.regions i)
+  -- the line of the region at this place
+  pub record IsListed : Type 0 where
+    pub region : Region
+    pub at : slice_get books.ledger.book.regions i ≡ Some region
+    pub text : region_line region (map (λ o. byte_at n (byte_place region o)) (range_with_len 0 region.size))
+        ≡ region_text (nested_by books m) (slice_get books.ledger.book.regions i)
 
-    pub listed_at : IsListed
-    unfolding region_text
-    listed_at =
-        let nk : Nested = nested_by books m in
-        let (r, at) = there books.ledger.book.regions i below in
-        record {
-          region = r;
-          at = at;
-          text = ap (region_line r) (region_bytes r at) ∙ ap (region_text nk) (sym at);
-        }
+  pub listed_at : IsListed
+  unfolding region_text
+  listed_at =
+      let nk : Nested = nested_by books m in
+      let (r, at) = there books.ledger.book.regions i below in
+      record {
+        region = r;
+        at = at;
+        text = ap (region_line r) (region_bytes r at) ∙ ap (region_text nk) (sym at);
+      }
 
 -- and of the record
 pub record_at : (log : List LogRecord) (i : ℕ) → i < length log

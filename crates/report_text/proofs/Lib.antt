@@ -6,5 +6,6 @@ pub mod LineRoom
 pub mod LineParts
 pub mod ListedLines
 pub mod TakenUp
+pub mod HeldBooks
 pub mod LedgerLines
 mod WorkedLines

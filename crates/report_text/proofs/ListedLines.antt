@@ -93,18 +93,19 @@ entry_is kinds m f i table low =
     ap (λ (b : Bool). if b && nat_lt i 512 then entry_in m f i else 0) table
     ∙ ap (λ (b : Bool). if b then entry_in m f i else 0) (lt-ltb i 512 low)
 
--- the text of a page table's entries, and of no page table's
-pub table_lines : (image : List ℕ) (frames : ℕ) (kinds : List Kind) (root : ℕ) (ledger : Ledger) (m : List ℕ) (f : ℕ)
-    → is_table (kind_of kinds f) ≡ true
-    → lines_of (λ i. line_of_entry (table_value image frames f i) (entry_in m f i) f i) 512 0 ≡ lines_of_table image
+-- the text of a page table's entries, which some memory has as this one does, and of no page table's
+pub table_lines : (image : List ℕ) (frames : ℕ) (kinds : List Kind) (root : ℕ) (ledger : Ledger) (m n : List ℕ) (f : ℕ)
+    → is_table (kind_of kinds f) ≡ true → ((i : ℕ) → i < 512 → entry_in n f i ≡ entry_in m f i)
+    → lines_of (λ i. line_of_entry (table_value image frames f i) (entry_in n f i) f i) 512 0 ≡ lines_of_table image
     frames (nested_in kinds root ledger m) f
 unfolding lines_of_table
-table_lines image frames kinds root ledger m f table =
+table_lines image frames kinds root ledger m n f table reads =
     let nk : Nested = nested_in kinds root ledger m in
     let now : ℕ → List ℕ = λ i. line_of_entry (table_value image frames f i) (nk.tables.entries f i) f i in
     lines_alike _ now 512 0 (λ i low.
+    let index : i < 512 = omega (arith, low) in
     ap (λ value. line_of_entry (table_value image frames f i) value f i)
-    (sym (entry_is kinds m f i table (omega (arith, low)))))
+    (reads i index ∙ sym (entry_is kinds m f i table index)))
     ∙ ap (λ (b : Bool). if b then lines_of now 512 0 else []) (sym table)
 
 pub no_table_lines : (image : List ℕ) (frames : ℕ) (kinds : List Kind) (root : ℕ) (ledger : Ledger) (m : List ℕ) (f : ℕ)

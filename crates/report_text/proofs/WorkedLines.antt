@@ -2,9 +2,6 @@
 use Rattle.std.proofs.Common.{◌≡◌, ℕ, ◌-◌, ◌^◌, true, false, List, [], ◌∷◌, None, Some, Option, codes, refl}
 use Rattle.std.specs.Fmt.{char_count, digits, padded_integral}
 use Rattle.hex.specs.Hex.{encode_with}
-use Rattle.nk_bits.specs.declared.call.Answer.{Answer}
-use Rattle.nk_bits.specs.declared.call.CallWords.{CallWords}
-use Rattle.nk_bits.specs.declared.call.Delivery.{Delivery}
 use Rattle.nk_bits.specs.declared.kind.Kind.TheVariants.{Data, Code, Table, Fixed, Trap, Guarded, Hidden}
 use Rattle.nk_body.specs.CallRules.{Bytes, NotTaken, Sourced, Unreadable}
 use Rattle.region_book.specs.RegionRecords.{Region}

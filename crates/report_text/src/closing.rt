@@ -8,8 +8,9 @@ ghost use Rattle.phys_mem.specs.Memory.{entry_in};
 ghost use Rattle.nk_bits.specs.Kinds.{kind_of};
 ghost use Rattle.boot_map.specs.Division.{IsLayout};
 ghost use Rattle.boot_map.specs.OpeningKinds.{kind_at};
+ghost use Rattle.page_desc.specs.DescriptorBytes.{kinds_in};
 ghost use Rattle.page_desc.specs.PageTables.{is_table};
-ghost use Rattle.nk_body.specs.NestedRecord.{AreBooks, nested_by};
+ghost use Rattle.nk_body.specs.NestedRecord.{HoldsBooks, nested_held};
 ghost use Rattle.report_text.specs.ClosingSection.{
   bytes_of_region,
   entry_lines,
@@ -34,6 +35,7 @@ use elf_image::Image;
 use nk_bits::Kind;
 use nk_body::Kernel;
 use nk_host::{Sink, SinkFault, put_all};
+use page_desc::held_tables_law;
 use phys_mem::PhysMem;
 
 /// The number of a page table's entries.
@@ -48,14 +50,14 @@ pub fn section<O: Sink>(
     kernel: &Kernel,
 ) -> Result<(), SinkFault>
     requires layout { IsLayout image.now layout.now }
-    requires books { AreBooks kernel.now mem.now }
+    requires books { HoldsBooks kernel.now mem.now }
     requires size { length mem.now ≡ 4096 * layout.now.frames }
     ensures never_falls { O.faults sink.old ≤ O.faults sink.new }
     ensures failed { OnErr result (RoseTo (O.faults sink.old) (O.faults sink.new)) }
     ensures all { OnOk result (Appends (O.taken sink.old) (O.taken sink.new)
-        (section image.now layout.now.frames (nested_by kernel.now mem.now))) }
+        (section image.now layout.now.frames (nested_held kernel.now mem.now))) }
     ensures some { OnErr result (AppendsPrefix (O.taken sink.old) (O.taken sink.new)
-        (section image.now layout.now.frames (nested_by kernel.now mem.now))) }
+        (section image.now layout.now.frames (nested_held kernel.now mem.now))) }
 {
     match put_books(sink, kernel) {
         Ok(()) => put_changes(sink, image, layout, mem, kernel),
@@ -87,20 +89,20 @@ fn put_changes<O: Sink>(
     kernel: &Kernel,
 ) -> Result<(), SinkFault>
     requires layout { IsLayout image.now layout.now }
-    requires books { AreBooks kernel.now mem.now }
+    requires books { HoldsBooks kernel.now mem.now }
     requires size { length mem.now ≡ 4096 * layout.now.frames }
     ensures never_falls { O.faults sink.old ≤ O.faults sink.new }
     ensures failed { OnErr result (RoseTo (O.faults sink.old) (O.faults sink.new)) }
-    ensures all { let nk = nested_by kernel.now mem.now in
+    ensures all { let nk = nested_held kernel.now mem.now in
         OnOk result (Appends (O.taken sink.old) (O.taken sink.new)
         (kind_lines image.now layout.now.frames nk ++ (entry_lines image.now layout.now.frames nk
         ++ (region_lines (bytes_of_region nk) nk.ledger.book.regions ++ log_lines 0 nk.ledger.log)))) }
-    ensures some { let nk = nested_by kernel.now mem.now in
+    ensures some { let nk = nested_held kernel.now mem.now in
         OnErr result (AppendsPrefix (O.taken sink.old) (O.taken sink.new)
         (kind_lines image.now layout.now.frames nk ++ (entry_lines image.now layout.now.frames nk
         ++ (region_lines (bytes_of_region nk) nk.ledger.book.regions ++ log_lines 0 nk.ledger.log)))) }
 {
-    match put_kinds(sink, image, layout, kernel) {
+    match put_kinds(sink, image, layout, mem, kernel) {
         Ok(()) => put_tables(sink, image, layout, mem, kernel),
         Err(fault) => Err(fault),
     }
@@ -115,15 +117,15 @@ fn put_tables<O: Sink>(
     kernel: &Kernel,
 ) -> Result<(), SinkFault>
     requires layout { IsLayout image.now layout.now }
-    requires books { AreBooks kernel.now mem.now }
+    requires books { HoldsBooks kernel.now mem.now }
     requires size { length mem.now ≡ 4096 * layout.now.frames }
     ensures never_falls { O.faults sink.old ≤ O.faults sink.new }
     ensures failed { OnErr result (RoseTo (O.faults sink.old) (O.faults sink.new)) }
-    ensures all { let nk = nested_by kernel.now mem.now in
+    ensures all { let nk = nested_held kernel.now mem.now in
         OnOk result (Appends (O.taken sink.old) (O.taken sink.new)
         (entry_lines image.now layout.now.frames nk
         ++ (region_lines (bytes_of_region nk) nk.ledger.book.regions ++ log_lines 0 nk.ledger.log))) }
-    ensures some { let nk = nested_by kernel.now mem.now in
+    ensures some { let nk = nested_held kernel.now mem.now in
         OnErr result (AppendsPrefix (O.taken sink.old) (O.taken sink.new)
         (entry_lines image.now layout.now.frames nk
         ++ (region_lines (bytes_of_region nk) nk.ledger.book.regions ++ log_lines 0 nk.ledger.log))) }
@@ -139,20 +141,22 @@ fn put_kinds<O: Sink>(
     sink: &mut O,
     image: &Image,
     layout: &Layout,
+    mem: &PhysMem,
     kernel: &Kernel,
 ) -> Result<(), SinkFault>
-    requires { IsLayout image.now layout.now }
+    requires layout { IsLayout image.now layout.now }
+    requires books { HoldsBooks kernel.now mem.now }
     ensures never_falls { O.faults sink.old ≤ O.faults sink.new }
     ensures failed { OnErr result (RoseTo (O.faults sink.old) (O.faults sink.new)) }
     ensures all { OnOk result (Appends (O.taken sink.old) (O.taken sink.new) (lines_of
-        (λ f. line_of_kind (kind_at image.now layout.now.frames f) (kind_of kernel.now.frames.kinds f) f)
+        (λ f. line_of_kind (kind_at image.now layout.now.frames f) (kind_of (kinds_in mem.now) f) f)
         layout.now.frames 0)) }
     ensures some { OnErr result (AppendsPrefix (O.taken sink.old) (O.taken sink.new) (lines_of
-        (λ f. line_of_kind (kind_at image.now layout.now.frames f) (kind_of kernel.now.frames.kinds f) f)
+        (λ f. line_of_kind (kind_at image.now layout.now.frames f) (kind_of (kinds_in mem.now) f) f)
         layout.now.frames 0)) }
 {
     for frame in 0..layout.frames() {
-        if let Err(fault) = put_kind(sink, image, layout, kernel, frame) {
+        if let Err(fault) = put_kind(sink, image, layout, mem, kernel, frame) {
             return Err(fault);
         }
     }
@@ -164,19 +168,21 @@ fn put_kind<O: Sink>(
     sink: &mut O,
     image: &Image,
     layout: &Layout,
+    mem: &PhysMem,
     kernel: &Kernel,
     frame: u32,
 ) -> Result<(), SinkFault>
     requires layout { IsLayout image.now layout.now }
+    requires books { HoldsBooks kernel.now mem.now }
     requires frame { frame < layout.now.frames }
     ensures never_falls { O.faults sink.old ≤ O.faults sink.new }
     ensures failed { OnErr result (RoseTo (O.faults sink.old) (O.faults sink.new)) }
     ensures all { OnOk result (Appends (O.taken sink.old) (O.taken sink.new)
-        (line_of_kind (kind_at image.now layout.now.frames frame) (kind_of kernel.now.frames.kinds frame) frame)) }
+        (line_of_kind (kind_at image.now layout.now.frames frame) (kind_of (kinds_in mem.now) frame) frame)) }
     ensures some { OnErr result (AppendsPrefix (O.taken sink.old) (O.taken sink.new)
-        (line_of_kind (kind_at image.now layout.now.frames frame) (kind_of kernel.now.frames.kinds frame) frame)) }
+        (line_of_kind (kind_at image.now layout.now.frames frame) (kind_of (kinds_in mem.now) frame) frame)) }
 {
-    let kind = kernel.tables().frames.kind(frame);
+    let kind = kernel.tables().frames.kind(mem, frame);
     if is_same(layout.kind(image, frame), kind) {
         return Ok(());
     }
@@ -192,13 +198,14 @@ fn put_entries<O: Sink>(
     kernel: &Kernel,
 ) -> Result<(), SinkFault>
     requires layout { IsLayout image.now layout.now }
+    requires books { HoldsBooks kernel.now mem.now }
     requires size { length mem.now ≡ 4096 * layout.now.frames }
     ensures never_falls { O.faults sink.old ≤ O.faults sink.new }
     ensures failed { OnErr result (RoseTo (O.faults sink.old) (O.faults sink.new)) }
     ensures all { OnOk result (Appends (O.taken sink.old) (O.taken sink.new)
-        (entry_lines image.now layout.now.frames (nested_by kernel.now mem.now))) }
+        (entry_lines image.now layout.now.frames (nested_held kernel.now mem.now))) }
     ensures some { OnErr result (AppendsPrefix (O.taken sink.old) (O.taken sink.new)
-        (entry_lines image.now layout.now.frames (nested_by kernel.now mem.now))) }
+        (entry_lines image.now layout.now.frames (nested_held kernel.now mem.now))) }
 {
     for frame in 0..layout.frames() {
         if let Err(fault) = put_entries_of(sink, image, layout, mem, kernel, frame) {
@@ -218,16 +225,18 @@ fn put_entries_of<O: Sink>(
     frame: u32,
 ) -> Result<(), SinkFault>
     requires layout { IsLayout image.now layout.now }
+    requires books { HoldsBooks kernel.now mem.now }
     requires size { length mem.now ≡ 4096 * layout.now.frames }
     requires frame { frame < layout.now.frames }
     ensures never_falls { O.faults sink.old ≤ O.faults sink.new }
     ensures failed { OnErr result (RoseTo (O.faults sink.old) (O.faults sink.new)) }
     ensures all { OnOk result (Appends (O.taken sink.old) (O.taken sink.new)
-        (lines_of_table image.now layout.now.frames (nested_by kernel.now mem.now) frame)) }
+        (lines_of_table image.now layout.now.frames (nested_held kernel.now mem.now) frame)) }
     ensures some { OnErr result (AppendsPrefix (O.taken sink.old) (O.taken sink.new)
-        (lines_of_table image.now layout.now.frames (nested_by kernel.now mem.now) frame)) }
+        (lines_of_table image.now layout.now.frames (nested_held kernel.now mem.now) frame)) }
 {
-    if is_table_now(kernel, frame) {
+    held_tables_law();
+    if is_table_now(mem, kernel, frame) {
         put_table(sink, image, layout, mem, frame)
     } else {
         Ok(())
@@ -235,10 +244,11 @@ fn put_entries_of<O: Sink>(
 }
 
 /// Whether a frame is a page table now.
-fn is_table_now(kernel: &Kernel, frame: u32) -> bool
-    ensures { result ≡ is_table (kind_of kernel.now.frames.kinds frame) }
+fn is_table_now(mem: &PhysMem, kernel: &Kernel, frame: u32) -> bool
+    requires { HoldsBooks kernel.now mem.now }
+    ensures { result ≡ is_table (kind_of (kinds_in mem.now) frame) }
 {
-    is_table(kernel.tables().frames.kind(frame))
+    is_table(kernel.tables().frames.kind(mem, frame))
 }
 
 /// Writes the entries of a page table that changed.

@@ -9,17 +9,20 @@ ghost use Rattle.nk_host.specs.FaultCounts.{RoseTo};
 ghost use Rattle.nk_host.specs.PiecesOut.{MovedOn};
 ghost use Rattle.nk_host.specs.Taken.{AppendsPrefix};
 ghost use Rattle.phys_mem.specs.Memory.{byte_at};
+ghost use Rattle.region_book.specs.RegionBytes.{HoldsRegions, book_in};
 ghost use Rattle.region_book.specs.RegionRecords.{IsBook, byte_place, region_of};
-ghost use Rattle.nk_body.specs.NestedRecord.{AreBooks, nested_by};
+ghost use Rattle.write_log.specs.LogBytes.{HoldsLog, log_in, record_place};
+ghost use Rattle.nk_body.specs.NestedRecord.{HoldsBooks, nested_held};
 ghost use Rattle.report_text.specs.ClosingSection.{bytes_of_region, log_lines, region_lines};
 ghost use Rattle.report_text.specs.RunLines.{hex_16, log_line, region_line};
 
 use crate::words::{put, put_16, put_decimal};
 use nk_body::Kernel;
 use nk_host::{Pieces, Sink, SinkFault, pieces_law};
-use phys_mem::PhysMem;
+use page_desc::held_tables_law;
+use phys_mem::{PhysMem, mask_law};
 use region_book::{Region, Regions};
-use write_log::{Log, Noted};
+use write_log::{Log, Noted, Spot, held_log_law};
 
 /// Writes the regions that live, and the log.
 pub(crate) fn put_ledger<O: Sink>(
@@ -27,32 +30,36 @@ pub(crate) fn put_ledger<O: Sink>(
     mem: &PhysMem,
     kernel: &Kernel,
 ) -> Result<(), SinkFault>
-    requires { AreBooks kernel.now mem.now }
+    requires { HoldsBooks kernel.now mem.now }
     ensures never_falls { O.faults sink.old ≤ O.faults sink.new }
     ensures failed { OnErr result (RoseTo (O.faults sink.old) (O.faults sink.new)) }
-    ensures all { OnOk result (Appends (O.taken sink.old) (O.taken sink.new)
-        (region_lines (bytes_of_region (nested_by kernel.now mem.now)) kernel.now.ledger.book.regions
-        ++ log_lines 0 kernel.now.ledger.log)) }
-    ensures some { OnErr result (AppendsPrefix (O.taken sink.old) (O.taken sink.new)
-        (region_lines (bytes_of_region (nested_by kernel.now mem.now)) kernel.now.ledger.book.regions
-        ++ log_lines 0 kernel.now.ledger.log)) }
+    ensures all { let nk = nested_held kernel.now mem.now in
+        OnOk result (Appends (O.taken sink.old) (O.taken sink.new)
+        (region_lines (bytes_of_region nk) nk.ledger.book.regions ++ log_lines 0 nk.ledger.log)) }
+    ensures some { let nk = nested_held kernel.now mem.now in
+        OnErr result (AppendsPrefix (O.taken sink.old) (O.taken sink.new)
+        (region_lines (bytes_of_region nk) nk.ledger.book.regions ++ log_lines 0 nk.ledger.log)) }
 {
     match put_regions(sink, mem, kernel) {
-        Ok(()) => put_log(sink, kernel.log()),
+        Ok(()) => put_log(sink, mem, kernel.log()),
         Err(fault) => Err(fault),
     }
 }
 
 /// Writes the regions that live.
 fn put_regions<O: Sink>(sink: &mut O, mem: &PhysMem, kernel: &Kernel) -> Result<(), SinkFault>
-    requires { AreBooks kernel.now mem.now }
+    requires { HoldsBooks kernel.now mem.now }
     ensures never_falls { O.faults sink.old ≤ O.faults sink.new }
     ensures failed { OnErr result (RoseTo (O.faults sink.old) (O.faults sink.new)) }
-    ensures all { OnOk result (Appends (O.taken sink.old) (O.taken sink.new)
-        (region_lines (bytes_of_region (nested_by kernel.now mem.now)) kernel.now.ledger.book.regions)) }
-    ensures some { OnErr result (AppendsPrefix (O.taken sink.old) (O.taken sink.new)
-        (region_lines (bytes_of_region (nested_by kernel.now mem.now)) kernel.now.ledger.book.regions)) }
+    ensures all { let nk = nested_held kernel.now mem.now in
+        OnOk result (Appends (O.taken sink.old) (O.taken sink.new)
+        (region_lines (bytes_of_region nk) nk.ledger.book.regions)) }
+    ensures some { let nk = nested_held kernel.now mem.now in
+        OnErr result (AppendsPrefix (O.taken sink.old) (O.taken sink.new)
+        (region_lines (bytes_of_region nk) nk.ledger.book.regions)) }
 {
+    held_tables_law();
+    mask_law();
     let regions = kernel.regions();
     for i in 0..regions.count() {
         if let Err(fault) = put_region(sink, regions, mem, i) {
@@ -69,20 +76,22 @@ fn put_region<O: Sink>(
     mem: &PhysMem,
     i: usize,
 ) -> Result<(), SinkFault>
-    requires number { i < length regions.now.regions }
-    requires book { IsBook regions.now }
-    requires frames { All (λ r. All (λ f. 4096 * f + 4096 ≤ length mem.now) r.frames) regions.now.regions }
+    requires held { HoldsRegions regions.now mem.now }
+    requires number { i < length (book_in regions.now mem.now).regions }
+    requires book { IsBook (book_in regions.now mem.now) }
+    requires frames { All (λ r. All (λ f. 4096 * f + 4096 ≤ length mem.now) r.frames)
+        (book_in regions.now mem.now).regions }
     ensures never_falls { O.faults sink.old ≤ O.faults sink.new }
     ensures failed { OnErr result (RoseTo (O.faults sink.old) (O.faults sink.new)) }
-    ensures all { IfSome (slice_get regions.now.regions i) (λ r. OnOk result
+    ensures all { IfSome (slice_get (book_in regions.now mem.now).regions i) (λ r. OnOk result
         (Appends (O.taken sink.old) (O.taken sink.new)
         (region_line r (map (λ o. byte_at mem.now (byte_place r o)) (range_with_len 0 r.size))))) }
-    ensures some { IfSome (slice_get regions.now.regions i) (λ r. OnErr result
+    ensures some { IfSome (slice_get (book_in regions.now mem.now).regions i) (λ r. OnErr result
         (AppendsPrefix (O.taken sink.old) (O.taken sink.new)
         (region_line r (map (λ o. byte_at mem.now (byte_place r o)) (range_with_len 0 r.size))))) }
 {
     pieces_law();
-    let region = regions.nth(i);
+    let region = regions.nth(mem, i);
     let mut pieces = Pieces::new();
     if let Err(fault) = pieces.push_all(sink, region_head(&mut [0; REGION_HEAD], &region)) {
         return Err(fault);
@@ -104,17 +113,18 @@ fn take_region<O: Sink>(
     mem: &PhysMem,
     region: &Region,
 ) -> Result<(), SinkFault>
-    requires book { IsBook regions.now }
-    requires live { IsSome (region_of regions.now region.now.id) }
-    requires size { IfSome (region_of regions.now region.now.id) (λ r. r.size ≡ region.now.size) }
-    requires frames { IfSome (region_of regions.now region.now.id)
+    requires held { HoldsRegions regions.now mem.now }
+    requires book { IsBook (book_in regions.now mem.now) }
+    requires live { IsSome (region_of (book_in regions.now mem.now) region.now.id) }
+    requires size { IfSome (region_of (book_in regions.now mem.now) region.now.id) (λ r. r.size ≡ region.now.size) }
+    requires frames { IfSome (region_of (book_in regions.now mem.now) region.now.id)
         (λ r. All (λ f. 4096 * f + 4096 ≤ length mem.now) r.frames) }
     ensures never_falls { O.faults sink.old ≤ O.faults sink.new }
     ensures failed { OnErr result (RoseTo (O.faults sink.old) (O.faults sink.new)) }
-    ensures moved { IfSome (region_of regions.now region.now.id) (λ r. OnOk result
+    ensures moved { IfSome (region_of (book_in regions.now mem.now) region.now.id) (λ r. OnOk result
         (MovedOn (O.taken sink.old) (O.taken sink.new) pieces.old pieces.new
         (encode_lower (map (λ o. byte_at mem.now (byte_place r o)) (range_with_len 0 r.size))))) }
-    ensures cut { IfSome (region_of regions.now region.now.id) (λ r. OnErr result
+    ensures cut { IfSome (region_of (book_in regions.now mem.now) region.now.id) (λ r. OnErr result
         (AppendsPrefix (O.taken sink.old) (O.taken sink.new)
         (pieces.old ++ encode_lower (map (λ o. byte_at mem.now (byte_place r o)) (range_with_len 0 r.size))))) }
 {
@@ -151,37 +161,50 @@ fn region_head<'a>(room: &'a mut [u8; REGION_HEAD], region: &Region) -> &'a [u8]
 }
 
 /// Writes the records of the log.
-fn put_log<O: Sink>(sink: &mut O, log: &Log) -> Result<(), SinkFault>
+fn put_log<O: Sink>(sink: &mut O, mem: &PhysMem, log: &Log) -> Result<(), SinkFault>
+    requires { HoldsLog log.now mem.now }
     ensures never_falls { O.faults sink.old ≤ O.faults sink.new }
     ensures failed { OnErr result (RoseTo (O.faults sink.old) (O.faults sink.new)) }
-    ensures all { OnOk result (Appends (O.taken sink.old) (O.taken sink.new) (log_lines 0 log.now)) }
-    ensures some { OnErr result (AppendsPrefix (O.taken sink.old) (O.taken sink.new) (log_lines 0 log.now)) }
+    ensures all { OnOk result (Appends (O.taken sink.old) (O.taken sink.new) (log_lines 0 (log_in log.now mem.now))) }
+    ensures some { OnErr result (AppendsPrefix (O.taken sink.old) (O.taken sink.new) (log_lines 0 (log_in log.now mem.now))) }
 {
+    held_log_law();
+    let mut spot = log.first();
     for i in 0..log.len() {
-        if let Err(fault) = put_record(sink, log, i) {
+        if let Err(fault) = put_record(sink, mem, log, i, spot) {
             return Err(fault);
         }
+        spot = log.next(mem, i, spot);
     }
     Ok(())
 }
 
-/// Writes a record of the log, by its number.
-fn put_record<O: Sink>(sink: &mut O, log: &Log, i: u64) -> Result<(), SinkFault>
-    requires { i < length log.now }
+/// Writes a record of the log, by its number and where it stands.
+fn put_record<O: Sink>(
+    sink: &mut O,
+    mem: &PhysMem,
+    log: &Log,
+    i: u64,
+    spot: Spot,
+) -> Result<(), SinkFault>
+    requires held { HoldsLog log.now mem.now }
+    requires number { i < log.now.records }
+    requires spot { spot.place ≡ record_place mem.now i }
     ensures never_falls { O.faults sink.old ≤ O.faults sink.new }
     ensures failed { OnErr result (RoseTo (O.faults sink.old) (O.faults sink.new)) }
-    ensures all { IfSome (slice_get log.now i) (λ it. OnOk result
+    ensures all { IfSome (slice_get (log_in log.now mem.now) i) (λ it. OnOk result
         (Appends (O.taken sink.old) (O.taken sink.new) (log_line i it))) }
-    ensures some { IfSome (slice_get log.now i) (λ it. OnErr result
+    ensures some { IfSome (slice_get (log_in log.now mem.now) i) (λ it. OnErr result
         (AppendsPrefix (O.taken sink.old) (O.taken sink.new) (log_line i it))) }
 {
+    held_log_law();
     pieces_law();
-    let it = log.entry(i);
+    let it = log.entry_at(mem, i, spot);
     let mut pieces = Pieces::new();
     if let Err(fault) = pieces.push_all(sink, record_head(&mut [0; RECORD_HEAD], i, &it)) {
         return Err(fault);
     }
-    if let Err(fault) = take_record(&mut pieces, sink, log, i, &it) {
+    if let Err(fault) = take_record(&mut pieces, sink, mem, log, i, spot, &it) {
         return Err(fault);
     }
     if let Err(fault) = pieces.push(sink, b'\n') {
@@ -194,22 +217,27 @@ fn put_record<O: Sink>(sink: &mut O, log: &Log, i: u64) -> Result<(), SinkFault>
 fn take_record<O: Sink>(
     pieces: &mut Pieces,
     sink: &mut O,
+    mem: &PhysMem,
     log: &Log,
     i: u64,
+    spot: Spot,
     it: &Noted,
 ) -> Result<(), SinkFault>
-    requires number { i < length log.now }
-    requires count { IfSome (slice_get log.now i) (λ of. length of.bytes ≡ it.now.length) }
+    requires held { HoldsLog log.now mem.now }
+    requires number { i < log.now.records }
+    requires spot { spot.place ≡ record_place mem.now i }
+    requires count { IfSome (slice_get (log_in log.now mem.now) i) (λ of. length of.bytes ≡ it.now.length) }
     ensures never_falls { O.faults sink.old ≤ O.faults sink.new }
     ensures failed { OnErr result (RoseTo (O.faults sink.old) (O.faults sink.new)) }
-    ensures moved { IfSome (slice_get log.now i) (λ of. OnOk result
+    ensures moved { IfSome (slice_get (log_in log.now mem.now) i) (λ of. OnOk result
         (MovedOn (O.taken sink.old) (O.taken sink.new) pieces.old pieces.new (encode_lower of.bytes))) }
-    ensures cut { IfSome (slice_get log.now i) (λ of. OnErr result
+    ensures cut { IfSome (slice_get (log_in log.now mem.now) i) (λ of. OnErr result
         (AppendsPrefix (O.taken sink.old) (O.taken sink.new) (pieces.old ++ encode_lower of.bytes))) }
 {
+    held_log_law();
     pieces_law();
     for at in 0..it.length {
-        let byte = log.byte(i, at);
+        let byte = log.byte_at(mem, i, spot, at);
         if let Err(fault) = pieces.push_hex(sink, byte) {
             return Err(fault);
         }

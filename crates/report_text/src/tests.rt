@@ -4,7 +4,7 @@
 
 ghost use Rattle.std.specs.Prelude.{◌≡◌, ◌≤◌, IfSome};
 ghost use Rattle.nk_body.specs.CallRules.{IsSourceOf};
-ghost use Rattle.nk_body.specs.NestedRecord.{AreBooks};
+ghost use Rattle.nk_body.specs.NestedRecord.{HoldsBooks};
 ghost use Rattle.nk_body.specs.SourceWords.{sourced_of};
 
 use crate::{called, console, delivery, ending, section};
@@ -162,13 +162,13 @@ fn read<'s>(wanted: Option<u64>, data: &'s [u8]) -> Source<'s>
 
 /// Makes the call, of whose source this is the first part, and says whether it was accepted.
 fn serve(kernel: &mut Kernel, mem: &mut PhysMem, call: &CallWords, data: &[u8]) -> bool
-    requires { AreBooks kernel.old mem.old }
-    ensures { AreBooks kernel.new mem.new }
+    requires { HoldsBooks kernel.old mem.old }
+    ensures { HoldsBooks kernel.new mem.new }
 {
     if kernel.regions().next() >= 1 << 63 {
         return false;
     }
-    let source = read(kernel.wants(call), data);
+    let source = read(kernel.wants(mem, call), data);
     let value = kernel.serve(mem, call, source).value;
     value == 0 || value >= 256
 }
@@ -189,7 +189,7 @@ fn close(
     let Ok(mut mem) = prepare(alloc, &image, &layout) else {
         return None;
     };
-    let Ok(mut kernel) = Kernel::start(alloc, &mem, &image, &layout) else {
+    let Ok(mut kernel) = Kernel::start(alloc, &mut mem, &image, &layout) else {
         return None;
     };
     for call in calls {

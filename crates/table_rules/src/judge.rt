@@ -1,14 +1,16 @@
 //! The rules on a value, in order.
 
-ghost use Rattle.std.specs.Prelude.{◌≡◌, ◌≤◌, ◌==◌, ◌/◌, ◌%◌};
+ghost use Rattle.std.specs.Prelude.{◌≡◌, ◌<◌, ◌≤◌, ◌==◌, ◌/◌, ◌%◌, true, nat_lt, length};
 ghost use Rattle.nk_bits.specs.EntryForms.{has_form, has_leaf_form, has_table_form};
 ghost use Rattle.nk_bits.specs.Kinds.{allows, is_hidden, kind_of, level_of};
 ghost use Rattle.nk_bits.specs.Paging.{frame_of, is_present, rights_of};
 ghost use Rattle.nk_bits.specs.Rules.{rule_of};
+ghost use Rattle.page_desc.specs.DescriptorBytes.{HoldsDescriptors, kinds_in};
 ghost use Rattle.table_rules.specs.ValueRules.{is_target, value_rule};
 
 use nk_bits::{Entry, Kind, Rights, Rule};
-use page_desc::Frames;
+use page_desc::{Frames, stored_law};
+use phys_mem::PhysMem;
 
 // The bits 8 and 7, which are clear in every form.
 fn lacks_size_and_global(value: u64) -> bool
@@ -82,53 +84,67 @@ fn allows(kind: Kind, rights: Rights) -> bool
     }
 }
 
-// The kind of a frame; Hidden past the end of memory.
-fn kind_of(frames: &Frames, frame: u64) -> Kind
-    ensures { result ≡ kind_of frames.now.kinds frame }
+// The frame is one of memory's.
+fn is_inside(frames: &Frames, mem: &PhysMem, frame: u64) -> bool
+    requires held { HoldsDescriptors frames.now mem.now }
+    ensures inside { result ≡ nat_lt frame (length (kinds_in mem.now)) }
+    ensures bound { result ≡ true → frame < 16384 }
 {
-    if frame < u64::from(frames.frames()) {
-        frames.kind(frame as u32)
+    stored_law();
+    frame < u64::from(frames.frames())
+}
+
+// The kind of a frame; Hidden past the end of memory.
+fn kind_of(frames: &Frames, mem: &PhysMem, frame: u64) -> Kind
+    requires held { HoldsDescriptors frames.now mem.now }
+    ensures { result ≡ kind_of (kinds_in mem.now) frame }
+{
+    if is_inside(frames, mem, frame) {
+        frames.kind(mem, frame as u32)
     } else {
         Kind::Hidden
     }
 }
 
 // Whether the value names a frame in memory: for a leaf one that isn't hidden, for a link a table one level below.
-fn is_target(frames: &Frames, level: u8, entry: Entry) -> bool
-    ensures { result ≡ is_target frames.now.kinds level entry.0 }
+fn is_target(frames: &Frames, mem: &PhysMem, level: u8, entry: Entry) -> bool
+    requires held { HoldsDescriptors frames.now mem.now }
+    ensures { result ≡ is_target (kinds_in mem.now) level entry.0 }
 {
     let frame = entry.frame();
-    let kind = kind_of(frames, frame);
+    let kind = kind_of(frames, mem, frame);
     let is_named = if level == 1 {
         !is_hidden(kind)
     } else {
         u16::from(level_of(kind)) + 1 == u16::from(level)
     };
-    (frame < u64::from(frames.frames())) & is_named
+    is_inside(frames, mem, frame) & is_named
 }
 
 // Whether a leaf grants no right that the kind of its frame forbids.
-fn is_allowed(frames: &Frames, entry: Entry) -> bool
-    ensures { result ≡ allows (kind_of frames.now.kinds (frame_of entry.0)) (rights_of entry.0) }
+fn is_allowed(frames: &Frames, mem: &PhysMem, entry: Entry) -> bool
+    requires held { HoldsDescriptors frames.now mem.now }
+    ensures { result ≡ allows (kind_of (kinds_in mem.now) (frame_of entry.0)) (rights_of entry.0) }
 {
-    allows(kind_of(frames, entry.frame()), entry.rights())
+    allows(kind_of(frames, mem, entry.frame()), entry.rights())
 }
 
 /// Judges a value that is to stand in a table of this level, 1 to 4: the first rule that it breaks is the error.
 #[tactic(auto, unfolding(crate::specs::ValueRules::value_rule))]
-pub fn judge_entry(frames: &Frames, level: u8, value: u64) -> Result<(), Rule>
+pub fn judge_entry(frames: &Frames, mem: &PhysMem, level: u8, value: u64) -> Result<(), Rule>
     requires level { (1 ≤ level) × (level ≤ 4) }
-    ensures { rule_of result ≡ value_rule frames.now.kinds level value }
+    requires held { HoldsDescriptors frames.now mem.now }
+    ensures { rule_of result ≡ value_rule (kinds_in mem.now) level value }
 {
     let entry = Entry(value);
     let is_present = entry.is_present();
     if is_present & !has_form(level, entry) {
         return Err(Rule::BadBits);
     }
-    if is_present & !is_target(frames, level, entry) {
+    if is_present & !is_target(frames, mem, level, entry) {
         return Err(Rule::BadTarget);
     }
-    if is_present & (level == 1) & !is_allowed(frames, entry) {
+    if is_present & (level == 1) & !is_allowed(frames, mem, entry) {
         return Err(Rule::TooFree);
     }
     Ok(())

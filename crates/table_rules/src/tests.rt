@@ -1,19 +1,26 @@
-//! The rules on a value, over sixteen frames: one of each kind from frame 0 on, tables of levels 1 to 4 in frames 6 to 9,
-//! and data from frame 10 on.
+//! The rules on a value, over eighty frames: one of each kind from frame 0 on, tables of levels 1 to 4 in frames 6 to 9,
+//! data from frame 10 on, and the books.
 
-ghost use Rattle.std.specs.Prelude.{◌≡◌, IfOk, length};
+ghost use Rattle.std.specs.Prelude.{◌≡◌, ◌<◌, ◌≤◌, ℕ, ◌*◌, ◌/◌, true, IfOk, IfSome, length};
+ghost use Rattle.phys_mem.specs.MaskedMemory.{is_book_frame};
+ghost use Rattle.phys_mem.specs.Memory.{byte_at, entry_in};
+ghost use Rattle.nk_bits.specs.declared.kind.Kind.TheVariants.{Fixed, Hidden};
+ghost use Rattle.nk_bits.specs.Kinds.{kind_of};
+ghost use Rattle.page_desc.specs.DescriptorBytes.{HoldsDescriptors};
+ghost use Rattle.page_desc.specs.FrameCounts.{IsSlotFixed};
 
 use crate::judge_entry;
-use nk_bits::Kind;
-use page_desc::{Frames, NoMemory};
-use phys_mem::PhysMem;
+use nk_bits::{Entry, Kind};
+use page_desc::Frames;
+use phys_mem::{NoMemory, PhysMem};
 use std::alloc::{AllocError, Global};
 use std::test::Fail;
 
+/// The kinds of the frames, but that those of tables 3 and 4 are fixed, as those of the kernel slot are at the start.
 fn kinds(alloc: Global) -> Result<Vec<Kind>, AllocError>
-    ensures { IfOk result (λ kinds. length kinds.items ≡ 16) }
+    ensures { IfOk result (λ kinds. length kinds.items ≡ 80) }
 {
-    let mut kinds = vec![in alloc; Kind::Data; 16]?;
+    let mut kinds = vec![in alloc; Kind::Data; 80]?;
     kinds[1] = Kind::Code;
     kinds[2] = Kind::Fixed;
     kinds[3] = Kind::Trap;
@@ -21,30 +28,93 @@ fn kinds(alloc: Global) -> Result<Vec<Kind>, AllocError>
     kinds[5] = Kind::Hidden;
     kinds[6] = Kind::Table(1);
     kinds[7] = Kind::Table(2);
-    kinds[8] = Kind::Table(3);
-    kinds[9] = Kind::Table(4);
+    kinds[8] = Kind::Fixed;
+    kinds[9] = Kind::Fixed;
+    for frame in 26..65 {
+        kinds[frame] = Kind::Hidden;
+    }
     Ok(kinds)
 }
 
-fn count(alloc: Global, memory: &PhysMem, kinds: Vec<Kind>) -> Result<Frames, NoMemory> {
-    if memory.frames() as usize == kinds.len() {
-        Frames::start(alloc, memory, kinds)
+/// Whether a frame of memory is fixed.
+fn is_fixed(kinds: &[Kind], frame: u64) -> bool
+    ensures { result ≡ true → kind_of kinds.now frame ≡ Fixed }
+{
+    frame < kinds.len() as u64 && matches!(kinds[frame as usize], Kind::Fixed)
+}
+
+/// Whether a frame of memory is hidden.
+fn is_hidden(kinds: &[Kind], frame: u64) -> bool
+    ensures { result ≡ true → kind_of kinds.now frame ≡ Hidden }
+{
+    frame < kinds.len() as u64 && matches!(kinds[frame as usize], Kind::Hidden)
+}
+
+/// Whether the kernel slot's tables are fixed.
+#[tactic(auto, unfolding(phys_mem::specs::Memory::entry_in))]
+fn is_slot_fixed(memory: &PhysMem, kinds: &[Kind]) -> bool
+    requires { length memory.now ≡ 4096 * 80 }
+    ensures { result ≡ true → IsSlotFixed kinds.now (entry_in memory.now) }
+{
+    for index in 0..512 {
+        let entry = Entry(memory.load64(0x9000 + 8 * index));
+        if entry.is_present() && !is_fixed(kinds, entry.frame()) {
+            return false;
+        }
+    }
+    is_fixed(kinds, 8) && is_fixed(kinds, 9)
+}
+
+/// Whether the books are hidden.
+#[tactic(auto, unfolding(phys_mem::specs::MaskedMemory::is_book_frame))]
+fn are_books_hidden(kinds: &[Kind]) -> bool
+    ensures { result ≡ true → (f : ℕ) → is_book_frame 80 f ≡ true → kind_of kinds.now f ≡ Hidden }
+{
+    for frame in 26..65 {
+        if !is_hidden(kinds, frame) {
+            return false;
+        }
+    }
+    true
+}
+
+/// The descriptors of a memory of zeros, where the kinds admit it.
+fn begin(memory: &mut PhysMem, kinds: &[Kind]) -> Option<Frames>
+    requires memory { length memory.old ≡ 4096 * 80 }
+    requires zero { (p : ℕ) → byte_at memory.old p ≡ 0 }
+    requires kinds { length kinds.now ≡ 80 }
+    ensures { IfSome result (λ frames. HoldsDescriptors frames memory.new) }
+{
+    if is_slot_fixed(memory, kinds) & are_books_hidden(kinds) {
+        let mut frames = Frames::start(memory, kinds);
+        frames.set_kind(memory, 8, Kind::Table(3));
+        frames.set_kind(memory, 9, Kind::Table(4));
+        Some(frames)
     } else {
-        Err(NoMemory)
+        None
     }
 }
 
-fn start(alloc: Global) -> Result<Frames, Fail> {
-    let memory = PhysMem::new(alloc, 16)?;
-    Ok(count(alloc, &memory, kinds(alloc)?)?)
+/// A memory with those descriptors.
+fn start(alloc: Global) -> Result<(PhysMem, Frames), Fail>
+    ensures { IfOk result (λ it. HoldsDescriptors it.1 it.0) }
+{
+    let mut memory = PhysMem::new(alloc, 80)?;
+    let kinds = kinds(alloc)?;
+    match begin(&mut memory, &kinds) {
+        Some(frames) => Ok((memory, frames)),
+        None => Err(NoMemory.into()),
+    }
 }
 
 /// The number of the rule that the value breaks; 0 where it breaks none.
-fn judged(frames: &Frames, level: u8, value: u64) -> u64 {
+fn judged(frames: &Frames, memory: &PhysMem, level: u8, value: u64) -> u64
+    requires held { HoldsDescriptors frames.now memory.now }
+{
     if level < 1 || level > 4 {
         return u64::MAX;
     }
-    match judge_entry(frames, level, value) {
+    match judge_entry(frames, memory, level, value) {
         Ok(()) => 0,
         Err(rule) => rule.number(),
     }
@@ -79,17 +149,22 @@ const GOOD: [(u8, u64); 4] = [
 
 #[test]
 fn bits_that_are_clear_in_every_form(rt: HostRuntime) -> Result<(), Fail> {
-    let frames = start(rt.alloc())?;
+    let (memory, frames) = start(rt.alloc())?;
     for (level, good) in GOOD {
-        assert_eq!(rt; judged(&frames, level, good), 0, "level {level}");
+        assert_eq!(rt; judged(&frames, &memory, level, good), 0, "level {level}");
         for bit in CLEAR {
             assert_eq!(rt;
-                judged(&frames, level, good | bit),
+                judged(&frames, &memory, level, good | bit),
                 9,
                 "bit {bit:x} at level {level}"
             );
             assert_eq!(rt;
-                judged(&frames, level, (good | bit) & 0xFFFF_FFFF_FFFF_FFFE),
+                judged(
+                    &frames,
+                    &memory,
+                    level,
+                    (good | bit) & 0xFFFF_FFFF_FFFF_FFFE
+                ),
                 0,
                 "bit {bit:x} at level {level}, not present"
             );
@@ -120,12 +195,12 @@ const ROWS: [(u8, u64, u64); 61] = [
     (2, 0xFFFF_FFFF_FFFF_FFFE, 0),
     (4, 0, 0),
     // Targets outside memory, hidden, or no table of the next lower level.
-    (1, 0x8000_0000_0001_0021, 10),
+    (1, 0x8000_0000_0005_0021, 10),
     (1, 0x800F_FFFF_FFFF_F021, 10),
     (1, 0x8000_1000_0000_0021, 10),
     (1, 0x8000_0000_0000_5021, 10),
     (1, 0x8000_0000_0000_F021, 0),
-    (2, 0x1_0027, 10),
+    (2, 0x5_0027, 10),
     (2, 0x0027, 10),
     (2, 0x7027, 10),
     (2, 0x8027, 10),
@@ -163,17 +238,17 @@ const ROWS: [(u8, u64, u64); 61] = [
     // Two rules broken: the lower number.
     (1, 0x8000_0000_0000_5029, 9),
     (1, 0x5063, 10),
-    (1, 0x1_0067, 10),
+    (1, 0x5_0067, 10),
     (1, 0x102F, 9),
-    (2, 0x1_0025, 9),
+    (2, 0x5_0025, 9),
 ];
 
 #[test]
 fn values_and_the_rules_they_break(rt: HostRuntime) -> Result<(), Fail> {
-    let frames = start(rt.alloc())?;
+    let (memory, frames) = start(rt.alloc())?;
     for (level, value, rule) in ROWS {
         assert_eq!(rt;
-            judged(&frames, level, value),
+            judged(&frames, &memory, level, value),
             rule,
             "{value:x} at level {level}"
         );

@@ -49,22 +49,26 @@ module _ (laws : CountLaws) (d : Descriptors) (root : ℕ) (m : List ℕ) (books
       ap (λ n. broken (not (nat_le 1 level && nat_le level 4)) BadLevel (broken (not (is_data (kind_of d.kinds frame))) NotData (broken (not (n == 0)) StillLoose None)))
       (books.counted.loose frame inside ∙ sym (laws.loose d.kinds root m frame books.sound)))
 
-  filled_carried : (frame : ℕ) → is_table (kind_of d.kinds frame) ≡ true
-      → fills m (level_of (kind_of d.kinds frame)) frame ≡ is_filled (tables_in d.kinds root m) frame
-  unfolding is_filled
-  filled_carried frame table =
-      any_same 512 0 _ _ (λ i small. ap (λ e. is_present e && not (is_slot_entry (level_of (kind_of d.kinds frame)) i)) (sym (entries_at d.kinds m frame i table (omega (arith, small)))))
+  -- entries are read from a memory that has the same ones in tables
+  module _ (l : List ℕ) (same : (f i : ℕ) → i < 512 → is_table (kind_of d.kinds f) ≡ true → entry_in l f i ≡ entry_in m f i) where
+    filled_carried : (frame : ℕ) → is_table (kind_of d.kinds frame) ≡ true
+        → fills l (level_of (kind_of d.kinds frame)) frame ≡ is_filled (tables_in d.kinds root m) frame
+    unfolding is_filled
+    filled_carried frame table =
+        any_same 512 0 _ _
+        (λ i small. ap (λ e. is_present e && not (is_slot_entry (level_of (kind_of d.kinds frame)) i))
+        (same frame i (omega (arith, small)) table ∙ sym (entries_at d.kinds m frame i table (omega (arith, small)))))
 
-  pub remove_carried : (frame : ℕ) →
-      broken (not (nat_lt frame (length d.kinds))) BadFrame
-      (broken (not (is_table (kind_of d.kinds frame))) NotTable
-      (broken (not (slice_index d.links frame == 0) || frame == root) StillLinked
-      (broken (fills m (level_of (kind_of d.kinds frame)) frame) NotEmpty None)))
-      ≡ remove_rule (tables_in d.kinds root m) frame
-  unfolding remove_rule
-  remove_carried frame =
-      broken_same _ BadFrame _ _ (λ stands.
-      let inside : frame < length d.kinds = ltb-true _ _ (not-false _ stands) in
-      let count = books.counted.links frame inside ∙ sym (laws.links d.kinds root m frame books.sound) in
-      broken_same _ NotTable _ _ (λ is.
-      (λ j. broken (not (count j == 0) || frame == root) StillLinked (broken (filled_carried frame (not-false _ is) j) NotEmpty None))))
+    pub remove_carried : (frame : ℕ) →
+        broken (not (nat_lt frame (length d.kinds))) BadFrame
+        (broken (not (is_table (kind_of d.kinds frame))) NotTable
+        (broken (not (slice_index d.links frame == 0) || frame == root) StillLinked
+        (broken (fills l (level_of (kind_of d.kinds frame)) frame) NotEmpty None)))
+        ≡ remove_rule (tables_in d.kinds root m) frame
+    unfolding remove_rule
+    remove_carried frame =
+        broken_same _ BadFrame _ _ (λ stands.
+        let inside : frame < length d.kinds = ltb-true _ _ (not-false _ stands) in
+        let count = books.counted.links frame inside ∙ sym (laws.links d.kinds root m frame books.sound) in
+        broken_same _ NotTable _ _ (λ is.
+        (λ j. broken (not (count j == 0) || frame == root) StillLinked (broken (filled_carried frame (not-false _ is) j) NotEmpty None))))

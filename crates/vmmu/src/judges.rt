@@ -6,52 +6,68 @@ ghost use Rattle.phys_mem.specs.Memory.{entry_in};
 ghost use Rattle.nk_bits.specs.declared.rule.Rule.TheVariants.{BadFrame, BadLevel, NotData, NotEmpty, NotTable, StillLinked, StillLoose};
 ghost use Rattle.nk_bits.specs.Kinds.{is_data, kind_of, level_of};
 ghost use Rattle.nk_bits.specs.Paging.{is_present, is_slot_entry};
+ghost use Rattle.page_desc.specs.DescriptorBytes.{HoldsDescriptors, descriptors_in, kinds_in};
 ghost use Rattle.page_desc.specs.PageTables.{is_table, tables_in};
 ghost use Rattle.table_rules.specs.ValueRules.{broken};
 ghost use Rattle.vmmu.specs.TableCalls.{entry_rule, root_rule};
 
-use nk_bits::{Entry, Kind, Rule};
-use page_desc::Frames;
+use crate::entries::entry;
+use nk_bits::{Kind, Rule};
+use page_desc::{Frames, stored_law};
 use phys_mem::PhysMem;
 use table_rules::judge_entry;
 
 /// The number of entries of a table.
 const ENTRIES: u64 = 512;
 
-// The frame isn't one of memory's.
-fn is_outside(frames: &Frames, frame: u64) -> bool
-    ensures outside { result ≡ not (nat_lt frame (length frames.now.kinds)) }
-    ensures bound { result ≡ false → frame < 16384 }
+// The number of frames, of which each has a kind.
+fn frame_count(frames: &Frames, mem: &PhysMem) -> u64
+    requires held { HoldsDescriptors frames.now mem.now }
+    ensures count { result ≡ length (kinds_in mem.now) }
+    ensures bounds { (result ≡ frames.now) × (result ≤ 16384) }
 {
-    frame >= u64::from(frames.frames())
+    stored_law();
+    u64::from(frames.frames())
+}
+
+// The frame isn't one of memory's.
+fn is_outside(frames: &Frames, mem: &PhysMem, frame: u64) -> bool
+    requires held { HoldsDescriptors frames.now mem.now }
+    ensures outside { result ≡ not (nat_lt frame (length (kinds_in mem.now))) }
+    ensures bounds { result ≡ false → (frame < frames.now) × (frame < 16384) }
+{
+    frame >= frame_count(frames, mem)
 }
 
 // The kind of a frame; Hidden past the end of memory.
-fn kind_of(frames: &Frames, frame: u64) -> Kind
-    ensures { result ≡ kind_of frames.now.kinds frame }
+fn kind_of(frames: &Frames, mem: &PhysMem, frame: u64) -> Kind
+    requires held { HoldsDescriptors frames.now mem.now }
+    ensures { result ≡ kind_of (kinds_in mem.now) frame }
 {
-    if frame < u64::from(frames.frames()) {
-        frames.kind(frame as u32)
-    } else {
+    if is_outside(frames, mem, frame) {
         Kind::Hidden
+    } else {
+        frames.kind(mem, frame as u32)
     }
 }
 
 /// The level of the table in a frame; 0 where it holds none.
-pub fn level_at(frames: &Frames, frame: u64) -> u8
-    ensures { result ≡ level_of (kind_of frames.now.kinds frame) }
+pub fn level_at(frames: &Frames, mem: &PhysMem, frame: u64) -> u8
+    requires held { HoldsDescriptors frames.now mem.now }
+    ensures { result ≡ level_of (kind_of (kinds_in mem.now) frame) }
 {
-    match kind_of(frames, frame) {
+    match kind_of(frames, mem, frame) {
         Kind::Table(level) => level,
         _ => 0,
     }
 }
 
 // The frame holds data.
-fn is_data(frames: &Frames, frame: u64) -> bool
-    ensures { result ≡ is_data (kind_of frames.now.kinds frame) }
+fn is_data(frames: &Frames, mem: &PhysMem, frame: u64) -> bool
+    requires held { HoldsDescriptors frames.now mem.now }
+    ensures { result ≡ is_data (kind_of (kinds_in mem.now) frame) }
 {
-    match kind_of(frames, frame) {
+    match kind_of(frames, mem, frame) {
         Kind::Data => true,
         _ => false,
     }
@@ -65,21 +81,23 @@ fn is_level(level: u64) -> bool
 }
 
 // A loose leaf names the frame.
-fn is_loose(frames: &Frames, frame: u64) -> bool
-    requires { frame < length frames.now.kinds }
-    ensures { result ≡ not (slice_index frames.now.loose frame == 0) }
+fn is_loose(frames: &Frames, mem: &PhysMem, frame: u64) -> bool
+    requires held { HoldsDescriptors frames.now mem.now }
+    requires frame { frame < frames.now }
+    ensures { result ≡ not (slice_index (descriptors_in mem.now).loose frame == 0) }
 {
     let _frames = frames.frames();
-    frames.loose(frame as u32) != 0
+    frames.loose(mem, frame as u32) != 0
 }
 
 // An entry names the table in the frame, or it is the root.
-fn is_linked(frames: &Frames, root: u32, frame: u64) -> bool
-    requires { frame < length frames.now.kinds }
-    ensures { result ≡ (not (slice_index frames.now.links frame == 0) || frame == root) }
+fn is_linked(frames: &Frames, mem: &PhysMem, root: u32, frame: u64) -> bool
+    requires held { HoldsDescriptors frames.now mem.now }
+    requires frame { frame < frames.now }
+    ensures { result ≡ (not (slice_index (descriptors_in mem.now).links frame == 0) || frame == root) }
 {
     let _frames = frames.frames();
-    (frames.links(frame as u32) != 0) | (frame == u64::from(root))
+    (frames.links(mem, frame as u32) != 0) | (frame == u64::from(root))
 }
 
 // The entry is the kernel slot's.
@@ -87,17 +105,6 @@ fn is_slot_entry(level: u8, index: u64) -> bool
     ensures { result ≡ is_slot_entry level index }
 {
     (level == 4) & (index == 511)
-}
-
-/// The entry of the table in a frame of memory.
-#[tactic(auto, unfolding(phys_mem::specs::Memory::entry_in))]
-pub fn entry(mem: &PhysMem, frame: u64, index: u64) -> Entry
-    requires frame { 4096 * frame + 4096 ≤ length mem.now }
-    requires index { index < 512 }
-    ensures { result.0 ≡ entry_in mem.now frame index }
-{
-    let _frames = mem.frames();
-    Entry(mem.load64(4096 * frame + 8 * index))
 }
 
 // The entry is present, and not the kernel slot's.
@@ -118,23 +125,24 @@ fn is_filled(mem: &PhysMem, level: u8, frame: u64) -> bool
 }
 
 /// Judges that a table of this level is declared in a frame.
-pub fn judge_declare(frames: &Frames, level: u64, frame: u64) -> Option<Rule>
-    ensures bounds { IfNone result ((frame < length frames.now.kinds) × (frame < 16384) × (level ≤ 4)) }
-    ensures judged { result ≡ broken (not (nat_lt frame (length frames.now.kinds))) BadFrame
+pub fn judge_declare(frames: &Frames, mem: &PhysMem, level: u64, frame: u64) -> Option<Rule>
+    requires held { HoldsDescriptors frames.now mem.now }
+    ensures bounds { IfNone result ((frame < frames.now) × (frame < 16384) × (level ≤ 4)) }
+    ensures judged { result ≡ broken (not (nat_lt frame (length (kinds_in mem.now)))) BadFrame
         (broken (not (nat_le 1 level && nat_le level 4)) BadLevel
-        (broken (not (is_data (kind_of frames.now.kinds frame))) NotData
-        (broken (not (slice_index frames.now.loose frame == 0)) StillLoose None))) }
+        (broken (not (is_data (kind_of (kinds_in mem.now) frame))) NotData
+        (broken (not (slice_index (descriptors_in mem.now).loose frame == 0)) StillLoose None))) }
 {
-    if is_outside(frames, frame) {
+    if is_outside(frames, mem, frame) {
         return Some(Rule::BadFrame);
     }
     if !is_level(level) {
         return Some(Rule::BadLevel);
     }
-    if !is_data(frames, frame) {
+    if !is_data(frames, mem, frame) {
         return Some(Rule::NotData);
     }
-    if is_loose(frames, frame) {
+    if is_loose(frames, mem, frame) {
         return Some(Rule::StillLoose);
     }
     None
@@ -142,15 +150,22 @@ pub fn judge_declare(frames: &Frames, level: u64, frame: u64) -> Option<Rule>
 
 /// Judges that a value is written in an entry of the table in a frame.
 #[tactic(auto, unfolding(crate::specs::TableCalls::entry_rule))]
-pub fn judge_write(frames: &Frames, frame: u64, index: u64, value: u64) -> Option<Rule>
-    requires { (f : ℕ) → level_of (kind_of frames.now.kinds f) ≤ 4 }
-    ensures bounds { IfNone result ((frame < length frames.now.kinds) × (frame < 16384) × (index < 512)) }
-    ensures judged { (root : ℕ) (m : List ℕ) → result ≡ entry_rule (tables_in frames.now.kinds root m) frame index value }
+pub fn judge_write(
+    frames: &Frames,
+    mem: &PhysMem,
+    frame: u64,
+    index: u64,
+    value: u64,
+) -> Option<Rule>
+    requires held { HoldsDescriptors frames.now mem.now }
+    requires levels { (f : ℕ) → level_of (kind_of (kinds_in mem.now) f) ≤ 4 }
+    ensures bounds { IfNone result ((frame < frames.now) × (frame < 16384) × (index < 512)) }
+    ensures judged { (root : ℕ) (m : List ℕ) → result ≡ entry_rule (tables_in (kinds_in mem.now) root m) frame index value }
 {
-    if is_outside(frames, frame) {
+    if is_outside(frames, mem, frame) {
         return Some(Rule::BadFrame);
     }
-    let level = level_at(frames, frame);
+    let level = level_at(frames, mem, frame);
     if level == 0 {
         return Some(Rule::NotTable);
     }
@@ -160,26 +175,26 @@ pub fn judge_write(frames: &Frames, frame: u64, index: u64, value: u64) -> Optio
     if is_slot_entry(level, index) {
         return Some(Rule::KernelSlot);
     }
-    judge_entry(frames, level, value).err()
+    judge_entry(frames, mem, level, value).err()
 }
 
 /// Judges that the table in a frame is removed.
 pub fn judge_remove(frames: &Frames, root: u32, mem: &PhysMem, frame: u64) -> Option<Rule>
-    requires { length mem.now ≡ 4096 * length frames.now.kinds }
-    ensures bounds { IfNone result ((frame < length frames.now.kinds) × (frame < 16384)) }
-    ensures judged { result ≡ broken (not (nat_lt frame (length frames.now.kinds))) BadFrame
-        (broken (not (is_table (kind_of frames.now.kinds frame))) NotTable
-        (broken (not (slice_index frames.now.links frame == 0) || frame == root) StillLinked
-        (broken (list_any (λ i. is_present (entry_in mem.now frame i) && not (is_slot_entry (level_of (kind_of frames.now.kinds frame)) i)) (range_with_len 0 512)) NotEmpty None))) }
+    requires held { HoldsDescriptors frames.now mem.now }
+    ensures bounds { IfNone result ((frame < frames.now) × (frame < 16384)) }
+    ensures judged { result ≡ broken (not (nat_lt frame (length (kinds_in mem.now)))) BadFrame
+        (broken (not (is_table (kind_of (kinds_in mem.now) frame))) NotTable
+        (broken (not (slice_index (descriptors_in mem.now).links frame == 0) || frame == root) StillLinked
+        (broken (list_any (λ i. is_present (entry_in mem.now frame i) && not (is_slot_entry (level_of (kind_of (kinds_in mem.now) frame)) i)) (range_with_len 0 512)) NotEmpty None))) }
 {
-    if is_outside(frames, frame) {
+    if is_outside(frames, mem, frame) {
         return Some(Rule::BadFrame);
     }
-    let level = level_at(frames, frame);
+    let level = level_at(frames, mem, frame);
     if level == 0 {
         return Some(Rule::NotTable);
     }
-    if is_linked(frames, root, frame) {
+    if is_linked(frames, mem, root, frame) {
         return Some(Rule::StillLinked);
     }
     if is_filled(mem, level, frame) {
@@ -190,13 +205,14 @@ pub fn judge_remove(frames: &Frames, root: u32, mem: &PhysMem, frame: u64) -> Op
 
 /// Judges that the table in a frame becomes the root.
 #[tactic(auto, unfolding(crate::specs::TableCalls::root_rule))]
-pub fn judge_root(frames: &Frames, frame: u64) -> Option<Rule>
-    ensures bounds { IfNone result ((frame < length frames.now.kinds) × (frame < 16384)) }
-    ensures judged { (root : ℕ) (m : List ℕ) → result ≡ root_rule (tables_in frames.now.kinds root m) frame }
+pub fn judge_root(frames: &Frames, mem: &PhysMem, frame: u64) -> Option<Rule>
+    requires held { HoldsDescriptors frames.now mem.now }
+    ensures bounds { IfNone result ((frame < frames.now) × (frame < 16384)) }
+    ensures judged { (root : ℕ) (m : List ℕ) → result ≡ root_rule (tables_in (kinds_in mem.now) root m) frame }
 {
-    if is_outside(frames, frame) {
+    if is_outside(frames, mem, frame) {
         Some(Rule::BadFrame)
-    } else if level_at(frames, frame) != 4 {
+    } else if level_at(frames, mem, frame) != 4 {
         Some(Rule::NotRoot)
     } else {
         None

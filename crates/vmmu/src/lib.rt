@@ -4,7 +4,8 @@
 //! Floor: nested kernel.
 #![tactic(auto)]
 
-// The rules of the calls, and the calls.
+// The entries of tables, the rules of the calls, and the calls.
+mod entries;
 mod judges;
 mod tables;
 

@@ -1,16 +1,22 @@
 //! The calls on page tables, over their descriptors and memory.
 
-ghost use Rattle.std.specs.Prelude.{◌≡◌, ◌<◌, ℕ, List, None, OnErr, OnOk, length, slice_set};
+ghost use Rattle.std.specs.Prelude.{◌≡◌, ◌<◌, ◌≤◌, ℕ, None, OnErr, OnOk, slice_set};
 ghost use Rattle.nk_bits.specs.declared.kind.Kind.TheVariants.{Data, Table};
+ghost use Rattle.page_desc.specs.DescriptorBytes.{HoldsTables, kinds_in, tables_held};
 ghost use Rattle.page_desc.specs.FrameDescriptors.{last_value};
-ghost use Rattle.page_desc.specs.PageTables.{AreDescribed, tables_in};
+ghost use Rattle.phys_mem.specs.MaskedMemory.{seen};
+ghost use Rattle.phys_mem.specs.Memory.{byte_at};
 ghost use Rattle.nk_bits.specs.Rules.{rule_of};
 ghost use Rattle.vmmu.specs.TableCalls.{declare_rule, entry_rule, memory_declared, memory_removed, memory_written, remove_rule, root_rule};
 
-use crate::judges::{entry, judge_declare, judge_remove, judge_root, judge_write, level_at};
+use crate::entries::{clear_frame, seen_entry, store_entry};
+use crate::judges::{judge_declare, judge_remove, judge_root, judge_write, level_at};
 use crate::laws::table_calls_law;
 use nk_bits::{Entry, Kind, Rule};
-use page_desc::{Frames, descriptor_law, memory_tables_law, page_tables_law, sound_law};
+use page_desc::{
+    Frames, descriptor_law, held_tables_law, memory_tables_law, page_tables_law, sound_law,
+    stored_law,
+};
 use phys_mem::PhysMem;
 
 /// The number of a table's last entry.
@@ -26,16 +32,18 @@ pub struct Tables4 {
 impl Tables4 {
     /// Makes a frame of data a page table of this level, with no entry present but the kernel slot's at level 4.
     pub fn declare_table(&mut self, mem: &mut PhysMem, level: u64, frame: u64) -> Result<(), Rule>
-        requires books { AreDescribed self.old.frames self.old.root mem.old }
-        ensures judged { rule_of result ≡ declare_rule (tables_in self.old.frames.kinds self.old.root mem.old) level frame }
+        requires books { HoldsTables self.old.frames self.old.root mem.old }
+        ensures judged { rule_of result ≡ declare_rule (tables_held self.old.root mem.old) level frame }
         ensures refused { OnErr result ((self.new ≡ self.old) × (mem.new ≡ mem.old)) }
-        ensures memory { OnOk result (mem.new ≡ memory_declared mem.old level frame) }
-        ensures kinds { OnOk result (self.new.frames.kinds ≡ slice_set self.old.frames.kinds frame (Table level)) }
+        ensures memory { OnOk result (seen mem.new ≡ memory_declared (seen mem.old) level frame) }
+        ensures kinds { OnOk result (kinds_in mem.new ≡ slice_set (kinds_in mem.old) frame (Table level)) }
         ensures root { self.new.root ≡ self.old.root }
-        ensures books { AreDescribed self.new.frames self.new.root mem.new }
+        ensures books { HoldsTables self.new.frames self.new.root mem.new }
+        ensures frames { self.new.frames ≡ self.old.frames }
+        ensures others { (p : ℕ) → 0x1A000 ≤ p → p < 0x40000 → byte_at mem.new p ≡ byte_at mem.old p }
     {
         page_tables_law();
-        if let Some(rule) = judge_declare(&self.frames, level, frame) {
+        if let Some(rule) = judge_declare(&self.frames, mem, level, frame) {
             return Err(rule);
         }
         self.make_table(mem, level as u8, frame as u32);
@@ -50,15 +58,17 @@ impl Tables4 {
         index: u64,
         value: u64,
     ) -> Result<(), Rule>
-        requires books { AreDescribed self.old.frames self.old.root mem.old }
-        ensures judged { rule_of result ≡ entry_rule (tables_in self.old.frames.kinds self.old.root mem.old) frame index value }
+        requires books { HoldsTables self.old.frames self.old.root mem.old }
+        ensures judged { rule_of result ≡ entry_rule (tables_held self.old.root mem.old) frame index value }
         ensures refused { OnErr result ((self.new ≡ self.old) × (mem.new ≡ mem.old)) }
-        ensures memory { OnOk result (mem.new ≡ memory_written mem.old frame index value) }
-        ensures kinds { self.new.frames.kinds ≡ self.old.frames.kinds }
+        ensures memory { OnOk result (seen mem.new ≡ memory_written (seen mem.old) frame index value) }
+        ensures kinds { kinds_in mem.new ≡ kinds_in mem.old }
         ensures root { self.new.root ≡ self.old.root }
-        ensures books { AreDescribed self.new.frames self.new.root mem.new }
+        ensures books { HoldsTables self.new.frames self.new.root mem.new }
+        ensures frames { self.new.frames ≡ self.old.frames }
+        ensures others { (p : ℕ) → 0x1A000 ≤ p → p < 0x40000 → byte_at mem.new p ≡ byte_at mem.old p }
     {
-        if let Some(rule) = judge_write(&self.frames, frame, index, value) {
+        if let Some(rule) = judge_write(&self.frames, mem, frame, index, value) {
             return Err(rule);
         }
         self.put_entry(mem, frame, index, value);
@@ -67,15 +77,18 @@ impl Tables4 {
 
     /// Makes the frame of a page table data again: the table is empty, and nothing names it.
     pub fn remove_table(&mut self, mem: &mut PhysMem, frame: u64) -> Result<(), Rule>
-        requires books { AreDescribed self.old.frames self.old.root mem.old }
-        ensures judged { rule_of result ≡ remove_rule (tables_in self.old.frames.kinds self.old.root mem.old) frame }
+        requires books { HoldsTables self.old.frames self.old.root mem.old }
+        ensures judged { rule_of result ≡ remove_rule (tables_held self.old.root mem.old) frame }
         ensures refused { OnErr result ((self.new ≡ self.old) × (mem.new ≡ mem.old)) }
-        ensures memory { OnOk result (mem.new ≡ memory_removed mem.old frame) }
-        ensures kinds { OnOk result (self.new.frames.kinds ≡ slice_set self.old.frames.kinds frame Data) }
+        ensures memory { OnOk result (seen mem.new ≡ memory_removed (seen mem.old) frame) }
+        ensures kinds { OnOk result (kinds_in mem.new ≡ slice_set (kinds_in mem.old) frame Data) }
         ensures root { self.new.root ≡ self.old.root }
-        ensures books { AreDescribed self.new.frames self.new.root mem.new }
+        ensures books { HoldsTables self.new.frames self.new.root mem.new }
+        ensures frames { self.new.frames ≡ self.old.frames }
+        ensures others { (p : ℕ) → 0x1A000 ≤ p → p < 0x40000 → byte_at mem.new p ≡ byte_at mem.old p }
     {
         page_tables_law();
+        held_tables_law();
         if let Some(rule) = judge_remove(&self.frames, self.root, mem, frame) {
             return Err(rule);
         }
@@ -83,16 +96,17 @@ impl Tables4 {
         Ok(())
     }
 
-    /// Makes the page table of level 4 in a frame the root. It reads memory only in contracts.
-    pub fn load_root(&mut self, frame: u64) -> Result<(), Rule>
-        ensures judged { (m : List ℕ) → rule_of result ≡ root_rule (tables_in self.old.frames.kinds self.old.root m) frame }
+    /// Makes the page table of level 4 in a frame the root.
+    pub fn load_root(&mut self, mem: &PhysMem, frame: u64) -> Result<(), Rule>
+        requires books { HoldsTables self.old.frames self.old.root mem.now }
+        ensures judged { rule_of result ≡ root_rule (tables_held self.old.root mem.now) frame }
         ensures refused { OnErr result (self.new ≡ self.old) }
         ensures frames { self.new.frames ≡ self.old.frames }
         ensures root { OnOk result (self.new.root ≡ frame) }
-        ensures books { (m : List ℕ) → AreDescribed self.old.frames self.old.root m → AreDescribed self.new.frames self.new.root m }
+        ensures books { HoldsTables self.new.frames self.new.root mem.now }
     {
         table_calls_law();
-        if let Some(rule) = judge_root(&self.frames, frame) {
+        if let Some(rule) = judge_root(&self.frames, mem, frame) {
             return Err(rule);
         }
         self.root = frame as u32;
@@ -101,66 +115,78 @@ impl Tables4 {
 
     // Makes the table that may be declared.
     fn make_table(&mut self, mem: &mut PhysMem, level: u8, frame: u32)
-        requires books { AreDescribed self.old.frames self.old.root mem.old }
-        requires frame { frame < length self.old.frames.kinds }
-        requires rule { declare_rule (tables_in self.old.frames.kinds self.old.root mem.old) level frame ≡ None }
-        ensures memory { mem.new ≡ memory_declared mem.old level frame }
-        ensures kinds { self.new.frames.kinds ≡ slice_set self.old.frames.kinds frame (Table level) }
+        requires books { HoldsTables self.old.frames self.old.root mem.old }
+        requires frame { frame < self.old.frames }
+        requires rule { declare_rule (tables_held self.old.root mem.old) level frame ≡ None }
+        ensures memory { seen mem.new ≡ memory_declared (seen mem.old) level frame }
+        ensures kinds { kinds_in mem.new ≡ slice_set (kinds_in mem.old) frame (Table level) }
         ensures root { self.new.root ≡ self.old.root }
-        ensures books { AreDescribed self.new.frames self.new.root mem.new }
+        ensures books { HoldsTables self.new.frames self.new.root mem.new }
+        ensures frames { self.new.frames ≡ self.old.frames }
+        ensures others { (p : ℕ) → 0x1A000 ≤ p → p < 0x40000 → byte_at mem.new p ≡ byte_at mem.old p }
     {
         table_calls_law();
         descriptor_law();
         memory_tables_law();
+        stored_law();
+        held_tables_law();
         let _frames = self.frames.frames();
         let last = last_value(level);
-        mem.zero_frame(frame);
-        mem.store64(4096 * u64::from(frame) + 8 * LAST, last);
-        self.frames.set_kind(frame, Kind::Table(level));
-        self.frames.replace(level, Entry(0), Entry(last));
+        clear_frame(&self.frames, mem, frame);
+        store_entry(&self.frames, mem, u64::from(frame), LAST, last);
+        self.frames.set_kind(mem, frame, Kind::Table(level));
+        self.frames.replace(mem, level, Entry(0), Entry(last));
     }
 
     // Writes the entry that may be written.
     fn put_entry(&mut self, mem: &mut PhysMem, frame: u64, index: u64, value: u64)
-        requires books { AreDescribed self.old.frames self.old.root mem.old }
-        requires frame { frame < length self.old.frames.kinds }
+        requires books { HoldsTables self.old.frames self.old.root mem.old }
+        requires frame { frame < self.old.frames }
         requires index { index < 512 }
-        requires rule { entry_rule (tables_in self.old.frames.kinds self.old.root mem.old) frame index value ≡ None }
-        ensures memory { mem.new ≡ memory_written mem.old frame index value }
-        ensures kinds { self.new.frames.kinds ≡ self.old.frames.kinds }
+        requires rule { entry_rule (tables_held self.old.root mem.old) frame index value ≡ None }
+        ensures memory { seen mem.new ≡ memory_written (seen mem.old) frame index value }
+        ensures kinds { kinds_in mem.new ≡ kinds_in mem.old }
         ensures root { self.new.root ≡ self.old.root }
-        ensures books { AreDescribed self.new.frames self.new.root mem.new }
+        ensures books { HoldsTables self.new.frames self.new.root mem.new }
+        ensures frames { self.new.frames ≡ self.old.frames }
+        ensures others { (p : ℕ) → 0x1A000 ≤ p → p < 0x40000 → byte_at mem.new p ≡ byte_at mem.old p }
     {
         table_calls_law();
         descriptor_law();
         memory_tables_law();
+        stored_law();
+        held_tables_law();
         let _frames = self.frames.frames();
-        let old = entry(mem, frame, index);
-        mem.store64(4096 * frame + 8 * index, value);
-        let level = level_at(&self.frames, frame);
-        self.frames.replace(level, old, Entry(value));
+        let old = seen_entry(&self.frames, mem, frame, index);
+        store_entry(&self.frames, mem, frame, index, value);
+        let level = level_at(&self.frames, mem, frame);
+        self.frames.replace(mem, level, old, Entry(value));
     }
 
     // Makes the table data that may be removed.
     fn clear_table(&mut self, mem: &mut PhysMem, table: u32)
-        requires books { AreDescribed self.old.frames self.old.root mem.old }
-        requires frame { table < length self.old.frames.kinds }
-        requires rule { remove_rule (tables_in self.old.frames.kinds self.old.root mem.old) table ≡ None }
-        ensures memory { mem.new ≡ memory_removed mem.old table }
-        ensures kinds { self.new.frames.kinds ≡ slice_set self.old.frames.kinds table Data }
+        requires books { HoldsTables self.old.frames self.old.root mem.old }
+        requires frame { table < self.old.frames }
+        requires rule { remove_rule (tables_held self.old.root mem.old) table ≡ None }
+        ensures memory { seen mem.new ≡ memory_removed (seen mem.old) table }
+        ensures kinds { kinds_in mem.new ≡ slice_set (kinds_in mem.old) table Data }
         ensures root { self.new.root ≡ self.old.root }
-        ensures books { AreDescribed self.new.frames self.new.root mem.new }
+        ensures books { HoldsTables self.new.frames self.new.root mem.new }
+        ensures frames { self.new.frames ≡ self.old.frames }
+        ensures others { (p : ℕ) → 0x1A000 ≤ p → p < 0x40000 → byte_at mem.new p ≡ byte_at mem.old p }
     {
         table_calls_law();
         descriptor_law();
         memory_tables_law();
         sound_law();
+        stored_law();
+        held_tables_law();
         let _frames = self.frames.frames();
-        let old = entry(mem, u64::from(table), LAST);
-        mem.zero_frame(table);
-        let level = level_at(&self.frames, u64::from(table));
-        self.frames.replace(level, old, Entry(0));
-        self.frames.set_kind(table, Kind::Data);
+        let old = seen_entry(&self.frames, mem, u64::from(table), LAST);
+        clear_frame(&self.frames, mem, table);
+        let level = level_at(&self.frames, mem, u64::from(table));
+        self.frames.replace(mem, level, old, Entry(0));
+        self.frames.set_kind(mem, table, Kind::Data);
     }
 }
 

@@ -1,64 +1,177 @@
-//! The calls, over a memory of sixteen frames: the root in frame 5, the kernel slot's tables in frames 6 to 10, and
-//! data elsewhere but for frame 2. Frame 9 names 10; a leaf of frame 8 is loose to frame 3, and frame 14 isn't zero.
+//! The calls, over a memory of eighty frames: the root in frame 5, the kernel slot's tables in frames 6 to 10, the books,
+//! and data elsewhere but for frame 2. Frame 9 names 10; a leaf of frame 8 is loose to frame 3, and frame 14 isn't zero.
 
-ghost use Rattle.std.specs.Prelude.{◌≡◌, ℕ, ◌+◌, ◌*◌, ◌<◌, ◌≤◌, IfOk, [], ◌∷◌, length};
-ghost use Rattle.nk_bits.specs.declared.kind.Kind.TheVariants.{Data, Fixed, Table};
+ghost use Rattle.std.specs.Prelude.{◌≡◌, ◌≢◌, ◌<◌, ◌≤◌, ℕ, ◌+◌, ◌*◌, ◌/◌, true, false, IfOk, IfSome, length};
+ghost use Rattle.nk_bits.specs.declared.kind.Kind.TheVariants.{Fixed, Hidden, Table};
+ghost use Rattle.nk_bits.specs.Kinds.{kind_of, level_of};
+ghost use Rattle.nk_bits.specs.Paging.{frame_of, is_present};
+ghost use Rattle.phys_mem.specs.MaskedMemory.{is_book_frame};
 ghost use Rattle.phys_mem.specs.Memory.{byte_at, entry_in};
-ghost use Rattle.page_desc.specs.PageTables.{AreDescribed};
+ghost use Rattle.page_desc.specs.DescriptorBytes.{HoldsTables};
 
 use crate::Tables4;
+use crate::entries::entry;
 use nk_bits::Kind;
-use page_desc::Frames;
-use phys_mem::{PhysMem, frame_law};
+use page_desc::{Frames, descriptor_law, stored_law};
+use phys_mem::{NoMemory, PhysMem, mask_law};
 use std::alloc::{AllocError, Global};
 use std::test::Fail;
 
 fn kinds(alloc: Global) -> Result<Vec<Kind>, AllocError>
-    ensures { IfOk result (λ kinds. kinds.items ≡ Data ∷ Data ∷ Fixed ∷ Data ∷ Data ∷ Table 4 ∷ Fixed ∷ Fixed ∷ Fixed ∷ Fixed ∷ Fixed
-        ∷ Data ∷ Data ∷ Data ∷ Data ∷ Data ∷ []) }
+    ensures { IfOk result (λ kinds. length kinds.items ≡ 80) }
 {
-    let mut kinds = vec![in alloc; Kind::Data; 16]?;
+    let mut kinds = vec![in alloc; Kind::Data; 80]?;
     kinds[2] = Kind::Fixed;
     kinds[5] = Kind::Table(4);
-    kinds[6] = Kind::Fixed;
-    kinds[7] = Kind::Fixed;
-    kinds[8] = Kind::Fixed;
-    kinds[9] = Kind::Fixed;
-    kinds[10] = Kind::Fixed;
+    for frame in 6..11 {
+        kinds[frame] = Kind::Fixed;
+    }
+    for frame in 26..65 {
+        kinds[frame] = Kind::Hidden;
+    }
     Ok(kinds)
 }
 
-fn set(mem: &mut PhysMem, frame: u32, index: u32, value: u64)
-    requires frame { 4096 * frame + 4096 ≤ length mem.old }
-    requires index { index < 512 }
-    ensures here { entry_in mem.new frame index ≡ value }
-    ensures elsewhere { (f i : ℕ) → i < 512 → (f ≡ frame → i ≡ index → ⊥) → entry_in mem.new f i ≡ entry_in mem.old f i }
-    ensures length { length mem.new ≡ length mem.old }
+/// The entries of the root and of frames 6, 7 and 9, and others that no rule asks of.
+const ENTRIES: [(u64, u64); 7] = [
+    (0x5FF8, 0x6027),
+    (0x6000, 0x7027),
+    (0x8018, 0x8000_0000_0000_3063),
+    (0x9000, 0xA027),
+    (0xA000, 0x8000_0000_0000_2063),
+    (0xE000, 0x2067),
+    (0xEFF8, 0x2067),
+];
+
+fn store(mem: &mut PhysMem, at: u64, value: u64)
+    ensures { length mem.new ≡ length mem.old }
 {
-    frame_law();
-    mem.store64(4096 * u64::from(frame) + 8 * u64::from(index), value);
+    if at < 0xFFFF && at + 8 <= 4096 * u64::from(mem.frames()) {
+        mem.store64(at, value);
+    }
 }
 
-/// The entries of the root and of frames 6, 7 and 9, and others that no rule asks of.
-fn fill(mem: &mut PhysMem)
-    requires length { length mem.old ≡ 65536 }
-    requires zeroed { (f i : ℕ) → entry_in mem.old f i ≡ 0 }
-    ensures length { length mem.new ≡ 65536 }
-    ensures root { entry_in mem.new 5 511 ≡ 24615 }
-    ensures root_rest { (i : ℕ) → i < 511 → entry_in mem.new 5 i ≡ 0 }
-    ensures directory { entry_in mem.new 9 0 ≡ 40999 }
-    ensures directory_rest { (i : ℕ) → 1 ≤ i → i < 512 → entry_in mem.new 9 i ≡ 0 }
-    ensures slot { entry_in mem.new 6 0 ≡ 28711 }
-    ensures slot_rest { (i : ℕ) → 1 ≤ i → i < 512 → entry_in mem.new 6 i ≡ 0 }
-    ensures area { (i : ℕ) → i < 512 → entry_in mem.new 7 i ≡ 0 }
+/// Whether a frame of memory is fixed.
+fn is_fixed(kinds: &[Kind], frame: usize) -> bool
+    ensures { result ≡ true → kind_of kinds.now frame ≡ Fixed }
 {
-    set(mem, 6, 0, 0x7027);
-    set(mem, 8, 3, 0x8000_0000_0000_3063);
-    set(mem, 10, 0, 0x8000_0000_0000_2063);
-    set(mem, 14, 0, 0x2067);
-    set(mem, 14, 511, 0x2067);
-    set(mem, 9, 0, 0xA027);
-    set(mem, 5, 511, 0x6027);
+    frame < kinds.len() && matches!(kinds[frame], Kind::Fixed)
+}
+
+/// Whether a frame of memory is hidden.
+fn is_hidden(kinds: &[Kind], frame: usize) -> bool
+    ensures { result ≡ true → kind_of kinds.now frame ≡ Hidden }
+{
+    frame < kinds.len() && matches!(kinds[frame], Kind::Hidden)
+}
+
+/// Whether a frame holds no table.
+fn is_no_table(kinds: &[Kind], frame: usize) -> bool
+    requires { frame < length kinds.now }
+    ensures { result ≡ true → level_of (kind_of kinds.now frame) ≡ 0 }
+{
+    !matches!(kinds[frame], Kind::Table(_))
+}
+
+/// Whether a frame of memory holds a table of level 4.
+fn is_root(kinds: &[Kind], frame: usize) -> bool
+    ensures { result ≡ true → kind_of kinds.now frame ≡ Table 4 }
+{
+    frame < kinds.len() && matches!(kinds[frame], Kind::Table(4))
+}
+
+/// Whether frame 5 alone holds a table by its kind.
+fn is_one_table(kinds: &[Kind]) -> bool
+    requires { length kinds.now ≡ 80 }
+    ensures { result ≡ true → (f : ℕ) → f ≢ 5 → level_of (kind_of kinds.now f) ≡ 0 }
+{
+    for frame in 0..80 {
+        if frame != 5 && !is_no_table(kinds, frame) {
+            return false;
+        }
+    }
+    true
+}
+
+/// Whether the books are hidden.
+#[tactic(auto, unfolding(phys_mem::specs::MaskedMemory::is_book_frame))]
+fn are_books_hidden(kinds: &[Kind]) -> bool
+    ensures { result ≡ true → (f : ℕ) → is_book_frame 80 f ≡ true → kind_of kinds.now f ≡ Hidden }
+{
+    for frame in 26..65 {
+        if !is_hidden(kinds, frame) {
+            return false;
+        }
+    }
+    true
+}
+
+/// Whether the frame of descriptors holds 0.
+#[tactic(auto, unfolding(phys_mem::specs::MaskedMemory::is_book_frame))]
+fn are_zero(mem: &PhysMem) -> bool
+    requires { length mem.now ≡ 4096 * 80 }
+    ensures { result ≡ true
+        → (p : ℕ) → 0x40000 ≤ p → is_book_frame 80 (p / 4096) ≡ true → byte_at mem.now p ≡ 0 }
+{
+    for at in 0x40000..0x41000 {
+        if mem.load8(at) != 0 {
+            return false;
+        }
+    }
+    true
+}
+
+/// Whether each present entry of a table names this frame.
+fn names(mem: &PhysMem, table: u64, target: u64) -> bool
+    requires { 4096 * table + 4096 ≤ length mem.now }
+    ensures { result ≡ true → (i : ℕ) → i < 512 → is_present (entry_in mem.now table i) ≡ true
+        → frame_of (entry_in mem.now table i) ≡ target }
+{
+    for index in 0..512 {
+        let entry = entry(mem, table, index);
+        if entry.is_present() && entry.frame() != target {
+            return false;
+        }
+    }
+    true
+}
+
+/// Whether no entry of the root is present but the last, which is the kernel slot's.
+fn is_slot_alone(mem: &PhysMem) -> bool
+    requires { 4096 * 80 ≤ length mem.now }
+    ensures { result ≡ true → ((i : ℕ) → i < 511 → is_present (entry_in mem.now 5 i) ≡ false) × (entry_in mem.now 5 511 ≡ 24615) }
+{
+    for index in 0..511 {
+        if entry(mem, 5, index).is_present() {
+            return false;
+        }
+    }
+    entry(mem, 5, 511).0 == 0x6027
+}
+
+/// Starts the descriptors, where memory and kinds admit it.
+fn begin(mem: &mut PhysMem, kinds: &[Kind]) -> Option<Tables4>
+    requires memory { length mem.old ≡ 4096 * 80 }
+    requires kinds { length kinds.now ≡ 80 }
+    ensures { IfSome result (λ tables. HoldsTables tables.frames tables.root mem.new) }
+{
+    mask_law();
+    stored_law();
+    descriptor_law();
+    let are_fixed = is_fixed(kinds, 2)
+        & is_fixed(kinds, 6)
+        & is_fixed(kinds, 7)
+        & is_fixed(kinds, 8)
+        & is_fixed(kinds, 9)
+        & is_fixed(kinds, 10);
+    let are_kinds = are_books_hidden(kinds) & is_one_table(kinds) & is_root(kinds, 5);
+    let are_entries = names(mem, 6, 7) & names(mem, 7, 8) & names(mem, 9, 10);
+    if are_fixed & are_kinds & are_entries & is_slot_alone(mem) & are_zero(mem) {
+        let frames = Frames::start(mem, kinds);
+        Some(Tables4 { frames, root: 5 })
+    } else {
+        None
+    }
 }
 
 struct Opening {
@@ -67,14 +180,17 @@ struct Opening {
 }
 
 fn open(alloc: Global) -> Result<Opening, Fail>
-    ensures { IfOk result (λ opening. AreDescribed opening.tables.frames opening.tables.root opening.mem) }
+    ensures { IfOk result (λ opening. HoldsTables opening.tables.frames opening.tables.root opening.mem) }
 {
-    let mut mem = PhysMem::new(alloc, 16)?;
-    fill(&mut mem);
+    let mut mem = PhysMem::new(alloc, 80)?;
+    for (at, value) in ENTRIES {
+        store(&mut mem, at, value);
+    }
     let kinds = kinds(alloc)?;
-    let frames = Frames::start(alloc, &mem, kinds)?;
-    let tables = Tables4 { frames, root: 5 };
-    Ok(Opening { tables, mem })
+    match begin(&mut mem, &kinds) {
+        Some(tables) => Ok(Opening { tables, mem }),
+        None => Err(NoMemory.into()),
+    }
 }
 
 #[derive(Clone, Copy, Debug, PartialEq, Eq)]
@@ -87,14 +203,14 @@ enum Call {
 
 /// The number of the rule that the call breaks; 0 where it breaks none.
 fn serve(tables: &mut Tables4, mem: &mut PhysMem, call: Call) -> u64
-    requires books { AreDescribed tables.old.frames tables.old.root mem.old }
-    ensures books { AreDescribed tables.new.frames tables.new.root mem.new }
+    requires books { HoldsTables tables.old.frames tables.old.root mem.old }
+    ensures books { HoldsTables tables.new.frames tables.new.root mem.new }
 {
     let answer = match call {
         Call::Declare(level, frame) => tables.declare_table(mem, level, frame),
         Call::Write(frame, index, value) => tables.write_entry(mem, frame, index, value),
         Call::Remove(frame) => tables.remove_table(mem, frame),
-        Call::Root(frame) => tables.load_root(frame),
+        Call::Root(frame) => tables.load_root(mem, frame),
     };
     match answer {
         Ok(()) => 0,
@@ -104,8 +220,8 @@ fn serve(tables: &mut Tables4, mem: &mut PhysMem, call: Call) -> u64
 
 /// Makes the calls in turn, to the first that isn't answered by the number beside it; gives how many were.
 fn play(tables: &mut Tables4, mem: &mut PhysMem, rows: &[(Call, u64)]) -> usize
-    requires books { AreDescribed tables.old.frames tables.old.root mem.old }
-    ensures books { AreDescribed tables.new.frames tables.new.root mem.new }
+    requires books { HoldsTables tables.old.frames tables.old.root mem.old }
+    ensures books { HoldsTables tables.new.frames tables.new.root mem.new }
 {
     for (index, (call, number)) in rows.iter().enumerate() {
         if serve(tables, mem, *call) != *number {
@@ -116,7 +232,7 @@ fn play(tables: &mut Tables4, mem: &mut PhysMem, rows: &[(Call, u64)]) -> usize
 }
 
 fn load(mem: &PhysMem, at: u64) -> u64 {
-    if at < 0xFFFF && at + 8 <= 4096 * u64::from(mem.frames()) {
+    if at < 0x4_FFFF && at + 8 <= 4096 * u64::from(mem.frames()) {
         mem.load64(at)
     } else {
         u64::MAX
@@ -125,7 +241,7 @@ fn load(mem: &PhysMem, at: u64) -> u64 {
 
 /// A call with another answer is found, at its place.
 const WRONG: [(Call, u64); 3] = [
-    (Call::Declare(1, 16), 2),
+    (Call::Declare(1, 80), 2),
     (Call::Declare(0, 14), 4),
     (Call::Declare(1, 2), 4),
 ];
@@ -140,9 +256,9 @@ fn a_wrong_answer_is_found(rt: HostRuntime) -> Result<(), Fail> {
     Ok(())
 }
 
-const DECLARED: [(Call, u64); 21] = [
+const DECLARED: [(Call, u64); 22] = [
     // Frames outside memory, levels, kinds, a leaf of the kernel slot that is loose.
-    (Call::Declare(1, 16), 2),
+    (Call::Declare(1, 80), 2),
     (Call::Declare(1, 0x1_0000_000E), 2),
     (Call::Declare(0, 14), 3),
     (Call::Declare(5, 14), 3),
@@ -150,9 +266,10 @@ const DECLARED: [(Call, u64); 21] = [
     (Call::Declare(1, 2), 4),
     (Call::Declare(1, 5), 4),
     (Call::Declare(1, 10), 4),
+    (Call::Declare(1, 64), 4),
     (Call::Declare(1, 3), 5),
     // Two rules at once.
-    (Call::Declare(0, 16), 2),
+    (Call::Declare(0, 80), 2),
     (Call::Declare(5, 10), 3),
     (Call::Declare(4, 2), 4),
     // A table of each level, once.
@@ -181,33 +298,42 @@ fn tables_are_declared(rt: HostRuntime) -> Result<(), Fail> {
         (0xBFF8, 0),
         (0xB000, 0xC027),
         (0xCFF8, 0xD027),
+        // The descriptors of frames 13, 14 and 15: kind and loose leaves, links.
+        (0x400D0, 0x102),
+        (0x400D8, 1),
+        (0x400E0, 0x402),
+        (0x400E8, 0),
+        (0x400F0, 0x1_0000_0000),
+        (0x400F8, 0),
     ] {
         assert_eq!(rt; load(&mem, at), value, "at {at:x}");
     }
     Ok(())
 }
 
-const WRITTEN: [(Call, u64); 25] = [
+const WRITTEN: [(Call, u64); 27] = [
     (Call::Declare(3, 11), 0),
     (Call::Declare(2, 12), 0),
     (Call::Declare(1, 13), 0),
-    (Call::Write(16, 0, 0), 2),
+    (Call::Write(80, 0, 0), 2),
     (Call::Write(0x1_0000_000D, 0, 0), 2),
     (Call::Write(14, 0, 0), 6),
     (Call::Write(10, 0, 0), 6),
+    (Call::Write(64, 0, 0), 6),
     (Call::Write(13, 512, 0), 7),
     (Call::Write(5, 511, 0), 8),
     (Call::Write(5, 511, 0x6027), 8),
     (Call::Write(13, 0, 0x8000_0000_0000_F029), 9),
-    (Call::Write(13, 0, 0x8000_0000_0001_0021), 10),
+    (Call::Write(13, 0, 0x8000_0000_0005_0021), 10),
+    (Call::Write(13, 0, 0x8000_0000_0004_0021), 10),
     (Call::Write(13, 0, 0xF021), 11),
     (Call::Write(11, 0, 0xD027), 10),
     // Two rules at once.
-    (Call::Write(16, 512, 1), 2),
+    (Call::Write(80, 512, 1), 2),
     (Call::Write(14, 512, 1), 6),
     (Call::Write(5, 512, 1), 7),
     (Call::Write(5, 511, 1), 8),
-    (Call::Write(13, 0, 0x1_0001), 9),
+    (Call::Write(13, 0, 0x5_0001), 9),
     // A table may be named, but to be read alone; entry 511 is the kernel slot's at level 4 alone.
     (Call::Write(13, 511, 0x8000_0000_0000_D021), 0),
     (Call::Write(13, 511, 0x8000_0000_0000_D063), 11),
@@ -246,11 +372,12 @@ fn entries_are_written(rt: HostRuntime) -> Result<(), Fail> {
     } = open(rt.alloc())?;
     assert_eq!(rt; play(&mut tables, &mut mem, &LOOSE), LOOSE.len());
     assert_eq!(rt; load(&mem, 0xE028), 0);
+    assert_eq!(rt; load(&mem, 0x400F0), 0x102);
     Ok(())
 }
 
 const REMOVED: [(Call, u64); 25] = [
-    (Call::Remove(16), 2),
+    (Call::Remove(80), 2),
     (Call::Remove(0x1_0000_0005), 2),
     (Call::Remove(14), 6),
     (Call::Remove(2), 6),
@@ -290,11 +417,12 @@ fn tables_are_removed(rt: HostRuntime) -> Result<(), Fail> {
     assert_eq!(rt; play(&mut tables, &mut mem, &[(Call::Remove(14), 0)]), 1);
     assert_eq!(rt; load(&mem, 0xEFF8), 0);
     assert_eq!(rt; load(&mem, 0xDFF8), 0);
+    assert_eq!(rt; load(&mem, 0x400E0), 0);
     Ok(())
 }
 
 const LOADED: [(Call, u64); 11] = [
-    (Call::Root(16), 2),
+    (Call::Root(80), 2),
     (Call::Root(0x1_0000_0005), 2),
     (Call::Root(14), 14),
     (Call::Declare(3, 14), 0),

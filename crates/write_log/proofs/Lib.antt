@@ -1,2 +1,9 @@
-pub mod Records
+pub mod RecordBytes
+pub mod PutRecords
+pub mod LogWalk
+pub mod HeldLogs
+pub mod AddedRecords
 mod WorkedLog
+pub mod StandingBytes
+pub mod WorkedLogBytes
+mod RefutedLogs

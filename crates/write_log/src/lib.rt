@@ -1,11 +1,16 @@
 //! The log of accepted writes: a list of records, each with its region, offset and bytes, within 65,536 bytes of which a
-//! record takes 24 beside its own. Its room is made at the start, and no later call takes memory. Which writes are logged,
-//! others say; no record ever goes. Floor: nested kernel.
+//! record takes 24 beside its own. They stand in guest memory, in frames 26 to 41; `specs/LogBytes.antt` says how. No call
+//! takes memory. Which writes are logged, others say; no record ever goes. Floor: nested kernel.
 #![tactic(auto)]
 
-// The log.
+// A record's bytes.
+mod record;
+
+// The log, and what follows from its form.
+mod laws;
 mod log;
 #[cfg(test)]
 mod tests;
 
-pub use log::{Log, NoMemory, Noted};
+pub use laws::held_log_law;
+pub use log::{Log, Noted, Spot};

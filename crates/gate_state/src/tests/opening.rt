@@ -1,7 +1,7 @@
 //! The registers that a run begins with, as its first delivery pushes them.
 
 ghost use Rattle.std.specs.Prelude.{◌≡◌};
-ghost use Rattle.nk_body.specs.NestedRecord.{AreBooks};
+ghost use Rattle.nk_body.specs.NestedRecord.{HoldsBooks};
 
 use super::{NOTHING, admitted, advanced, begun, finished};
 use crate::{Finished, Machine};
@@ -12,7 +12,7 @@ use std::test::Fail;
 
 /// The five numbers at the top of the trap stack: RIP, CS, RFLAGS, RSP and SS (SDM volume 3, figure 6-9).
 fn frame(end: &Finished) -> [u64; 5]
-    requires { AreBooks end.now.kernel end.now.mem }
+    requires { HoldsBooks end.now.kernel end.now.mem }
 {
     [
         end.mem.load64(0x3FD8),

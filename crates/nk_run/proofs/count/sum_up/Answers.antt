@@ -20,7 +20,7 @@ returns-in-Ok-clause-written g c =
     let rest = summary_lines (summary_of c.args.tally.now (nested_of s)) in
     let end = c.finish-finished.ensures in
     let counts : c.summed-counts.result ≡ summary_of c.args.tally.now (nested_of s) =
-    c.summed-counts.ensures c.finish-finished.result.mem
+    c.summed-counts.ensures
     ∙ (λ i. summary_of c.args.tally.now (nested_in (end.kinds i) (end.root i) (end.ledger i) (end.memory i))) in
     let same = ap (λ halted. ending_line halted ++ turns_line c.turns-turns.result) c.is_halted.ensures
     ∙ ap (λ n. why ++ turns_line n) c.turns-turns.ensures in

@@ -1,6 +1,6 @@
 use Rattle.std.proofs.Common.{◌++◌, inr, append_assoc, ap, refl, subst}
 use Rattle.nk_host.specs.Taken.{AppendsPrefix}
-use Rattle.nk_body.specs.NestedRecord.{nested_by}
+use Rattle.nk_body.specs.NestedRecord.{nested_held}
 use Rattle.report_text.specs.ClosingSection.{section}
 use Rattle.report_text.specs.RunLines.{ending_line, turns_line}
 use Rattle.nk_run.specs.Replies.{IsWritten}
@@ -13,7 +13,7 @@ pub returns-in-Ok-clause-written : goal.returns-in-Ok-clause-written
 returns-in-Ok-clause-written g c =
     let why = ending_line (is_halted c.args.ending) in
     let turns = turns_line c.args.turns in
-    let held = nested_by c.args.finished.now.kernel c.args.finished.now.mem in
+    let held = nested_held c.args.finished.now.kernel c.args.finished.now.mem in
     let rest = section c.args.image.now c.args.layout.now.frames held in
     subst (λ l. IsWritten
     (sink_change g.O.Sink.taken g.O.Sink.faults c.args.sink.now c.finish.new.sink) 0 l c.finish.result)
@@ -27,7 +27,7 @@ pub returns-in-Err-clause-written : goal.returns-in-Err-clause-written
 returns-in-Err-clause-written g c =
     let why = ending_line (is_halted c.args.ending) in
     let turns = turns_line c.args.turns in
-    let held = nested_by c.args.finished.now.kernel c.args.finished.now.mem in
+    let held = nested_held c.args.finished.now.kernel c.args.finished.now.mem in
     let rest = section c.args.image.now c.args.layout.now.frames held in
     let before = g.O.Sink.taken c.args.sink.now in
     let after = g.O.Sink.taken c.ending.new.sink in

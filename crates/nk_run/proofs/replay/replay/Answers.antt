@@ -1,5 +1,5 @@
 use Rattle.std.proofs.Common.{inr}
-use Rattle.nk_body.specs.NestedRecord.{nested_by}
+use Rattle.nk_body.specs.NestedRecord.{nested_held}
 use Rattle.report_text.specs.ClosingSection.{section}
 use Rattle.nk_run.proofs.RunRows.{replayed_says}
 use Rattle.nk_run.proofs.replay.replay.Goals as goal
@@ -18,7 +18,7 @@ returns g c =
     let it = c.in-Ok.replayed in
     record {
       status = 0;
-      text = section it.image it.layout.frames (nested_by it.left.kernel it.left.memory);
+      text = section it.image it.layout.frames (nested_held it.left.kernel it.left.memory);
       says = inr (replayed_says _ c.args.frames c.requires.asked _ _ c.in-Ok.ensures.made.outcome_is);
       written = c.show.ensures;
       files_stay = c.make_replay.ensures.files_stay;

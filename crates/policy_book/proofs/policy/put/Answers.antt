@@ -1,26 +1,28 @@
-use Rattle.std.proofs.Common.{arith, ap, ◌∙◌, length}
-use Rattle.region_book.specs.RegionRecords.{region_of}
-use Rattle.write_log.specs.LogRecords.{log_size}
+use Rattle.std.proofs.Common.{◌≡◌, ◌+◌, ◌≤◌, true, length, ap, sym, subst, ◌∙◌}
+use Rattle.region_book.specs.RegionBytes.{book_in}
+use Rattle.region_book.specs.RegionRecords.{IsBook, region_of}
+use Rattle.write_log.specs.LogBytes.{log_in}
+use Rattle.write_log.specs.LogRecords.{logged, room_of}
 use Rattle.policy_book.proofs.FoundRegions.{has_id}
-use Rattle.policy_book.proofs.Writes.{logged_is, none_has_room, size_logged}
+use Rattle.policy_book.proofs.Writes.{logged_is, none_fits, none_has_room}
 use Rattle.policy_book.proofs.policy.put.Goals as goal
 
-pub add-requires : goal.add-requires
-add-requires c =
-    none_has_room c.args.log.now c.args.offset (length c.args.bytes.now) (region_of c.args.regions.now c.args.id) c.requires.judged c.if-logged.ensures
+pub mark-requires-clause-fits : goal.mark-requires-clause-fits
+mark-requires-clause-fits c =
+    none_fits (log_in c.args.log.now c.args.mem.now) c.args.offset (length c.args.bytes.now)
+    (region_of (book_in c.args.regions.now c.args.mem.now) c.args.id) c.requires.judged
+
+pub note-requires-clause-room : goal.note-requires-clause-room
+note-requires-clause-room c =
+    subst (λ log. 24 + length c.args.bytes.now ≤ room_of log) (sym c.mark.ensures.log)
+    (none_has_room (log_in c.args.log.now c.args.mem.now) c.args.offset (length c.args.bytes.now)
+    (region_of (book_in c.args.regions.now c.args.mem.now) c.args.id) c.requires.judged c.if-logged.ensures)
 
 pub returns-then-logged-clause-log : goal.returns-then-logged-clause-log
 returns-then-logged-clause-log c =
-    c.add.ensures
-    ∙ logged_is c.args.log.now c.args.offset (length c.args.bytes.now) (region_of c.args.regions.now c.args.id) c.args.id c.args.bytes.now
-    c.requires.judged c.if-logged.ensures (has_id c.args.regions.now c.args.id)
+    c.note.ensures.log ∙ ap (λ log. logged log c.args.id c.args.offset c.args.bytes.now) c.mark.ensures.log
+    ∙ logged_is (log_in c.args.log.now c.args.mem.now) c.args.offset (length c.args.bytes.now) (region_of (book_in c.args.regions.now c.args.mem.now) c.args.id)
+    c.args.id c.args.bytes.now c.requires.judged c.if-logged.ensures (has_id (book_in c.args.regions.now c.args.mem.now) c.args.id)
 
-pub returns-then-logged-clause-room : goal.returns-then-logged-clause-room
-returns-then-logged-clause-room c =
-    omega (
-      arith,
-      c.requires.log,
-      ap log_size c.add.ensures,
-      size_logged c.args.log.now c.args.id c.args.offset c.args.bytes.now,
-      none_has_room c.args.log.now c.args.offset (length c.args.bytes.now) (region_of c.args.regions.now c.args.id) c.requires.judged c.if-logged.ensures,
-    )
+pub returns-then-logged-clause-sound : goal.returns-then-logged-clause-sound
+returns-then-logged-clause-sound c = subst IsBook (sym c.note.ensures.book) c.mark.ensures.sound

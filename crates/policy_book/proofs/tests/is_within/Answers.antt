@@ -1,9 +1,14 @@
-use Rattle.std.proofs.Common.{arith, length, sym, ◌∙◌}
-use Rattle.std.proofs.lemmas.Bool.{leb-true}
-use Rattle.policy_book.proofs.PoolFrames.{frames_within}
+use Rattle.std.proofs.Common.{◌/◌, arith, length, sym, ◌∙◌}
+use Rattle.region_book.specs.RegionBytes.{book_in}
+use Rattle.policy_book.proofs.PoolFrames.{frames_apart, frames_within}
 use Rattle.policy_book.proofs.tests.is_within.Goals as goal
 
-pub returns-then-region : goal.returns-then-region
-returns-then-region c = λ large.
-    frames_within c.args.regions.now c.args.id (length c.args.mem.now) c.in-Some.region c.requires.book (sym c.find.ensures ∙ c.in-Some.is) c.if-region.true
-    (omega (arith, leb-true 26 c.frames.result large, c.frames.ensures.length))
+pub returns-in-Some-clause-within : goal.returns-in-Some-clause-within
+returns-in-Some-clause-within c = λ pooled.
+    frames_within (book_in c.args.regions.now c.args.mem.now) c.args.id (length c.args.mem.now) c.in-Some.region c.requires.book
+    (sym c.find.ensures ∙ c.in-Some.is) pooled (omega (arith, c.requires.held.size))
+
+pub returns-in-Some-clause-apart : goal.returns-in-Some-clause-apart
+returns-in-Some-clause-apart c = λ pooled.
+    frames_apart (book_in c.args.regions.now c.args.mem.now) c.args.id (length c.args.mem.now / 4096) c.in-Some.region c.requires.book
+    (sym c.find.ensures ∙ c.in-Some.is) pooled

@@ -1,18 +1,19 @@
-use Rattle.std.proofs.Common.{arith, sym}
+use Rattle.std.proofs.Common.{arith, map, sym}
+use Rattle.region_book.specs.RegionBytes.{row_in}
 use Rattle.region_book.proofs.PoolPlaces.{no_room, room_found}
 use Rattle.region_book.proofs.pool.room.Goals as goal
 
 pub returns-then-place-size-gt-POOL_SIZE-clause-room : goal.returns-then-place-size-gt-POOL_SIZE-clause-room
 returns-then-place-size-gt-POOL_SIZE-clause-room c =
-    λ bits. sym (no_room bits c.args.rows.now.items c.args.size c.loop-round.place c.loop-round.invariant.taken
+    λ bits. sym (no_room bits (map (row_in c.args.mem.now) c.args.slots.now) c.args.size c.loop-round.place c.loop-round.invariant.taken
     c.if-place-size-gt-POOL_SIZE.true)
 
 pub returns-in-None-clause-room : goal.returns-in-None-clause-room
 returns-in-None-clause-room c =
-    λ bits. sym (room_found bits c.args.rows.now.items c.args.size c.loop-round.place c.loop-round.invariant.taken
+    λ bits. sym (room_found bits (map (row_in c.args.mem.now) c.args.slots.now) c.args.size c.loop-round.place c.loop-round.invariant.taken
     c.loop-round.invariant.even (omega arith) (omega arith) c.in-None.ensures.none)
 
 pub returns-clause-room : goal.returns-clause-room
 returns-clause-room c =
-    λ bits. sym (no_room bits c.args.rows.now.items c.args.size c.loop-round.place c.loop-round.invariant.taken
+    λ bits. sym (no_room bits (map (row_in c.args.mem.now) c.args.slots.now) c.args.size c.loop-round.place c.loop-round.invariant.taken
     (omega arith))

@@ -1,5 +1,6 @@
 use Rattle.std.proofs.Common.{◌<◌, ◌+◌, arith, refl, slice_index}
 use Rattle.region_book.proofs.RowStores.{bytes_done, byte_more}
+use Rattle.region_book.proofs.SeenStores.{books_stay, stores_seen}
 use Rattle.region_book.proofs.stores.put.Goals as goal
 
 pub loop-i-preserved : goal.loop-i-preserved
@@ -15,3 +16,13 @@ loop-i-preserved c =
 pub returns-clause-stored : goal.returns-clause-stored
 returns-clause-stored c = bytes_done _ c.loop-i.mem c.args.row.now c.args.offset c.loop-i.i c.args.bytes.now
     (omega arith) c.loop-i.invariant.left
+
+pub returns-clause-seen : goal.returns-clause-seen
+returns-clause-seen c =
+    stores_seen c.args.mem.now c.loop-i.mem c.args.row.now c.args.offset c.args.row.now.size c.args.bytes.now
+    c.requires.within c.requires.apart (returns-clause-stored c) c.mask_law.ensures.stored_seen c.loop-i.invariant.same
+
+pub returns-clause-others : goal.returns-clause-others
+returns-clause-others c =
+    books_stay c.args.mem.now c.loop-i.mem c.args.row.now c.args.offset c.args.row.now.size c.args.bytes.now
+    c.requires.within c.requires.apart (returns-clause-stored c) c.memory_law.ensures.byte_elsewhere

@@ -1,5 +1,7 @@
-use Rattle.std.proofs.Common.{arith}
+use Rattle.std.proofs.Common.{◌≤◌, ◌+◌, ℕ, length, arith, replicate}
+use Rattle.std.proofs.lemmas.List.{length-replicate}
 use Rattle.region_book.proofs.RowStores.{zeros_done, zero_more}
+use Rattle.region_book.proofs.SeenStores.{books_stay, stores_seen}
 use Rattle.region_book.proofs.stores.put_zeros.Goals as goal
 
 pub loop-offset-preserved : goal.loop-offset-preserved
@@ -13,3 +15,17 @@ loop-offset-preserved c = record {
 pub returns-clause-stored : goal.returns-clause-stored
 returns-clause-stored c = zeros_done _ c.loop-offset.mem c.args.row.now c.args.row.now.size c.loop-offset.offset
     (omega arith) c.loop-offset.invariant.left
+
+pub returns-clause-seen : goal.returns-clause-seen
+returns-clause-seen c =
+    let fits : 0 + length (replicate {A = ℕ} c.args.row.now.size 0) ≤ c.args.row.now.size =
+    omega (arith, length-replicate {A = ℕ} c.args.row.now.size 0) in
+    stores_seen c.args.mem.now c.loop-offset.mem c.args.row.now 0 c.args.row.now.size (replicate c.args.row.now.size 0)
+    fits c.requires.apart (returns-clause-stored c) c.mask_law.ensures.stored_seen c.loop-offset.invariant.same
+
+pub returns-clause-others : goal.returns-clause-others
+returns-clause-others c =
+    let fits : 0 + length (replicate {A = ℕ} c.args.row.now.size 0) ≤ c.args.row.now.size =
+    omega (arith, length-replicate {A = ℕ} c.args.row.now.size 0) in
+    books_stay c.args.mem.now c.loop-offset.mem c.args.row.now 0 c.args.row.now.size (replicate c.args.row.now.size 0)
+    fits c.requires.apart (returns-clause-stored c) c.memory_law.ensures.byte_elsewhere

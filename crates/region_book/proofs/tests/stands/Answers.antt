@@ -1,10 +1,14 @@
-use Rattle.std.proofs.Common.{arith, sym, ◌∙◌, length}
-use Rattle.std.proofs.lemmas.Bool.{leb-true}
-use Rattle.region_book.proofs.PoolFrames.{shown_frames}
+use Rattle.std.proofs.Common.{◌/◌, arith, sym, ◌∙◌, length}
+use Rattle.region_book.specs.RegionBytes.{book_in}
+use Rattle.region_book.proofs.PoolFrames.{shown_aside, shown_frames}
 use Rattle.region_book.proofs.tests.stands.Goals as goal
 
-pub returns-then-region : goal.returns-then-region
-returns-then-region c = λ large.
-    shown_frames c.args.regions.now c.args.id (length c.args.mem.now) c.in-Some.region c.requires.book
-    (sym c.find.ensures ∙ c.in-Some.is) c.if-region.true
-    (omega (arith, leb-true 26 c.frames.result large, c.frames.ensures.length))
+pub returns-in-Some-clause-frames : goal.returns-in-Some-clause-frames
+returns-in-Some-clause-frames c = λ pooled.
+    shown_frames (book_in c.args.regions.now c.args.mem.now) c.args.id (length c.args.mem.now) c.in-Some.region c.requires.book
+    (sym c.find.ensures ∙ c.in-Some.is) pooled (omega (arith, c.requires.held.size))
+
+pub returns-in-Some-clause-apart : goal.returns-in-Some-clause-apart
+returns-in-Some-clause-apart c = λ pooled.
+    shown_aside (book_in c.args.regions.now c.args.mem.now) c.args.id (length c.args.mem.now / 4096) c.in-Some.region c.requires.book
+    (sym c.find.ensures ∙ c.in-Some.is) pooled

@@ -1,4 +1,4 @@
-use Rattle.std.proofs.Common.{◌++◌, codes, refl, subst}
+use Rattle.std.proofs.Common.{codes, subst}
 use Rattle.nk_host.specs.Taken.{AppendsPrefix}
 use Rattle.report_text.specs.RunSummary.{count_line, counts_line}
 use Rattle.report_text.proofs.Texts.{cut_behind, prefix_of_both, put_behind}

@@ -1,4 +1,4 @@
-use Rattle.std.proofs.Common.{◌++◌, codes, decimal, drop, ap, arith, ◌∙◌}
+use Rattle.std.proofs.Common.{◌++◌, decimal, drop, ap, arith, ◌∙◌}
 use Rattle.report_text.specs.RunSummary.{counts_line}
 use Rattle.report_text.proofs.LineRoom.{last_place}
 use Rattle.report_text.proofs.counts.two_counts.Goals as goal

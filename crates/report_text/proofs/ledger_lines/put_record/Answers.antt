@@ -1,5 +1,6 @@
-use Rattle.std.proofs.Common.{◌++◌, codes}
+use Rattle.std.proofs.Common.{◌++◌, ◌<◌, length, codes, arith}
 use Rattle.hex.specs.Hex.{encode_lower}
+use Rattle.write_log.specs.LogBytes.{log_in}
 use Rattle.report_text.proofs.LedgerLines.{noted_at}
 use Rattle.report_text.proofs.LineParts.{log_parts}
 use Rattle.report_text.proofs.TakenUp.{PiecesLaws, end_cut, first_cut, second_cut, third_cut, went_out}
@@ -11,8 +12,11 @@ returns-in-Err-clause-some g c =
     let e = c.pieces_law.ensures in
     let laws : PiecesLaws =
     record { none = e.moved_none; on = e.moved_on; cut = e.moved_cut; all = e.moved_all; longer = e.prefix_longer } in
-    let it = noted_at c.args.log.now c.args.i c.entry-it.result c.requires c.entry-it.ensures in
-    let line = log_parts c.args.i it.of c.entry-it.result c.record_head.result.now it.same c.record_head.ensures in
+    let log = log_in c.args.log.now c.args.mem.now in
+    let count = (c.held_log_law.ensures.counts c.args.log.now c.args.mem.now c.requires.held).0 in
+    let below : c.args.i < length log = omega (arith, c.requires.number, count) in
+    let it = noted_at log c.args.i c.entry_at-it.result below c.entry_at-it.ensures in
+    let line = log_parts c.args.i it.of c.entry_at-it.result c.record_head.result.now it.same c.record_head.ensures in
     some_from _ it.at (first_cut laws _ _ _ c.record_head.result.now (encode_lower it.of.bytes ++ codes "\n") _
     c.new-pieces.ensures line c.in-Err.ensures.cut)
 
@@ -21,8 +25,11 @@ returns-in-Err-take_record-clause-some g c =
     let e = c.pieces_law.ensures in
     let laws : PiecesLaws =
     record { none = e.moved_none; on = e.moved_on; cut = e.moved_cut; all = e.moved_all; longer = e.prefix_longer } in
-    let it = noted_at c.args.log.now c.args.i c.entry-it.result c.requires c.entry-it.ensures in
-    let line = log_parts c.args.i it.of c.entry-it.result c.record_head.result.now it.same c.record_head.ensures in
+    let log = log_in c.args.log.now c.args.mem.now in
+    let count = (c.held_log_law.ensures.counts c.args.log.now c.args.mem.now c.requires.held).0 in
+    let below : c.args.i < length log = omega (arith, c.requires.number, count) in
+    let it = noted_at log c.args.i c.entry_at-it.result below c.entry_at-it.ensures in
+    let line = log_parts c.args.i it.of c.entry_at-it.result c.record_head.result.now it.same c.record_head.ensures in
     some_from _ it.at
     (second_cut laws _ _ c.record_head.result.now (encode_lower it.of.bytes) (codes "\n") _ c.new-pieces.ensures line _
     _ c.in_default.ensures.moved
@@ -33,8 +40,11 @@ returns-in-Err-push-clause-some g c =
     let e = c.pieces_law.ensures in
     let laws : PiecesLaws =
     record { none = e.moved_none; on = e.moved_on; cut = e.moved_cut; all = e.moved_all; longer = e.prefix_longer } in
-    let it = noted_at c.args.log.now c.args.i c.entry-it.result c.requires c.entry-it.ensures in
-    let line = log_parts c.args.i it.of c.entry-it.result c.record_head.result.now it.same c.record_head.ensures in
+    let log = log_in c.args.log.now c.args.mem.now in
+    let count = (c.held_log_law.ensures.counts c.args.log.now c.args.mem.now c.requires.held).0 in
+    let below : c.args.i < length log = omega (arith, c.requires.number, count) in
+    let it = noted_at log c.args.i c.entry_at-it.result below c.entry_at-it.ensures in
+    let line = log_parts c.args.i it.of c.entry_at-it.result c.record_head.result.now it.same c.record_head.ensures in
     some_from _ it.at
     (third_cut laws _ _ c.record_head.result.now (encode_lower it.of.bytes) (codes "\n") _ c.new-pieces.ensures line _
     _ c.in_default.ensures.moved
@@ -45,8 +55,11 @@ returns-clause-all g c =
     let e = c.pieces_law.ensures in
     let laws : PiecesLaws =
     record { none = e.moved_none; on = e.moved_on; cut = e.moved_cut; all = e.moved_all; longer = e.prefix_longer } in
-    let it = noted_at c.args.log.now c.args.i c.entry-it.result c.requires c.entry-it.ensures in
-    let line = log_parts c.args.i it.of c.entry-it.result c.record_head.result.now it.same c.record_head.ensures in
+    let log = log_in c.args.log.now c.args.mem.now in
+    let count = (c.held_log_law.ensures.counts c.args.log.now c.args.mem.now c.requires.held).0 in
+    let below : c.args.i < length log = omega (arith, c.requires.number, count) in
+    let it = noted_at log c.args.i c.entry_at-it.result below c.entry_at-it.ensures in
+    let line = log_parts c.args.i it.of c.entry_at-it.result c.record_head.result.now it.same c.record_head.ensures in
     some_from _ it.at
     (went_out laws _ _ c.record_head.result.now (encode_lower it.of.bytes) (codes "\n") _ c.new-pieces.ensures line _ _
     c.in_default.ensures.moved
@@ -58,8 +71,11 @@ returns-clause-some g c =
     let e = c.pieces_law.ensures in
     let laws : PiecesLaws =
     record { none = e.moved_none; on = e.moved_on; cut = e.moved_cut; all = e.moved_all; longer = e.prefix_longer } in
-    let it = noted_at c.args.log.now c.args.i c.entry-it.result c.requires c.entry-it.ensures in
-    let line = log_parts c.args.i it.of c.entry-it.result c.record_head.result.now it.same c.record_head.ensures in
+    let log = log_in c.args.log.now c.args.mem.now in
+    let count = (c.held_log_law.ensures.counts c.args.log.now c.args.mem.now c.requires.held).0 in
+    let below : c.args.i < length log = omega (arith, c.requires.number, count) in
+    let it = noted_at log c.args.i c.entry_at-it.result below c.entry_at-it.ensures in
+    let line = log_parts c.args.i it.of c.entry_at-it.result c.record_head.result.now it.same c.record_head.ensures in
     some_from _ it.at
     (end_cut laws _ _ c.record_head.result.now (encode_lower it.of.bytes) (codes "\n") _ c.new-pieces.ensures line _ _
     c.in_default.ensures.moved

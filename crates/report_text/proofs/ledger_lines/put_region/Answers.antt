@@ -3,6 +3,7 @@ use Rattle.std.specs.List.{range_with_len}
 use Rattle.hex.specs.Hex.{encode_lower}
 use Rattle.phys_mem.specs.Memory.{byte_at}
 use Rattle.region_book.specs.declared.regions.Region.{Region as ShownRegion}
+use Rattle.region_book.specs.RegionBytes.{book_in}
 use Rattle.region_book.specs.RegionRecords.{Region, byte_place}
 use Rattle.report_text.proofs.LedgerLines.{place_of, shown_at}
 use Rattle.report_text.proofs.LineParts.{region_parts}
@@ -12,31 +13,31 @@ use Rattle.report_text.proofs.ledger_lines.put_region.Goals as goal
 
 pub take_region-requires-clause-live : goal.take_region-requires-clause-live
 take_region-requires-clause-live g c =
-    let it = shown_at c.args.regions.now c.requires.book c.args.i c.nth-region.result c.requires.number
+    let it = shown_at (book_in c.args.regions.now c.args.mem.now) c.requires.book c.args.i c.nth-region.result c.requires.number
     c.nth-region.ensures in
     is_some_from it.live
 
 pub take_region-requires-clause-size : goal.take_region-requires-clause-size
 take_region-requires-clause-size g c =
-    let it = shown_at c.args.regions.now c.requires.book c.args.i c.nth-region.result c.requires.number
+    let it = shown_at (book_in c.args.regions.now c.args.mem.now) c.requires.book c.args.i c.nth-region.result c.requires.number
     c.nth-region.ensures in
     some_from _ it.live (sym (ap (λ (s : ShownRegion). s.size) it.same))
 
 pub take_region-requires-clause-frames : goal.take_region-requires-clause-frames
 take_region-requires-clause-frames g c =
-    let it = shown_at c.args.regions.now c.requires.book c.args.i c.nth-region.result c.requires.number
+    let it = shown_at (book_in c.args.regions.now c.args.mem.now) c.requires.book c.args.i c.nth-region.result c.requires.number
     c.nth-region.ensures in
     let frames = c.requires.frames c.args.i it.region c.requires.number in
     some_from _ it.live
     (subst (λ (r : Region). All (λ f. 4096 * f + 4096 ≤ length c.args.mem.now) r.frames)
-    (place_of c.args.regions.now.regions c.args.i it.region c.requires.number it.at) frames)
+    (place_of (book_in c.args.regions.now c.args.mem.now).regions c.args.i it.region c.requires.number it.at) frames)
 
 pub returns-in-Err-clause-some : goal.returns-in-Err-clause-some
 returns-in-Err-clause-some g c =
     let e = c.pieces_law.ensures in
     let laws : PiecesLaws =
     record { none = e.moved_none; on = e.moved_on; cut = e.moved_cut; all = e.moved_all; longer = e.prefix_longer } in
-    let it = shown_at c.args.regions.now c.requires.book c.args.i c.nth-region.result c.requires.number
+    let it = shown_at (book_in c.args.regions.now c.args.mem.now) c.requires.book c.args.i c.nth-region.result c.requires.number
     c.nth-region.ensures in
     let bytes = map (λ o. byte_at c.args.mem.now (byte_place it.region o)) (range_with_len 0 it.region.size) in
     let line = region_parts it.region c.nth-region.result bytes c.region_head.result.now it.same
@@ -49,7 +50,7 @@ returns-in-Err-take_region-clause-some g c =
     let e = c.pieces_law.ensures in
     let laws : PiecesLaws =
     record { none = e.moved_none; on = e.moved_on; cut = e.moved_cut; all = e.moved_all; longer = e.prefix_longer } in
-    let it = shown_at c.args.regions.now c.requires.book c.args.i c.nth-region.result c.requires.number
+    let it = shown_at (book_in c.args.regions.now c.args.mem.now) c.requires.book c.args.i c.nth-region.result c.requires.number
     c.nth-region.ensures in
     let bytes = map (λ o. byte_at c.args.mem.now (byte_place it.region o)) (range_with_len 0 it.region.size) in
     let line = region_parts it.region c.nth-region.result bytes c.region_head.result.now it.same
@@ -64,7 +65,7 @@ returns-in-Err-push-clause-some g c =
     let e = c.pieces_law.ensures in
     let laws : PiecesLaws =
     record { none = e.moved_none; on = e.moved_on; cut = e.moved_cut; all = e.moved_all; longer = e.prefix_longer } in
-    let it = shown_at c.args.regions.now c.requires.book c.args.i c.nth-region.result c.requires.number
+    let it = shown_at (book_in c.args.regions.now c.args.mem.now) c.requires.book c.args.i c.nth-region.result c.requires.number
     c.nth-region.ensures in
     let bytes = map (λ o. byte_at c.args.mem.now (byte_place it.region o)) (range_with_len 0 it.region.size) in
     let line = region_parts it.region c.nth-region.result bytes c.region_head.result.now it.same
@@ -79,7 +80,7 @@ returns-clause-all g c =
     let e = c.pieces_law.ensures in
     let laws : PiecesLaws =
     record { none = e.moved_none; on = e.moved_on; cut = e.moved_cut; all = e.moved_all; longer = e.prefix_longer } in
-    let it = shown_at c.args.regions.now c.requires.book c.args.i c.nth-region.result c.requires.number
+    let it = shown_at (book_in c.args.regions.now c.args.mem.now) c.requires.book c.args.i c.nth-region.result c.requires.number
     c.nth-region.ensures in
     let bytes = map (λ o. byte_at c.args.mem.now (byte_place it.region o)) (range_with_len 0 it.region.size) in
     let line = region_parts it.region c.nth-region.result bytes c.region_head.result.now it.same
@@ -95,7 +96,7 @@ returns-clause-some g c =
     let e = c.pieces_law.ensures in
     let laws : PiecesLaws =
     record { none = e.moved_none; on = e.moved_on; cut = e.moved_cut; all = e.moved_all; longer = e.prefix_longer } in
-    let it = shown_at c.args.regions.now c.requires.book c.args.i c.nth-region.result c.requires.number
+    let it = shown_at (book_in c.args.regions.now c.args.mem.now) c.requires.book c.args.i c.nth-region.result c.requires.number
     c.nth-region.ensures in
     let bytes = map (λ o. byte_at c.args.mem.now (byte_place it.region o)) (range_with_len 0 it.region.size) in
     let line = region_parts it.region c.nth-region.result bytes c.region_head.result.now it.same

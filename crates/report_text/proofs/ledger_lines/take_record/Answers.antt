@@ -1,8 +1,9 @@
-use Rattle.std.proofs.Common.{◌++◌, ◌∙◌, ◌≡◌, [], ◌∷◌, length, ap, arith, sym, subst}
+use Rattle.std.proofs.Common.{◌++◌, ◌∙◌, ◌≡◌, ◌<◌, [], ◌∷◌, length, ap, arith, sym, subst}
 use Rattle.std.specs.Prelude.{slice_index}
 use Rattle.hex.specs.Hex.{encode_lower}
 use Rattle.nk_host.specs.PiecesOut.{MovedOn}
 use Rattle.nk_host.specs.Taken.{AppendsPrefix}
+use Rattle.write_log.specs.LogBytes.{log_in}
 use Rattle.write_log.specs.LogRecords.{LogRecord}
 use Rattle.report_text.specs.ClosingSection.{lines_of}
 use Rattle.report_text.proofs.LedgerLines.{there}
@@ -16,11 +17,14 @@ returns-in-Err-clause-cut g c =
     let e = c.pieces_law.ensures in
     let laws : PiecesLaws =
     record { none = e.moved_none; on = e.moved_on; cut = e.moved_cut; all = e.moved_all; longer = e.prefix_longer } in
-    let (of, is) = there c.args.log.now c.args.i c.requires.number in
+    let log = log_in c.args.log.now c.args.mem.now in
+    let count = (c.held_log_law.ensures.counts c.args.log.now c.args.mem.now c.requires.held).0 in
+    let below : c.args.i < length log = omega (arith, c.requires.number, count) in
+    let (of, is) = there log c.args.i below in
     let going = some_at _ is c.loop-at.invariant.taken in
     let size : length of.bytes ≡ c.args.it.now.length =
     some_at (λ (of : LogRecord). length of.bytes ≡ c.args.it.now.length) is c.requires.count in
-    let byte : c.byte-byte.result ≡ slice_index of.bytes c.loop-at.at = some_at _ is c.byte-byte.ensures in
+    let byte : c.byte_at-byte.result ≡ slice_index of.bytes c.loop-at.at = some_at _ is c.byte_at-byte.ensures in
     let here = subst (λ b. AppendsPrefix (g.O.Sink.taken c.loop-at.sink) (g.O.Sink.taken c.push_hex.new.sink)
     (c.loop-at.pieces ++ encode_lower (b ∷ [])))
     byte c.in-Err.ensures.cut in
@@ -38,9 +42,12 @@ loop-at-preserved g c =
     let e = c.pieces_law.ensures in
     let laws : PiecesLaws =
     record { none = e.moved_none; on = e.moved_on; cut = e.moved_cut; all = e.moved_all; longer = e.prefix_longer } in
-    let (of, is) = there c.args.log.now c.args.i c.requires.number in
+    let log = log_in c.args.log.now c.args.mem.now in
+    let count = (c.held_log_law.ensures.counts c.args.log.now c.args.mem.now c.requires.held).0 in
+    let below : c.args.i < length log = omega (arith, c.requires.number, count) in
+    let (of, is) = there log c.args.i below in
     let going = some_at _ is c.loop-at.invariant.taken in
-    let byte : c.byte-byte.result ≡ slice_index of.bytes c.loop-at.at = some_at _ is c.byte-byte.ensures in
+    let byte : c.byte_at-byte.result ≡ slice_index of.bytes c.loop-at.at = some_at _ is c.byte_at-byte.ensures in
     let here = subst (λ b. MovedOn (g.O.Sink.taken c.loop-at.sink) (g.O.Sink.taken c.push_hex.new.sink)
     c.loop-at.pieces c.push_hex.new.self
     (encode_lower (b ∷ []))) byte c.in_default.ensures.moved in
@@ -57,7 +64,10 @@ returns-clause-moved g c =
     let e = c.pieces_law.ensures in
     let laws : PiecesLaws =
     record { none = e.moved_none; on = e.moved_on; cut = e.moved_cut; all = e.moved_all; longer = e.prefix_longer } in
-    let (of, is) = there c.args.log.now c.args.i c.requires.number in
+    let log = log_in c.args.log.now c.args.mem.now in
+    let count = (c.held_log_law.ensures.counts c.args.log.now c.args.mem.now c.requires.held).0 in
+    let below : c.args.i < length log = omega (arith, c.requires.number, count) in
+    let (of, is) = there log c.args.i below in
     let going = some_at _ is c.loop-at.invariant.taken in
     let size : length of.bytes ≡ c.args.it.now.length =
     some_at (λ (of : LogRecord). length of.bytes ≡ c.args.it.now.length) is c.requires.count in

@@ -4,6 +4,7 @@ use Rattle.hex.specs.Hex.{encode_lower}
 use Rattle.nk_host.specs.PiecesOut.{MovedOn}
 use Rattle.nk_host.specs.Taken.{AppendsPrefix}
 use Rattle.phys_mem.specs.Memory.{byte_at}
+use Rattle.region_book.specs.RegionBytes.{book_in}
 use Rattle.region_book.specs.RegionRecords.{Region, byte_place, region_of}
 use Rattle.report_text.specs.ClosingSection.{lines_of}
 use Rattle.report_text.proofs.LineParts.{range_taken}
@@ -16,7 +17,7 @@ returns-in-Err-clause-cut g c =
     let e = c.pieces_law.ensures in
     let laws : PiecesLaws =
     record { none = e.moved_none; on = e.moved_on; cut = e.moved_cut; all = e.moved_all; longer = e.prefix_longer } in
-    let (r, is) = some_is (region_of c.args.regions.now c.args.region.now.id) c.requires.live in
+    let (r, is) = some_is (region_of (book_in c.args.regions.now c.args.mem.now) c.args.region.now.id) c.requires.live in
     let going = some_at _ is c.loop-offset.invariant.taken in
     let size : r.size ≡ c.args.region.now.size =
     some_at (λ (r : Region). r.size ≡ c.args.region.now.size) is c.requires.size in
@@ -40,7 +41,7 @@ loop-offset-preserved g c =
     let e = c.pieces_law.ensures in
     let laws : PiecesLaws =
     record { none = e.moved_none; on = e.moved_on; cut = e.moved_cut; all = e.moved_all; longer = e.prefix_longer } in
-    let (r, is) = some_is (region_of c.args.regions.now c.args.region.now.id) c.requires.live in
+    let (r, is) = some_is (region_of (book_in c.args.regions.now c.args.mem.now) c.args.region.now.id) c.requires.live in
     let going = some_at _ is c.loop-offset.invariant.taken in
     let byte : c.byte-byte.result ≡ byte_at c.args.mem.now (byte_place r c.loop-offset.offset) =
     some_at _ is c.byte-byte.ensures in
@@ -60,7 +61,7 @@ returns-clause-moved g c =
     let e = c.pieces_law.ensures in
     let laws : PiecesLaws =
     record { none = e.moved_none; on = e.moved_on; cut = e.moved_cut; all = e.moved_all; longer = e.prefix_longer } in
-    let (r, is) = some_is (region_of c.args.regions.now c.args.region.now.id) c.requires.live in
+    let (r, is) = some_is (region_of (book_in c.args.regions.now c.args.mem.now) c.args.region.now.id) c.requires.live in
     let going = some_at _ is c.loop-offset.invariant.taken in
     let size : r.size ≡ c.args.region.now.size =
     some_at (λ (r : Region). r.size ≡ c.args.region.now.size) is c.requires.size in

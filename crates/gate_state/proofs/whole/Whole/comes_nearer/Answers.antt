@@ -4,19 +4,13 @@ use Rattle.gate_state.specs.MachineStates.{MachineState, Opening}
 use Rattle.gate_state.specs.MachineSteps.{move_of, next}
 use Rattle.gate_state.specs.WholeMachine.{WholeState}
 use Rattle.gate_state.specs.WindowLeft.{ComesNearer}
+use Rattle.gate_state.proofs.WholeLemmas.{state_by}
 use Rattle.gate_state.proofs.whole.Whole.comes_nearer.Goals as goal
 
 pub returns : goal.returns
 returns c =
     let o : Opening = record { image = c.self.inside.image.now; frames = c.self.inside.layout.now.frames } in
-    let s : MachineState = record {
-      processor = c.self.inside.cpu;
-      memory = c.self.inside.mem;
-      kinds = c.self.inside.kernel.frames.kinds;
-      ledger = c.self.inside.kernel.ledger;
-      turns = c.self.inside.turns;
-      taken = c.self.inside.taken;
-    } in
+    let s : MachineState = state_by c.self.inside.cpu c.self.inside.mem c.self.inside.kernel c.self.inside.turns c.self.inside.taken in
     let clear : wp_of s.processor.control.cr0 ≡ false =
     subst (λ (w : WholeState). wp_of w.state.processor.control.cr0 ≡ false) (sym c.self.view_is) c.requires.clear in
     subst (λ (w : WholeState).

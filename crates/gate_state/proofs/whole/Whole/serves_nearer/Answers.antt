@@ -4,19 +4,13 @@ use Rattle.gate_state.specs.MachineStates.{MachineState, Opening}
 use Rattle.gate_state.specs.MachineSteps.{served}
 use Rattle.gate_state.specs.WholeMachine.{WholeState}
 use Rattle.gate_state.specs.WindowLeft.{left}
+use Rattle.gate_state.proofs.WholeLemmas.{state_by}
 use Rattle.gate_state.proofs.whole.Whole.serves_nearer.Goals as goal
 
 pub returns : goal.returns
 returns c =
     let o : Opening = record { image = c.self.inside.image.now; frames = c.self.inside.layout.now.frames } in
-    let s : MachineState = record {
-      processor = c.self.inside.cpu;
-      memory = c.self.inside.mem;
-      kinds = c.self.inside.kernel.frames.kinds;
-      ledger = c.self.inside.kernel.ledger;
-      turns = c.self.inside.turns;
-      taken = c.self.inside.taken;
-    } in
+    let s : MachineState = state_by c.self.inside.cpu c.self.inside.mem c.self.inside.kernel c.self.inside.turns c.self.inside.taken in
     let enters : enters_body s.processor ≡ true =
     subst (λ (w : WholeState). enters_body w.state.processor ≡ true) (sym c.self.view_is) c.requires.body in
     subst (λ (w : WholeState). left (served w.state).processor < left w.state.processor) c.self.view_is

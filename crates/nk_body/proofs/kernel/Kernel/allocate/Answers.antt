@@ -1,7 +1,14 @@
-use Rattle.std.proofs.Common.{◌≡◌, refl, sym, ap, subst, ◌∙◌}
+use Rattle.std.proofs.Common.{◌≡◌, List, ℕ, sym, ap, subst, ◌∙◌}
 use Rattle.nk_bits.specs.Rules.{rule_of}
-use Rattle.nk_body.specs.NestedRecord.{AreBooks, Books}
-use Rattle.nk_body.proofs.CallsMade.{are_before, books_of, made_as}
+use Rattle.page_desc.specs.DescriptorBytes.{descriptors_in}
+use Rattle.page_desc.specs.FrameDescriptors.{Descriptors}
+use Rattle.phys_mem.specs.MaskedMemory.{seen}
+use Rattle.region_book.specs.RegionBytes.{book_in}
+use Rattle.write_log.specs.LogBytes.{log_in}
+use Rattle.nk_body.specs.CallMade.{IsMade}
+use Rattle.nk_body.specs.NestedRecord.{HoldsBooks, OwnState, books_in}
+use Rattle.nk_body.proofs.CallsMade.{books_of, held_before, made_as, own_of}
+use Rattle.nk_body.proofs.RegionsHeld.{beside_stands, err_with}
 use Rattle.nk_body.proofs.RegionsMade.{pool_made}
 use Rattle.nk_body.proofs.kernel.Kernel.allocate.Goals.{in-Err, in-Ok}
 use Rattle.nk_body.proofs.kernel.Kernel.allocate.Goals as goal
@@ -13,9 +20,23 @@ returns-clause-made c source =
       | in-Ok w ↦ ap rule_of w.result-is ∙ sym (ap rule_of w.in-Ok.is)
       | in-Err w ↦ ap rule_of w.result-is ∙ sym (ap rule_of w.in-Err.is)
     ] in
-    let before : Books = books_of c.self.inside.tables c.self.inside.trap c.self.inside.regions c.self.inside.log in
-    let are : AreBooks before c.args.mem.now = are_before before c.args.self.now c.args.mem.now c.self.view_is c.requires.books in
-    made_as before c.args.self.now (rule_of c.alloc.result) (rule_of c.match-alloc.result) c.self.view_is same
-    (pool_made c.self.inside.tables c.self.inside.trap c.self.inside.regions c.alloc.new.self c.self.inside.log c.self.inside.log
-    c.args.mem.now c.alloc.new.mem c.args.call.now source are c.requires.number c.page_tables_law.ensures.described refl c.alloc.result
-    c.alloc.ensures.judged c.alloc.ensures.refused c.alloc.ensures.granted c.alloc.ensures.allocated c.alloc.ensures.memory)
+    let before : OwnState = own_of c.self.inside.tables c.self.inside.trap c.self.inside.regions c.self.inside.log in
+    let held : HoldsBooks before c.args.mem.now = held_before before c.args.self.now c.args.mem.now c.self.view_is c.requires.books in
+    let m : List ℕ = c.args.mem.now in
+    let later : List ℕ = c.alloc.new.mem in
+    let stands = beside_stands before m later held c.alloc.ensures.size c.stored_law.ensures.agree c.held_log_law.ensures.agree c.alloc.ensures.others in
+    made_as m before c.args.self.now (rule_of c.alloc.result) (rule_of c.match-alloc.result) c.self.view_is same
+    (subst (λ (d : Descriptors). IsMade (books_in before m) (seen m) c.args.call.now source (rule_of c.alloc.result)
+    (books_of d before.root before.trap (book_in c.alloc.new.self later) (log_in before.log later)) (seen later)) (sym stands.described)
+    (pool_made (descriptors_in m) before.root before.trap (book_in before.regions m) (book_in c.alloc.new.self later) (log_in before.log m)
+    (log_in before.log later) (seen m) (seen later) c.args.call.now source held.books c.requires.number c.page_tables_law.ensures.described stands.log
+    c.alloc.result c.alloc.ensures.judged (err_with (λ same. (λ i. book_in (same.0 i) (same.1 i), ap seen same.1)) c.alloc.result c.alloc.ensures.refused)
+    c.alloc.ensures.granted c.alloc.ensures.allocated c.alloc.ensures.memory))
+
+pub returns-clause-form : goal.returns-clause-form
+returns-clause-form c =
+    let before : OwnState = own_of c.self.inside.tables c.self.inside.trap c.self.inside.regions c.self.inside.log in
+    let held : HoldsBooks before c.args.mem.now = held_before before c.args.self.now c.args.mem.now c.self.view_is c.requires.books in
+    let stands = beside_stands before c.args.mem.now c.alloc.new.mem held c.alloc.ensures.size c.stored_law.ensures.agree
+    c.held_log_law.ensures.agree c.alloc.ensures.others in
+    record { stored = stands.stored; regions = c.alloc.ensures.held; log = stands.counts }

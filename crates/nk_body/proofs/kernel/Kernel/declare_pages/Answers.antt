@@ -1,25 +1,35 @@
-use Rattle.std.proofs.Common.{◌≡◌, sym, ap, ◌∙◌}
+use Rattle.std.proofs.Common.{◌≡◌, ◌/◌, List, ℕ, length, sym, ap, subst, ◌∙◌}
+use Rattle.std.specs.Prelude.{IfSome, OnOk, slice_index}
 use Rattle.nk_bits.specs.Kinds.{is_data}
 use Rattle.nk_bits.specs.Rules.{rule_of}
-use Rattle.nk_body.specs.NestedRecord.{AreBooks, Books}
-use Rattle.nk_body.proofs.CallsMade.{are_before, books_of, made_as}
+use Rattle.page_desc.specs.DescriptorBytes.{descriptors_in, kinds_in}
+use Rattle.phys_mem.specs.MaskedMemory.{seen}
+use Rattle.region_book.specs.RegionCalls.{added, declare_rule, frames_from, guarded, page_region}
+use Rattle.region_book.specs.RegionBytes.{book_in}
+use Rattle.write_log.specs.LogBytes.{log_in}
+use Rattle.write_log.specs.LogRecords.{LogRecord}
+use Rattle.nk_body.specs.CallMade.{IsMade}
+use Rattle.nk_body.specs.NestedRecord.{HoldsBooks, OwnState, books_in}
+use Rattle.nk_body.proofs.CallsMade.{books_of, held_before, made_as, own_of}
+use Rattle.nk_body.proofs.HeldBooks.{tables_of}
 use Rattle.nk_body.proofs.LowerLaws.{GuardLaws, WalkLaws}
-use Rattle.nk_body.proofs.PagesMade.{pages_made}
+use Rattle.nk_body.proofs.PagesMade.{pages_made, seen_map}
+use Rattle.nk_body.proofs.RegionsHeld.{err_with}
 use Rattle.nk_body.proofs.kernel.Kernel.declare_pages.Goals.{in-Err, in-Ok}
 use Rattle.nk_body.proofs.kernel.Kernel.declare_pages.Goals as goal
 
 -- the frames of live regions and of the pool are guarded
 pub declare-requires-clause-regions : goal.declare-requires-clause-regions
 declare-requires-clause-regions c k r below i f inside =
-    let before : Books = books_of c.self.inside.tables c.self.inside.trap c.self.inside.regions c.self.inside.log in
-    let are : AreBooks before c.args.mem.now = are_before before c.args.self.now c.args.mem.now c.self.view_is c.requires.books in
-    ap is_data (are.kept.frames k r below i f inside)
+    let before : OwnState = own_of c.self.inside.tables c.self.inside.trap c.self.inside.regions c.self.inside.log in
+    let held : HoldsBooks before c.args.mem.now = held_before before c.args.self.now c.args.mem.now c.self.view_is c.requires.books in
+    ap is_data (held.books.kept.frames k r below i f inside)
 
 pub declare-requires-clause-pool : goal.declare-requires-clause-pool
 declare-requires-clause-pool c f least most =
-    let before : Books = books_of c.self.inside.tables c.self.inside.trap c.self.inside.regions c.self.inside.log in
-    let are : AreBooks before c.args.mem.now = are_before before c.args.self.now c.args.mem.now c.self.view_is c.requires.books in
-    ap is_data (are.kept.pool f least most)
+    let before : OwnState = own_of c.self.inside.tables c.self.inside.trap c.self.inside.regions c.self.inside.log in
+    let held : HoldsBooks before c.args.mem.now = held_before before c.args.self.now c.args.mem.now c.self.view_is c.requires.books in
+    ap is_data (held.books.kept.pool f least most)
 
 pub returns-clause-made : goal.returns-clause-made
 returns-clause-made c source =
@@ -28,8 +38,8 @@ returns-clause-made c source =
       | in-Ok w ↦ ap rule_of w.result-is ∙ sym (ap rule_of w.in-Ok.is)
       | in-Err w ↦ ap rule_of w.result-is ∙ sym (ap rule_of w.in-Err.is)
     ] in
-    let before : Books = books_of c.self.inside.tables c.self.inside.trap c.self.inside.regions c.self.inside.log in
-    let are : AreBooks before c.args.mem.now = are_before before c.args.self.now c.args.mem.now c.self.view_is c.requires.books in
+    let before : OwnState = own_of c.self.inside.tables c.self.inside.trap c.self.inside.regions c.self.inside.log in
+    let held : HoldsBooks before c.args.mem.now = held_before before c.args.self.now c.args.mem.now c.self.view_is c.requires.books in
     let guard : GuardLaws =
     record {
       sound = c.guarded_law.ensures.sound;
@@ -41,7 +51,32 @@ returns-clause-made c source =
       more = c.declared_law.ensures.more;
     } in
     let walks : WalkLaws = record { same = c.record_walk_law.ensures; in_memory = c.walk_law.ensures.in_memory } in
-    made_as before c.args.self.now (rule_of c.declare.result) (rule_of c.match-declare.result) c.self.view_is same
-    (pages_made guard walks c.page_tables_law.ensures.loose c.self.inside.tables c.declare.new.frames c.self.inside.trap c.self.inside.regions
-    c.declare.new.self c.self.inside.log c.args.mem.now c.args.call.now source are c.requires.number c.declare.result
-    c.declare.ensures.judged c.declare.ensures.refused c.declare.ensures.region)
+    let m : List ℕ = c.args.mem.now in
+    let later : List ℕ = c.declare.new.mem in
+    let map = seen_map m before.root (c.mask_law.ensures.length _ m)
+    (λ page. c.held_tables_law.ensures.walks before.frames before.root page m (tables_of before m held)) in
+    let log = c.held_log_law.ensures.agree before.log m later held.log c.declare.ensures.size
+    (λ p low high. c.declare.ensures.others p high) in
+    made_as m before c.args.self.now (rule_of c.declare.result) (rule_of c.match-declare.result) c.self.view_is same
+    (subst (λ (it : List ℕ × List LogRecord). IsMade (books_in before m) (seen m) c.args.call.now source (rule_of c.declare.result)
+    (books_of (descriptors_in later) before.root before.trap (book_in c.declare.new.self later) it.1) it.0)
+    (λ i. (sym c.declare.ensures.unseen i, sym log.0 i))
+    (pages_made guard walks c.page_tables_law.ensures.loose (descriptors_in m) (descriptors_in later) before.root before.trap
+    (book_in before.regions m) (book_in c.declare.new.self later) (log_in before.log m) (seen m) c.args.call.now source held.books c.requires.number
+    c.declare.result
+    (c.declare.ensures.judged ∙ ap (λ at. declare_rule (book_in before.regions m) (kinds_in m) (slice_index (descriptors_in m).loose) at
+    c.args.call.now.a c.args.call.now.b c.args.call.now.c) map)
+    (err_with (λ same. (λ i. book_in (same.0 i) (same.1 i), ap descriptors_in same.1)) c.declare.result c.declare.ensures.refused)
+    (subst (λ at. OnOk c.declare.result (IfSome (frames_from at (c.args.call.now.a / 4096) (c.args.call.now.b / 4096))
+    (λ fs. (book_in c.declare.new.self later ≡ added (book_in before.regions m)
+    (page_region (book_in before.regions m) c.args.call.now.a c.args.call.now.b c.args.call.now.c fs) (length fs))
+    × (descriptors_in later ≡ record (descriptors_in m) { kinds = guarded (kinds_in m) fs })))) map c.declare.ensures.region)))
+
+pub returns-clause-form : goal.returns-clause-form
+returns-clause-form c =
+    let before : OwnState = own_of c.self.inside.tables c.self.inside.trap c.self.inside.regions c.self.inside.log in
+    let m : List ℕ = c.args.mem.now in
+    let held : HoldsBooks before m = held_before before c.args.self.now m c.self.view_is c.requires.books in
+    let log = c.held_log_law.ensures.agree before.log m c.declare.new.mem held.log c.declare.ensures.size
+    (λ p low high. c.declare.ensures.others p high) in
+    record { stored = c.declare.ensures.described; regions = c.declare.ensures.held; log = log.1 }

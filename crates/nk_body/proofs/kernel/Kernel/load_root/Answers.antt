@@ -1,9 +1,14 @@
-use Rattle.std.proofs.Common.{◌≡◌, ℕ, refl, sym, ap, subst, ◌∙◌}
+use Rattle.std.proofs.Common.{◌≡◌, refl, sym, ap, ◌∙◌}
 use Rattle.nk_bits.specs.Rules.{rule_of}
-use Rattle.nk_body.specs.NestedRecord.{AreBooks, Books}
-use Rattle.page_desc.specs.FrameDescriptors.{Descriptors}
+use Rattle.phys_mem.specs.MaskedMemory.{seen}
+use Rattle.page_desc.specs.DescriptorBytes.{descriptors_in}
+use Rattle.vmmu.specs.declared.tables.Tables4.{Tables4}
+use Rattle.region_book.specs.RegionBytes.{book_in}
+use Rattle.write_log.specs.LogBytes.{log_in}
+use Rattle.nk_body.specs.NestedRecord.{HoldsBooks, OwnState}
 use Rattle.nk_body.proofs.CallNumbers.{made_is, number_5, verdict_is, written_5}
-use Rattle.nk_body.proofs.CallsMade.{are_before, books_of, made_as, on_err, on_ok, tables_made}
+use Rattle.nk_body.proofs.CallsMade.{held_before, made_as, own_of, on_ok, tables_made}
+use Rattle.nk_body.proofs.RegionsHeld.{err_with}
 use Rattle.nk_body.proofs.kernel.Kernel.load_root.Goals.{in-Err, in-Ok}
 use Rattle.nk_body.proofs.kernel.Kernel.load_root.Goals as goal
 
@@ -14,13 +19,13 @@ returns-clause-made c source =
       | in-Ok w ↦ ap rule_of w.result-is ∙ sym (ap rule_of w.in-Ok.is)
       | in-Err w ↦ ap rule_of w.result-is ∙ sym (ap rule_of w.in-Err.is)
     ] in
-    let before : Books = books_of c.self.inside.tables c.self.inside.trap c.self.inside.regions c.self.inside.log in
-    let are : AreBooks before c.args.mem.now = are_before before c.args.self.now c.args.mem.now c.self.view_is c.requires.books in
-    made_as before c.args.self.now (rule_of c.load_root.result) (rule_of c.match-load_root.result) c.self.view_is same
-    (tables_made c.self.inside.tables c.load_root.new.self c.self.inside.trap c.self.inside.regions c.self.inside.log
-    c.args.mem.now c.args.mem.now c.args.call.now source _ _ c.load_root.result
-    (made_is _ _ _ _ ∙ number_5 c.args.call.now.number _ _ _ _ _ _ _ _ _ _ c.requires.number) (written_5 _ _ _ _ c.requires.number) are
-    (c.load_root.ensures.judged c.args.mem.now ∙ sym (verdict_is _ _ _ ∙ number_5 c.args.call.now.number _ _ _ _ _ _ _ _ _ _ c.requires.number))
-    (on_err _ _ c.load_root.result c.load_root.ensures.refused)
-    (on_ok c.load_root.result (ap (λ (d : Descriptors). d.kinds) c.load_root.ensures.frames)) c.load_root.ensures.root
-    (on_ok c.load_root.result refl) (c.load_root.ensures.books c.args.mem.now are.described) (λ none f is. is))
+    let before : OwnState = own_of c.self.inside.tables c.self.inside.trap c.self.inside.regions c.self.inside.log in
+    let held : HoldsBooks before c.args.mem.now = held_before before c.args.self.now c.args.mem.now c.self.view_is c.requires.books in
+    made_as c.args.mem.now before c.args.self.now (rule_of c.load_root.result) (rule_of c.match-load_root.result) c.self.view_is same
+    (tables_made (descriptors_in c.args.mem.now) (descriptors_in c.args.mem.now) c.self.inside.tables.root c.load_root.new.self.root
+    c.self.inside.trap (book_in c.self.inside.regions c.args.mem.now) (log_in c.self.inside.log c.args.mem.now) (seen c.args.mem.now) (seen c.args.mem.now) c.args.call.now source _ _
+    c.load_root.result
+    (made_is _ _ _ _ ∙ number_5 c.args.call.now.number _ _ _ _ _ _ _ _ _ _ c.requires.number) (written_5 _ _ _ _ c.requires.number) held.books
+    (c.load_root.ensures.judged ∙ sym (verdict_is _ _ _ ∙ number_5 c.args.call.now.number _ _ _ _ _ _ _ _ _ _ c.requires.number))
+    (err_with (λ same. (refl, ap (λ (t : Tables4). t.root) same, refl)) c.load_root.result c.load_root.ensures.refused)
+    (on_ok c.load_root.result refl) c.load_root.ensures.root (on_ok c.load_root.result refl) c.load_root.ensures.books.described (λ none f is. is))

@@ -1,23 +1,53 @@
-use Rattle.std.proofs.Common.{◌≡◌, List, ℕ, None, refl, sym, ap, subst, ◌∙◌}
-use Rattle.phys_mem.specs.Memory.{stored, stores}
-use Rattle.nk_body.specs.CallMade.{IsMade}
-use Rattle.nk_body.specs.NestedRecord.{AreBooks, Books}
-use Rattle.nk_body.proofs.CallsMade.{are_before, books_of, made_as, trap_made, trap_refused}
+use Rattle.std.proofs.Common.{List, ℕ, None, refl, sym, ap, subst, ◌∙◌}
+use Rattle.phys_mem.specs.MaskedMemory.{seen}
+use Rattle.page_desc.specs.DescriptorBytes.{descriptors_in, kinds_in}
+use Rattle.page_desc.specs.FrameDescriptors.{Descriptors}
+use Rattle.nk_body.specs.CallMade.{IsMade, KeepsForm}
+use Rattle.region_book.specs.RegionBytes.{book_in}
+use Rattle.write_log.specs.LogBytes.{log_in}
+use Rattle.nk_body.specs.NestedRecord.{HoldsBooks, OwnState, books_in}
+use Rattle.nk_body.proofs.HeldBooks.{HeldLaws, LedgerLaws, StandsLedger, handler_described, handler_holds, handler_ledger, handler_seen_after}
+use Rattle.nk_body.proofs.CallsMade.{books_of, held_before, made_as, own_of, trap_made, trap_refused, with_ledger}
 use Rattle.nk_body.proofs.HandlerStores.{handler_stores}
 use Rattle.nk_body.proofs.kernel.Kernel.set_trap.Goals as goal
 
 pub returns-then-not-canonical-clause-made : goal.returns-then-not-canonical-clause-made
 returns-then-not-canonical-clause-made c source =
-    trap_refused c.args.self.now c.args.mem.now c.args.call.now source c.requires.number
-    (sym c.canonical.ensures.value ∙ c.if-not-canonical.true) c.requires.books
+    trap_refused (books_in c.args.self.now c.args.mem.now) (seen c.args.mem.now) c.args.call.now source c.requires.number
+    (sym c.canonical.ensures.value ∙ c.if-not-canonical.true) c.requires.books.books
 
 pub returns-clause-made : goal.returns-clause-made
 returns-clause-made c source =
     let a : ℕ = c.args.call.now.a in
-    let before : Books = books_of c.self.inside.tables c.self.inside.trap c.self.inside.regions c.self.inside.log in
-    let are : AreBooks before c.args.mem.now = are_before before c.args.self.now c.args.mem.now c.self.view_is c.requires.books in
-    subst (λ (m : List ℕ). IsMade c.args.self.now c.args.mem.now c.args.call.now source None (record before { trap = a }) m) (sym c.store64.ensures.stored)
-    (made_as before c.args.self.now None None c.self.view_is refl
-    (trap_made before c.args.mem.now c.args.call.now source are c.requires.number (sym c.canonical.ensures.value ∙ c.if-not-canonical.false)
-    (c.page_tables_law.ensures.described before.frames before.root c.args.mem.now _ are.described
-    (handler_stores before.frames.kinds a c.memory_law.ensures.places are.described.sound.handler))))
+    let before : OwnState = own_of c.self.inside.tables c.self.inside.trap c.self.inside.regions c.self.inside.log in
+    let held : HoldsBooks before c.args.mem.now = held_before before c.args.self.now c.args.mem.now c.self.view_is c.requires.books in
+    let m : List ℕ = c.args.mem.now in
+    let later : List ℕ = c.store64.new.self in
+    let laws : HeldLaws = record { stores = c.held_tables_law.ensures.stores; byte_elsewhere = c.memory_law.ensures.byte_elsewhere } in
+    let ledger_laws : LedgerLaws = record { regions = c.held_regions_law.ensures.agree; log = c.held_log_law.ensures.agree } in
+    let ledger : StandsLedger before m later =
+    subst (StandsLedger before m) (sym c.store64.ensures.stored) (handler_ledger laws ledger_laws before m held a c.memory_law.ensures.places) in
+    let described = ap descriptors_in c.store64.ensures.stored ∙ handler_described laws ledger_laws before m held a c.memory_law.ensures.places in
+    let sees = ap seen c.store64.ensures.stored ∙ handler_seen_after laws ledger_laws before m held a c.memory_law.ensures.places in
+    made_as m before c.args.self.now None None c.self.view_is refl
+    (with_ledger (descriptors_in later) before.root a ledger.book ledger.log
+    (subst (λ (it : Descriptors × List ℕ). IsMade (books_in before m) (seen m) c.args.call.now source None
+    (books_of it.0 before.root a (book_in before.regions m) (log_in before.log m)) it.1) (λ i. (sym described i, sym sees i))
+    (trap_made (books_in before m) (seen m) c.args.call.now source held.books c.requires.number
+    (sym c.canonical.ensures.value ∙ c.if-not-canonical.false)
+    (c.page_tables_law.ensures.described (descriptors_in m) before.root (seen m) _ held.books.described
+    (handler_stores (kinds_in m) a c.memory_law.ensures.places held.books.described.sound.handler)))))
+
+pub returns-clause-form : goal.returns-clause-form
+returns-clause-form c =
+    let m : List ℕ = c.args.mem.now in
+    let before : OwnState = own_of c.self.inside.tables c.self.inside.trap c.self.inside.regions c.self.inside.log in
+    let held : HoldsBooks before m = held_before before c.args.self.now m c.self.view_is c.requires.books in
+    let laws : HeldLaws = record { stores = c.held_tables_law.ensures.stores; byte_elsewhere = c.memory_law.ensures.byte_elsewhere } in
+    let ledger_laws : LedgerLaws = record { regions = c.held_regions_law.ensures.agree; log = c.held_log_law.ensures.agree } in
+    let ledger = handler_ledger laws ledger_laws before m held c.args.call.now.a c.memory_law.ensures.places in
+    subst (KeepsForm (record before { trap = c.args.call.now.a })) (sym c.store64.ensures.stored) (record {
+      stored = handler_holds laws ledger_laws before m held c.args.call.now.a c.memory_law.ensures.places;
+      regions = ledger.regions;
+      log = ledger.counts;
+    })

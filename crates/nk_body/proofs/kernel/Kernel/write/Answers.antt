@@ -1,14 +1,16 @@
 use Rattle.std.proofs.Common.{ap}
+use Rattle.phys_mem.specs.MaskedMemory.{seen}
+use Rattle.nk_body.specs.NestedRecord.{books_in}
 use Rattle.nk_body.specs.SourceWords.{sourced_of}
 use Rattle.nk_body.proofs.RegionsMade.{bounds_refused, source_refused}
 use Rattle.nk_body.proofs.kernel.Kernel.write.Goals as goal
 
 pub returns-in-NotTaken-clause-made : goal.returns-in-NotTaken-clause-made
 returns-in-NotTaken-clause-made c =
-    bounds_refused c.args.self.now c.args.mem.now c.args.call.now (sourced_of c.args.source) c.requires.books c.requires.number
+    bounds_refused (books_in c.args.self.now c.args.mem.now) (seen c.args.mem.now) c.args.call.now (sourced_of c.args.source) c.requires.books.books c.requires.number
     c.judge_bounds.result c.judge_bounds.ensures
 
 pub returns-in-Unreadable-clause-made : goal.returns-in-Unreadable-clause-made
 returns-in-Unreadable-clause-made c =
-    source_refused c.args.self.now c.args.mem.now c.args.call.now (sourced_of c.args.source) c.requires.books c.requires.number
+    source_refused (books_in c.args.self.now c.args.mem.now) (seen c.args.mem.now) c.args.call.now (sourced_of c.args.source) c.requires.books.books c.requires.number
     (ap sourced_of c.in-Unreadable.is) c.requires.source

@@ -1,8 +1,13 @@
-use Rattle.std.proofs.Common.{◌≡◌, ℕ, refl, sym, ap, subst, ◌∙◌}
+use Rattle.std.proofs.Common.{◌≡◌, sym, ap, ◌∙◌}
 use Rattle.nk_bits.specs.Rules.{rule_of}
-use Rattle.nk_body.specs.NestedRecord.{AreBooks, Books}
+use Rattle.phys_mem.specs.MaskedMemory.{seen}
+use Rattle.page_desc.specs.DescriptorBytes.{descriptors_in}
+use Rattle.region_book.specs.RegionBytes.{book_in}
+use Rattle.write_log.specs.LogBytes.{log_in}
+use Rattle.nk_body.specs.NestedRecord.{HoldsBooks, OwnState}
 use Rattle.nk_body.proofs.CallNumbers.{made_is, number_3, verdict_is, written_3}
-use Rattle.nk_body.proofs.CallsMade.{are_before, books_of, made_as, on_ok, tables_made}
+use Rattle.nk_body.proofs.CallsMade.{held_before, made_as, own_of, on_ok, tables_made, with_ledger}
+use Rattle.nk_body.proofs.HeldBooks.{LedgerLaws, tables_form, tables_ledger, unchanged}
 use Rattle.nk_body.proofs.kernel.Kernel.write_entry.Goals.{in-Err, in-Ok}
 use Rattle.nk_body.proofs.kernel.Kernel.write_entry.Goals as goal
 
@@ -13,13 +18,26 @@ returns-clause-made c source =
       | in-Ok w ↦ ap rule_of w.result-is ∙ sym (ap rule_of w.in-Ok.is)
       | in-Err w ↦ ap rule_of w.result-is ∙ sym (ap rule_of w.in-Err.is)
     ] in
-    let before : Books = books_of c.self.inside.tables c.self.inside.trap c.self.inside.regions c.self.inside.log in
-    let are : AreBooks before c.args.mem.now = are_before before c.args.self.now c.args.mem.now c.self.view_is c.requires.books in
-    made_as before c.args.self.now (rule_of c.write_entry.result) (rule_of c.match-write_entry.result) c.self.view_is same
-    (tables_made c.self.inside.tables c.write_entry.new.self c.self.inside.trap c.self.inside.regions c.self.inside.log
-    c.args.mem.now c.write_entry.new.mem c.args.call.now source _ _ c.write_entry.result
-    (made_is _ _ _ _ ∙ number_3 c.args.call.now.number _ _ _ _ _ _ _ _ _ _ c.requires.number) (written_3 _ _ _ _ c.requires.number) are
+    let before : OwnState = own_of c.self.inside.tables c.self.inside.trap c.self.inside.regions c.self.inside.log in
+    let held : HoldsBooks before c.args.mem.now = held_before before c.args.self.now c.args.mem.now c.self.view_is c.requires.books in
+    let laws : LedgerLaws = record { regions = c.held_regions_law.ensures.agree; log = c.held_log_law.ensures.agree } in
+    let ledger = tables_ledger laws before c.write_entry.new.self c.args.mem.now c.write_entry.new.mem held c.write_entry.ensures.frames c.write_entry.ensures.books
+    c.write_entry.ensures.others in
+    made_as c.args.mem.now before c.args.self.now (rule_of c.write_entry.result) (rule_of c.match-write_entry.result) c.self.view_is same
+    (with_ledger (descriptors_in c.write_entry.new.mem) c.write_entry.new.self.root c.self.inside.trap ledger.book ledger.log
+    (tables_made (descriptors_in c.args.mem.now) (descriptors_in c.write_entry.new.mem) c.self.inside.tables.root c.write_entry.new.self.root
+    c.self.inside.trap (book_in c.self.inside.regions c.args.mem.now) (log_in c.self.inside.log c.args.mem.now) (seen c.args.mem.now) (seen c.write_entry.new.mem) c.args.call.now source _ _
+    c.write_entry.result
+    (made_is _ _ _ _ ∙ number_3 c.args.call.now.number _ _ _ _ _ _ _ _ _ _ c.requires.number) (written_3 _ _ _ _ c.requires.number) held.books
     (c.write_entry.ensures.judged ∙ sym (verdict_is _ _ _ ∙ number_3 c.args.call.now.number _ _ _ _ _ _ _ _ _ _ c.requires.number))
-    c.write_entry.ensures.refused (on_ok c.write_entry.result c.write_entry.ensures.kinds)
-    (on_ok c.write_entry.result c.write_entry.ensures.root) c.write_entry.ensures.memory c.write_entry.ensures.books
-    (λ none f is. is))
+    (unchanged c.self.inside.tables c.write_entry.new.self c.args.mem.now c.write_entry.new.mem c.write_entry.result c.write_entry.ensures.refused)
+    (on_ok c.write_entry.result c.write_entry.ensures.kinds)
+    (on_ok c.write_entry.result c.write_entry.ensures.root) c.write_entry.ensures.memory c.write_entry.ensures.books.described
+    (λ none f is. is)))
+
+pub returns-clause-form : goal.returns-clause-form
+returns-clause-form c =
+    let before : OwnState = own_of c.self.inside.tables c.self.inside.trap c.self.inside.regions c.self.inside.log in
+    let held : HoldsBooks before c.args.mem.now = held_before before c.args.self.now c.args.mem.now c.self.view_is c.requires.books in
+    let laws : LedgerLaws = record { regions = c.held_regions_law.ensures.agree; log = c.held_log_law.ensures.agree } in
+    tables_form laws before c.write_entry.new.self c.args.mem.now c.write_entry.new.mem held c.write_entry.ensures.frames c.write_entry.ensures.books c.write_entry.ensures.others

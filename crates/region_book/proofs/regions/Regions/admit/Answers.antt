@@ -1,29 +1,27 @@
-use Rattle.std.proofs.Common.{◌≡◌, ◌&&◌, ◌∷◌, ◌++◌, [], not, arith, ap, ◌∙◌}
-use Rattle.std.proofs.lemmas.Grind.{common_steps}
-use Rattle.region_book.specs.RegionRows.{bit_in, in_run}
-use Rattle.region_book.proofs.AddedBook.{added_is, added_kept}
+use Rattle.std.proofs.Common.{◌≡◌, ◌==◌, false, sym, ap, ◌∙◌, subst}
+use Rattle.std.specs.List.{list_any}
+use Rattle.region_book.specs.RegionBytes.{HoldsRegions, RegionIndex, book_in}
+use Rattle.region_book.proofs.HeldAdded.{added_in, grown_is, held_added}
 use Rattle.region_book.proofs.regions.Regions.admit.Goals as goal
 
--- the rows with the new one
-rows_are : (c : goal.After-self-2-1) → c.push.new.self.items ≡ c.self.inside.rows.items ++ c.args.row ∷ []
-rows_are c = rw c.unwrap.ensures at c.push.ensures.items
+-- the new slot wasn't in use
+fresh_is : (c : goal.After-self-2-1) → list_any (λ t. t == c.add-slot.result) c.args.self.now.slots ≡ false
+fresh_is c = ap (λ (index : RegionIndex). list_any (λ t. t == c.add-slot.result) index.slots) (sym c.self.view_is) ∙ c.add-slot.ensures.fresh
 
-pub invariant_of-self : goal.invariant_of-self
-invariant_of-self c = (
-  added_kept c.self.inside.rows.items c.self.inside.bits.items c.self.inside.next c.self.inside.declared c.args.self.now
-      c.self.view_is c.args.row c.args.pages
-      c.self.invariant.0 c.requires.size c.requires.pooled c.requires.declared c.requires.most
-      c.clear_run.new.bits.items c.push.new.self.items (rows_are c)
-      c.requires.count c.clear_run.ensures.bits,
-  grind (arith, common_steps),
-)
+pub returns-clause-added : goal.returns-clause-added
+returns-clause-added c =
+    ap (λ index. book_in index c.put_row.new.mem)
+    (grown_is c.self.inside.slots c.add-slot.new.self c.self.inside.next c.self.inside.declared c.add-slot.result c.args.pages
+    c.args.self.now c.add-slot.ensures.added c.self.view_is)
+    ∙ added_in c.args.self.now c.args.mem.now c.put_row.new.mem c.requires.held c.add-slot.result c.add-slot.ensures.below
+    (fresh_is c) c.put_row.ensures.elsewhere c.args.row c.put_row.ensures.row c.args.pages c.requires.most c.requires.size
+    c.requires.pooled c.requires.declared
 
-pub returns : goal.returns
-returns c =
-    added_is c.self.inside.rows.items c.self.inside.bits.items c.self.inside.next c.self.inside.declared c.args.self.now
-    c.self.view_is c.args.row c.args.pages
-    c.self.invariant.0 c.requires.size c.requires.pooled c.requires.declared c.requires.most c.clear_run.new.bits.items
-    c.push.new.self.items (rows_are c)
-    (λ k. c.clear_run.ensures.each k
-    ∙ ap (λ first. bit_in c.self.inside.bits.items k && not
-    (in_run first c.args.row.size k)) c.first_bit.ensures.first)
+pub returns-clause-held : goal.returns-clause-held
+returns-clause-held c =
+    subst (λ index. HoldsRegions index c.put_row.new.mem)
+    (sym (grown_is c.self.inside.slots c.add-slot.new.self c.self.inside.next c.self.inside.declared c.add-slot.result
+    c.args.pages c.args.self.now c.add-slot.ensures.added c.self.view_is))
+    (held_added c.args.self.now c.args.mem.now c.put_row.new.mem c.requires.held c.add-slot.result c.add-slot.ensures.below
+    (fresh_is c) c.put_row.ensures.elsewhere c.args.row c.put_row.ensures.row c.args.pages c.requires.most c.requires.size
+    c.requires.pooled c.requires.declared c.requires.count c.put_row.ensures.form)

@@ -1,16 +1,8 @@
-use Rattle.std.proofs.Common.{arith}
-use Rattle.std.proofs.lemmas.Grind.{common_steps}
+use Rattle.std.proofs.Common.{arith, refl}
+use Rattle.region_book.proofs.EmptyBook.{none_held}
 use Rattle.region_book.proofs.regions.Regions.start.Goals as goal
 
-pub invariant_of-result : goal.invariant_of-result
-invariant_of-result c =
-    rw c.in-Ok.ensures.items (
-      record {
-        count = omega arith;
-        room = grind (arith, common_steps);
-        most = omega arith;
-        held = λ k d below. absurd (omega arith);
-        apart = λ i j d low below. absurd (omega arith);
-      },
-      omega (arith, c.in-Ok.ensures.exact),
-    )
+pub returns-clause-held : goal.returns-clause-held
+returns-clause-held c =
+    none_held c.clear_books.new.mem (omega (arith, c.requires.size, c.clear_books.ensures.elsewhere.size))
+    c.clear_books.ensures.zero _ c.new.ensures refl

@@ -1,9 +1,15 @@
 use Rattle.std.proofs.Common.{sym, ◌∙◌}
+use Rattle.phys_mem.specs.MaskedMemory.{seen}
+use Rattle.page_desc.specs.DescriptorBytes.{kinds_in}
 use Rattle.vmmu.proofs.tables.Tables4.load_root.Goals as goal
 
 pub returns-clause-books : goal.returns-clause-books
-returns-clause-books c = λ m books. record {
-  sound = (c.table_calls_law.ensures.loaded c.args.self.now.frames.kinds c.args.self.now.root c.args.frame m books.sound
-      (sym (c.judge_root.ensures.judged c.args.self.now.root m) ∙ c.in_default.is)).1;
-  counted = books.counted;
+returns-clause-books c = record {
+  stored = c.requires.books.stored;
+  described = record {
+    sound = (c.table_calls_law.ensures.loaded (kinds_in c.args.mem.now) c.args.self.now.root c.args.frame (seen c.args.mem.now) c.requires.books.described.sound
+        (sym (c.judge_root.ensures.judged c.args.self.now.root (seen c.args.mem.now)) ∙ c.in_default.is)).1;
+    counted = c.requires.books.described.counted;
+  };
+  hidden = c.requires.books.hidden;
 }

@@ -1,0 +1,13 @@
+use Rattle.std.proofs.Common.{◌/◌, length, inl}
+use Rattle.policy_book.proofs.OtherBooks.{log_place}
+use Rattle.policy_book.proofs.policy.mark.Goals as goal
+
+pub returns-clause-log : goal.returns-clause-log
+returns-clause-log c =
+    (c.held_log_law.ensures.agree c.args.log.now c.args.mem.now c.mark.new.mem c.requires.held_log c.mark.ensures.size
+    (λ p low high. c.mark.ensures.others p (log_place (length c.args.mem.now / 4096) p low high) (inl high))).0
+
+pub returns-clause-held_log : goal.returns-clause-held_log
+returns-clause-held_log c =
+    (c.held_log_law.ensures.agree c.args.log.now c.args.mem.now c.mark.new.mem c.requires.held_log c.mark.ensures.size
+    (λ p low high. c.mark.ensures.others p (log_place (length c.args.mem.now / 4096) p low high) (inl high))).1
