@@ -214,7 +214,7 @@ impl Books {
                 true,
             );
             if slot.policy == 4 {
-                self.note(slot.id, offset as u32, source);
+                self.note(slot.id, offset.min(slot.size) as u32, source);
             }
         }
     }
@@ -224,7 +224,7 @@ impl Books {
         let at = put_bytes(&mut self.log, self.used, &u64::to_le_bytes(self.records));
         let at = put_bytes(&mut self.log, at, &u64::to_le_bytes(id));
         let at = put_bytes(&mut self.log, at, &u32::to_le_bytes(offset));
-        let count = bytes.len() as u32;
+        let count = bytes.len().min(LOG_SIZE) as u32;
         let at = put_bytes(&mut self.log, at, &u32::to_le_bytes(count));
         self.used = put_bytes(&mut self.log, at, bytes);
         self.records = self.records.saturating_add(1);
