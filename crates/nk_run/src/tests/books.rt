@@ -214,7 +214,7 @@ impl Books {
                 true,
             );
             if slot.policy == 4 {
-                self.note(slot.id, offset.min(slot.size) as u32, source);
+                self.note(slot.id, offset.min(65_536) as u32, source);
             }
         }
     }
