@@ -1,5 +1,5 @@
 -- Accesses by linear address over a memory: what a load and a fetch give, and what a store leaves (SDM volume 3, 4.6).
-use Rattle.std.specs.Prelude.{ℕ, ◌+◌, ◌-◌, ◌*◌, ◌/◌, ◌^◌, List, ◌++◌, length, Result, Ok, Err}
+use Rattle.std.specs.Prelude.{ℕ, ◌+◌, ◌-◌, ◌*◌, ◌/◌, ◌%◌, ◌^◌, List, ◌++◌, length, take, drop, min, Result, Ok, Err}
 use Rattle.nk_bits.specs.declared.access.Access.TheVariants.{Read, Write, Fetch}
 use Rattle.nk_bits.specs.declared.control.Control.{Control}
 use Rattle.nk_bits.specs.declared.leaf.Target.{Target}
@@ -38,6 +38,14 @@ loaded m view tlb va width = and_then (accessed view Read tlb va width) (λ targ
 
 abbrev pub fetched : List ℕ → View → Translations → ℕ → Outcome AccessFault ℕ
 fetched m view tlb va = and_then (accessed view Fetch tlb va 1) (λ target after. answered (byte_at m target.first) after)
+
+-- how many bytes there are from an address to the end of its page, counted to fifteen at most
+unfoldable pub bytes_left : ℕ → ℕ
+bytes_left va = min 15 (4096 - va % 4096)
+
+-- the fetch of these bytes at once, judged as that of the first one is
+abbrev pub page_fetched : List ℕ → View → Translations → ℕ → Outcome AccessFault (List ℕ)
+page_fetched m view tlb va = and_then (accessed view Fetch tlb va 1) (λ target after. answered (take (bytes_left va) (drop target.first m)) after)
 
 -- a store answers nothing but that it is made
 abbrev pub saved : View → Translations → ℕ → ℕ → Outcome AccessFault Unit
