@@ -1,6 +1,7 @@
 mod AlikeFetches
+mod CodeRuns
 pub mod FetchFaults
-pub mod Fetches
+mod LentPages
 pub mod LongerCode
 pub mod PageFetches
 pub mod PendingVectors

@@ -63,12 +63,6 @@ module _ (bytes more : List ℕ) (unknown : IsUnknown bytes) where
   }
 
 module _ (facts : DecodingFacts) where
-  -- fifteen bytes are never too few
-  pub short_of_fifteen : (bytes : List ℕ) → AreBytes bytes → length bytes ≡ 15 → decoded_of bytes ≡ Short → ⊥
-  short_of_fifteen bytes are all is =
-      let short : Decodes bytes Short = subst (λ (d : Decoded). Decodes bytes d) is (facts.right bytes are (omega (arith, all))) in
-      omega (arith, short.1, all)
-
   pub decoded_longer : (bytes more : List ℕ) → AreBytes bytes → AreBytes (bytes ++ more) → length (bytes ++ more) ≤ 15 → (answer : Decoded) →
       decoded_of bytes ≡ answer → (answer ≡ Short → ⊥) → answer ≡ decoded_of (bytes ++ more)
   decoded_longer bytes more some are few answer is enough =

@@ -1,10 +1,9 @@
 -- The fetch of an instruction whose fifteen bytes, were there as many, lie on one page: they are those of memory from the
 -- first one's place on, and all that its look-up leaves stays.
-use Rattle.std.proofs.Common.{◌≡◌, ℕ, zero, suc, ◌+◌, ◌/◌, ◌%◌, ◌^◌, ◌<◌, ◌≤◌, Bool, true, false, ◌&&◌, List, [], ◌∷◌, ◌++◌, length, refl, ap, sym, subst, ◌∙◌, arith, inl, inr}
+use Rattle.std.proofs.Common.{◌≡◌, ℕ, zero, suc, ◌+◌, ◌/◌, ◌%◌, ◌^◌, ◌<◌, ◌≤◌, Bool, true, false, ◌&&◌, List, [], ◌++◌, length, refl, ap, sym, subst, ◌∙◌, arith, inl, inr, lit≤}
 use Rattle.std.specs.Prelude.{◌-◌, ◌||◌, ◌==◌, Result, Ok, Err, Some, IfOk, if◌then◌else◌}
 use Rattle.std.proofs.lemmas.Bool.{cases_Bool, le-ltb}
-use Rattle.std.proofs.lemmas.List.{append_assoc, length-append}
-use Rattle.std.proofs.lemmas.List.Elements.{All-append}
+use Rattle.std.proofs.lemmas.List.Elements.{All-nil}
 use Rattle.nk_bits.specs.declared.access.Access.{Access}
 use Rattle.nk_bits.specs.declared.access.Access.TheVariants.{Fetch}
 use Rattle.nk_bits.specs.declared.leaf.Leaf.{Leaf}
@@ -17,18 +16,16 @@ use Rattle.nk_bits.specs.Translations.{Translations, look}
 use Rattle.nk_bits.specs.Outcomes.{Outcome, outcome_of, answered, refused, then_by, and_then}
 use Rattle.nk_bits.specs.Accesses.{View, IsKept, reached, completed, accessed, crosses, next_page, has_canonical_bytes, address_of, place_in}
 use Rattle.phys_mem.specs.Memory.{IsBytes, byte_at}
-use Rattle.x86_decode.specs.declared.instruction.Decoded.{Decoded}
-use Rattle.x86_decode.specs.declared.instruction.Decoded.TheVariants.{Whole, Short, TooLong, Unknown}
 use Rattle.x86_decode.specs.Reader.{decoded_of}
 use Rattle.x86_decode.specs.Spelling.{AreBytes}
 use Rattle.x86_regs.specs.declared.faults.Fault.{Fault}
-use Rattle.x86_regs.specs.Effects.{raised}
+use Rattle.x86_regs.specs.declared.faults.Fault.TheVariants.{General}
 use Rattle.x86_regs.specs.Operands.{wrapped}
-use Rattle.cpu_step.specs.declared.fetch.Fetched.{Fetched}
 use Rattle.cpu_step.specs.InstructionFetch.{byte_fetched, decided_by, fetched_from, in_fetch, instruction_at}
 use Rattle.cpu_step.specs.DecodingMemo.{place_found}
-use Rattle.cpu_step.proofs.LongerCode.{DecodingFacts, decoded_longer, short_of_fifteen}
-use Rattle.cpu_step.proofs.WordBytes.{code_at, code_bytes, code_length}
+use Rattle.cpu_step.proofs.LongerCode.{DecodingFacts}
+use Rattle.cpu_step.proofs.CodeRuns.{run_fetched, settled_by}
+use Rattle.cpu_step.proofs.WordBytes.{code_at}
 
 -- what the law on accesses says of a page that was reached
 pub record PageFacts : Type 0 where
@@ -120,93 +117,34 @@ byte_there : (m : List ℕ) (view : View) (va place : ℕ) (tlb after : Translat
 byte_there m view va place tlb after found =
     fetched_there m view va tlb ∙ ap (λ o. and_then (in_fetch o) (λ x last. answered (byte_at m x) last)) found
 
--- what bytes decide, more of them decide, where it is known what comes if they were too few
-module _ (decodings : DecodingFacts) where
-  settled : (bytes more : List ℕ) (after : Translations) (next last : Outcome Fault Fetched) → AreBytes bytes → AreBytes (bytes ++ more) → length (bytes ++ more) ≤ 15 →
-      (decoded_of bytes ≡ Short → next ≡ decided_by (decoded_of (bytes ++ more)) after last) →
-      decided_by (decoded_of bytes) after next ≡ decided_by (decoded_of (bytes ++ more)) after last
-  settled bytes more after next last some are few short = go (decoded_of bytes) refl
-    where
-      go : (answer : Decoded) → decoded_of bytes ≡ answer → decided_by answer after next ≡ decided_by (decoded_of (bytes ++ more)) after last
-      go (Whole instr size) is = ap (λ d. decided_by d after last) (decoded_longer decodings bytes more some are few (Whole instr size) is (λ e. cc))
-      go Short is = short is
-      go TooLong is = ap (λ d. decided_by d after last) (decoded_longer decodings bytes more some are few TooLong is (λ e. cc))
-      go Unknown is = ap (λ d. decided_by d after last) (decoded_longer decodings bytes more some are few Unknown is (λ e. cc))
-
-  module _ (m : List ℕ) (bytes : IsBytes m) (view : View) (rip place : ℕ) (after : Translations) (last : Outcome Fault Fetched)
-      (fetches : (k : ℕ) → k < 15 → byte_fetched m view (wrapped (rip + k)) after ≡ answered (byte_at m (place + k)) after) where
-    -- the next byte, and those behind it
-    step : (n i : ℕ) (front : List ℕ) (now : Translations) → length front ≡ i → i + suc n ≡ 15 → AreBytes front →
-        byte_fetched m view (wrapped (rip + i)) now ≡ answered (byte_at m (place + i)) after →
-        (decoded_of (front ++ byte_at m (place + i) ∷ []) ≡ Short → fetched_from n m view rip (front ++ byte_at m (place + i) ∷ []) after
-        ≡ decided_by (decoded_of ((front ++ byte_at m (place + i) ∷ []) ++ code_at m place (suc i) n)) after last) →
-        fetched_from (suc n) m view rip front now ≡ decided_by (decoded_of (front ++ code_at m place i (suc n))) after last
-    step n i front now count whole are fetch later =
-        let byte : ℕ = byte_at m (place + i) in
-        let rest : List ℕ = code_at m place (suc i) n in
-        let longer : List ℕ = front ++ byte ∷ [] in
-        let some : AreBytes longer = All-append (λ b. b < 256) front (byte ∷ []) are (code_bytes m bytes place i 1) in
-        let all : AreBytes (longer ++ rest) = All-append (λ b. b < 256) longer rest some (code_bytes m bytes place (suc i) n) in
-        let few : length (longer ++ rest) ≤ 15 = omega (arith, length-append longer rest, length-append front (byte ∷ []), code_length m place (suc i) n, count, whole) in
-        ap (λ x. and_then (byte_fetched m view (wrapped (rip + x)) now) (λ b t. decided_by (decoded_of (front ++ b ∷ [])) t (fetched_from n m view rip (front ++ b ∷ []) t))) count
-        ∙ (ap (λ o. and_then o (λ b t. decided_by (decoded_of (front ++ b ∷ [])) t (fetched_from n m view rip (front ++ b ∷ []) t))) fetch
-        ∙ (settled longer rest after (fetched_from n m view rip longer after) last some all few later
-        ∙ ap (λ x. decided_by (decoded_of x) after last) (append_assoc front (byte ∷ []) rest)))
-
-    rest_fetched : (n i : ℕ) (front : List ℕ) → length front ≡ i → i + n ≡ 15 → AreBytes front → decoded_of front ≡ Short →
-        fetched_from n m view rip front after ≡ decided_by (decoded_of (front ++ code_at m place i n)) after last
-    rest_fetched zero i front count whole are short = absurd (short_of_fifteen decodings front are (omega (arith, count, whole)) short)
-    rest_fetched (suc n) i front count whole are short =
-        let byte : ℕ = byte_at m (place + i) in
-        let longer : List ℕ = front ++ byte ∷ [] in
-        let some : AreBytes longer = All-append (λ b. b < 256) front (byte ∷ []) are (code_bytes m bytes place i 1) in
-        step n i front after count whole are (fetches i (omega (arith, whole)))
-        (λ again. rest_fetched n (suc i) longer (omega (arith, length-append front (byte ∷ []), count)) (omega (arith, whole)) some again)
-
-    all_fetched : (tlb : Translations) → byte_fetched m view (wrapped (rip + 0)) tlb ≡ answered (byte_at m (place + 0)) after →
-        fetched_from 15 m view rip [] tlb ≡ decided_by (decoded_of (code_at m place 0 15)) after last
-    all_fetched tlb fetch =
-        step 14 0 [] tlb refl refl (code_bytes m bytes place 0 0) fetch
-        (λ again. rest_fetched 14 1 (byte_at m (place + 0) ∷ []) refl refl (code_bytes m bytes place 0 1) again)
-
-module _ (facts : PageFacts) (decodings : DecodingFacts) (m : List ℕ) (bytes : IsBytes m) (view : View) (rip : ℕ) (tlb after : Translations) (fits : rip < 2 ^ 64) where
-  here : wrapped (rip + 0) ≡ rip
-  here = omega (arith, fits)
+module _ (facts : PageFacts) (decodings : DecodingFacts) (m : List ℕ) (bytes : IsBytes m) (view : View) (rip : ℕ) where
+  -- what bytes decide with those that follow on the page that the first of them is on, and what comes if they are too few
+  pub run_on_page : (front : List ℕ) (now after : Translations) (place count left : ℕ) → 0 < count → length front + count ≤ 15 → AreBytes front →
+      wrapped (rip + length front) % 4096 + count ≤ 4096 → place_found view (wrapped (rip + length front)) now ≡ answered place after →
+      fetched_from (count + left) m view rip front now ≡ settled_by (front ++ code_at m place 0 count) m view rip after left
+  run_on_page front now after place zero left some few are within found = absurd (omega (arith, some))
+  run_on_page front now after place (suc n) left some few are within found =
+      let base : ℕ = length front in
+      let va : ℕ = wrapped (rip + base) in
+      let fits : va < 2 ^ 64 = omega arith in
+      let page : IsOnPage view after va place = on_page facts view now after va place fits found in
+      let more : suc n + left ≡ suc (n + left) = omega arith in
+      let first : wrapped (rip + (base + 0)) ≡ va = ap (λ x. wrapped (rip + x)) (omega arith) in
+      let start : place ≡ place + 0 = omega arith in
+      ap (λ x. fetched_from x m view rip front now) more
+      ∙ run_fetched decodings m bytes view rip place base after (suc n)
+      (λ k below.
+      let there : wrapped (rip + (base + k)) ≡ wrapped (va + k) = omega arith in
+      ap (λ x. byte_fetched m view x after) there
+      ∙ byte_there m view (wrapped (va + k)) (place + k) after after (behind facts view after va place k fits (omega (arith, within, below)) page))
+      n left (n + left) 0 front now refl (omega arith) (omega arith) few are
+      (ap (λ x. byte_fetched m view x now) first ∙ (byte_there m view va place now after found ∙ ap (λ x. answered {F = Fault} (byte_at m x) after) start))
 
   -- the instruction is what the bytes from the place on decide
-  pub decided_on_page : (place : ℕ) (last : Outcome Fault Fetched) → rip % 4096 ≤ 4080 → place_found view rip tlb ≡ answered place after →
-      instruction_at m view rip tlb ≡ decided_by (decoded_of (code_at m place 0 15)) after last
+  pub decided_on_page : (tlb after : Translations) (place : ℕ) → rip < 2 ^ 64 → rip % 4096 ≤ 4080 → place_found view rip tlb ≡ answered place after →
+      instruction_at m view rip tlb ≡ decided_by (decoded_of (code_at m place 0 15)) after (refused (General 0) after)
   unfolding instruction_at
-  decided_on_page place last within found =
-      let page : IsOnPage view after rip place = on_page facts view tlb after rip place fits found in
-      all_fetched decodings m bytes view rip place after last
-      (λ k few. byte_there m view (wrapped (rip + k)) (place + k) after after (behind facts view after rip place k fits (omega (arith, within, few)) page))
-      tlb
-      (ap (λ x. byte_fetched m view x tlb) here ∙ (byte_there m view rip place tlb after found ∙ ap (λ x. answered {F = Fault} (byte_at m x) after) (omega arith)))
-
--- where the first byte can't be fetched, its fault is the instruction's
-pub refused_on_page : (m : List ℕ) (view : View) (rip : ℕ) (tlb after : Translations) (fault : Fault) → rip < 2 ^ 64 →
-    in_fetch (place_found view rip tlb) ≡ refused fault after → instruction_at m view rip tlb ≡ refused fault after
-unfolding instruction_at
-refused_on_page m view rip tlb after fault fits found =
-    let here : wrapped (rip + 0) ≡ rip = omega (arith, fits) in
-    ap (λ x. and_then (byte_fetched m view x tlb) (λ b t. decided_by (decoded_of (b ∷ [])) t (fetched_from 14 m view rip (b ∷ []) t))) here
-    ∙ (ap (λ o. and_then o (λ b t. decided_by (decoded_of (b ∷ [])) t (fetched_from 14 m view rip (b ∷ []) t))) (fetched_there m view rip tlb)
-    ∙ ap (λ o. and_then (and_then o (λ x t. answered (byte_at m x) t)) (λ b t. decided_by (decoded_of (b ∷ [])) t (fetched_from 14 m view rip (b ∷ []) t))) found)
-
--- a place that is found at the level of instructions is found by the access
-same_answer : (x place : ℕ) (one other : Result ℕ Fault) → one ≡ Ok place → other ≡ Ok x → one ≡ other → x ≡ place
-same_answer x place one other a b e = cc
-
-not_refused : (place : ℕ) (fault : Fault) (one other : Result ℕ Fault) → one ≡ Ok place → other ≡ Err fault → one ≡ other → ⊥
-not_refused place fault one other a b e = cc
-
-pub place_at_access : (o : Outcome AccessFault ℕ) (place : ℕ) (after : Translations) → answered place after ≡ in_fetch o → o ≡ answered place after
-place_at_access o place after e = go o.answer o.tlb e
-  where
-    go : (answer : Result ℕ AccessFault) (tlb : Translations) → answered place after ≡ in_fetch (outcome_of answer tlb) → outcome_of answer tlb ≡ answered place after
-    go (Ok x) tlb e =
-        let same : x ≡ place = same_answer x place (Ok place) (Ok x) refl refl (ap (λ (o : Outcome Fault ℕ). o.answer) e) in
-        let kept : tlb ≡ after = sym (ap (λ (o : Outcome Fault ℕ). o.tlb) e) in
-        λ j. answered (same j) (kept j)
-    go (Err fault) tlb e = absurd (not_refused place (raised false fault) (Ok place) (Err (raised false fault)) refl refl (ap (λ (o : Outcome Fault ℕ). o.answer) e))
+  decided_on_page tlb after place fits within found =
+      let here : rip ≡ wrapped (rip + 0) = omega (arith, fits) in
+      run_on_page [] tlb after place 15 0 (lit≤ tt) (lit≤ tt) (All-nil (λ b. b < 256)) (omega (arith, fits, within))
+      (ap (λ x. place_found view x tlb) (sym here) ∙ found)

@@ -19,7 +19,8 @@ use Rattle.trap_unit.specs.DeliveryStores.{delivery_stores}
 use Rattle.trap_unit.specs.TrapDelivery.{delivered, interrupt_allowed}
 use Rattle.trap_unit.specs.TrapReturn.{returned}
 use Rattle.cpu_step.specs.Processor.{Processor, deliverable}
-use Rattle.cpu_step.specs.Turns.{acted, code_of, control_after, instructed, instruction_made, interrupted_by, is_at_body, memory_after, raised, refused_body, returned_by, shown, trapped, turned, turned_by, turned_unless, vector_of, woken}
+use Rattle.x86_regs.specs.Effects.{memory_after}
+use Rattle.cpu_step.specs.Turns.{acted, code_of, control_after, instructed, instruction_made, interrupted_by, is_at_body, raised, refused_body, returned_by, shown, trapped, turned, turned_by, turned_unless, vector_of, woken}
 use Rattle.cpu_step.specs.TurnStores.{act_stores, body_stores, effect_stores, fault_stores, instruction_stores, interrupt_stores, return_stores, stores_unless, trap_stores, turn_stores, write_stores}
 
 -- stores behind others

@@ -8,9 +8,9 @@ use Rattle.x86_regs.specs.declared.effects.Asked.{Asked}
 use Rattle.x86_regs.specs.declared.effects.Effect.{Effect}
 use Rattle.x86_regs.specs.declared.faults.Fault.{Fault}
 use Rattle.x86_regs.specs.declared.registers.Regs.{Regs}
-use Rattle.x86_regs.specs.Effects.{IfDelivered, LeavesToDelivery, effect_with}
+use Rattle.x86_regs.specs.Effects.{IfDelivered, LeavesToDelivery, effect_with, memory_after}
 use Rattle.cpu_step.specs.Processor.{IsSound, Processor, deliverable}
-use Rattle.cpu_step.specs.Turns.{acted, instructed, instruction_made, is_at_body, memory_after, raised, refused_body, turned, turned_by, turned_unless}
+use Rattle.cpu_step.specs.Turns.{acted, instructed, instruction_made, is_at_body, raised, refused_body, turned, turned_by, turned_unless}
 
 -- a processor that keeps other translations and entries, whose frames lie in memory too
 pub sound_with : (size : ℕ) (p q : Processor) (tlb : Translations) → p ≡ q → IsSound size q → NamesFramesIn size tlb

@@ -1,9 +1,11 @@
 -- The bytes of memory from a place on, and the words that they make.
-use Rattle.std.proofs.Common.{◌≡◌, ℕ, zero, suc, ◌+◌, ◌*◌, ◌/◌, ◌%◌, ◌^◌, ◌<◌, ◌≤◌, List, [], ◌∷◌, ◌++◌, length, refl, ap, sym, ◌∙◌, arith, lit≤}
-use Rattle.std.specs.Int.{bytes_low_first}
+use Rattle.std.proofs.Common.{◌≡◌, ℕ, zero, suc, ◌+◌, ◌*◌, ◌/◌, ◌%◌, ◌^◌, ◌<◌, ◌≤◌, List, [], ◌∷◌, ◌++◌, length, take, drop, get_or, w64, refl, ap, sym, subst, ◌∙◌, arith, lit≤, lit<}
+use Rattle.std.specs.Int.{bytes_low_first, from_le_bytes, to_le_bytes}
 use Rattle.std.specs.Int.{byte_at as byte_of}
 use Rattle.std.proofs.Math.Nat.{div-div-eq-div-mul, mul_comm, pow-suc}
+use Rattle.std.proofs.lemmas.List.{drop-drop, drop-take, get_or-drop, length-drop, length-take-le, take-append-drop, take_all}
 use Rattle.std.proofs.lemmas.List.Elements.{All-cons, All-nil}
+use Rattle.std.proofs.lemmas.Nat.{le_bytes_8}
 use Rattle.phys_mem.specs.Memory.{IsBytes, byte_at, number_at}
 use Rattle.x86_decode.specs.Spelling.{AreBytes}
 use Rattle.cpu_step.specs.DecodingMemo.{bytes_of_words}
@@ -59,3 +61,36 @@ module _ (m : List ℕ) (bytes : IsBytes m) where
   words_are_code p =
       ap (λ (x : List ℕ × List ℕ). x.0 ++ x.1)
       (λ j. (word_bytes 8 0 8 p (lit≤ tt) j, (word_bytes 8 0 7 (p + 8) (lit≤ tt) ∙ later p 8 0 7) j))
+
+-- the first seven bytes of a word without its lowest byte
+shifted : (n : ℕ) → take 7 (to_le_bytes w64 (n / 256)) ≡ drop 1 (to_le_bytes w64 n)
+shifted n =
+    λ j. n / 256 % 256
+    ∷ (div-div-eq-div-mul n 256 256 j % 256
+    ∷ (div-div-eq-div-mul n 256 65536 j % 256
+    ∷ (div-div-eq-div-mul n 256 16777216 j % 256
+    ∷ (div-div-eq-div-mul n 256 4294967296 j % 256
+    ∷ (div-div-eq-div-mul n 256 1099511627776 j % 256
+    ∷ (div-div-eq-div-mul n 256 281474976710656 j % 256 ∷ []))))))
+
+-- a run of bytes has bytes
+small_run : (n : ℕ) (xs : List ℕ) → ((i : ℕ) → get_or xs i 0 < 256) → (i : ℕ) → get_or (take n xs) i 0 < 256
+small_run zero xs small i = lit< tt
+small_run (suc n) [] small i = lit< tt
+small_run (suc n) (x ∷ xs) small zero = small 0
+small_run (suc n) (x ∷ xs) small (suc i) = small_run n xs (λ k. small (suc k)) i
+
+-- fifteen bytes are those of their first eight as a word, and of the last eight without the first of them
+pub fifteen_bytes : (bs : List ℕ) (low last : ℕ) → length bs ≡ 15 → ((i : ℕ) → get_or bs i 0 < 256) → low ≡ from_le_bytes w64 (take 8 (drop 0 bs)) →
+    last ≡ from_le_bytes w64 (take 8 (drop 7 bs)) → bytes_of_words low (last / 256) ≡ bs
+unfolding bytes_of_words
+fifteen_bytes bs low last all small first second =
+    let front : to_le_bytes w64 low ≡ take 8 bs =
+    le_bytes_8 (take 8 bs) low (length-take-le 8 bs (omega (arith, all))) (small_run 8 bs small) first in
+    let back : to_le_bytes w64 last ≡ take 8 (drop 7 bs) =
+    le_bytes_8 (take 8 (drop 7 bs)) last (length-take-le 8 (drop 7 bs) (omega (arith, length-drop 7 bs, all))) (small_run 8 (drop 7 bs) (λ i. subst (λ x. x < 256) (sym (get_or-drop 7 bs i 0)) (small (7 + i)))) second in
+    let rest : drop 1 (take 8 (drop 7 bs)) ≡ drop 8 bs =
+    drop-take 1 7 (drop 7 bs) ∙ (ap (take 7) (drop-drop 1 7 bs) ∙ take_all 7 (drop 8 bs) (omega (arith, length-drop 8 bs, all))) in
+    ap (λ x. to_le_bytes w64 low ++ x) (shifted last)
+    ∙ (ap (λ (x : List ℕ × List ℕ). x.0 ++ drop 1 x.1) (λ j. (front j, back j))
+    ∙ (ap (λ x. take 8 bs ++ x) rest ∙ take-append-drop 8 bs))

@@ -16,7 +16,8 @@ use Rattle.trap_unit.specs.DeliveryStores.{delivery_stores}
 use Rattle.trap_unit.specs.TrapDelivery.{interrupt_allowed}
 use Rattle.trap_unit.specs.TrapReturn.{returned}
 use Rattle.cpu_step.specs.Processor.{Processor, deliverable}
-use Rattle.cpu_step.specs.Turns.{code_of, control_after, instruction_made, is_at_body, memory_after, vector_of, woken}
+use Rattle.x86_regs.specs.Effects.{memory_after}
+use Rattle.cpu_step.specs.Turns.{code_of, control_after, instruction_made, is_at_body, vector_of, woken}
 
 -- a vector is delivered, with an error code or without
 abbrev pub trap_stores : ℕ → Option ℕ → Processor → List ℕ → List (ℕ × ℕ)

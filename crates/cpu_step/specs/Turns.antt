@@ -6,19 +6,17 @@ use Rattle.nk_bits.specs.declared.control.Control.{Control}
 use Rattle.nk_bits.specs.Translations.{Translations, faulted, flushed, invalidated}
 use Rattle.nk_bits.specs.Outcomes.{Outcome, and_then}
 use Rattle.nk_bits.specs.Accesses.{wp_of}
-use Rattle.phys_mem.specs.Memory.{stored}
-use Rattle.page_walk.specs.MemoryAccess.{stores_at, view_of}
+use Rattle.page_walk.specs.MemoryAccess.{view_of}
 use Rattle.port_bus.specs.PortWords.{byte_from, console_byte, input_after}
 use Rattle.x86_alu.specs.Flags.{with_flag}
 use Rattle.x86_regs.specs.declared.effects.Act.{Act}
 use Rattle.x86_regs.specs.declared.effects.Act.TheVariants as act
 use Rattle.x86_regs.specs.declared.effects.Effect.{Effect}
-use Rattle.x86_regs.specs.declared.effects.Write.{Write}
 use Rattle.x86_regs.specs.declared.faults.Fault.{Fault}
 use Rattle.x86_regs.specs.declared.faults.Fault.TheVariants as fault
 use Rattle.x86_regs.specs.declared.registers.Regs.{Regs}
 use Rattle.x86_regs.specs.Registers.{written}
-use Rattle.x86_regs.specs.Effects.{effect_of}
+use Rattle.x86_regs.specs.Effects.{effect_of, memory_after}
 use Rattle.trap_unit.specs.declared.shutdown.Shut.{Shut}
 use Rattle.trap_unit.specs.TrapDelivery.{Delivered, delivered, interrupt_allowed}
 use Rattle.trap_unit.specs.TrapReturn.{returned}
@@ -96,11 +94,6 @@ enters_body p = is_at_body p.regs && not (wp_of p.control.cr0)
 
 abbrev pub refused_body : Processor → List ℕ → Turned
 refused_body p m = raised (fault.Page 3 0xFFFFFF8000004FF8) (record p { tlb = faulted p.tlb 0xFFFFFF8000004 }) m
-
--- memory after the one write of an instruction
-abbrev pub memory_after : Option Write → List ℕ → List ℕ
-memory_after None m = m
-memory_after (Some write) m = stored m (stores_at write.va write.width write.target write.value)
 
 -- CR0 keeps PE (0), WP (16), NW (29), CD (30) and PG (31); other bits are lost
 abbrev pub kept_in_cr0 : ℕ → ℕ

@@ -1,17 +1,18 @@
 //! The fetch of an instruction.
 
-ghost use Rattle.std.specs.Prelude.{◌≡◌, ◌⊎◌, ◌+◌, ◌-◌, ◌*◌, ◌%◌, ◌<◌, ◌≤◌, true, IfErr, IfOk, length, take};
-ghost use Rattle.phys_mem.specs.Memory.{number_at};
-ghost use Rattle.nk_bits.specs.Translations.{NamesFramesIn};
-ghost use Rattle.nk_bits.specs.Outcomes.{outcome_of, refused};
-ghost use Rattle.page_walk.specs.MemoryAccess.{view_of};
+ghost use Rattle.std.specs.Prelude.{◌≡◌, ◌⊎◌, ◌+◌, ◌-◌, ◌*◌, ◌%◌, ◌<◌, ◌≤◌, ◌++◌, true, IfErr, IfOk, length, take};
+ghost use Rattle.nk_bits.specs.Translations.{NamesFramesIn, Translations};
+ghost use Rattle.nk_bits.specs.Outcomes.{answered, outcome_of, refused};
+ghost use Rattle.page_walk.specs.MemoryAccess.{bytes_left, page_fetched, view_of};
+ghost use Rattle.x86_decode.specs.Decoding.{IfWhole};
+ghost use Rattle.x86_decode.specs.Reader.{decoded_of};
 ghost use Rattle.x86_decode.specs.WellFormed.{IsWellFormed};
-ghost use Rattle.x86_regs.specs.Operands.{wrapped};
-ghost use Rattle.cpu_step.specs.InstructionFetch.{byte_fetched, fetched_from, in_fetch, instruction_at};
-ghost use Rattle.cpu_step.specs.DecodingMemo.{IsAnswerOf, IsFetched, place_found};
+ghost use Rattle.x86_regs.specs.declared.faults.Fault.TheVariants.{General};
+ghost use Rattle.cpu_step.specs.InstructionFetch.{decided_by, fetched_from, in_fetch, instruction_at};
+ghost use Rattle.cpu_step.specs.DecodingMemo.{IsFetched};
 
-use crate::memo::Memo;
-use mem_access::{AccessFault, fetch_byte, fetch_place};
+use crate::memo::{Memo, words};
+use mem_access::{AccessFault, page_bytes};
 use nk_bits::{Control, access_law};
 use phys_mem::PhysMem;
 use tlb_model::Tlb;
@@ -31,86 +32,40 @@ pub struct Fetched {
     pub size: u8,
 }
 
-/// The byte at an address, for execution.
-fn byte_at(mem: &PhysMem, tlb: &mut Tlb, control: &Control, cpl: u8, va: u64) -> Result<u8, Fault>
-    requires cpl { (cpl ≡ 0) ⊎ (cpl ≡ 3) }
-    requires root { 4096 * control.now.root < length mem.now }
-    requires frames { NamesFramesIn (length mem.now) tlb.old }
-    ensures outcome { outcome_of result tlb.new
-        ≡ byte_fetched mem.now (view_of mem.now control.now cpl) va tlb.old }
-    ensures frames { NamesFramesIn (length mem.now) tlb.new }
-{
-    match fetch_byte(mem, tlb, control, cpl, va) {
-        Ok(byte) => Ok(byte),
-        Err(AccessFault::Page { code, address }) => Err(Fault::Page { code, address }),
-        Err(AccessFault::NonCanonical) => Err(Fault::General(0)),
-    }
-}
-
-/// The instruction at RIP, byte by byte, behind the `count` bytes that are there.
-fn fetch_behind(
-    mem: &PhysMem,
+/// The bytes from an address to its page's end, fifteen at most, for execution.
+#[inline(always)]
+fn bytes_at<'m>(
+    mem: &'m PhysMem,
     tlb: &mut Tlb,
     control: &Control,
-    regs: &Regs,
-    bytes: &mut [u8; 15],
-    count: usize,
-) -> Result<Fetched, Fault>
-    requires count { count ≤ 15 }
-    requires cpl { (regs.now.cpl ≡ 0) ⊎ (regs.now.cpl ≡ 3) }
-    requires root { 4096 * control.now.root < length mem.now }
-    requires frames { NamesFramesIn (length mem.now) tlb.old }
-    ensures outcome { outcome_of result tlb.new
-        ≡ fetched_from (15 - count) mem.now (view_of mem.now control.now regs.now.cpl) regs.now.rip
-        (take count bytes.old) tlb.old }
-    ensures formed { IfOk result (λ it. IsWellFormed it.instr) }
-    ensures frames { NamesFramesIn (length mem.now) tlb.new }
-{
-    if count == LONGEST {
-        return Err(Fault::General(0));
-    }
-    bytes[count] = match byte_at(
-        mem,
-        tlb,
-        control,
-        regs.cpl,
-        regs.rip.wrapping_add(count as u64),
-    ) {
-        Ok(byte) => byte,
-        Err(fault) => return Err(fault),
-    };
-    match decode(&bytes[..count + 1]) {
-        Decoded::Whole(instr, size) => Ok(Fetched { instr, size }),
-        Decoded::Short => fetch_behind(mem, tlb, control, regs, bytes, count + 1),
-        Decoded::TooLong => Err(Fault::General(0)),
-        Decoded::Unknown => Err(Fault::Opcode),
-    }
-}
-
-/// The place in memory of the byte at an address, for execution.
-fn place_at(mem: &PhysMem, tlb: &mut Tlb, control: &Control, cpl: u8, va: u64) -> Result<u64, Fault>
+    cpl: u8,
+    va: u64,
+) -> Result<&'m [u8], Fault>
     requires cpl { (cpl ≡ 0) ⊎ (cpl ≡ 3) }
     requires root { 4096 * control.now.root < length mem.now }
     requires frames { NamesFramesIn (length mem.now) tlb.old }
-    ensures outcome { outcome_of result tlb.new
-        ≡ in_fetch (place_found (view_of mem.now control.now cpl) va tlb.old) }
+    ensures found { IfOk result (λ bytes. answered bytes.now tlb.new
+        ≡ in_fetch (page_fetched mem.now (view_of mem.now control.now cpl) tlb.old va)) }
+    ensures refused { IfErr result (λ fault. refused fault tlb.new
+        ≡ in_fetch (page_fetched mem.now (view_of mem.now control.now cpl) tlb.old va)) }
+    ensures length { IfOk result (λ bytes. length bytes.now ≡ bytes_left va) }
     ensures frames { NamesFramesIn (length mem.now) tlb.new }
-    ensures page { IfOk result (λ place. place + (4096 - va % 4096) ≤ length mem.now) }
 {
-    match fetch_place(mem, tlb, control, cpl, va) {
-        Ok(place) => Ok(place),
+    match page_bytes(mem, tlb, control, cpl, va) {
+        Ok(bytes) => Ok(bytes),
         Err(AccessFault::Page { code, address }) => Err(Fault::Page { code, address }),
         Err(AccessFault::NonCanonical) => Err(Fault::General(0)),
     }
 }
 
-/// What the code at a place in memory, two words, decodes to.
-fn answer_at<'a>(memo: &'a mut Memo, mem: &PhysMem, rip: u64, place: u64) -> &'a Decoded
-    requires inside { place + 16 ≤ length mem.now }
-    ensures right { IsAnswerOf (number_at mem.now 8 place) (number_at mem.now 8 (place + 8)) result.now }
+/// What fifteen bytes decode to, by the memo.
+fn answer_of<'a>(memo: &'a mut Memo, rip: u64, bytes: &[u8]) -> &'a Decoded
+    requires length { length bytes.now ≡ 15 }
+    ensures decoded { result.now ≡ decoded_of bytes.now }
+    ensures formed { IfWhole result.now (λ instr size. IsWellFormed instr) }
 {
-    prove!(place < 4096 * u64::from(mem.frames()));
-    memo.answer(rip, mem.load64(place), mem.load64(place + 8))
+    let (low, high) = words(bytes);
+    memo.answer(rip, low, high)
 }
 
 /// Whether the fifteen bytes from an address on lie on one page, with one more.
@@ -144,18 +99,76 @@ pub(crate) fn code_on_page<'a>(
     decoding_law();
     access_law();
     mem.bytes_law();
-    match place_at(mem, tlb, control, regs.cpl, regs.rip) {
-        Ok(place) => Ok(answer_at(memo, mem, regs.rip, place)),
+    match bytes_at(mem, tlb, control, regs.cpl, regs.rip) {
+        Ok(bytes) => Ok(answer_of(memo, regs.rip, bytes)),
         Err(fault) => Err(fault),
     }
 }
 
-/// The instruction at RIP, byte by byte.
+/// The first fifteen bytes of two runs.
+fn joined(first: &[u8], second: &[u8]) -> [u8; 15]
+    requires first { length first.now ≤ 15 }
+    requires second { 15 ≤ length first.now + length second.now }
+    ensures { result ≡ take 15 (first.now ++ second.now) }
+{
+    let mut bytes = [0; LONGEST];
+    bytes[..first.len()].copy_from_slice(first);
+    bytes[first.len()..].copy_from_slice(&second[..LONGEST - first.len()]);
+    bytes
+}
+
+/// What fifteen bytes decide.
+fn decided(bytes: &[u8; 15]) -> Result<Fetched, Fault>
+    ensures outcome { (after : Translations) → outcome_of result after
+        ≡ decided_by (decoded_of bytes.now) after (refused (General 0) after) }
+    ensures formed { IfOk result (λ it. IsWellFormed it.instr) }
+{
+    match decode(bytes) {
+        Decoded::Whole(instr, size) => Ok(Fetched { instr, size }),
+        Decoded::Short | Decoded::TooLong => Err(Fault::General(0)),
+        Decoded::Unknown => Err(Fault::Opcode),
+    }
+}
+
+/// The instruction at RIP, of which the bytes to its page's end are too few.
+///
+/// Fails with the fault of the next page's first byte.
+fn fetch_across(
+    mem: &PhysMem,
+    tlb: &mut Tlb,
+    control: &Control,
+    regs: &Regs,
+    first: &[u8],
+) -> Result<Fetched, Fault>
+    requires cpl { (regs.now.cpl ≡ 0) ⊎ (regs.now.cpl ≡ 3) }
+    requires root { 4096 * control.now.root < length mem.now }
+    requires frames { NamesFramesIn (length mem.now) tlb.old }
+    requires first { length first.now ≡ bytes_left regs.now.rip }
+    ensures outcome { outcome_of result tlb.new
+        ≡ fetched_from (15 - length first.now) mem.now (view_of mem.now control.now regs.now.cpl)
+        regs.now.rip first.now tlb.old }
+    ensures formed { IfOk result (λ it. IsWellFormed it.instr) }
+    ensures frames { NamesFramesIn (length mem.now) tlb.new }
+{
+    decoding_law();
+    access_law();
+    mem.bytes_law();
+    if first.len() == LONGEST {
+        return Err(Fault::General(0));
+    }
+    let next = regs.rip.wrapping_add(first.len() as u64);
+    match bytes_at(mem, tlb, control, regs.cpl, next) {
+        Ok(second) => decided(&joined(first, second)),
+        Err(fault) => Err(fault),
+    }
+}
+
+/// The instruction at RIP, by its pages: the next page is asked for only where the bytes of the first are too few.
 ///
 /// Fails with the fault of the first byte that can't be fetched, with #UD where the bytes begin no spelling, and with
 /// #GP where fifteen bytes begin a longer one.
-#[tactic(auto, unfolding(crate::specs::InstructionFetch::instruction_at))]
-pub(crate) fn fetch_by_bytes(
+#[inline(never)]
+pub(crate) fn fetch_by_pages(
     mem: &PhysMem,
     tlb: &mut Tlb,
     control: &Control,
@@ -169,5 +182,17 @@ pub(crate) fn fetch_by_bytes(
     ensures formed { IfOk result (λ it. IsWellFormed it.instr) }
     ensures frames { NamesFramesIn (length mem.now) tlb.new }
 {
-    fetch_behind(mem, tlb, control, regs, &mut [0; 15], 0)
+    decoding_law();
+    access_law();
+    mem.bytes_law();
+    let first = match bytes_at(mem, tlb, control, regs.cpl, regs.rip) {
+        Ok(bytes) => bytes,
+        Err(fault) => return Err(fault),
+    };
+    match decode(first) {
+        Decoded::Whole(instr, size) => Ok(Fetched { instr, size }),
+        Decoded::Short => fetch_across(mem, tlb, control, regs, first),
+        Decoded::TooLong => Err(Fault::General(0)),
+        Decoded::Unknown => Err(Fault::Opcode),
+    }
 }

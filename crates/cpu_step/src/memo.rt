@@ -1,6 +1,7 @@
 //! A memo of decodings: code that was decoded before isn't decoded again while its bytes are the same.
 
-ghost use Rattle.std.specs.Prelude.{◌≡◌, ◌<◌, true, All, length, slice_index_or};
+ghost use Rattle.std.specs.Prelude.{◌≡◌, ◌+◌, ◌<◌, ◌≤◌, true, All, drop, length, slice_index_or, take};
+ghost use Rattle.std.specs.Int.{from_le_bytes, w64};
 ghost use Rattle.cpu_step.specs.declared.memo.MemoEntry.{MemoEntry};
 ghost use Rattle.cpu_step.specs.DecodingMemo.{IsAnswerOf, IsRight, bytes_of_words};
 
@@ -103,6 +104,23 @@ fn decode_words(low: u64, high: u64) -> Decoded
     ensures right { IsAnswerOf low high result }
 {
     decode(&first_bytes(low, high))
+}
+
+/// The word that begins at a place of a run.
+fn word_at(bytes: &[u8], at: usize) -> u64
+    requires { at + 8 ≤ length bytes.now }
+    ensures { result ≡ from_le_bytes w64 (take 8 (drop at bytes.now)) }
+{
+    let run = bytes[at..at + 8].first_chunk().unwrap();
+    u64::from_le_bytes(*run)
+}
+
+/// Two words whose first fifteen bytes are these, and whose last one is 0.
+pub(crate) fn words(bytes: &[u8]) -> (u64, u64)
+    requires length { length bytes.now ≡ 15 }
+    ensures bytes { bytes_of_words result.0 result.1 ≡ bytes.now }
+{
+    (word_at(bytes, 0), word_at(bytes, 7) >> 8)
 }
 
 /// The first fifteen bytes of two words.

@@ -4,12 +4,12 @@ ghost use Rattle.std.specs.Prelude.{◌≡◌, ◌⊎◌, ℕ, ◌%◌, ◌≤�
 ghost use Rattle.nk_bits.specs.Accesses.{wp_of};
 ghost use Rattle.nk_bits.specs.Translations.{faulted};
 ghost use Rattle.nk_bits.specs.Outcomes.{outcome_of};
-ghost use Rattle.x86_regs.specs.Effects.{FitsIn, HasAccessSize, LeavesToDelivery, LoadsFrameIn, asked_nothing, effect_with};
+ghost use Rattle.x86_regs.specs.Effects.{FitsIn, HasAccessSize, LeavesToDelivery, LoadsFrameIn, asked_nothing, effect_with, memory_after};
 ghost use Rattle.cpu_step.specs.Processor.{IsSound, deliverable};
-ghost use Rattle.cpu_step.specs.Turns.{acted, enters_body, instructed, instruction_made, is_at_body, memory_after, refused_body, turned};
+ghost use Rattle.cpu_step.specs.Turns.{acted, enters_body, instructed, instruction_made, is_at_body, refused_body, turned};
 
 use crate::execution::execute;
-use crate::fetch::{code_on_page, fetch_by_bytes, is_on_page};
+use crate::fetch::{code_on_page, fetch_by_pages, is_on_page};
 use crate::processor::Cpu;
 use crate::stepped::Stepped;
 use mem_access::commit;
@@ -142,7 +142,7 @@ impl Cpu {
         if is_on_page(self.regs.rip) {
             self.make_on_page(mem, made)
         } else {
-            self.make_by_bytes(mem, made)
+            self.make_by_pages(mem, made)
         }
     }
 
@@ -187,7 +187,7 @@ impl Cpu {
     }
 
     /// At the end of a page.
-    fn make_by_bytes(&mut self, mem: &PhysMem, made: &mut Result<Asked, Fault>)
+    fn make_by_pages(&mut self, mem: &PhysMem, made: &mut Result<Asked, Fault>)
         requires fresh { made.old ≡ Ok asked_nothing }
         requires sound { IsSound (length mem.now) self.old }
         ensures outcome { outcome_of (effect_with made.new self.new.regs) self.new.tlb
@@ -201,7 +201,7 @@ impl Cpu {
         ensures delivered { IfOk made.new (λ asked. LeavesToDelivery self.old.regs
             (record { regs = self.new.regs; write = asked.write; act = asked.act })) }
     {
-        match fetch_by_bytes(mem, &mut self.tlb, &self.control, &self.regs) {
+        match fetch_by_pages(mem, &mut self.tlb, &self.control, &self.regs) {
             Ok(it) => execute(
                 &it.instr,
                 it.size,

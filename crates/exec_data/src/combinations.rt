@@ -13,7 +13,7 @@ use x86_regs::{bit, condition_stands, low};
 
 /// What an operation makes of the operand that it writes, `a`, and of `b`, at this width in bits; `number` is the
 /// instruction's.
-pub(crate) fn combination(op: Op, width: u8, a: u64, b: u64, number: u64, flags: u64) -> Out
+pub fn combination(op: Op, width: u8, a: u64, b: u64, number: u64, flags: u64) -> Out
     requires { IsWidth width }
     ensures { result ≡ combination op width (cut width a) (cut (source_width op width) b) number flags }
 {
@@ -55,7 +55,7 @@ pub(crate) fn combination(op: Op, width: u8, a: u64, b: u64, number: u64, flags:
 }
 
 /// The flags after a comparison of `a` with `b`, at this width in bits.
-pub(crate) fn comparison(op: Op, width: u8, a: u64, b: u64, flags: u64) -> u64
+pub fn comparison(op: Op, width: u8, a: u64, b: u64, flags: u64) -> u64
     requires { IsWidth width }
     ensures { result ≡ comparison op width (cut width a) (cut width b) flags }
 {

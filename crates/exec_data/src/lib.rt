@@ -31,7 +31,9 @@ mod plans;
 // The call.
 mod execution;
 
+pub use combinations::{combination, comparison};
 pub use execution::{effect, execute, is_data_form};
+pub use movements::{movement, source_width};
 
 #[cfg(test)]
 mod tests;

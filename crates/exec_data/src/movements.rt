@@ -12,7 +12,7 @@ use x86_regs::{condition_stands, low};
 /// The width of what an operation reads, in bits, which isn't that of the instruction for the source of an extension
 /// and the count of a shift.
 #[inline(always)]
-pub(crate) fn source_width(op: Op, width: u8) -> u8
+pub fn source_width(op: Op, width: u8) -> u8
     requires { IsWidth width }
     ensures width { result ≡ source_width op width }
     ensures is_width { IsWidth result }
@@ -28,7 +28,7 @@ pub(crate) fn source_width(op: Op, width: u8) -> u8
 
 /// What is written of the operand `b`, at this width in bits.
 #[inline(always)]
-pub(crate) fn movement(op: Op, width: u8, b: u64, flags: u64) -> u64
+pub fn movement(op: Op, width: u8, b: u64, flags: u64) -> u64
     requires { IsWidth width }
     ensures { result ≡ movement op width (cut (source_width op width) b) flags }
 {

@@ -309,7 +309,7 @@ pub(crate) fn count_down(
 }
 
 /// The number in RCX once it is counted down, where it is.
-fn count_by(op: Op, general: &[u64; 16]) -> u64
+pub fn count_by(op: Op, general: &[u64; 16]) -> u64
     ensures { result ≡ slice_index (count_after op general.now) rcx }
 {
     if counts_down(op) {
@@ -320,7 +320,7 @@ fn count_by(op: Op, general: &[u64; 16]) -> u64
 }
 
 /// Puts the count that has gone down into RCX.
-fn set_count(op: Op, count: u64, regs: &mut Regs)
+pub fn set_count(op: Op, count: u64, regs: &mut Regs)
     requires { count ≡ slice_index (count_after op regs.old.general) rcx }
     ensures { regs.new ≡ record regs.old { general = count_after op regs.old.general } }
 {
@@ -340,8 +340,9 @@ fn target_by(place: &Place, next: u64, from: u64) -> u64
     }
 }
 
+/// Whether a jump is taken with these flags: one without a condition always is.
 #[inline(always)]
-pub(crate) fn is_taken(op: Op, flags: u64) -> bool
+pub fn is_taken(op: Op, flags: u64) -> bool
     ensures { result ≡ is_taken op flags }
 {
     match op {
@@ -356,7 +357,8 @@ fn counts_down(op: Op) -> bool
     !matches!(op, Op::Jrcxz)
 }
 
-fn count_taken(op: Op, count: u64, zero: bool) -> bool
+/// Whether a branch by the count in RCX is taken, where the count has gone down already, by ZF.
+pub fn count_taken(op: Op, count: u64, zero: bool) -> bool
     ensures { result ≡ count_taken op count zero }
 {
     match op {

@@ -18,6 +18,7 @@ mod flags;
 mod system;
 mod traps;
 
+pub use branches::{count_by, count_taken, is_taken, set_count};
 pub use execution::{effect, execute, is_flow_form};
 
 #[cfg(test)]

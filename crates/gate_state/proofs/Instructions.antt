@@ -20,12 +20,12 @@ use Rattle.x86_regs.specs.declared.effects.Act.TheVariants as act
 use Rattle.x86_regs.specs.declared.effects.Effect.{Effect}
 use Rattle.x86_regs.specs.declared.effects.Write.{Write}
 use Rattle.x86_regs.specs.declared.registers.Regs.{Regs}
-use Rattle.x86_regs.specs.Effects.{effect_of}
+use Rattle.x86_regs.specs.Effects.{effect_of, memory_after}
 use Rattle.x86_regs.specs.EffectsKept.{AreRegisters, IsGranted, IsSmallAct, LoadsNothing}
 use Rattle.cpu_step.specs.declared.fetch.Fetched.{Fetched}
 use Rattle.cpu_step.specs.Processor.{Processor}
 use Rattle.cpu_step.specs.TurnStores.{act_stores, effect_stores, write_stores}
-use Rattle.cpu_step.specs.Turns.{acted, kept_in_cr0, memory_after}
+use Rattle.cpu_step.specs.Turns.{acted, kept_in_cr0}
 use Rattle.gate_state.specs.GateWindow.{IsGatePoint}
 use Rattle.gate_state.specs.GuardedStates.{IsCr0}
 use Rattle.gate_state.specs.MachineStates.{Opening}

@@ -17,7 +17,7 @@ use Rattle.x86_regs.specs.declared.effects.Effect.{Effect}
 use Rattle.x86_regs.specs.declared.faults.Fault.{Fault}
 use Rattle.x86_regs.specs.declared.faults.Fault.TheVariants as fault
 use Rattle.x86_regs.specs.declared.registers.Regs.{Regs}
-use Rattle.x86_regs.specs.Effects.{effect_of}
+use Rattle.x86_regs.specs.Effects.{effect_of, memory_after}
 use Rattle.x86_regs.specs.EffectsKept.{AreRegisters}
 use Rattle.trap_unit.specs.declared.shutdown.Shut.{Shut}
 use Rattle.trap_unit.specs.TrapDelivery.{interrupt_allowed}
@@ -27,7 +27,7 @@ use Rattle.cpu_step.specs.declared.stepped.Stepped.{Stepped}
 use Rattle.cpu_step.specs.InstructionFetch.{instruction_at}
 use Rattle.cpu_step.specs.Processor.{Processor, deliverable}
 use Rattle.cpu_step.specs.TurnStores.{act_stores, body_stores, effect_stores, fault_stores, instruction_stores, interrupt_stores, return_stores, stores_unless, trap_stores, turn_stores, write_stores}
-use Rattle.cpu_step.specs.Turns.{Turned, acted, delivery_of, instructed, instruction_made, interrupted_by, is_at_body, memory_after, raised, refused_body, returned_by, shown, shown_by, trapped, turned, turned_by, turned_unless, woken}
+use Rattle.cpu_step.specs.Turns.{Turned, acted, delivery_of, instructed, instruction_made, interrupted_by, is_at_body, raised, refused_body, returned_by, shown, shown_by, trapped, turned, turned_by, turned_unless, woken}
 use Rattle.gate_state.specs.MachineOpening.{opening_tables}
 use Rattle.gate_state.specs.MachineStates.{Opening}
 use Rattle.gate_state.specs.RespectedKinds.{respecting}

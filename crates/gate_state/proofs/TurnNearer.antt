@@ -19,12 +19,12 @@ use Rattle.x86_regs.specs.declared.effects.Act.TheVariants as act
 use Rattle.x86_regs.specs.declared.effects.Effect.{Effect}
 use Rattle.x86_regs.specs.declared.faults.Fault.{Fault}
 use Rattle.x86_regs.specs.declared.registers.Regs.{Regs}
-use Rattle.x86_regs.specs.Effects.{effect_of}
+use Rattle.x86_regs.specs.Effects.{effect_of, memory_after}
 use Rattle.cpu_step.specs.declared.fetch.Fetched.{Fetched}
 use Rattle.cpu_step.specs.InstructionFetch.{instruction_at}
 use Rattle.cpu_step.specs.Processor.{Processor, deliverable, highest_pending}
 use Rattle.cpu_step.specs.TurnStores.{trap_stores}
-use Rattle.cpu_step.specs.Turns.{acted, enters_body, instructed, instruction_made, is_at_body, memory_after, refused_body, trapped, turned, turned_by, turned_unless, woken}
+use Rattle.cpu_step.specs.Turns.{acted, enters_body, instructed, instruction_made, is_at_body, refused_body, trapped, turned, turned_by, turned_unless, woken}
 use Rattle.gate_state.specs.GateWindow.{IsGatePoint, holds_at, is_uninterrupted, stands_on}
 use Rattle.gate_state.specs.GuardedStates.{IsAdmitted, IsGuarded}
 use Rattle.gate_state.specs.MachineOf.{IsAtBody}

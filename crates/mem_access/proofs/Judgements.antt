@@ -1,8 +1,11 @@
 -- A page of an access, by what the look-up and the judgement answer.
-use Rattle.std.proofs.Common.{◌≡◌, ℕ, true, false, refl, sym, ap, ◌∙◌, is_err}
-use Rattle.std.specs.Prelude.{Option, Result, Ok, Err}
-use Rattle.std.proofs.lemmas.Bool.{false≢true}
+use Rattle.std.proofs.Common.{◌≡◌, ℕ, Bool, true, false, refl, sym, ap, subst, ◌∙◌, is_err}
+use Rattle.std.specs.Prelude.{Option, Result, Ok, Err, not, ◌==◌, ◌&&◌, ◌||◌, if◌then◌else◌}
+use Rattle.std.proofs.lemmas.Bool.{false≢true, and_parts}
+use Rattle.nk_bits.specs.AccessRights.{may}
 use Rattle.nk_bits.specs.declared.access.Access.{Access}
+use Rattle.nk_bits.specs.declared.access.Access.TheVariants.{Read, Write}
+use Rattle.nk_bits.specs.declared.leaf.Rights.{Rights}
 use Rattle.nk_bits.specs.declared.leaf.Leaf.{Leaf}
 use Rattle.nk_bits.specs.declared.fault.AccessFault.{AccessFault}
 use Rattle.nk_bits.specs.Paging.{page_of}
@@ -35,3 +38,11 @@ module _ (view : View) (access : Access) (tlb after : Translations) (va : ℕ) (
 
   pub page_kept : is_err judgement ≡ false → outcome_of judgement after ≡ reached view access tlb va
   page_kept is = ap (outcome_of judgement) (sym (kept_after-place judgement after va is)) ∙ by_judgement
+
+-- what may be written may be read
+pub read_of_write : (access : Access) (r : Rights) (cpl : ℕ) (wp smep : Bool) → access ≡ Write → may access r cpl wp smep ≡ true → may Read r cpl wp smep ≡ true
+read_of_write access r cpl wp smep is granted = go (cpl == 0) r.user (subst (λ a. may a r cpl wp smep ≡ true) is granted)
+  where
+    go : (supervisor user : Bool) → (if supervisor then r.can_write || not wp else user && r.can_write) ≡ true → (supervisor || user) ≡ true
+    go true user write = refl
+    go false user write = (and_parts user r.can_write write).0

@@ -1,5 +1,6 @@
 mod Canonical
 mod Judgements
+mod Lent
 mod Numbers
 mod Spans
 mod Steps

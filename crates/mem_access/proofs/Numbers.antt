@@ -1,7 +1,8 @@
 -- Numbers by their bytes: one byte more, two parts, and stores one by one.
-use Rattle.std.proofs.Common.{◌≡◌, ℕ, zero, suc, ◌+◌, ◌-◌, ◌*◌, ◌/◌, ◌%◌, ◌^◌, ◌<◌, ◌≤◌, List, ◌∷◌, ◌++◌, set, arith, refl, sym, ap, ◌∙◌}
+use Rattle.std.proofs.Common.{◌≡◌, ℕ, zero, suc, ◌+◌, ◌-◌, ◌*◌, ◌/◌, ◌%◌, ◌^◌, ◌<◌, ◌≤◌, List, [], ◌∷◌, ◌++◌, set, arith, refl, sym, ap, ◌∙◌}
 use Rattle.std.proofs.Math.Nat.{pow-suc, one-le-pow, pow-le-pow_right, mul-le-mul_left}
 use Rattle.std.proofs.Math.Arith.{mod-mul}
+use Rattle.std.proofs.lemmas.List.{append-nil}
 use Rattle.std.proofs.lemmas.Nat.{pow-add}
 use Rattle.nk_bits.specs.declared.leaf.Target.{Target}
 use Rattle.phys_mem.specs.Memory.{byte_at, number_at, stores, stored}
@@ -86,6 +87,18 @@ stores_low (suc n) p v =
 
 pub low_stored : (m l : List ℕ) (n k p v : ℕ) → n ≡ k → l ≡ stored m (stores k p (v % 256 ^ k)) → l ≡ stored m (stores n p v)
 low_stored m l n k p v is same = same ∙ ap (stored m) (stores_low k p v ∙ ap (λ x. stores x p v) (sym is))
+
+stores_none : (n p v : ℕ) → n ≡ 0 → stores n p v ≡ []
+unfolding stores
+stores_none n p v e = ap (λ x. stores x p v) e
+
+-- where all bytes lie on the first page, the stores of an access are those of one number
+pub whole_stores : (va width value : ℕ) (target : Target) → first_part va width ≡ width → stores_at va width target value ≡ stores width target.first value
+whole_stores va width value target whole =
+    let none : stores (width - first_part va width) target.second (value / 256 ^ first_part va width) ≡ [] =
+    stores_none (width - first_part va width) target.second (value / 256 ^ first_part va width) (omega (arith, whole)) in
+    ap (λ ws. stores (first_part va width) target.first value ++ ws) none
+    ∙ append-nil (stores (first_part va width) target.first value) ∙ ap (λ n. stores n target.first value) whole
 
 -- a byte more below a number, in a count from the top down
 pub next_bound : (count offset b v : ℕ) → 0 < offset → offset ≤ count → b < 256 → v < 256 ^ (count - offset) → 256 * v + b < 256 ^ (count - (offset - 1))

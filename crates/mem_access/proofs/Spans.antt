@@ -24,6 +24,10 @@ target_of_one size va width first agrees inside one = record {
   second_fits = λ less. absurd (omega (arith, part_whole va width one, less));
 }
 
+pub bytes_fit : (size va width first : ℕ) → first + (4096 - va % 4096) ≤ size → crosses va width ≡ false → first + width ≤ size
+unfolding crosses
+bytes_fit size va width first inside one = let within : va % 4096 + width ≤ 4096 = ltb-false 4096 (va % 4096 + width) one in omega (arith, within, inside)
+
 -- a second page begins at a multiple of 4,096
 pub target_of_two : (size va width first second next : ℕ) → first % 4096 ≡ va % 4096 → first + (4096 - va % 4096) ≤ size →
     next % 4096 ≡ 0 → second % 4096 ≡ next % 4096 → second + (4096 - next % 4096) ≤ size → width ≤ 8 →

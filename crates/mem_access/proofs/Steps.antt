@@ -63,6 +63,10 @@ module _ (view : View) (access : Access) (tlb : Translations) (va width : ℕ) w
       pub page_faults : (fault : AccessFault) → result ≡ Err fault → refused fault after ≡ accessed view access tlb va width
       page_faults fault is = step_faults result after _ alone same fault is ∙ by_place
 
+    -- the place of a canonical address whose page changes nothing
+    pub found_alone : (first : ℕ) → is_canonical va ≡ true → answered first tlb ≡ reached view access tlb va → alone first tlb ≡ accessed view access tlb va width
+    found_alone first on same = page_found (Ok first) tlb (same ∙ sym (ap (λ b. if b then reached view access tlb va else refused NonCanonical tlb) on)) first refl
+
     pub first_place : and_then (accessed view access tlb va width) (λ target after. answered target.first after)
         ≡ (if is_canonical va then reached view access tlb va else refused NonCanonical tlb)
     first_place = ap (λ o. and_then o (λ target after. answered target.first after)) (sym by_place) ∙ place_again _

@@ -1,6 +1,6 @@
 //! Loads, stores and fetches. A width is in bytes: 1, 2, 4 or 8.
 
-ghost use Rattle.std.specs.Prelude.{◌≡◌, ◌+◌, ◌-◌, ◌*◌, ◌%◌, ◌^◌, ◌<◌, ◌≤◌, ◌⊎◌, if◌then◌else◌, IsTrue, IfOk, OnErr, length};
+ghost use Rattle.std.specs.Prelude.{◌≡◌, ◌+◌, ◌-◌, ◌*◌, ◌%◌, ◌^◌, ◌<◌, ◌≤◌, ◌⊎◌, if◌then◌else◌, IsTrue, IfErr, IfOk, OnErr, length};
 ghost use Rattle.phys_mem.specs.Memory.{stored};
 ghost use Rattle.nk_bits.specs.declared.access.Access.TheVariants.{Write, Fetch};
 ghost use Rattle.nk_bits.specs.declared.fault.AccessFault.TheVariants.{NonCanonical};
@@ -8,9 +8,9 @@ ghost use Rattle.nk_bits.specs.Paging.{is_canonical};
 ghost use Rattle.nk_bits.specs.Translations.{NamesFramesIn};
 ghost use Rattle.nk_bits.specs.Outcomes.{answered, refused, and_then, outcome_of};
 ghost use Rattle.nk_bits.specs.Accesses.{IsAccessSize, IsTarget, accessed, completed, crosses, has_canonical_bytes, reached};
-ghost use Rattle.page_walk.specs.MemoryAccess.{fetched, loaded, saved, stores_at, view_of, written};
+ghost use Rattle.page_walk.specs.MemoryAccess.{bytes_left, fetched, loaded, page_fetched, saved, stores_at, view_of, written};
 
-use crate::bytes::{read, write};
+use crate::bytes::{lend, read, write};
 use crate::pages::reach;
 use crate::span::{crosses, has_canonical_bytes, next_page};
 use nk_bits::{Access, AccessFault, Control, Target, canonical, span_law};
@@ -110,6 +110,7 @@ pub fn store(
 /// The place in memory of the byte at `va`, judged for execution, like those behind it on its page.
 ///
 /// Fails where the address isn't canonical, or where its page has no translation that serves the fetch.
+#[inline(always)]
 pub fn fetch_place(
     mem: &PhysMem,
     tlb: &mut Tlb,
@@ -148,6 +149,33 @@ pub fn fetch_byte(
 {
     match access(mem, tlb, Access::Fetch, control, cpl, va, 1) {
         Ok(target) => Ok(mem.load8(target.first)),
+        Err(fault) => Err(fault),
+    }
+}
+
+/// Lends the bytes from `va` to its page's end, fifteen at most, judged for execution as the first one is.
+///
+/// Fails where the address isn't canonical, or where its page has no translation that serves the fetch.
+#[inline(always)]
+pub fn page_bytes<'m>(
+    mem: &'m PhysMem,
+    tlb: &mut Tlb,
+    control: &Control,
+    cpl: u8,
+    va: u64,
+) -> Result<&'m [u8], AccessFault>
+    requires cpl { (cpl ≡ 0) ⊎ (cpl ≡ 3) }
+    requires root { 4096 * control.now.root < length mem.now }
+    requires frames { NamesFramesIn (length mem.now) tlb.old }
+    ensures found { IfOk result (λ bytes. answered bytes.now tlb.new
+        ≡ page_fetched mem.now (view_of mem.now control.now cpl) tlb.old va) }
+    ensures refused { IfErr result (λ fault. refused fault tlb.new
+        ≡ page_fetched mem.now (view_of mem.now control.now cpl) tlb.old va) }
+    ensures length { IfOk result (λ bytes. length bytes.now ≡ bytes_left va) }
+    ensures frames { NamesFramesIn (length mem.now) tlb.new }
+{
+    match fetch_place(mem, tlb, control, cpl, va) {
+        Ok(place) => Ok(lend(mem, va, place)),
         Err(fault) => Err(fault),
     }
 }

@@ -1,13 +1,35 @@
 //! The bytes of an access at the places that its check found, least significant first. A width is in bytes.
 
-ghost use Rattle.std.specs.Prelude.{◌≡◌, ◌+◌, ◌-◌, ◌*◌, ◌/◌, ◌%◌, ◌^◌, ◌<◌, ◌≤◌, length};
+ghost use Rattle.std.specs.Prelude.{◌≡◌, ◌+◌, ◌-◌, ◌*◌, ◌/◌, ◌%◌, ◌^◌, ◌<◌, ◌≤◌, drop, length, take};
 ghost use Rattle.phys_mem.specs.Memory.{number_at, stores, stored};
 ghost use Rattle.nk_bits.specs.Accesses.{IsTarget};
-ghost use Rattle.page_walk.specs.MemoryAccess.{value_at, stores_at};
+ghost use Rattle.page_walk.specs.MemoryAccess.{bytes_left, value_at, stores_at};
 
 use crate::span::{crosses, first_part};
 use nk_bits::Target;
 use phys_mem::{PhysMem, memory_law};
+
+/// The most bytes of an instruction.
+const LONGEST: usize = 15;
+
+/// The bytes of a page.
+const PAGE_BYTES: usize = 4096;
+
+/// Lends the bytes from the place of the byte at `va` to the end of its page, fifteen at most.
+#[inline(always)]
+#[tactic(auto, unfolding(page_walk::specs::MemoryAccess::bytes_left))]
+pub fn lend(mem: &PhysMem, va: u64, place: u64) -> &[u8]
+    requires agrees { place % 4096 ≡ va % 4096 }
+    requires inside { place + (4096 - va % 4096) ≤ length mem.now }
+    ensures bytes { result.now ≡ take (bytes_left va) (drop place mem.now) }
+    ensures length { length result.now ≡ bytes_left va }
+{
+    prove!(place < 4096 * u64::from(mem.frames()));
+    let page = mem.frame((place / 4096) as u32);
+    let start = (place % 4096) as usize;
+    let count = LONGEST.min(PAGE_BYTES - start);
+    &page[start..start + count]
+}
 
 /// The number of `width` bytes that stands at these places.
 pub fn read(mem: &PhysMem, target: &Target, va: u64, width: u8) -> u64
@@ -44,7 +66,7 @@ pub fn write(mem: &mut PhysMem, target: &Target, va: u64, width: u8, value: u64)
 
 /// The number whose `count` bytes stand from `at` on.
 #[inline]
-fn number(mem: &PhysMem, at: u64, count: u8) -> u64
+pub fn number(mem: &PhysMem, at: u64, count: u8) -> u64
     requires count { count ≤ 8 }
     requires inside { at + count ≤ length mem.now }
     ensures value { result ≡ number_at mem.now count at }
@@ -89,7 +111,7 @@ fn number_by_bytes(mem: &PhysMem, at: u64, count: u8) -> u64
 
 /// Puts the `count` low bytes of `value` at the places from `at` on.
 #[inline]
-fn put(mem: &mut PhysMem, at: u64, count: u8, value: u64)
+pub fn put(mem: &mut PhysMem, at: u64, count: u8, value: u64)
     requires { at + count ≤ length mem.old }
     ensures stored { mem.new ≡ stored mem.old (stores count at value) }
     ensures length { length mem.new ≡ length mem.old }

@@ -6,11 +6,13 @@ ghost use Rattle.nk_bits.specs.Paging.{page_of, is_canonical};
 ghost use Rattle.nk_bits.specs.UpperEntries.{kept_for, walk_by};
 ghost use Rattle.nk_bits.specs.Translations.{NamesFramesIn, translation, tlb_after};
 ghost use Rattle.nk_bits.specs.Outcomes.{outcome_of};
-ghost use Rattle.nk_bits.specs.Accesses.{reached, judged, place_in};
+ghost use Rattle.nk_bits.specs.Accesses.{reached, judged};
 ghost use Rattle.page_walk.specs.MemoryAccess.{view_of};
 ghost use Rattle.page_walk.specs.WalkAnswers.{leaf_or_level};
 
+use crate::kept::{kept_page, place_of};
 use crate::rights::{fault_code, may};
+use crate::span::page;
 use nk_bits::{Access, AccessFault, Control, Leaf, Upper, access_law, named_law, translation_law};
 use page_walk::{Missing, walk, walk_below};
 use phys_mem::PhysMem;
@@ -35,11 +37,9 @@ pub fn reach(
     ensures agrees { IfOk result (λ place. place % 4096 ≡ va % 4096) }
     ensures inside { IfOk result (λ place. place + (4096 - va % 4096) ≤ length mem.now) }
 {
-    access_law();
-    translation_law();
-    match tlb.look(page(va)) {
-        Some(kept) if may(access, kept.rights, control, cpl) => Ok(place_of(mem, kept, va)),
-        _ => resolve(mem, tlb, access, control, cpl, va),
+    match kept_page(mem, tlb, access, control, cpl, va) {
+        Some(place) => Ok(place),
+        None => resolve(mem, tlb, access, control, cpl, va),
     }
 }
 
@@ -151,24 +151,4 @@ fn judge(
             address: va,
         }),
     }
-}
-
-/// The place in memory of the byte at `va`, whose page has this translation.
-#[inline]
-fn place_of(mem: &PhysMem, leaf: Leaf, va: u64) -> u64
-    requires frame { 4096 * leaf.frame < length mem.now }
-    ensures place { result ≡ place_in leaf va }
-    ensures agrees { result % 4096 ≡ va % 4096 }
-    ensures inside { result + (4096 - va % 4096) ≤ length mem.now }
-{
-    // memory has whole frames
-    let _frames = mem.frames();
-    4096 * u64::from(leaf.frame) + va % 4096
-}
-
-#[inline]
-fn page(va: u64) -> u64
-    ensures { result ≡ page_of va }
-{
-    va / 4096
 }

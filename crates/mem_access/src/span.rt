@@ -1,6 +1,7 @@
 //! The bytes of an access by address: whether each is canonical, and how they lie on pages. A width is in bytes.
 
 ghost use Rattle.std.specs.Prelude.{◌≡◌, ◌+◌, ◌-◌, ◌*◌, ◌/◌, ◌%◌, ◌^◌, ◌<◌, ◌≤◌};
+ghost use Rattle.nk_bits.specs.Paging.{page_of};
 ghost use Rattle.nk_bits.specs.Accesses.{has_canonical_bytes, crosses, first_part, next_page};
 
 use nk_bits::canonical;
@@ -41,4 +42,12 @@ pub fn next_page(va: u64) -> u64
     ensures start { result % 4096 ≡ 0 }
 {
     (va / PAGE_BYTES * PAGE_BYTES).wrapping_add(PAGE_BYTES)
+}
+
+/// The number of the page of this address.
+#[inline]
+pub fn page(va: u64) -> u64
+    ensures { result ≡ page_of va }
+{
+    va / PAGE_BYTES
 }

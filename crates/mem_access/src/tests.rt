@@ -5,7 +5,9 @@ ghost use Rattle.std.specs.Prelude.{◌≡◌, ◌*◌, ◌<◌, ◌⊎◌, IfOk
 ghost use Rattle.nk_bits.specs.Accesses.{IsAccessSize};
 ghost use Rattle.nk_bits.specs.Translations.{NamesFramesIn};
 
-use super::{AccessFault, Control, Target, check_store, commit, fetch_byte, load, store};
+use super::{
+    AccessFault, Control, Target, check_store, commit, fetch_byte, load, page_bytes, store,
+};
 use phys_mem::{NoMemory, PhysMem};
 use std::alloc::Global;
 use std::test::Fail;
@@ -66,6 +68,54 @@ fn supervisor_executes_no_user_page(rt: HostRuntime) -> Result<(), Fail> {
         fault(0x11, 0x1000)
     );
     assert_eq!(rt; fetch_byte(&mem, &mut tlb, &CONTROL, 3, 0x1000), Ok(0xF4));
+    Ok(())
+}
+
+/// From a page's start on fifteen bytes, at its end those that are left, whatever the next page is.
+#[test]
+fn bytes_of_one_page_are_lent(rt: HostRuntime) -> Result<(), Fail> {
+    let mut mem = memory(rt.alloc(), ALL, ABSENT)?;
+    let mut tlb = Tlb::new(rt.alloc())?;
+    mem.store64(0x8000, 0x0807_0605_0403_0201);
+    mem.store64(0x8008, 0x100F_0E0D_0C0B_0A09);
+    mem.store64(0x8FF8, 0xF8F7_F6F5_F4F3_F2F1);
+    mem.store64(0x9000, u64::MAX);
+    let start = page_bytes(&mem, &mut tlb, &CONTROL, 3, 0)?;
+    let fifteen = b"\x01\x02\x03\x04\x05\x06\x07\x08\x09\x0A\x0B\x0C\x0D\x0E\x0F";
+    assert_eq!(rt; start, fifteen.as_slice());
+    assert_eq!(rt; page_bytes(&mem, &mut tlb, &CONTROL, 3, 0xFF0)?.len(), 15);
+    assert_eq!(rt;
+        page_bytes(&mem, &mut tlb, &CONTROL, 3, 0xFFD)?,
+        b"\xF6\xF7\xF8".as_slice()
+    );
+    assert_eq!(rt;
+        page_bytes(&mem, &mut tlb, &CONTROL, 3, 0xFFF)?,
+        b"\xF8".as_slice()
+    );
+    Ok(())
+}
+
+/// The fault is that of the first byte.
+#[test]
+fn bytes_of_a_page_are_refused(rt: HostRuntime) -> Result<(), Fail> {
+    let mem = memory(rt.alloc(), READ_ONLY, ABSENT)?;
+    let mut tlb = Tlb::new(rt.alloc())?;
+    assert_eq!(rt;
+        page_bytes(&mem, &mut tlb, &CONTROL, 0, 0xFFF),
+        fault(0x11, 0xFFF)
+    );
+    assert_eq!(rt;
+        fetch_byte(&mem, &mut tlb, &CONTROL, 0, 0xFFF),
+        fault(0x11, 0xFFF)
+    );
+    assert_eq!(rt;
+        page_bytes(&mem, &mut tlb, &CONTROL, 3, 0x1234),
+        fault(0x14, 0x1234)
+    );
+    assert_eq!(rt;
+        page_bytes(&mem, &mut tlb, &CONTROL, 3, 0x8000_0000_0000),
+        Err(AccessFault::NonCanonical)
+    );
     Ok(())
 }
 

@@ -1,2 +1,4 @@
 -- Words of private clauses and proofs.
-pub mod PageSlots
+pub mod SlotBuckets
+pub mod SlotOrder
+pub mod TranslationTable

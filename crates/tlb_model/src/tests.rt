@@ -1,5 +1,6 @@
 //! The lists at worked values: youngest last, 1,024 translations and 64 upper entries at most. Pages whose numbers are
-//! 256 apart share a slot of the index. An entry of level 2 serves 512 pages, and the pages below 2^18 share those above.
+//! 1,024 apart share a bucket of the table. An entry of level 2 serves 512 pages, and the pages below 2^18 share those
+//! above.
 
 use crate::Tlb;
 use nk_bits::{Leaf, Rights, Upper};
@@ -49,61 +50,37 @@ fn loses_the_oldest(rt: HostRuntime) -> Result<(), Fail> {
     Ok(())
 }
 
-/// The pages behind page 5 are even, so that its slot is its own until it goes.
 #[test]
-fn oldest_page_leaves_its_slot(rt: HostRuntime) -> Result<(), Fail> {
+fn pages_share_a_bucket(rt: HostRuntime) -> Result<(), Fail> {
     let mut tlb = Tlb::new(rt.alloc())?;
     tlb.fill(5, leaf(1));
-    for page in 0..1023 {
-        tlb.fill(2 * page, leaf(7));
-    }
+    tlb.fill(1029, leaf(2));
+    tlb.fill(2053, leaf(3));
     assert_eq!(rt; tlb.look(5), Some(leaf(1)));
-    tlb.fill(2046, leaf(7));
-    assert_eq!(rt; tlb.look(5), None);
-    assert_eq!(rt; tlb.look(0), Some(leaf(7)));
-    Ok(())
-}
-
-#[test]
-fn two_pages_share_a_slot(rt: HostRuntime) -> Result<(), Fail> {
-    let mut tlb = Tlb::new(rt.alloc())?;
-    tlb.fill(5, leaf(1));
-    tlb.fill(261, leaf(2));
+    assert_eq!(rt; tlb.look(1029), Some(leaf(2)));
+    assert_eq!(rt; tlb.look(2053), Some(leaf(3)));
+    assert_eq!(rt; tlb.look(3077), None);
+    tlb.drop_page(1029);
     assert_eq!(rt; tlb.look(5), Some(leaf(1)));
-    assert_eq!(rt; tlb.look(261), Some(leaf(2)));
-    assert_eq!(rt; tlb.look(517), None);
+    assert_eq!(rt; tlb.look(1029), None);
+    assert_eq!(rt; tlb.look(2053), Some(leaf(3)));
     tlb.drop_page(5);
+    tlb.fill(3077, leaf(4));
     assert_eq!(rt; tlb.look(5), None);
-    assert_eq!(rt; tlb.look(261), Some(leaf(2)));
-    tlb.fill(5, leaf(3));
-    tlb.drop_page(261);
-    assert_eq!(rt; tlb.look(5), Some(leaf(3)));
-    assert_eq!(rt; tlb.look(261), None);
+    assert_eq!(rt; tlb.look(2053), Some(leaf(3)));
+    assert_eq!(rt; tlb.look(3077), Some(leaf(4)));
     Ok(())
 }
 
+/// No linear address has this page; the table keeps it like any other.
 #[test]
-fn flush_empties_the_slots(rt: HostRuntime) -> Result<(), Fail> {
-    let mut tlb = Tlb::new(rt.alloc())?;
-    tlb.fill(0, leaf(1));
-    tlb.fill(255, leaf(2));
-    tlb.flush();
-    assert_eq!(rt; tlb.look(0), None);
-    assert_eq!(rt; tlb.look(255), None);
-    tlb.fill(255, leaf(3));
-    assert_eq!(rt; tlb.look(255), Some(leaf(3)));
-    Ok(())
-}
-
-/// No linear address has this page; the list keeps it like any other, without a slot.
-#[test]
-fn largest_number_has_no_slot(rt: HostRuntime) -> Result<(), Fail> {
+fn keeps_the_largest_number(rt: HostRuntime) -> Result<(), Fail> {
     let mut tlb = Tlb::new(rt.alloc())?;
     assert_eq!(rt; tlb.look(u64::MAX), None);
-    tlb.fill(255, leaf(1));
+    tlb.fill(1023, leaf(1));
     tlb.fill(u64::MAX, leaf(2));
     assert_eq!(rt; tlb.look(u64::MAX), Some(leaf(2)));
-    assert_eq!(rt; tlb.look(255), Some(leaf(1)));
+    assert_eq!(rt; tlb.look(1023), Some(leaf(1)));
     tlb.drop_page(u64::MAX);
     assert_eq!(rt; tlb.look(u64::MAX), None);
     Ok(())

@@ -1,14 +1,14 @@
-//! The translations and the upper entries that are kept, and the index.
+//! The translations and the upper entries that are kept.
 
 ghost use Rattle.std.specs.Prelude.{◌≡◌, ℕ, ◌+◌, ◌-◌, ◌<◌, ◌≤◌, IfOk, Some, List, [], ◌∷◌, ◌++◌, ◌==◌, None, drop, length, vec_capacity};
 ghost use Rattle.std.specs.List.{find};
 ghost use Rattle.nk_bits.specs.UpperEntries.{upper_capacity, kept_for, HasDistinctEntries};
 ghost use Rattle.nk_bits.specs.Translations.{Translations, capacity, look, dropped, youngest, flushed, faulted, invalidated, forgotten, with_leaf, entry_forgotten, entry_kept, HasDistinctPages};
-ghost use Rattle.tlb_model.specs.PageSlots.{HoldsKept};
+ghost use Rattle.tlb_model.specs.TranslationTable.{IsTable, pairs_of};
 
 use crate::entries::Entries;
-use crate::index::Index;
-use nk_bits::{Leaf, Upper, translation_law};
+use crate::table::Table;
+use nk_bits::{Leaf, Upper};
 use std::alloc::Global;
 use std::marker::Model;
 
@@ -23,8 +23,7 @@ pub struct NoMemory;
 /// each under its level and the number that its pages share.
 #[derive(Drop)]
 pub struct Tlb {
-    pairs: Vec<(u64, Leaf)>,
-    index: Box<Index>,
+    table: Box<Table>,
     upper: Entries,
 }
 
@@ -32,13 +31,13 @@ impl Model for Tlb {
     ghost use Rattle.std.specs.Prelude.{ℕ, ◌≤◌, List, length, vec_capacity};
     ghost use Rattle.nk_bits.specs.UpperEntries.{upper_capacity, HasDistinctEntries};
     ghost use Rattle.nk_bits.specs.Translations.{Translations, capacity, HasDistinctPages};
-    ghost use Rattle.tlb_model.specs.PageSlots.{HoldsKept};
+    ghost use Rattle.tlb_model.specs.TranslationTable.{IsTable, pairs_of};
 
     ghost Value = { Translations };
 
-    ghost view = { λ t. record { pairs = t.pairs.items; upper = t.upper } };
+    ghost view = { λ t. record { pairs = pairs_of t.table.value; upper = t.upper } };
 
-    ghost invariant = { λ t. (length t.pairs.items ≤ capacity) × (capacity ≤ vec_capacity t.pairs) × HasDistinctPages t.pairs.items × HoldsKept t.index.value.slots t.pairs.items × (length t.upper ≤ upper_capacity) × HasDistinctEntries t.upper };
+    ghost invariant = { λ t. IsTable t.table.value × (length t.upper ≤ upper_capacity) × HasDistinctEntries t.upper };
 }
 
 impl Tlb {
@@ -56,7 +55,7 @@ impl Tlb {
         }
     }
 
-    /// The leaf that is kept for a page. The index mostly has it; else each pair is looked at in turn.
+    /// The leaf that is kept for a page.
     #[inline]
     pub fn look(&self, page: u64) -> Option<Leaf>
         ensures found { result ≡ look self.now.pairs page }
@@ -65,10 +64,7 @@ impl Tlb {
         ensures upper_bound { length self.now.upper ≤ upper_capacity }
         ensures upper_distinct { HasDistinctEntries self.now.upper }
     {
-        match self.index.held(page) {
-            Some(leaf) => Some(leaf),
-            None => find_leaf(&self.pairs, page),
-        }
+        self.table.look(page)
     }
 
     /// What is kept for a page at a level, 2 to 4: where a walk of the page may begin.
@@ -92,11 +88,7 @@ impl Tlb {
         ensures upper_bound { length self.new.upper ≤ upper_capacity }
         ensures upper_distinct { HasDistinctEntries self.new.upper }
     {
-        translation_law();
-        self.drop_page(page);
-        make_room(&mut self.pairs, &mut self.index);
-        self.pairs.push((page, leaf)).unwrap();
-        self.index.hold(page, leaf);
+        self.table.fill(page, leaf);
     }
 
     /// Forgets a page's leaf alone, if one is kept.
@@ -107,9 +99,7 @@ impl Tlb {
         ensures upper_bound { length self.new.upper ≤ upper_capacity }
         ensures upper_distinct { HasDistinctEntries self.new.upper }
     {
-        translation_law();
-        self.index.forget(page);
-        remove_page(&mut self.pairs, page);
+        self.table.drop_page(page);
     }
 
     /// Forgets a page's leaf and the entries that serve the page, as a page fault does.
@@ -144,8 +134,7 @@ impl Tlb {
         ensures upper_bound { length self.new.upper ≤ upper_capacity }
         ensures upper_distinct { HasDistinctEntries self.new.upper }
     {
-        self.index.clear();
-        self.pairs.clear();
+        self.table.flush();
         self.upper.clear();
     }
 
@@ -180,64 +169,21 @@ fn with_entries(alloc: Global, upper: Entries) -> Result<Tlb, NoMemory>
     requires none { upper ≡ [] }
     ensures { IfOk result (λ tlb. tlb ≡ flushed) }
 {
-    match Vec::with_capacity(alloc, CAPACITY) {
-        Ok(pairs) => indexed(alloc, pairs, upper),
-        Err(_) => Err(NoMemory),
+    match Table::new(alloc) {
+        Ok(table) => boxed(alloc, table, upper),
+        Err(fault) => Err(fault),
     }
 }
 
-/// Nothing, in this room, with an index of its own; the index is boxed, so that a machine which moves stays small.
-fn indexed(alloc: Global, pairs: Vec<(u64, Leaf)>, upper: Entries) -> Result<Tlb, NoMemory>
-    requires none { pairs.items ≡ [] }
-    requires room { vec_capacity pairs ≡ CAPACITY }
+/// The table is boxed, so that a machine which moves stays small.
+fn boxed(alloc: Global, table: Table, upper: Entries) -> Result<Tlb, NoMemory>
+    requires table { IsTable table }
+    requires none { pairs_of table ≡ [] }
     requires upper { upper ≡ [] }
     ensures { IfOk result (λ tlb. tlb ≡ flushed) }
 {
-    match Box::new(alloc, Index::new()) {
-        Ok(index) => Ok(Tlb {
-            pairs,
-            index,
-            upper,
-        }),
+    match Box::new(alloc, table) {
+        Ok(table) => Ok(Tlb { table, upper }),
         Err(_) => Err(NoMemory),
-    }
-}
-
-/// The leaf of the first pair of a page.
-#[inline(never)]
-fn find_leaf(pairs: &[(u64, Leaf)], page: u64) -> Option<Leaf>
-    ensures { result ≡ look pairs.now page }
-{
-    find_pair(pairs, page).map(|pair| pair.1)
-}
-
-fn find_pair(pairs: &[(u64, Leaf)], page: u64) -> Option<(u64, Leaf)>
-    ensures { result ≡ find (λ pair. pair.0 == page) pairs.now }
-{
-    pairs.iter().copied().find(|pair| pair.0 == page)
-}
-
-/// Removes the page's pair.
-fn remove_page(pairs: &mut Vec<(u64, Leaf)>, page: u64)
-    ensures dropped { pairs.new.items ≡ dropped pairs.old.items page }
-    ensures length { length pairs.new.items ≤ length pairs.old.items }
-    ensures room { vec_capacity pairs.new ≡ vec_capacity pairs.old }
-{
-    pairs.retain(|pair| pair.0 != page);
-}
-
-/// Removes the oldest pair, and empties its slot, where there is no room for one more.
-#[tactic(auto, unfolding(nk_bits::specs::Translations::capacity))]
-fn make_room(pairs: &mut Vec<(u64, Leaf)>, index: &mut Index)
-    requires fits { length pairs.old.items ≤ capacity }
-    requires kept { HoldsKept index.old.slots pairs.old.items }
-    ensures youngest { pairs.new.items ≡ drop (length pairs.old.items + 1 - capacity) pairs.old.items }
-    ensures fits { length pairs.new.items < capacity }
-    ensures kept { HoldsKept index.new.slots pairs.new.items }
-    ensures room { vec_capacity pairs.new ≡ vec_capacity pairs.old }
-{
-    if pairs.len() == CAPACITY {
-        let oldest = pairs.remove(0);
-        index.forget(oldest.0);
     }
 }

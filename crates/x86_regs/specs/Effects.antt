@@ -22,7 +22,8 @@ use Rattle.page_walk.specs.declared.plan.Span.{Span}
 use Rattle.page_walk.specs.declared.plan.Source.TheVariants.{At}
 use Rattle.page_walk.specs.declared.plan.Gathered.{Gathered}
 use Rattle.page_walk.specs.declared.plan.SpanFault.{SpanFault}
-use Rattle.page_walk.specs.MemoryAccess.{view_of}
+use Rattle.phys_mem.specs.Memory.{stored}
+use Rattle.page_walk.specs.MemoryAccess.{stores_at, view_of}
 use Rattle.page_walk.specs.AccessPlans.{checked, gathered, taken}
 use Rattle.x86_regs.specs.declared.registers.Regs.{Regs}
 use Rattle.x86_regs.specs.declared.delivery.Frame.{Frame}
@@ -185,6 +186,11 @@ effect_of i size regs control m tlb =
 abbrev pub effect_with : Result Asked Fault → Regs → Result Effect Fault
 effect_with (Ok asked) regs = Ok (record { regs = regs; write = asked.write; act = asked.act })
 effect_with (Err fault) regs = Err fault
+
+-- memory after the one write of an instruction
+abbrev pub memory_after : Option Write → List ℕ → List ℕ
+memory_after None m = m
+memory_after (Some write) m = stored m (stores_at write.va write.width write.target write.value)
 
 -- what an instruction asks that only changes registers
 abbrev pub asked_nothing : Asked

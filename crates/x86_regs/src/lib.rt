@@ -34,7 +34,7 @@ pub use operands::{
     RAX, RBP, RCX, RDI, RDX, RSI, RSP, fallen, from_address, from_source, going_on, lowered,
     next_of, place_span, pop_source, push_span, risen, stack_span, string_span, to_source,
 };
-pub use refusals::{raised, refusal};
+pub use refusals::{is_unconditional, raised, refusal};
 pub use registers::{Regs, held, low, set_place, set_register, with_register, written};
 pub use writes::write_of;
 

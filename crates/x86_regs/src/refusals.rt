@@ -42,7 +42,7 @@ fn refusal_by_conditions(instr: &Instr, cpl: u8) -> Option<Fault>
 
 /// Whether an instruction is of those that no condition refuses, at whatever CPL: the common ones without LOCK.
 #[inline(always)]
-fn is_unconditional(instr: &Instr) -> bool
+pub fn is_unconditional(instr: &Instr) -> bool
     ensures { result ≡ true → (cpl : ℕ) → refusal instr.now cpl ≡ None }
 {
     !instr.lock && has_no_condition(instr.op)

@@ -1,8 +1,9 @@
 //! The fetch of an instruction: its bytes, its faults and their order (SDM volume 2, 2.3.11; volume 3, 6.15).
 
 use super::{CONTROL, REGS, cpu, memory, put};
-use crate::fetch::{code_on_page, fetch_by_bytes, is_on_page};
+use crate::fetch::{code_on_page, fetch_by_pages, is_on_page};
 use std::alloc::Global;
+use std::test::Fail;
 use x86_decode::Decoded;
 use x86_regs::{Fault, Regs};
 
@@ -20,7 +21,7 @@ fn size_at(alloc: Global, place: u64, bytes: &[u8], rip: u64) -> Option<Result<u
     };
     let regs = Regs { rip, ..REGS };
     if !is_on_page(rip) {
-        return match fetch_by_bytes(&mem, &mut cpu.tlb, &CONTROL, &regs) {
+        return match fetch_by_pages(&mem, &mut cpu.tlb, &CONTROL, &regs) {
             Ok(it) => Some(Ok(it.size)),
             Err(fault) => Some(Err(fault)),
         };
@@ -141,4 +142,25 @@ fn pages_that_are_not_executed(rt: HostRuntime) {
         size_at(alloc, 0x9000, b"\x90", 0xFFFF_8000_0000_0000),
         Some(page(0x10, 0xFFFF_8000_0000_0000))
     );
+}
+
+/// Three bytes end page 3, and seven begin page 4: the number is that of both.
+#[test]
+fn number_over_the_end_of_a_page(rt: HostRuntime) -> Result<(), Fail> {
+    let mut mem = memory(rt.alloc())?;
+    let mut cpu = cpu(rt.alloc(), &REGS)?;
+    put(&mut mem, 0x7FFD, b"\x48\xB8\x01");
+    put(&mut mem, 0x6000, b"\x02\x03\x04\x05\x06\x07\x08");
+    let regs = Regs {
+        rip: 0x3FFD,
+        ..REGS
+    };
+    match fetch_by_pages(&mem, &mut cpu.tlb, &CONTROL, &regs) {
+        Ok(it) => {
+            assert_eq!(rt; it.size, 10);
+            assert_eq!(rt; it.instr.value, 0x0807_0605_0403_0201);
+        }
+        Err(_) => assert!(rt; false),
+    }
+    Ok(())
 }

@@ -2,9 +2,9 @@ use Rattle.std.proofs.Common.{◌≡◌, Result, IfOk, OnErr, false, subst, sym,
 use Rattle.nk_bits.specs.Outcomes.{outcome_of}
 use Rattle.x86_regs.specs.declared.effects.Asked.{Asked}
 use Rattle.x86_regs.specs.declared.faults.Fault.{Fault}
-use Rattle.x86_regs.specs.Effects.{LeavesToDelivery, effect_with}
+use Rattle.x86_regs.specs.Effects.{LeavesToDelivery, effect_with, memory_after}
 use Rattle.cpu_step.specs.Processor.{Processor}
-use Rattle.cpu_step.specs.Turns.{acted, is_at_body, memory_after, raised}
+use Rattle.cpu_step.specs.Turns.{acted, is_at_body, raised}
 use Rattle.cpu_step.proofs.TurnLemmas.{instructed_at_body, turned_by_act, turned_by_fault}
 use Rattle.cpu_step.proofs.processor.Cpu.instruct.Goals as goal
 

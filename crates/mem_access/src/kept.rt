@@ -1,0 +1,119 @@
+//! Accesses on a page whose translation is kept and serves them: they change nothing, and their bytes stand one behind
+//! the other. A width is in bytes.
+
+ghost use Rattle.std.specs.Prelude.{◌≡◌, ℕ, List, ◌+◌, ◌-◌, ◌*◌, ◌%◌, ◌^◌, ◌<◌, ◌≤◌, IfSome, false, length};
+ghost use Rattle.phys_mem.specs.Memory.{number_at, stores, stored};
+ghost use Rattle.nk_bits.specs.declared.access.Access.TheVariants.{Read, Write};
+ghost use Rattle.nk_bits.specs.declared.leaf.Target.{Target};
+ghost use Rattle.nk_bits.specs.Translations.{NamesFramesIn};
+ghost use Rattle.nk_bits.specs.Outcomes.{answered};
+ghost use Rattle.nk_bits.specs.Accesses.{IsAccessSize, IsTarget, accessed, crosses, place_in, reached};
+ghost use Rattle.page_walk.specs.MemoryAccess.{stores_at, value_at, view_of};
+
+use crate::bytes::{number, put};
+use crate::rights::may;
+use crate::span::{crosses, page};
+use nk_bits::{Access, Control, Leaf, access_law, canonical, translation_law};
+use phys_mem::PhysMem;
+use tlb_model::Tlb;
+
+/// The place of the first byte of an access that changes nothing: its address is canonical, its bytes lie on one page,
+/// and that page's translation is kept and serves the access.
+#[inline(always)]
+pub fn kept_place(
+    mem: &PhysMem,
+    tlb: &Tlb,
+    access: Access,
+    control: &Control,
+    cpl: u8,
+    va: u64,
+    width: u8,
+) -> Option<u64>
+    requires width { (1 ≤ width) × (width ≤ 8) }
+    requires frames { NamesFramesIn (length mem.now) tlb.now }
+    ensures place { IfSome result (λ first. answered (record { first = first; second = 0 }) tlb.now
+        ≡ accessed (view_of mem.now control.now cpl) access tlb.now va width) }
+    ensures read { access ≡ Write → IfSome result (λ first. answered (record { first = first; second = 0 }) tlb.now
+        ≡ accessed (view_of mem.now control.now cpl) Read tlb.now va width) }
+    ensures target { IfSome result (λ first. IsTarget (length mem.now) va width (record { first = first; second = 0 })) }
+    ensures one { IfSome result (λ first. crosses va width ≡ false) }
+    ensures inside { IfSome result (λ first. first + (4096 - va % 4096) ≤ length mem.now) }
+    ensures fits { IfSome result (λ first. first + width ≤ length mem.now) }
+{
+    if crosses(va, width) || !canonical(va) {
+        return None;
+    }
+    match kept_page(mem, tlb, access, control, cpl, va) {
+        Some(first) => Some(first),
+        None => None,
+    }
+}
+
+/// The place of the byte at `va`, where its page's translation is kept and serves the access.
+#[inline(always)]
+pub(crate) fn kept_page(
+    mem: &PhysMem,
+    tlb: &Tlb,
+    access: Access,
+    control: &Control,
+    cpl: u8,
+    va: u64,
+) -> Option<u64>
+    requires frames { NamesFramesIn (length mem.now) tlb.now }
+    ensures place { IfSome result (λ place. answered place tlb.now
+        ≡ reached (view_of mem.now control.now cpl) access tlb.now va) }
+    ensures read { access ≡ Write → IfSome result (λ place. answered place tlb.now
+        ≡ reached (view_of mem.now control.now cpl) Read tlb.now va) }
+    ensures agrees { IfSome result (λ place. place % 4096 ≡ va % 4096) }
+    ensures inside { IfSome result (λ place. place + (4096 - va % 4096) ≤ length mem.now) }
+{
+    access_law();
+    translation_law();
+    match tlb.look(page(va)) {
+        Some(kept) if may(access, kept.rights, control, cpl) => Some(place_of(mem, kept, va)),
+        _ => None,
+    }
+}
+
+/// The place in memory of the byte at `va`, whose page has this translation.
+#[inline]
+pub(crate) fn place_of(mem: &PhysMem, leaf: Leaf, va: u64) -> u64
+    requires frame { 4096 * leaf.frame < length mem.now }
+    ensures place { result ≡ place_in leaf va }
+    ensures agrees { result % 4096 ≡ va % 4096 }
+    ensures inside { result + (4096 - va % 4096) ≤ length mem.now }
+{
+    // memory has whole frames
+    let _frames = mem.frames();
+    4096 * u64::from(leaf.frame) + va % 4096
+}
+
+/// The number of `width` bytes that stands at a place that was found kept, least significant first.
+#[inline]
+pub fn kept_number(mem: &PhysMem, place: u64, width: u8) -> u64
+    requires width { IsAccessSize width }
+    requires fits { place + width ≤ length mem.now }
+    ensures value { result ≡ number_at mem.now width place }
+    ensures bound { result < 256 ^ width }
+{
+    number(mem, place, width)
+}
+
+/// Puts the `width` low bytes of `value` at a place that was found kept.
+#[inline]
+pub fn put_kept(mem: &mut PhysMem, place: u64, width: u8, value: u64)
+    requires width { IsAccessSize width }
+    requires fits { place + width ≤ length mem.old }
+    ensures stored { mem.new ≡ stored mem.old (stores width place value) }
+    ensures length { length mem.new ≡ length mem.old }
+{
+    put(mem, place, width, value);
+}
+
+/// What is read and what is stored at the places of an access with one page is one number from the first place on.
+pub fn one_page_law()
+    ensures value { (m : List ℕ) (va width : ℕ) (target : Target) → crosses va width ≡ false
+        → value_at m va width target ≡ number_at m width target.first }
+    ensures stores { (va width value : ℕ) (target : Target) → crosses va width ≡ false
+        → stores_at va width target value ≡ stores width target.first value }
+{}
