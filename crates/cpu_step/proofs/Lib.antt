@@ -5,6 +5,7 @@ mod LentPages
 pub mod LongerCode
 pub mod PageFetches
 pub mod PendingVectors
+mod QuickTurnLemmas
 pub mod StoresOfTurns
 pub mod TurnLemmas
 mod WorkedTurns

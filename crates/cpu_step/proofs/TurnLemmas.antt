@@ -26,7 +26,7 @@ instructed_at_body p m at =
     let made = instruction_made p m in
     ap (λ (b : Bool). if b then refused_body p m else turned_by made.answer p m made.tlb) at
 
-instructed_elsewhere : (p : Processor) (m : List ℕ) → is_at_body p.regs ≡ false
+pub instructed_elsewhere : (p : Processor) (m : List ℕ) → is_at_body p.regs ≡ false
     → instructed p m ≡ turned_by (instruction_made p m).answer p m (instruction_made p m).tlb
 unfolding instructed
 instructed_elsewhere p m at =

@@ -19,6 +19,17 @@ pub code_length : (m : List ℕ) (p i n : ℕ) → length (code_at m p i n) ≡ 
 code_length m p i zero = refl
 code_length m p i (suc n) = ap suc (code_length m p (suc i) n)
 
+-- the first seven bytes of a word without its lowest byte
+shifted : (n : ℕ) → take 7 (to_le_bytes w64 (n / 256)) ≡ drop 1 (to_le_bytes w64 n)
+shifted n =
+    λ j. n / 256 % 256
+    ∷ (div-div-eq-div-mul n 256 256 j % 256
+    ∷ (div-div-eq-div-mul n 256 65536 j % 256
+    ∷ (div-div-eq-div-mul n 256 16777216 j % 256
+    ∷ (div-div-eq-div-mul n 256 4294967296 j % 256
+    ∷ (div-div-eq-div-mul n 256 1099511627776 j % 256
+    ∷ (div-div-eq-div-mul n 256 281474976710656 j % 256 ∷ []))))))
+
 module _ (m : List ℕ) (bytes : IsBytes m) where
   pub code_bytes : (p i n : ℕ) → AreBytes (code_at m p i n)
   code_bytes p i zero = All-nil (λ byte. byte < 256)
@@ -55,23 +66,13 @@ module _ (m : List ℕ) (bytes : IsBytes m) where
       let next : a + suc i ≡ suc (a + i) = omega arith in
       λ j. byte_at m (place j) ∷ (later p a (suc i) n ∙ ap (λ x. code_at m p x n) next) j
 
-  -- two words in a row have the bytes of memory
-  pub words_are_code : (p : ℕ) → bytes_of_words (number_at m 8 p) (number_at m 8 (p + 8)) ≡ code_at m p 0 15
+  -- a word, and another one without its first byte, have the bytes of memory
+  pub words_are_code : (p : ℕ) → bytes_of_words (number_at m 8 p) (number_at m 8 (p + 7) / 256) ≡ code_at m p 0 15
   unfolding bytes_of_words
   words_are_code p =
-      ap (λ (x : List ℕ × List ℕ). x.0 ++ x.1)
-      (λ j. (word_bytes 8 0 8 p (lit≤ tt) j, (word_bytes 8 0 7 (p + 8) (lit≤ tt) ∙ later p 8 0 7) j))
-
--- the first seven bytes of a word without its lowest byte
-shifted : (n : ℕ) → take 7 (to_le_bytes w64 (n / 256)) ≡ drop 1 (to_le_bytes w64 n)
-shifted n =
-    λ j. n / 256 % 256
-    ∷ (div-div-eq-div-mul n 256 256 j % 256
-    ∷ (div-div-eq-div-mul n 256 65536 j % 256
-    ∷ (div-div-eq-div-mul n 256 16777216 j % 256
-    ∷ (div-div-eq-div-mul n 256 4294967296 j % 256
-    ∷ (div-div-eq-div-mul n 256 1099511627776 j % 256
-    ∷ (div-div-eq-div-mul n 256 281474976710656 j % 256 ∷ []))))))
+      ap (λ x. to_le_bytes w64 (number_at m 8 p) ++ x) (shifted (number_at m 8 (p + 7)))
+      ∙ ap (λ (x : List ℕ × List ℕ). x.0 ++ drop 1 x.1)
+      (λ j. (word_bytes 8 0 8 p (lit≤ tt) j, (word_bytes 8 0 8 (p + 7) (lit≤ tt) ∙ later p 7 0 8) j))
 
 -- a run of bytes has bytes
 small_run : (n : ℕ) (xs : List ℕ) → ((i : ℕ) → get_or xs i 0 < 256) → (i : ℕ) → get_or (take n xs) i 0 < 256

@@ -1,5 +1,6 @@
 -- What a reader must believe.
 pub mod Processor
+pub mod QuickTurns
 pub mod InstructionFetch
 pub mod Turns
 pub mod TurnStores
@@ -7,3 +8,4 @@ pub mod EventsTaken
 pub mod TranslationsLent
 -- Words of private clauses and proofs.
 pub mod DecodingMemo
+pub mod KeptFetches

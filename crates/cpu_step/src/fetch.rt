@@ -1,6 +1,7 @@
 //! The fetch of an instruction.
 
-ghost use Rattle.std.specs.Prelude.{◌≡◌, ◌⊎◌, ◌+◌, ◌-◌, ◌*◌, ◌%◌, ◌<◌, ◌≤◌, ◌++◌, true, IfErr, IfOk, length, take};
+ghost use Rattle.std.specs.Prelude.{◌≡◌, ◌⊎◌, ◌+◌, ◌-◌, ◌*◌, ◌%◌, ◌<◌, ◌≤◌, ◌++◌, ℕ, true, IfErr, IfOk, IfSome, None, length, take};
+ghost use Rattle.nk_bits.specs.declared.control.Control.{Control};
 ghost use Rattle.nk_bits.specs.Translations.{NamesFramesIn, Translations};
 ghost use Rattle.nk_bits.specs.Outcomes.{answered, outcome_of, refused};
 ghost use Rattle.page_walk.specs.MemoryAccess.{bytes_left, page_fetched, view_of};
@@ -8,10 +9,16 @@ ghost use Rattle.x86_decode.specs.Decoding.{IfWhole};
 ghost use Rattle.x86_decode.specs.Reader.{decoded_of};
 ghost use Rattle.x86_decode.specs.WellFormed.{IsWellFormed};
 ghost use Rattle.x86_regs.specs.declared.faults.Fault.TheVariants.{General};
+ghost use Rattle.x86_regs.specs.Effects.{refusal};
+ghost use Rattle.x86_regs.specs.OperandPlans.{instr_form};
+ghost use Rattle.exec_quick.specs.QuickForms.{IsReady, form_by, has_register_first, instr_of};
 ghost use Rattle.cpu_step.specs.InstructionFetch.{decided_by, fetched_from, in_fetch, instruction_at};
 ghost use Rattle.cpu_step.specs.DecodingMemo.{IsFetched};
+ghost use Rattle.cpu_step.specs.KeptFetches.{HasCodeAt, IsKeptCode};
 
+use crate::kept_code::KeptCode;
 use crate::memo::{Memo, words};
+use exec_quick::Quick;
 use mem_access::{AccessFault, page_bytes};
 use nk_bits::{Control, access_law};
 use phys_mem::PhysMem;
@@ -23,7 +30,7 @@ use x86_regs::{Fault, Regs};
 const LONGEST: usize = 15;
 
 /// The last place on a page from which two words lie on it.
-const LAST_ON_PAGE: u64 = 4080;
+pub(crate) const LAST_ON_PAGE: u64 = 4080;
 
 /// An instruction, and how many bytes it has.
 #[derive(Clone, Copy, Debug, PartialEq, Eq)]
@@ -102,6 +109,32 @@ pub(crate) fn code_on_page<'a>(
     match bytes_at(mem, tlb, control, regs.cpl, regs.rip) {
         Ok(bytes) => Ok(answer_of(memo, regs.rip, bytes)),
         Err(fault) => Err(fault),
+    }
+}
+
+/// The quick form of the code at RIP, which lies on a page that is kept, where the memo has it.
+#[inline(always)]
+pub(crate) fn quick_code<'a>(
+    memo: &'a Memo,
+    code: &KeptCode,
+    mem: &PhysMem,
+    rip: u64,
+) -> Option<&'a Quick>
+    requires has { HasCodeAt code.now rip }
+    requires inside { code.now.base + 4096 ≤ length mem.now }
+    ensures ready { IfSome result (λ quick. IsReady quick.now) }
+    ensures register { IfSome result (λ quick. has_register_first quick.now.kind ≡ true → quick.now.to < 16) }
+    ensures form { IfSome result (λ quick. instr_form (instr_of quick.now) ≡ form_by quick.now.kind) }
+    ensures lawful { IfSome result (λ quick. (cpl : ℕ) → refusal (instr_of quick.now) cpl ≡ None) }
+    ensures fetched { IfSome result (λ quick. (control : Control) (cpl : ℕ) (tlb : Translations)
+        → IsKeptCode (length mem.now) control cpl tlb code.now
+        → instruction_at mem.now (view_of mem.now control cpl) rip tlb
+        ≡ answered (record { instr = instr_of quick.now; size = quick.now.size }) tlb) }
+{
+    let (low, high) = code.words(mem, rip);
+    match memo.quick(rip, low, high) {
+        Some(quick) => Some(quick),
+        None => None,
     }
 }
 

@@ -8,6 +8,7 @@
 
 // What a turn shows, and the fetch that begins it.
 mod fetch;
+mod kept_code;
 mod memo;
 mod stepped;
 
@@ -19,8 +20,9 @@ mod traps;
 // The events of a plan.
 mod events;
 
-// The whole.
+// The whole, and turns by quick forms.
 mod processor;
+mod quick_turns;
 mod turn;
 
 // What follows from the definitions.

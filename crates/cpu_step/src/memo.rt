@@ -1,23 +1,29 @@
 //! A memo of decodings: code that was decoded before isn't decoded again while its bytes are the same.
 
-ghost use Rattle.std.specs.Prelude.{◌≡◌, ◌+◌, ◌<◌, ◌≤◌, true, All, drop, length, slice_index_or, take};
+ghost use Rattle.std.specs.Prelude.{◌≡◌, ◌+◌, ◌<◌, ◌≤◌, true, false, All, IfSome, drop, length, slice_index_or, take};
 ghost use Rattle.std.specs.Int.{from_le_bytes, w64};
+ghost use Rattle.exec_quick.specs.QuickForms.{StandsFor, is_slow};
+ghost use Rattle.x86_decode.specs.Decoding.{IfWhole};
+ghost use Rattle.x86_decode.specs.Reader.{decoded_of};
+ghost use Rattle.x86_decode.specs.WellFormed.{IsWellFormed};
 ghost use Rattle.cpu_step.specs.declared.memo.MemoEntry.{MemoEntry};
 ghost use Rattle.cpu_step.specs.DecodingMemo.{IsAnswerOf, IsRight, bytes_of_words};
 
 use crate::processor::NoMemory;
+use exec_quick::{Kind, Quick, SLOW, quick_of};
 use std::alloc::Global;
 use std::marker::Model;
 use x86_decode::{Decoded, decode};
 
 /// The entries of the memo, by the low bits of an address.
-const ENTRIES: usize = 1024;
+const ENTRIES: usize = 16_384;
 
-/// Two words of code, and what their first fifteen bytes decode to.
+/// Two words of code, what their first fifteen bytes decode to, and its quick form.
 #[derive(Clone, Copy)]
 pub(crate) struct MemoEntry {
     low: u64,
     high: u64,
+    quick: Quick,
     answer: Decoded,
 }
 
@@ -45,17 +51,13 @@ impl Model for Memo {
 
     ghost view = { λ memo. tt };
 
-    ghost invariant = { λ memo. (length memo.entries.items ≡ 1024) × All IsRight memo.entries.items };
+    ghost invariant = { λ memo. (length memo.entries.items ≡ 16384) × All IsRight memo.entries.items };
 }
 
 impl Memo {
     /// A memo that holds the decoding of zeros at each entry.
     pub(crate) fn new(alloc: Global) -> Result<Memo, NoMemory> {
-        let entry = MemoEntry {
-            low: 0,
-            high: 0,
-            answer: decode_words(0, 0),
-        };
+        let entry = entry_of(0, 0);
         match vec![in alloc; entry; ENTRIES] {
             Ok(entries) => Ok(Memo { entries }),
             Err(_) => Err(NoMemory),
@@ -67,10 +69,31 @@ impl Memo {
     pub(crate) fn answer(&mut self, rip: u64, low: u64, high: u64) -> &Decoded
         ensures right { IsAnswerOf low high result.now }
     {
-        let slot = (rip % 1024) as usize;
+        let slot = slot_of(rip);
         renew(&mut self.entries, slot, low, high);
         &self.entries[slot].answer
     }
+
+    /// The quick form of two words' first fifteen bytes, where their decoding is kept and has one.
+    #[inline(always)]
+    pub(crate) fn quick(&self, rip: u64, low: u64, high: u64) -> Option<&Quick>
+        ensures stands { IfSome result (λ quick. StandsFor quick.now (decoded_of (bytes_of_words low high))) }
+    {
+        let entry = &self.entries[slot_of(rip)];
+        if entry.low == low && entry.high == high && entry.quick.kind != Kind::Slow {
+            Some(&entry.quick)
+        } else {
+            None
+        }
+    }
+}
+
+/// The entry of an address: by its low bits, so that code of 16 KiB has room.
+#[inline(always)]
+fn slot_of(rip: u64) -> usize
+    ensures { result < 16384 }
+{
+    (rip % 16_384) as usize
 }
 
 /// Makes an entry that of two words, if it isn't theirs already.
@@ -95,8 +118,34 @@ fn replace(entries: &mut Vec<MemoEntry>, slot: usize, low: u64, high: u64)
     ensures right { All IsRight entries.new.items }
     ensures answer { (d : MemoEntry) → IsAnswerOf low high (slice_index_or entries.new.items slot d).answer }
 {
+    entries[slot] = entry_of(low, high);
+}
+
+/// The entry of two words.
+fn entry_of(low: u64, high: u64) -> MemoEntry
+    ensures right { IsRight result }
+    ensures low { result.low ≡ low }
+    ensures high { result.high ≡ high }
+{
     let answer = decode_words(low, high);
-    entries[slot] = MemoEntry { low, high, answer };
+    let quick = quick_by(&answer);
+    MemoEntry {
+        low,
+        high,
+        quick,
+        answer,
+    }
+}
+
+/// The quick form of what code decodes to.
+fn quick_by(answer: &Decoded) -> Quick
+    requires formed { IfWhole answer.now (λ instr size. IsWellFormed instr) }
+    ensures stands { is_slow result.kind ≡ false → StandsFor result answer.now }
+{
+    match answer {
+        Decoded::Whole(instr, size) => quick_of(instr, *size),
+        Decoded::Short | Decoded::TooLong | Decoded::Unknown => SLOW,
+    }
 }
 
 /// What the first fifteen bytes of two words decode to.

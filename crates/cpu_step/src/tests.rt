@@ -12,6 +12,7 @@ mod fetches;
 mod interrupts;
 mod pending;
 mod privileges;
+mod quick;
 mod returns;
 mod sequences;
 mod state;

@@ -217,10 +217,10 @@ impl Cpu {
 }
 
 /// Whether the supervisor stands at the body's place.
-fn is_at_body(regs: &Regs) -> bool
+pub(crate) fn is_at_body(regs: &Regs) -> bool
     ensures { result ≡ is_at_body regs.now }
 {
-    regs.cpl == 0 && regs.rip == BODY
+    regs.rip == BODY && regs.cpl == 0
 }
 
 /// Whether WP is set.

@@ -3,17 +3,17 @@
 ghost use Rattle.std.specs.Prelude.{◌≡◌, Ok, false};
 ghost use Rattle.x86_decode.specs.WellFormed.{IsWellFormed};
 ghost use Rattle.x86_alu.specs.SignedNumbers.{cut};
-ghost use Rattle.x86_regs.specs.Combinations.{source_width, sum};
+ghost use Rattle.x86_regs.specs.Combinations.{combination, comparison, movement, source_width, sum};
 ghost use Rattle.x86_regs.specs.Registers.{held};
-ghost use Rattle.x86_regs.specs.OperandOutcomes.{bits_scanned, compared, doubled, exchanged, going_on, is_forward, quietly, sum_exchanged, widened};
+ghost use Rattle.x86_regs.specs.OperandOutcomes.{bits_scanned, compared, doubled, exchanged, going_on, is_forward, quietly, sum_exchanged, widened, with_result};
 
-use crate::movements::source_width;
-use crate::numbers::{extended, ones, sign};
-use crate::sums::{difference, sum};
 use decode_fields::Place;
-use x86_alu::scan_bit;
+use x86_alu::{Out, scan_bit};
 use x86_decode::{Instr, Op};
-use x86_regs::{Act, Change, RAX, RDX, Regs, going_on, held, low, written};
+use x86_regs::{
+    Act, Change, RAX, RDX, Regs, combination, comparison, difference, extended, going_on, held,
+    low, movement, ones, sign, source_width, sum, written,
+};
 
 /// A change of registers alone.
 pub(crate) fn quietly(regs: Regs) -> Change
@@ -24,6 +24,68 @@ pub(crate) fn quietly(regs: Regs) -> Change
         value: 0,
         act: Act::Quiet,
     }
+}
+
+/// The result goes to the first operand.
+fn with_result(instr: &Instr, regs: &Regs, next: u64, it: Out) -> Change
+    requires { IsWellFormed instr.now }
+    ensures { Ok result ≡ with_result instr.now regs.now next it }
+{
+    let general = written(&regs.general, &instr.to, instr.width, it.value);
+    Change {
+        regs: going_on(regs, general, it.flags, next),
+        value: it.value,
+        act: Act::Quiet,
+    }
+}
+
+/// ADD and all that writes its first operand by both.
+pub(crate) fn combine(instr: &Instr, next: u64, regs: &Regs, to: u64, from: u64) -> Change
+    requires { IsWellFormed instr.now }
+    ensures { Ok result ≡ with_result instr.now regs.now next
+        (combination instr.now.op instr.now.width (cut instr.now.width to)
+        (cut (source_width instr.now.op instr.now.width) from) instr.now.value regs.now.flags) }
+{
+    let it = combination(instr.op, instr.width, to, from, instr.value, regs.flags);
+    with_result(instr, regs, next, it)
+}
+
+/// CMP, TEST and BT.
+pub(crate) fn compare(instr: &Instr, next: u64, regs: &Regs, to: u64, from: u64) -> Change
+    requires { IsWellFormed instr.now }
+    ensures { Ok result ≡ quietly (going_on regs.now regs.now.general
+        (comparison instr.now.op instr.now.width (cut instr.now.width to) (cut instr.now.width from) regs.now.flags)
+        next) }
+{
+    let flags = comparison(instr.op, instr.width, to, from, regs.flags);
+    quietly(going_on(regs, regs.general, flags, next))
+}
+
+/// MOV and its kin, and SETcc.
+pub(crate) fn move_over(instr: &Instr, next: u64, regs: &Regs, from: u64) -> Change
+    requires { IsWellFormed instr.now }
+    ensures { Ok result ≡ with_result instr.now regs.now next (record {
+      value = movement instr.now.op instr.now.width
+          (cut (source_width instr.now.op instr.now.width) from) regs.now.flags;
+      flags = regs.now.flags;
+    }) }
+{
+    let value = movement(instr.op, instr.width, from, regs.flags);
+    let flags = regs.flags;
+    with_result(instr, regs, next, Out { value, flags })
+}
+
+/// LEA.
+pub(crate) fn load_address(instr: &Instr, next: u64, regs: &Regs, address: u64) -> Change
+    requires { IsWellFormed instr.now }
+    ensures { Ok result ≡ with_result instr.now regs.now next (record {
+      value = cut instr.now.width address;
+      flags = regs.now.flags;
+    }) }
+{
+    let value = low(instr.width, address);
+    let flags = regs.flags;
+    with_result(instr, regs, next, Out { value, flags })
 }
 
 /// XCHG.

@@ -1,5 +1,4 @@
-//! The effect of an instruction: its conditions, its accesses in order, its outcome, and the check of its write. The
-//! common forms change the registers in place; the others plan their accesses and compute their change as a value.
+//! The effect of an instruction: its conditions, its accesses in order, its outcome, and the check of its write.
 
 ghost use Rattle.std.specs.Prelude.{◌≡◌, ◌⊎◌, ◌*◌, ◌<◌, IfOk, IsTrue, OnErr, length, Ok};
 ghost use Rattle.nk_bits.specs.Outcomes.{outcome_of};
@@ -10,13 +9,9 @@ ghost use Rattle.x86_decode.specs.WellFormed.{IsWellFormed};
 ghost use Rattle.x86_regs.specs.OperandPlans.{instr_form};
 ghost use Rattle.x86_regs.specs.Effects.{FitsIn, HasAccessSize, asked_nothing, concluded, effect_of, effect_with, planned_effect};
 ghost use Rattle.exec_data.specs.DataForms.{is_data_form};
-ghost use Rattle.exec_data.specs.ValueForms.{is_value_form};
 
-use crate::arithmetic::{combine, compare};
 use crate::outcomes::outcome_by;
 use crate::plans::plan_by;
-use crate::stack::{pop, push};
-use crate::transfers::{load_address, move_over};
 use mem_access::{check_span, gather};
 use nk_bits::Control;
 use page_walk::{Gathered, Plan};
@@ -24,8 +19,7 @@ use phys_mem::PhysMem;
 use tlb_model::Tlb;
 use x86_decode::Instr;
 use x86_regs::{
-    ASKED_NOTHING, Asked, Change, Effect, Fault, Form, Regs, instr_form, next_of, raised, refusal,
-    write_of,
+    Asked, Change, Effect, Fault, Form, Regs, instr_form, next_of, raised, refusal, write_of,
 };
 
 /// Whether `execute` takes the instructions of a form.
@@ -49,7 +43,6 @@ pub fn is_data_form(form: Form) -> bool
 ///
 /// Fails with the first fault of the instruction, in the order of its conditions, its accesses, its outcome and the
 /// check of its write.
-#[tactic(auto, using(crate::proofs::Forms::data_effect), unfolding(x86_regs::specs::Effects::effect_of))]
 pub fn execute(
     form: Form,
     instr: &Instr,
@@ -74,9 +67,15 @@ pub fn execute(
     ensures places { IfOk made.new (λ asked. FitsIn (length mem.now) asked.write) }
     ensures sized { IfOk made.new (λ asked. HasAccessSize asked.write) }
 {
-    match refusal(instr, regs.cpl) {
-        Some(fault) => *made = Err(fault),
-        None => execute_form(form, instr, size, regs, control, mem, tlb, made),
+    match effect_of(form, instr, size, regs, control, mem, tlb) {
+        Ok(effect) => {
+            *regs = effect.regs;
+            *made = Ok(Asked {
+                write: effect.write,
+                act: effect.act,
+            });
+        }
+        Err(fault) => *made = Err(fault),
     }
 }
 
@@ -102,104 +101,39 @@ pub fn effect(
     ensures places { IfOk result (λ effect. FitsIn (length mem.now) effect.write) }
     ensures sized { IfOk result (λ effect. HasAccessSize effect.write) }
 {
-    let mut after = *regs;
-    let mut made = Ok(ASKED_NOTHING);
-    execute(
-        instr_form(instr),
-        instr,
-        size,
-        &mut after,
-        control,
-        mem,
-        tlb,
-        &mut made,
-    );
-    match made {
-        Ok(asked) => Ok(Effect {
-            regs: after,
-            write: asked.write,
-            act: asked.act,
-        }),
-        Err(fault) => Err(fault),
-    }
+    effect_of(instr_form(instr), instr, size, regs, control, mem, tlb)
 }
 
-/// Executes an instruction that its conditions don't refuse: the common forms in place, the others by value.
-#[inline]
-fn execute_form(
+/// The effect of an instruction of this form: the fault of its conditions, or what its accesses and its outcome are.
+#[tactic(auto, using(crate::proofs::Forms::data_effect), unfolding(x86_regs::specs::Effects::effect_of))]
+fn effect_of(
     form: Form,
     instr: &Instr,
     size: u8,
-    regs: &mut Regs,
+    regs: &Regs,
     control: &Control,
     mem: &PhysMem,
     tlb: &mut Tlb,
-    made: &mut Result<Asked, Fault>,
-)
-    requires fresh { made.old ≡ Ok asked_nothing }
+) -> Result<Effect, Fault>
+    requires form { form ≡ instr_form instr.now }
     requires formed { IsWellFormed instr.now }
     requires row { IsTrue (is_data_form form) }
-    requires cpl { (regs.old.cpl ≡ 0) ⊎ (regs.old.cpl ≡ 3) }
+    requires cpl { (regs.now.cpl ≡ 0) ⊎ (regs.now.cpl ≡ 3) }
     requires root { 4096 * control.now.root < length mem.now }
     requires frames { NamesFramesIn (length mem.now) tlb.old }
-    ensures outcome { outcome_of (effect_with made.new regs.new) tlb.new
-        ≡ planned_effect form instr.now size regs.old control.now mem.now
-        (view_of mem.now control.now regs.old.cpl) tlb.old }
-    ensures kept { OnErr made.new (regs.new ≡ regs.old) }
+    ensures outcome { outcome_of result tlb.new
+        ≡ effect_of instr.now size regs.now control.now mem.now tlb.old }
     ensures frames { NamesFramesIn (length mem.now) tlb.new }
-    ensures places { IfOk made.new (λ asked. FitsIn (length mem.now) asked.write) }
-    ensures sized { IfOk made.new (λ asked. HasAccessSize asked.write) }
+    ensures places { IfOk result (λ effect. FitsIn (length mem.now) effect.write) }
+    ensures sized { IfOk result (λ effect. HasAccessSize effect.write) }
 {
-    match form {
-        Form::Combine => combine(instr, size, regs, control, mem, tlb, made),
-        Form::Compare => compare(instr, size, regs, control, mem, tlb, made),
-        Form::Move => move_over(instr, size, regs, control, mem, tlb, made),
-        Form::Address => load_address(instr, size, regs, control, mem, tlb, made),
-        Form::Push => push(instr, size, regs, control, mem, tlb, made),
-        Form::Pop => pop(instr, size, regs, control, mem, tlb, made),
-        _ => execute_by_value(form, instr, size, regs, control, mem, tlb, made),
+    match refusal(instr, regs.cpl) {
+        Some(fault) => Err(fault),
+        None => planned_effect(form, instr, size, regs, control, mem, tlb),
     }
 }
 
-/// Executes an instruction by its effect as a value.
-#[inline(never)]
-fn execute_by_value(
-    form: Form,
-    instr: &Instr,
-    size: u8,
-    regs: &mut Regs,
-    control: &Control,
-    mem: &PhysMem,
-    tlb: &mut Tlb,
-    made: &mut Result<Asked, Fault>,
-)
-    requires fresh { made.old ≡ Ok asked_nothing }
-    requires formed { IsWellFormed instr.now }
-    requires row { IsTrue (is_value_form form) }
-    requires cpl { (regs.old.cpl ≡ 0) ⊎ (regs.old.cpl ≡ 3) }
-    requires root { 4096 * control.now.root < length mem.now }
-    requires frames { NamesFramesIn (length mem.now) tlb.old }
-    ensures outcome { outcome_of (effect_with made.new regs.new) tlb.new
-        ≡ planned_effect form instr.now size regs.old control.now mem.now
-        (view_of mem.now control.now regs.old.cpl) tlb.old }
-    ensures kept { OnErr made.new (regs.new ≡ regs.old) }
-    ensures frames { NamesFramesIn (length mem.now) tlb.new }
-    ensures places { IfOk made.new (λ asked. FitsIn (length mem.now) asked.write) }
-    ensures sized { IfOk made.new (λ asked. HasAccessSize asked.write) }
-{
-    match planned_effect(form, instr, size, regs, control, mem, tlb) {
-        Ok(effect) => {
-            *regs = effect.regs;
-            *made = Ok(Asked {
-                write: effect.write,
-                act: effect.act,
-            });
-        }
-        Err(fault) => *made = Err(fault),
-    }
-}
-
-/// The effect of an instruction of one of the forms that are made by value.
+/// The effect of an instruction that its conditions don't refuse.
 fn planned_effect(
     form: Form,
     instr: &Instr,
@@ -210,7 +144,7 @@ fn planned_effect(
     tlb: &mut Tlb,
 ) -> Result<Effect, Fault>
     requires formed { IsWellFormed instr.now }
-    requires row { IsTrue (is_value_form form) }
+    requires row { IsTrue (is_data_form form) }
     requires cpl { (regs.now.cpl ≡ 0) ⊎ (regs.now.cpl ≡ 3) }
     requires root { 4096 * control.now.root < length mem.now }
     requires frames { NamesFramesIn (length mem.now) tlb.old }

@@ -1,19 +1,22 @@
-//! Which accesses a form makes whose effect is a value: a function of the registers alone.
+//! Which accesses each form makes: a function of the registers alone.
 
 ghost use Rattle.std.specs.Prelude.{◌≡◌, IsTrue, None, Some, slice_index};
+ghost use Rattle.decode_fields.specs.Widths.{IsWidth};
 ghost use Rattle.page_walk.specs.declared.plan.Source.TheVariants.{Is, At};
 ghost use Rattle.page_walk.specs.AccessPlans.{IsPlan, IsSized, IsSource};
 ghost use Rattle.nk_bits.specs.Accesses.{IsAccessSize};
 ghost use Rattle.x86_decode.specs.WellFormed.{IsWellFormed};
-ghost use Rattle.x86_regs.specs.Operands.{stack_span};
-ghost use Rattle.x86_regs.specs.OperandPlans.{from_source, is_idle, no_access, plan, plan_by, rdi_span, rsi_span, to_source, to_span, unless_idle};
-ghost use Rattle.exec_data.specs.ValueForms.{is_value_form};
+ghost use Rattle.x86_regs.specs.Combinations.{source_width};
+ghost use Rattle.x86_regs.specs.Operands.{next_of, place_span, stack_span};
+ghost use Rattle.x86_regs.specs.OperandPlans.{from_address, from_source, is_idle, no_access, plan, plan_by, pop_source, push_span, rdi_span, risen, rsi_span, to_source, to_span, unless_idle};
+ghost use Rattle.exec_data.specs.DataForms.{is_data_form};
 
 use crate::strings::is_idle;
 use page_walk::{Plan, Source, Span};
 use x86_decode::Instr;
 use x86_regs::{
-    Form, RBP, RDI, RSI, Regs, from_source, next_of, place_span, stack_span, string_span, to_source,
+    Form, RBP, RDI, RSI, Regs, from_address, from_source, next_of, place_span, pop_source,
+    push_span, risen, source_width, stack_span, string_span, to_source,
 };
 
 /// The bytes of the first operand.
@@ -63,18 +66,18 @@ fn no_access() -> Plan
     reads(Source::Is(0), Source::Is(0))
 }
 
-/// The first operand is read and written, the second is read.
-fn read_and_written(instr: &Instr, size: u8, regs: &Regs) -> Plan
-    requires { IsWellFormed instr.now }
+/// The first operand is read and written, the second is read at this width in bits.
+fn read_and_written(instr: &Instr, size: u8, regs: &Regs, width: u8) -> Plan
+    requires formed { IsWellFormed instr.now }
+    requires width { IsWidth width }
     ensures plan { result ≡ plan (to_span instr.now size regs.now)
-        (to_source instr.now size regs.now instr.now.width)
-        (from_source instr.now size regs.now instr.now.width) None }
+        (to_source instr.now size regs.now instr.now.width) (from_source instr.now size regs.now width) None }
     ensures sized { IsPlan result }
 {
     Plan {
         both: to_span(instr, size, regs),
         to: to_source(instr, size, regs, instr.width),
-        from: from_source(instr, size, regs, instr.width),
+        from: from_source(instr, size, regs, width),
         last: None,
     }
 }
@@ -90,6 +93,67 @@ fn read_to_write(from: Source, last: Option<Span>) -> Plan
         to: Source::Is(0),
         from,
         last,
+    }
+}
+
+fn compare_plan(instr: &Instr, size: u8, regs: &Regs) -> Plan
+    requires { IsWellFormed instr.now }
+    ensures plan { result ≡ plan None (to_source instr.now size regs.now instr.now.width)
+        (from_source instr.now size regs.now instr.now.width) None }
+    ensures sized { IsPlan result }
+{
+    let to = to_source(instr, size, regs, instr.width);
+    let from = from_source(instr, size, regs, instr.width);
+    reads(to, from)
+}
+
+fn move_plan(instr: &Instr, size: u8, regs: &Regs) -> Plan
+    requires { IsWellFormed instr.now }
+    ensures plan { result ≡ plan None (Is 0)
+        (from_source instr.now size regs.now (source_width instr.now.op instr.now.width))
+        (to_span instr.now size regs.now) }
+    ensures sized { IsPlan result }
+{
+    let from = from_source(instr, size, regs, source_width(instr.op, instr.width));
+    read_to_write(from, to_span(instr, size, regs))
+}
+
+fn address_plan(instr: &Instr, size: u8, regs: &Regs) -> Plan
+    requires { IsWellFormed instr.now }
+    ensures plan { result ≡ plan None (Is 0) (Is (from_address instr.now size regs.now)) None }
+    ensures sized { IsPlan result }
+{
+    let address = from_address(instr, size, regs);
+    reads(Source::Is(0), Source::Is(address))
+}
+
+fn push_plan(instr: &Instr, size: u8, regs: &Regs) -> Plan
+    requires { IsWellFormed instr.now }
+    ensures plan { result ≡ plan None (Is 0) (from_source instr.now size regs.now instr.now.width)
+        (Some (push_span regs.now instr.now.width)) }
+    ensures sized { IsPlan result }
+{
+    let from = from_source(instr, size, regs, instr.width);
+    read_to_write(from, Some(push_span(regs, instr.width)))
+}
+
+/// The address of the first operand is computed after RSP rose.
+fn pop_plan(instr: &Instr, size: u8, regs: &Regs) -> Plan
+    requires { IsWellFormed instr.now }
+    ensures plan { result ≡ plan None (pop_source regs.now instr.now.width) (Is 0)
+        (place_span (risen regs.now instr.now.width) (next_of regs.now size) instr.now.width instr.now.to) }
+    ensures sized { IsPlan result }
+{
+    Plan {
+        both: None,
+        to: pop_source(regs, instr.width),
+        from: Source::Is(0),
+        last: place_span(
+            &risen(regs, instr.width),
+            next_of(regs, size),
+            instr.width,
+            &instr.to,
+        ),
     }
 }
 
@@ -172,22 +236,28 @@ fn scan_string_plan(instr: &Instr, regs: &Regs) -> Plan
     unless_idle(instr, regs, accesses)
 }
 
-/// The accesses of an instruction of `size` bytes, of a form whose effect is a value.
+/// The accesses of an instruction of `size` bytes.
 pub(crate) fn plan_by(form: Form, instr: &Instr, size: u8, regs: &Regs) -> Plan
     requires formed { IsWellFormed instr.now }
-    requires row { IsTrue (is_value_form form) }
+    requires row { IsTrue (is_data_form form) }
     ensures plan { result ≡ plan_by form instr.now size regs.now }
     ensures sized { IsPlan result }
 {
     match form {
+        Form::Combine => read_and_written(instr, size, regs, source_width(instr.op, instr.width)),
         Form::Exchange | Form::ExchangeAdd | Form::CompareExchange => {
-            read_and_written(instr, size, regs)
+            read_and_written(instr, size, regs, instr.width)
         }
+        Form::Compare => compare_plan(instr, size, regs),
+        Form::Move => move_plan(instr, size, regs),
+        Form::Address => address_plan(instr, size, regs),
         Form::ScanBits => reads(Source::Is(0), from_source(instr, size, regs, instr.width)),
         Form::Multiply | Form::Divide => reads(
             to_source(instr, size, regs, instr.width),
             Source::Is(0),
         ),
+        Form::Push => push_plan(instr, size, regs),
+        Form::Pop => pop_plan(instr, size, regs),
         Form::Leave => leave_plan(regs),
         Form::MoveString => move_string_plan(instr, regs),
         Form::StoreString => store_string_plan(instr, regs),
@@ -195,15 +265,6 @@ pub(crate) fn plan_by(form: Form, instr: &Instr, size: u8, regs: &Regs) -> Plan
         Form::CompareStrings => compare_strings_plan(instr, regs),
         Form::ScanString => scan_string_plan(instr, regs),
         Form::Widen | Form::Double | Form::ChangeFlag | Form::Nothing => no_access(),
-        Form::Combine | Form::Compare | Form::Move | Form::Address => unreachable!(),
-        Form::Push | Form::Pop => unreachable!(),
-        Form::PushFlags
-        | Form::PopFlags
-        | Form::Branch
-        | Form::Call
-        | Form::Return
-        | Form::CountDown => unreachable!(),
-        Form::Trap | Form::TrapReturn | Form::Halt | Form::Input | Form::Output => unreachable!(),
-        Form::FromControl | Form::ToControl | Form::LoadTable | Form::DropPage => unreachable!(),
+        _ => unreachable!(),
     }
 }

@@ -11,13 +11,12 @@ ghost use Rattle.x86_regs.specs.OperandPlans.{is_idle, is_repeated};
 ghost use Rattle.x86_regs.specs.OperandOutcomes.{counted, is_again, is_asked, pointer_moved, string_turn, unless_idle_turn};
 
 use crate::changes::quietly;
-use crate::sums::difference;
 use decode_fields::{Place, Rep};
 use x86_alu::ZF;
 use x86_decode::Instr;
 use x86_regs::{
-    Act, Change, DF, RAX, RCX, RDI, RSI, Regs, bit, going_on, held, low, lowered, with_register,
-    written,
+    Act, Change, DF, RAX, RCX, RDI, RSI, Regs, bit, difference, going_on, held, low, lowered,
+    with_register, written,
 };
 
 fn is_repeated(rep: Rep) -> bool

@@ -1,5 +1,2 @@
 -- What a reader must believe.
 pub mod FlowForms
--- Words of private clauses and proofs.
-pub mod Landings
-pub mod FormsByValue

@@ -9,9 +9,7 @@ ghost use Rattle.x86_decode.specs.WellFormed.{IsWellFormed};
 ghost use Rattle.x86_regs.specs.OperandPlans.{instr_form};
 ghost use Rattle.x86_regs.specs.Effects.{FitsIn, HasAccessSize, asked_nothing, concluded, effect_by, effect_of, effect_with, planned_effect};
 ghost use Rattle.exec_flow.specs.FlowForms.{is_flow_form};
-ghost use Rattle.exec_flow.specs.FormsByValue.{has_effect_by_value};
 
-use crate::branches::{branch, call, count_down, ret};
 use crate::outcomes::outcome_by;
 use crate::plans::plan_by;
 use crate::traps::return_effect;
@@ -22,8 +20,7 @@ use phys_mem::PhysMem;
 use tlb_model::Tlb;
 use x86_decode::Instr;
 use x86_regs::{
-    ASKED_NOTHING, Asked, Change, Effect, Fault, Form, Regs, instr_form, next_of, raised, refusal,
-    write_of,
+    Asked, Change, Effect, Fault, Form, Regs, instr_form, next_of, raised, refusal, write_of,
 };
 
 /// Whether `effect` takes the instructions of a form.
@@ -66,32 +63,12 @@ pub fn effect(
     ensures places { IfOk result (λ effect. FitsIn (length mem.now) effect.write) }
     ensures sized { IfOk result (λ effect. HasAccessSize effect.write) }
 {
-    let mut after = *regs;
-    let mut made = Ok(ASKED_NOTHING);
-    execute(
-        instr_form(instr),
-        instr,
-        size,
-        &mut after,
-        control,
-        mem,
-        tlb,
-        &mut made,
-    );
-    match made {
-        Ok(asked) => Ok(Effect {
-            regs: after,
-            write: asked.write,
-            act: asked.act,
-        }),
-        Err(fault) => Err(fault),
-    }
+    effect_of(instr_form(instr), instr, size, regs, control, mem, tlb)
 }
 
 /// As `effect`, but the registers are changed in place: the answer is the write and what the processor is asked for.
 ///
 /// Fails as `effect` does; then the registers stay as they were.
-#[tactic(auto, unfolding(x86_regs::specs::Effects::effect_of))]
 pub fn execute(
     form: Form,
     instr: &Instr,
@@ -116,74 +93,7 @@ pub fn execute(
     ensures places { IfOk made.new (λ asked. FitsIn (length mem.now) asked.write) }
     ensures sized { IfOk made.new (λ asked. HasAccessSize asked.write) }
 {
-    match refusal(instr, regs.cpl) {
-        Some(fault) => *made = Err(fault),
-        None => execute_by(form, instr, size, regs, control, mem, tlb, made),
-    }
-}
-
-/// The instruction by its form: in place where the form has a function of its own, and else by value.
-#[inline]
-fn execute_by(
-    form: Form,
-    instr: &Instr,
-    size: u8,
-    regs: &mut Regs,
-    control: &Control,
-    mem: &PhysMem,
-    tlb: &mut Tlb,
-    made: &mut Result<Asked, Fault>,
-)
-    requires fresh { made.old ≡ Ok asked_nothing }
-    requires formed { IsWellFormed instr.now }
-    requires row { IsTrue (is_flow_form form) }
-    requires cpl { (regs.old.cpl ≡ 0) ⊎ (regs.old.cpl ≡ 3) }
-    requires root { 4096 * control.now.root < length mem.now }
-    requires frames { NamesFramesIn (length mem.now) tlb.old }
-    ensures outcome { outcome_of (effect_with made.new regs.new) tlb.new
-        ≡ effect_by form instr.now size regs.old control.now mem.now
-        (view_of mem.now control.now regs.old.cpl) tlb.old }
-    ensures kept { OnErr made.new (regs.new ≡ regs.old) }
-    ensures frames { NamesFramesIn (length mem.now) tlb.new }
-    ensures places { IfOk made.new (λ asked. FitsIn (length mem.now) asked.write) }
-    ensures sized { IfOk made.new (λ asked. HasAccessSize asked.write) }
-{
-    match form {
-        Form::Branch => branch(instr, size, regs, control, mem, tlb, made),
-        Form::Call => call(instr, size, regs, control, mem, tlb, made),
-        Form::Return => ret(instr, size, regs, control, mem, tlb, made),
-        Form::CountDown => count_down(instr, size, regs, control, mem, tlb, made),
-        _ => execute_by_value(form, instr, size, regs, control, mem, tlb, made),
-    }
-}
-
-/// The instruction of a form whose effect is a value.
-#[inline(never)]
-fn execute_by_value(
-    form: Form,
-    instr: &Instr,
-    size: u8,
-    regs: &mut Regs,
-    control: &Control,
-    mem: &PhysMem,
-    tlb: &mut Tlb,
-    made: &mut Result<Asked, Fault>,
-)
-    requires fresh { made.old ≡ Ok asked_nothing }
-    requires formed { IsWellFormed instr.now }
-    requires row { IsTrue (has_effect_by_value form) }
-    requires cpl { (regs.old.cpl ≡ 0) ⊎ (regs.old.cpl ≡ 3) }
-    requires root { 4096 * control.now.root < length mem.now }
-    requires frames { NamesFramesIn (length mem.now) tlb.old }
-    ensures outcome { outcome_of (effect_with made.new regs.new) tlb.new
-        ≡ effect_by form instr.now size regs.old control.now mem.now
-        (view_of mem.now control.now regs.old.cpl) tlb.old }
-    ensures kept { OnErr made.new (regs.new ≡ regs.old) }
-    ensures frames { NamesFramesIn (length mem.now) tlb.new }
-    ensures places { IfOk made.new (λ asked. FitsIn (length mem.now) asked.write) }
-    ensures sized { IfOk made.new (λ asked. HasAccessSize asked.write) }
-{
-    match effect_by(form, instr, size, regs, control, mem, tlb) {
+    match effect_of(form, instr, size, regs, control, mem, tlb) {
         Ok(effect) => {
             *regs = effect.regs;
             *made = Ok(Asked {
@@ -192,6 +102,35 @@ fn execute_by_value(
             });
         }
         Err(fault) => *made = Err(fault),
+    }
+}
+
+/// The effect of an instruction of this form: the fault of its conditions, or what its form makes.
+#[tactic(auto, unfolding(x86_regs::specs::Effects::effect_of))]
+fn effect_of(
+    form: Form,
+    instr: &Instr,
+    size: u8,
+    regs: &Regs,
+    control: &Control,
+    mem: &PhysMem,
+    tlb: &mut Tlb,
+) -> Result<Effect, Fault>
+    requires form { form ≡ instr_form instr.now }
+    requires formed { IsWellFormed instr.now }
+    requires row { IsTrue (is_flow_form form) }
+    requires cpl { (regs.now.cpl ≡ 0) ⊎ (regs.now.cpl ≡ 3) }
+    requires root { 4096 * control.now.root < length mem.now }
+    requires frames { NamesFramesIn (length mem.now) tlb.old }
+    ensures outcome { outcome_of result tlb.new
+        ≡ effect_of instr.now size regs.now control.now mem.now tlb.old }
+    ensures frames { NamesFramesIn (length mem.now) tlb.new }
+    ensures places { IfOk result (λ effect. FitsIn (length mem.now) effect.write) }
+    ensures sized { IfOk result (λ effect. HasAccessSize effect.write) }
+{
+    match refusal(instr, regs.cpl) {
+        Some(fault) => Err(fault),
+        None => effect_by(form, instr, size, regs, control, mem, tlb),
     }
 }
 
@@ -205,7 +144,7 @@ fn effect_by(
     tlb: &mut Tlb,
 ) -> Result<Effect, Fault>
     requires formed { IsWellFormed instr.now }
-    requires row { IsTrue (has_effect_by_value form) }
+    requires row { IsTrue (is_flow_form form) }
     requires cpl { (regs.now.cpl ≡ 0) ⊎ (regs.now.cpl ≡ 3) }
     requires root { 4096 * control.now.root < length mem.now }
     requires frames { NamesFramesIn (length mem.now) tlb.old }
@@ -232,7 +171,7 @@ fn planned_effect(
     tlb: &mut Tlb,
 ) -> Result<Effect, Fault>
     requires formed { IsWellFormed instr.now }
-    requires row { IsTrue (has_effect_by_value form) }
+    requires row { IsTrue (is_flow_form form) }
     requires cpl { (regs.now.cpl ≡ 0) ⊎ (regs.now.cpl ≡ 3) }
     requires root { 4096 * control.now.root < length mem.now }
     requires frames { NamesFramesIn (length mem.now) tlb.old }

@@ -10,15 +10,12 @@ mod execution;
 mod outcomes;
 mod plans;
 
-// The forms that make their accesses themselves and change the registers in place.
+// What each form makes of the values that it reads.
 mod branches;
-
-// What each other form makes of the values that it reads.
 mod flags;
 mod system;
 mod traps;
 
-pub use branches::{count_by, count_taken, is_taken, set_count};
 pub use execution::{effect, execute, is_flow_form};
 
 #[cfg(test)]

@@ -6,7 +6,7 @@ ghost use Rattle.page_walk.specs.declared.plan.Source.TheVariants.{Is};
 ghost use Rattle.page_walk.specs.AccessPlans.{IsPlan, IsSized, IsSource};
 ghost use Rattle.x86_decode.specs.WellFormed.{IsWellFormed};
 ghost use Rattle.x86_regs.specs.OperandPlans.{base_span, from_address, from_source, plan, plan_by, table_plan, to_source};
-ghost use Rattle.exec_flow.specs.FormsByValue.{has_effect_by_value};
+ghost use Rattle.exec_flow.specs.FlowForms.{is_flow_form};
 
 use page_walk::{Plan, Source, Span};
 use x86_decode::Instr;
@@ -17,12 +17,14 @@ use x86_regs::{
 /// The accesses of an instruction of this form, which has this length in bytes.
 pub(crate) fn plan_by(form: Form, instr: &Instr, size: u8, regs: &Regs) -> Plan
     requires formed { IsWellFormed instr.now }
-    requires row { IsTrue (has_effect_by_value form) }
+    requires row { IsTrue (is_flow_form form) }
     ensures plan { result ≡ plan_by form instr.now size regs.now }
     ensures sized { IsPlan result }
 {
     match form {
-        Form::ToControl => reading(from_source(instr, size, regs, 64)),
+        Form::Branch | Form::ToControl => reading(from_source(instr, size, regs, 64)),
+        Form::Call => calling(from_source(instr, size, regs, 64), push_span(regs, 64)),
+        Form::Return => popping(pop_source(regs, 64)),
         Form::PushFlags => calling(Source::Is(0), push_span(regs, instr.width)),
         Form::PopFlags => popping(pop_source(regs, instr.width)),
         Form::Input => reading(from_source(instr, size, regs, 16)),
@@ -37,7 +39,7 @@ pub(crate) fn plan_by(form: Form, instr: &Instr, size: u8, regs: &Regs) -> Plan
             &instr.from,
         )),
         Form::DropPage => reading(Source::Is(from_address(instr, size, regs))),
-        Form::Trap | Form::TrapReturn | Form::ChangeFlag => no_access(),
+        Form::CountDown | Form::Trap | Form::TrapReturn | Form::ChangeFlag => no_access(),
         Form::Halt | Form::FromControl | Form::Nothing => no_access(),
         _ => unreachable!(),
     }

@@ -2,7 +2,6 @@
 //! written, page 1 may be read alone, and page 2 has no translation; pages 0 and 1 stand in frames 8 and 9.
 
 mod branches;
-mod conditions;
 mod faults;
 mod system;
 

@@ -54,6 +54,7 @@ pub mod RunsShort
 pub mod ShownStates
 pub mod MoveLemmas
 pub mod WholeLemmas
+pub mod QuietTurns
 pub mod OpeningWhole
 pub mod CallThroughRows
 pub mod CallThroughEffects

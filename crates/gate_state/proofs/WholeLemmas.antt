@@ -50,7 +50,7 @@ state_by p m own turns taken = record {
 }
 
 -- what hides bytes leaves the length, so what is seen of memory hides the books of as many frames as the machine has
-abbrev KeepLength : Type 0
+abbrev pub KeepLength : Type 0
 KeepLength = (hidden : ℕ → Bool) (m : List ℕ) → length (masked hidden m) ≡ length m
 
 module _ (keep : KeepLength) (o : Opening) (s : MachineState) (own : OwnState) (m : List ℕ) (whole : IsWhole o s own m) where
@@ -102,7 +102,7 @@ Alike o s t =
     × (masked (is_book_frame o.frames) t.memory ≡ (turn_of s).memory)
 
 -- bytes of the books' frames stay
-abbrev Stay : ℕ → List ℕ → List ℕ → Type 0
+abbrev pub Stay : ℕ → List ℕ → List ℕ → Type 0
 Stay frames m n = (p : ℕ) → is_book_frame frames (p / 4096) ≡ true → byte_at n p ≡ byte_at m p
 
 -- a turn from the state that processor, memory and own stand for, to processor p and memory n

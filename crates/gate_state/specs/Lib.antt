@@ -12,6 +12,7 @@ pub mod GuardedStates
 pub mod StepsTaken
 pub mod WholeMachine
 pub mod GateCalls
+pub mod QuietSteps
 pub mod WindowLeft
 pub mod MachineOf
 -- Words of private clauses and proofs.

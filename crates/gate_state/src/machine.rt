@@ -7,6 +7,7 @@ ghost use Rattle.page_desc.specs.DescriptorBytes.{kinds_in};
 ghost use Rattle.nk_body.specs.NestedRecord.{HoldsBooks, books_in};
 ghost use Rattle.gate_state.specs.MachineOf.{IsOf, whole_of};
 ghost use Rattle.gate_state.specs.MachineSteps.{move_of, seen_by};
+ghost use Rattle.gate_state.specs.QuietSteps.{IsHurried};
 ghost use Rattle.gate_state.specs.SafeStates.{IsSafe};
 ghost use Rattle.gate_state.specs.WholeMachine.{is_rest, next_whole};
 
@@ -35,6 +36,18 @@ impl<'i> Machine<'i> {
             Machine::Outer(machine) => machine.done(plan),
             Machine::Gate(machine) => machine.done(plan),
             Machine::Nested(machine) => machine.done(plan),
+        }
+    }
+
+    /// Goes on by quick turns, if there are any and WP is set: steps that show nothing, each from a safe state, until the
+    /// plan's next event is due or so many turns were taken in all.
+    pub fn hurry(self, plan: &Plan, limit: u64) -> Machine<'i>
+        ensures hurried { IsHurried plan.now limit (whole_of self.entry) (whole_of result) }
+    {
+        match self {
+            Machine::Outer(machine) => Machine::Outer(machine.hurry(plan, limit)),
+            Machine::Gate(machine) => Machine::Gate(machine),
+            Machine::Nested(machine) => Machine::Nested(machine),
         }
     }
 

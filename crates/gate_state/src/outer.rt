@@ -13,6 +13,7 @@ ghost use Rattle.cpu_step.specs.Turns.{enters_body};
 ghost use Rattle.gate_state.specs.MachineOf.{IsOf, IsOuter, whole_of};
 ghost use Rattle.gate_state.specs.MachineOpening.{opening_state};
 ghost use Rattle.gate_state.specs.MachineSteps.{move_of, seen_by};
+ghost use Rattle.gate_state.specs.QuietSteps.{IsHurried};
 ghost use Rattle.gate_state.specs.SafeStates.{IsSafe};
 ghost use Rattle.gate_state.specs.WholeMachine.{is_rest, next_whole};
 
@@ -120,6 +121,16 @@ impl<'i> OuterMachine<'i> {
     {
         let OuterMachine { whole } = self;
         step(whole, plan)
+    }
+
+    /// Goes on by quick turns, if there are any: steps that show nothing, each from a safe state, until the plan's next event
+    /// is due or so many turns were taken in all.
+    pub fn hurry(self, plan: &Plan, limit: u64) -> OuterMachine<'i>
+        ensures hurried { IsHurried plan.now limit self.entry result }
+    {
+        let OuterMachine { mut whole } = self;
+        whole.hurry(plan, limit);
+        OuterMachine { whole }
     }
 
     /// Whether the machine is halted for good: no vector wakes it, and no event of the plan is left.

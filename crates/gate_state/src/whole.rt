@@ -1,6 +1,6 @@
 //! What the three states share: the machine with the opening of its run.
 
-ghost use Rattle.std.specs.Prelude.{◌≡◌, ℕ, ◌+◌, ◌<◌, ◌≤◌, ◌^◌, true, false, slice_get, Some, None, length, ◌*◌};
+ghost use Rattle.std.specs.Prelude.{◌≡◌, ℕ, ◌+◌, ◌<◌, ◌≤◌, ◌^◌, true, false, slice_get, IfSome, Some, None, length, ◌*◌};
 ghost use Rattle.irq_plan.specs.PlannedEvents.{IsPlannable};
 ghost use Rattle.nk_bits.specs.Accesses.{wp_of};
 ghost use Rattle.cpu_step.specs.Turns.{enters_body};
@@ -10,6 +10,7 @@ ghost use Rattle.nk_body.specs.NestedRecord.{HoldsBooks, books_in};
 ghost use Rattle.gate_state.specs.EventMoves.{IfTaken};
 ghost use Rattle.gate_state.specs.MachineOf.{IsAtBody, IsInGates};
 ghost use Rattle.gate_state.specs.MachineSteps.{after_event, after_turn, answered_with, call_in, called_in, move_by, move_of, next, seen_by, served, shown_by_turn, turn_of, waits};
+ghost use Rattle.gate_state.specs.QuietSteps.{IsHurried};
 ghost use Rattle.gate_state.specs.SafeStates.{IsSafe, TakesTurn};
 ghost use Rattle.gate_state.specs.WholeMachine.{is_rest, next_whole, served_whole};
 ghost use Rattle.gate_state.specs.WindowLeft.{ComesNearer, left};
@@ -129,6 +130,32 @@ impl<'i> Whole<'i> {
         let stepped = self.cpu.step(&mut self.mem);
         self.turns += 1;
         seen_of(stepped)
+    }
+
+    /// Takes quick turns, if there are any, until the next event is due or so many turns were taken in all.
+    pub fn hurry(&mut self, plan: &Plan, limit: u64)
+        ensures hurried { IsHurried plan.now limit self.old self.new }
+        ensures control { self.new.state.processor.control ≡ self.old.state.processor.control }
+    {
+        steps_law();
+        mask_law();
+        held_law();
+        let until = self.until(plan, limit);
+        if self.turns < until {
+            self.turns += self.cpu.quick_turns(&mut self.mem, until - self.turns);
+        }
+    }
+
+    /// How many turns may be taken in all before an event is looked for.
+    fn until(&self, plan: &Plan, limit: u64) -> u64
+        ensures limit { result ≤ limit }
+        ensures event { IfSome (slice_get plan.now self.now.state.taken) (λ event. result ≤ event.due) }
+    {
+        if self.taken < plan.len() {
+            limit.min(plan.event(self.taken).due)
+        } else {
+            limit
+        }
     }
 
     /// Runs the nested kernel's body.

@@ -1,4 +1,5 @@
 mod Canonical
+mod Frames
 mod Judgements
 mod Lent
 mod Numbers

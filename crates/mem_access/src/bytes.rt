@@ -65,7 +65,7 @@ pub fn write(mem: &mut PhysMem, target: &Target, va: u64, width: u8, value: u64)
 }
 
 /// The number whose `count` bytes stand from `at` on.
-#[inline]
+#[inline(always)]
 pub fn number(mem: &PhysMem, at: u64, count: u8) -> u64
     requires count { count ≤ 8 }
     requires inside { at + count ≤ length mem.now }
@@ -79,7 +79,7 @@ pub fn number(mem: &PhysMem, at: u64, count: u8) -> u64
 }
 
 /// The same, where it mostly has fewer than eight bytes.
-#[inline(never)]
+#[inline(always)]
 fn short_number(mem: &PhysMem, at: u64, count: u8) -> u64
     requires count { count ≤ 8 }
     requires inside { at + count ≤ length mem.now }
@@ -110,7 +110,7 @@ fn number_by_bytes(mem: &PhysMem, at: u64, count: u8) -> u64
 }
 
 /// Puts the `count` low bytes of `value` at the places from `at` on.
-#[inline]
+#[inline(always)]
 pub fn put(mem: &mut PhysMem, at: u64, count: u8, value: u64)
     requires { at + count ≤ length mem.old }
     ensures stored { mem.new ≡ stored mem.old (stores count at value) }
@@ -124,7 +124,7 @@ pub fn put(mem: &mut PhysMem, at: u64, count: u8, value: u64)
 }
 
 /// The same, where there are mostly fewer than eight bytes.
-#[inline(never)]
+#[inline(always)]
 fn put_short(mem: &mut PhysMem, at: u64, count: u8, value: u64)
     requires { at + count ≤ length mem.old }
     ensures stored { mem.new ≡ stored mem.old (stores count at value) }

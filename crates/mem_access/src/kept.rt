@@ -1,7 +1,7 @@
 //! Accesses on a page whose translation is kept and serves them: they change nothing, and their bytes stand one behind
 //! the other. A width is in bytes.
 
-ghost use Rattle.std.specs.Prelude.{◌≡◌, ℕ, List, ◌+◌, ◌-◌, ◌*◌, ◌%◌, ◌^◌, ◌<◌, ◌≤◌, IfSome, false, length};
+ghost use Rattle.std.specs.Prelude.{◌≡◌, ℕ, List, ◌+◌, ◌-◌, ◌*◌, ◌/◌, ◌%◌, ◌^◌, ◌<◌, ◌≤◌, IfSome, false, length};
 ghost use Rattle.phys_mem.specs.Memory.{number_at, stores, stored};
 ghost use Rattle.nk_bits.specs.declared.access.Access.TheVariants.{Read, Write};
 ghost use Rattle.nk_bits.specs.declared.leaf.Target.{Target};
@@ -49,6 +49,32 @@ pub fn kept_place(
     }
 }
 
+/// The place of the first byte of the page of `va`, where that page's translation is kept and serves the access: then it
+/// serves one byte at each address of the page, over any memory, and changes nothing.
+pub fn kept_frame(
+    mem: &PhysMem,
+    tlb: &Tlb,
+    access: Access,
+    control: &Control,
+    cpl: u8,
+    va: u64,
+) -> Option<u64>
+    requires frames { NamesFramesIn (length mem.now) tlb.now }
+    ensures place { IfSome result (λ base. (m : List ℕ) (at : ℕ) → at < 2 ^ 64 → at / 4096 ≡ va / 4096
+        → answered (record { first = base + at % 4096; second = 0 }) tlb.now
+        ≡ accessed (view_of m control.now cpl) access tlb.now at 1) }
+    ensures inside { IfSome result (λ base. base + 4096 ≤ length mem.now) }
+{
+    access_law();
+    if !canonical(va) {
+        return None;
+    }
+    match kept_page(mem, tlb, access, control, cpl, va) {
+        Some(place) => Some(place - va % 4096),
+        None => None,
+    }
+}
+
 /// The place of the byte at `va`, where its page's translation is kept and serves the access.
 #[inline(always)]
 pub(crate) fn kept_page(
@@ -76,7 +102,7 @@ pub(crate) fn kept_page(
 }
 
 /// The place in memory of the byte at `va`, whose page has this translation.
-#[inline]
+#[inline(always)]
 pub(crate) fn place_of(mem: &PhysMem, leaf: Leaf, va: u64) -> u64
     requires frame { 4096 * leaf.frame < length mem.now }
     ensures place { result ≡ place_in leaf va }
@@ -89,7 +115,7 @@ pub(crate) fn place_of(mem: &PhysMem, leaf: Leaf, va: u64) -> u64
 }
 
 /// The number of `width` bytes that stands at a place that was found kept, least significant first.
-#[inline]
+#[inline(always)]
 pub fn kept_number(mem: &PhysMem, place: u64, width: u8) -> u64
     requires width { IsAccessSize width }
     requires fits { place + width ≤ length mem.now }
@@ -100,7 +126,7 @@ pub fn kept_number(mem: &PhysMem, place: u64, width: u8) -> u64
 }
 
 /// Puts the `width` low bytes of `value` at a place that was found kept.
-#[inline]
+#[inline(always)]
 pub fn put_kept(mem: &mut PhysMem, place: u64, width: u8, value: u64)
     requires width { IsAccessSize width }
     requires fits { place + width ≤ length mem.old }

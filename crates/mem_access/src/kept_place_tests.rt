@@ -4,7 +4,7 @@ ghost use Rattle.std.specs.Prelude.{◌<◌};
 ghost use Rattle.nk_bits.specs.Translations.{NamesFramesIn};
 
 use super::tests::{ALL, CONTROL, READ_ONLY, memory};
-use super::{kept_number, kept_place, load, put_kept};
+use super::{kept_frame, kept_number, kept_place, load, put_kept};
 use nk_bits::{Access, Leaf, Rights, named_law};
 use std::test::Fail;
 use tlb_model::Tlb;
@@ -43,6 +43,27 @@ fn place_of_a_page_that_is_kept_and_serves(rt: HostRuntime) -> Result<(), Fail> 
     Ok(())
 }
 
+/// Page 1 is kept and may be written, and the supervisor may not execute it; page 2 isn't kept.
+#[test]
+fn frame_of_a_page_that_is_kept_and_serves(rt: HostRuntime) -> Result<(), Fail> {
+    let mem = memory(rt.alloc(), READ_ONLY, ALL)?;
+    let mut tlb = Tlb::new(rt.alloc())?;
+    let _ = load(&mem, &mut tlb, &CONTROL, 3, 0x1000, 1);
+    assert_eq!(rt;
+        kept_frame(&mem, &tlb, Access::Write, &CONTROL, 3, 0x1FFF),
+        Some(0x9000)
+    );
+    assert_eq!(rt;
+        kept_frame(&mem, &tlb, Access::Fetch, &CONTROL, 0, 0x1002),
+        None
+    );
+    assert_eq!(rt;
+        kept_frame(&mem, &tlb, Access::Read, &CONTROL, 3, 0x2000),
+        None
+    );
+    Ok(())
+}
+
 /// Keeps a page's translation, which serves each access of the user.
 fn keep_page(tlb: &mut Tlb, page: u64, frame: u32)
     requires frame { frame < 16 }
@@ -71,6 +92,10 @@ fn no_place_between_the_canonical_halves(rt: HostRuntime) -> Result<(), Fail> {
     );
     assert_eq!(rt;
         kept_place(&mem, &tlb, Access::Read, &CONTROL, 3, 0x8000_0000_0000, 1),
+        None
+    );
+    assert_eq!(rt;
+        kept_frame(&mem, &tlb, Access::Read, &CONTROL, 3, 0x8000_0000_0000),
         None
     );
     Ok(())

@@ -30,7 +30,7 @@ mod rights_tests;
 mod tests;
 
 pub use access::{check_store, commit, fetch_byte, fetch_place, load, page_bytes, store};
-pub use kept::{kept_number, kept_place, one_page_law, put_kept};
+pub use kept::{kept_frame, kept_number, kept_place, one_page_law, put_kept};
 pub use nk_bits::{AccessFault, Control, Target};
 pub use page_walk::{Gathered, Missing, Plan, Source, Span, SpanFault};
 pub use pages::{translate, walk_kept};

@@ -1,5 +1,5 @@
 -- A run that is counted, step by step.
-use Rattle.std.proofs.Common.{◌≡◌, ℕ, zero, suc, ◌+◌, ◌-◌, ◌<◌, ◌≤◌, Bool, true, false, List, ◌++◌, length, refl, sym, ap, subst, ◌∙◌, arith}
+use Rattle.std.proofs.Common.{◌≡◌, ℕ, suc, ◌+◌, ◌<◌, ◌≤◌, Bool, true, false, List, ◌++◌, refl, sym, ap, subst, ◌∙◌, arith}
 use Rattle.std.specs.Prelude.{Option, None, Some, if◌then◌else◌}
 use Rattle.irq_plan.specs.declared.event.Event.{Event}
 use Rattle.nk_bits.specs.declared.call.Answer.{Answer}
@@ -62,7 +62,7 @@ summary_after n steps plan s t =
     ++ summary_lines (summary_of (tally n plan s t) (nested_of (state plan s n))))
 
 -- a step is counted, and then those from the state after it
-summary_going : (steps : ℕ) (plan : List Event) (s : MachineState) (t : Tally) → ending_at steps plan s ≡ None
+pub summary_going : (steps : ℕ) (plan : List Event) (s : MachineState) (t : Tally) → ending_at steps plan s ≡ None
     → left steps plan s ≡ suc (left steps plan (next plan s))
     → summary_from steps plan s t ≡ summary_from steps plan (next plan s) (with_step (move_of plan s) s t)
 unfolding summary_from tally state

@@ -13,6 +13,7 @@ pub mod Moves
 pub mod Texts
 pub mod OpeningMemory
 pub mod CountedRuns
+pub mod QuietRuns
 pub mod Splits
 pub mod Glyphs
 pub mod SpelledNumbers

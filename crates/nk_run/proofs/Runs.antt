@@ -75,7 +75,7 @@ length_going steps plan s e less =
     ∙ ap (λ (o : Option Ending). one_unless o (steps_within most steps plan (next plan s))) e
 
 -- a step's text, and then the text from the state after it
-text_going : (o : Opening) (steps : ℕ) (plan : List Event) (s : MachineState) → ending_at steps plan s ≡ None
+pub text_going : (o : Opening) (steps : ℕ) (plan : List Event) (s : MachineState) → ending_at steps plan s ≡ None
     → left steps plan s ≡ suc (left steps plan (next plan s))
     → run_text o steps plan s ≡ shown_by (move_of plan s) s ++ run_text o steps plan (next plan s)
 unfolding run_text lines state

@@ -60,10 +60,11 @@ pub(crate) fn count<'i, O: Sink>(machine: Machine<'i>, plan: &Plan, sink: &mut O
     let mut machine = machine;
     let mut tally = Tally::NOTHING;
     loop {
-        if let Some(ending) = ending_at(&machine, plan, STEPS) {
-            return sum_up(machine, ending, &tally, sink);
+        let hurried = machine.hurry(plan, STEPS);
+        if let Some(ending) = ending_at(&hurried, plan, STEPS) {
+            return sum_up(hurried, ending, &tally, sink);
         }
-        let (next, more) = advance(machine, plan, tally);
+        let (next, more) = advance(hurried, plan, tally);
         machine = next;
         tally = more;
     }

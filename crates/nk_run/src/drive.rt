@@ -46,10 +46,11 @@ pub(crate) fn drive<'i, O: Sink>(
     moves_law();
     let mut machine = machine;
     loop {
-        if let Some(ending) = ending_at(&machine, plan, steps) {
-            return end(machine, image, layout, ending, sink);
+        let hurried = machine.hurry(plan, steps);
+        if let Some(ending) = ending_at(&hurried, plan, steps) {
+            return end(hurried, image, layout, ending, sink);
         }
-        let (next, shown) = advance(machine, plan, sink);
+        let (next, shown) = advance(hurried, plan, sink);
         machine = next;
         if let Err(_) = shown {
             let _finished = machine.finish();

@@ -54,7 +54,7 @@ impl Table {
     }
 
     /// The leaf that is kept for a page, mostly in the slot of its own low bits.
-    #[inline]
+    #[inline(always)]
     pub(crate) fn look(&self, page: u64) -> Option<Leaf>
         requires table { IsTable self.now }
         ensures found { result ≡ look (pairs_of self.now) page }

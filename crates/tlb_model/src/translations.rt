@@ -56,7 +56,7 @@ impl Tlb {
     }
 
     /// The leaf that is kept for a page.
-    #[inline]
+    #[inline(always)]
     pub fn look(&self, page: u64) -> Option<Leaf>
         ensures found { result ≡ look self.now.pairs page }
         ensures bound { length self.now.pairs ≤ capacity }

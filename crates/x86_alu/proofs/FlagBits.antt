@@ -1,7 +1,7 @@
 -- Masks that set or clear one bit of a flags word.
 use Rattle.std.proofs.Common.{◌≡◌, ◌≢◌, ◌==◌, ◌<◌, ℕ, ◌+◌, ◌-◌, ◌*◌, ◌/◌, ◌%◌, ◌^◌, Bool, true, false, bit_and, bit_or, arith, add_comm, add-one, ap, sym, ◌∙◌, refl, inl, inr}
 use Rattle.std.proofs.lemmas.Bool.{cases_lt}
-use Rattle.std.proofs.lemmas.Nat.{shr_split, one_shl, pow_below, pow_pos, mod_below, mod-pow-add, mul-add-lt, and-not, and_comm}
+use Rattle.std.proofs.lemmas.Nat.{shr_split, one_shl, pow_below, pow_pos, mod_below, mod-pow-add, mul-add-lt, and-not, and_comm, and_le_r}
 use Rattle.std.proofs.lemmas.Nat.Bits.{and_pow, bit_at_cat_high, bit_at_cat_low, bit_at_lowest}
 use Rattle.std.proofs.Math.Nat.{pow-suc}
 use Rattle.std.specs.Int.Bits.{or_add_and}
@@ -16,15 +16,7 @@ from_parts n k =
     let low : n % 2 ^ (k + 1) ≡ bit_at n k * 2 ^ k + n % 2 ^ k = rw (add_comm k 1) (mod-pow-add n 1 k) in
     omega arith
 
-pub or_mask : (n k : ℕ) → k < 64 → bit_or n (1 * 2 ^ k % 2 ^ 64) ≡ with_flag k true n
-unfolding with_flag
-or_mask n k h =
-    let parts = from_parts n k in
-    let both = or_add_and n (2 ^ k) in
-    let common = and_pow n k in
-    rw (one_shl k 64 h) (omega arith)
-
-pub and_not_mask : (n k : ℕ) → n < 2 ^ 64 → k < 64 → bit_and n (2 ^ 64 - 1 - 1 * 2 ^ k % 2 ^ 64) ≡ with_flag k false n
+and_not_mask : (n k : ℕ) → n < 2 ^ 64 → k < 64 → bit_and n (2 ^ 64 - 1 - 1 * 2 ^ k % 2 ^ 64) ≡ with_flag k false n
 unfolding with_flag
 and_not_mask n k fits h =
     let parts = from_parts n k in
@@ -87,3 +79,26 @@ flag_other j k n set other = elim (cases_lt j k) [
   | inl low ↦ ap (λ x. x == 1) (below_flag j k n set low)
   | inr from ↦ ap (λ x. x == 1) (above_flag j k n set (omega arith))
 ]
+
+-- so a bit that is cleared and then added is written
+cleared_then_set : (n k : ℕ) → k < 64 → bit_or (with_flag k false n) (1 * 2 ^ k % 2 ^ 64) ≡ with_flag k true n
+unfolding with_flag
+cleared_then_set n k h =
+    let none : (bit_at (with_flag k false n) k == 1) ≡ false = flag_same k n false in
+    let both = or_add_and (with_flag k false n) (2 ^ k) in
+    let common = and_pow (with_flag k false n) k in
+    let digit : bit_at (with_flag k false n) k < 2 = mod_below (with_flag k false n / 2 ^ k) 2 (omega arith) in
+    let zero : bit_at (with_flag k false n) k ≡ 0 = grind arith in
+    let empty : bit_and (with_flag k false n) (2 ^ k) ≡ 0 = rw common (rw zero (omega arith)) in
+    rw (one_shl k 64 h) (omega arith)
+
+or_zero : (n : ℕ) → bit_or n 0 ≡ n
+or_zero n = omega (arith, or_add_and n 0, and_le_r n 0)
+
+-- what the masks compute
+pub by_masks : (n k : ℕ) (set : Bool) → n < 2 ^ 64 → k < 64
+    → bit_or (bit_and n (2 ^ 64 - 1 - 1 * 2 ^ k % 2 ^ 64)) (one_if set * 2 ^ k % 2 ^ 64) ≡ with_flag k set n
+by_masks n k true fits h = rw (and_not_mask n k fits h) (cleared_then_set n k h)
+by_masks n k false fits h =
+    let none : 0 * 2 ^ k % 2 ^ 64 ≡ 0 = omega arith in
+    rw (and_not_mask n k fits h) (rw none (or_zero (with_flag k false n)))

@@ -5,7 +5,7 @@ ghost use Rattle.decode_fields.specs.Widths.{IsWidth};
 ghost use Rattle.x86_alu.specs.Flags.{with_flag, even_parity, result_flags};
 ghost use Rattle.x86_alu.specs.SignedNumbers.{bit};
 
-use crate::width::sign;
+use crate::width::top;
 
 /// The carry flag's place.
 pub const CF: u8 = 0;
@@ -21,12 +21,12 @@ pub const SF: u8 = 7;
 pub const OF: u8 = 11;
 
 /// The flags word with the bit at `place` set or cleared.
+#[inline(always)]
 pub fn with_flag(flags: u64, place: u8, set: bool) -> u64
     requires { place < 64 }
     ensures { result ≡ with_flag place set flags }
 {
-    let mask = 1 << place;
-    if set { flags | mask } else { flags & !mask }
+    flags & !(1 << place) | u64::from(set) << place
 }
 
 /// A flag that is written reads as written, and each other bit of the flags word stays.
@@ -37,6 +37,7 @@ pub fn flag_law()
 {}
 
 /// Whether the low byte has an even number of ones.
+#[inline(always)]
 pub fn has_even_parity(value: u64) -> bool
     ensures { result ≡ even_parity value }
 {
@@ -44,11 +45,12 @@ pub fn has_even_parity(value: u64) -> bool
 }
 
 /// The flags word with ZF, SF and PF as the value, of `width` in bits, has them.
+#[inline(always)]
 pub fn result_flags(width: u8, value: u64, flags: u64) -> u64
     requires { IsWidth width }
     ensures { result ≡ result_flags width value flags }
 {
     let flags = with_flag(flags, PF, has_even_parity(value));
-    let flags = with_flag(flags, SF, sign(width, value as u128));
+    let flags = with_flag(flags, SF, top(width, value));
     with_flag(flags, ZF, value == 0)
 }

@@ -8,30 +8,32 @@ ghost use Rattle.x86_alu.specs.Sums.{sum_of, has_carry, sum_overflows, sum_flags
 
 use crate::answers::Out;
 use crate::flags::{AF, CF, OF, result_flags, with_flag};
-use crate::width::{cut, sign};
+use crate::width::{low, top};
 
 /// The sum of `a`, `b` and the carry in, as ADD and ADC make it; each value is cut to the width, in bits.
+#[inline(always)]
 pub fn add(width: u8, a: u64, b: u64, carry: bool, flags: u64) -> Out
     requires { IsWidth width }
     ensures value { result.value ≡ sum_of width (cut width a) (cut width b) carry }
     ensures flags { result.flags ≡ sum_flags width (cut width a) (cut width b) carry flags }
 {
-    let (a, b) = (cut(width, a as u128), cut(width, b as u128));
-    let value = cut(width, a as u128 + b as u128 + carry as u128);
+    let (a, b) = (low(width, a), low(width, b));
+    let value = sum_of(width, a, b, carry);
     let flags = result_flags(width, value, flags);
     let flags = with_flag(flags, OF, sum_overflows(width, a, b, carry));
-    let flags = with_flag(flags, AF, has_carry(4, a & 0xf, b & 0xf, carry));
+    let flags = with_flag(flags, AF, has_half_carry(a, b, carry));
     let flags = with_flag(flags, CF, has_carry(width, a, b, carry));
     Out { value, flags }
 }
 
 /// `a` less `b` and the borrow in (`carry`), as SUB, SBB, CMP and NEG make it; each value is cut to the width, in bits.
+#[inline(always)]
 pub fn sub(width: u8, a: u64, b: u64, carry: bool, flags: u64) -> Out
     requires { IsWidth width }
     ensures value { result.value ≡ difference_of width (cut width a) (cut width b) carry }
     ensures flags { result.flags ≡ difference_flags width (cut width a) (cut width b) carry flags }
 {
-    let (a, b) = (cut(width, a as u128), cut(width, b as u128));
+    let (a, b) = (low(width, a), low(width, b));
     let value = difference(width, a, b, carry);
     let flags = result_flags(width, value, flags);
     let flags = with_flag(flags, OF, difference_overflows(width, a, b, carry));
@@ -40,41 +42,62 @@ pub fn sub(width: u8, a: u64, b: u64, carry: bool, flags: u64) -> Out
     Out { value, flags }
 }
 
-fn has_carry(width: u8, a: u64, b: u64, carry: bool) -> bool
-    requires { width ≤ 64 }
-    ensures { result ≡ has_carry width a b carry }
+#[inline(always)]
+fn sum_of(width: u8, a: u64, b: u64, carry: bool) -> u64
+    requires { IsWidth width }
+    ensures { result ≡ sum_of width a b carry }
 {
-    a as u128 + b as u128 + carry as u128 >= 1 << width
+    low(width, a.wrapping_add(b).wrapping_add(u64::from(carry)))
 }
 
+/// A sum that went past the width came back below its operand, or to it where the carry was the last step.
+#[inline(always)]
+fn has_carry(width: u8, a: u64, b: u64, carry: bool) -> bool
+    requires width { IsWidth width }
+    requires a_fits { a < 2 ^ width }
+    requires b_fits { b < 2 ^ width }
+    ensures { result ≡ has_carry width a b carry }
+{
+    let value = sum_of(width, a, b, carry);
+    value < a || carry && value == a
+}
+
+/// The carry out of bit 3.
+#[inline(always)]
+fn has_half_carry(a: u64, b: u64, carry: bool) -> bool
+    ensures { result ≡ has_carry 4 (cut 4 a) (cut 4 b) carry }
+{
+    (a & 0xf) + (b & 0xf) + u64::from(carry) >= 0x10
+}
+
+#[inline(always)]
 fn sum_overflows(width: u8, a: u64, b: u64, carry: bool) -> bool
     requires width { IsWidth width }
     requires a_fits { a < 2 ^ width }
     requires b_fits { b < 2 ^ width }
     ensures { result ≡ sum_overflows width a b carry }
 {
-    let value = cut(width, a as u128 + b as u128 + carry as u128);
-    sign(width, a as u128) == sign(width, b as u128)
-        && sign(width, a as u128) != sign(width, value as u128)
+    let value = sum_of(width, a, b, carry);
+    top(width, a) == top(width, b) && top(width, a) != top(width, value)
 }
 
+#[inline(always)]
 fn difference(width: u8, a: u64, b: u64, borrow: bool) -> u64
     requires width { IsWidth width }
     requires b_fits { b < 2 ^ width }
     ensures { result ≡ difference_of width a b borrow }
 {
-    cut(
-        width,
-        (1 << width) + a as u128 - (b as u128 + borrow as u128),
-    )
+    low(width, a.wrapping_sub(b).wrapping_sub(u64::from(borrow)))
 }
 
+#[inline(always)]
 fn has_borrow(a: u64, b: u64, borrow: bool) -> bool
     ensures { result ≡ has_borrow a b borrow }
 {
-    (a as u128) < b as u128 + borrow as u128
+    a < b || borrow && a == b
 }
 
+#[inline(always)]
 fn difference_overflows(width: u8, a: u64, b: u64, borrow: bool) -> bool
     requires width { IsWidth width }
     requires a_fits { a < 2 ^ width }
@@ -82,6 +105,5 @@ fn difference_overflows(width: u8, a: u64, b: u64, borrow: bool) -> bool
     ensures { result ≡ difference_overflows width a b borrow }
 {
     let value = difference(width, a, b, borrow);
-    sign(width, a as u128) != sign(width, b as u128)
-        && sign(width, a as u128) != sign(width, value as u128)
+    top(width, a) != top(width, b) && top(width, a) != top(width, value)
 }

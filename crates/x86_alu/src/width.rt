@@ -12,6 +12,24 @@ pub fn cut(width: u8, number: u128) -> u64
     (number & (u128::MAX >> (128 - width))) as u64
 }
 
+/// The low bits of a word, as many as `width`, in bits.
+#[inline(always)]
+pub fn low(width: u8, word: u64) -> u64
+    requires { IsWidth width }
+    ensures { result ≡ cut width word }
+{
+    word & (u64::MAX >> (64 - width))
+}
+
+/// The highest bit of a word's low `width` bits.
+#[inline(always)]
+pub fn top(width: u8, word: u64) -> bool
+    requires { IsWidth width }
+    ensures { result ≡ sign width word }
+{
+    word >> (width - 1) & 1 == 1
+}
+
 /// The bit at a place, the lowest of which is 0.
 pub fn bit(number: u128, place: u8) -> bool
     requires { place < 128 }

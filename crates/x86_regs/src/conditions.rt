@@ -7,6 +7,7 @@ ghost use Rattle.x86_regs.specs.Combinations.{condition_stands, conditions};
 use x86_alu::{CF, OF, PF, SF, ZF};
 
 /// The bit at a place, the lowest of which is 0.
+#[inline(always)]
 pub fn bit(number: u64, place: u8) -> bool
     requires { place < 64 }
     ensures { result ≡ bit number place }
@@ -15,6 +16,7 @@ pub fn bit(number: u64, place: u8) -> bool
 }
 
 /// Whether the condition stands that the four low bits of this number name: each odd one is the even one below, negated.
+#[inline(always)]
 #[tactic(auto, unfolding(crate::specs::Combinations::condition_stands))]
 pub fn condition_stands(condition: u8, flags: u64) -> bool
     ensures { result ≡ condition_stands condition flags }
@@ -25,6 +27,7 @@ pub fn condition_stands(condition: u8, flags: u64) -> bool
 }
 
 /// The condition of twice this number.
+#[inline(always)]
 fn even_condition(pair: u8, flags: u64) -> bool
     requires { pair < 8 }
     ensures { result ≡ slice_index_or (conditions flags) (2 * pair) false }

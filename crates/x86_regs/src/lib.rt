@@ -1,7 +1,8 @@
 //! The registers of the processor, with reads and partial writes of the general ones (SDM volume 1, 3.4.1), and the
 //! plain values that pass between the parts of one turn: an instruction's effect or fault, the frame of a return, and
-//! the places of the tables of delivery. It meets the definitions of `specs/`; what an instruction does to registers
-//! and memory is left to the crates above. Floor: processor.
+//! the places of the tables of delivery; and what operations make of the values of their operands. It meets the
+//! definitions of `specs/`; what an instruction does to registers and memory is left to the crates above. Floor:
+//! processor.
 #![tactic(auto)]
 
 // The registers, and the operands that name them.
@@ -11,6 +12,14 @@ mod registers;
 // The form of an operation, which says what its accesses are, and the conditions on flags.
 mod conditions;
 mod form;
+
+// What an operation makes of the values of its operands, and whether a branch is taken.
+mod bits;
+mod combinations;
+mod movements;
+mod numbers;
+mod sums;
+mod taken;
 
 // What an instruction does or raises, and what passes to and from a delivery.
 mod delivery;
@@ -23,6 +32,7 @@ mod writes;
 // What follows from the definition of an effect.
 mod laws;
 
+pub use combinations::{combination, comparison};
 pub use conditions::{bit, condition_stands};
 pub use delivery::{Frame, Tables};
 pub use effects::{ASKED_NOTHING, Act, Asked, Change, Effect, Write};
@@ -30,12 +40,16 @@ pub use faults::Fault;
 pub use flag_changes::{DF, IF, change_flag, flags_popped};
 pub use form::{Form, instr_form};
 pub use laws::{alike_law, bound_law, effect_law, grant_law};
+pub use movements::{movement, source_width};
+pub use numbers::{extended, ones, sign};
 pub use operands::{
     RAX, RBP, RCX, RDI, RDX, RSI, RSP, fallen, from_address, from_source, going_on, lowered,
     next_of, place_span, pop_source, push_span, risen, stack_span, string_span, to_source,
 };
 pub use refusals::{is_unconditional, raised, refusal};
 pub use registers::{Regs, held, low, set_place, set_register, with_register, written};
+pub use sums::{difference, sum};
+pub use taken::{count_by, count_taken, is_taken, set_count};
 pub use writes::write_of;
 
 #[cfg(test)]

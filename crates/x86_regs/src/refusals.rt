@@ -1,7 +1,8 @@
 //! The faults that an instruction raises whatever its operands hold, and those of its accesses.
 
 ghost use Rattle.std.specs.Prelude.{◌≡◌, ℕ, None, false, true};
-ghost use Rattle.x86_decode.specs.declared.conditions.UndefinedWhere.TheVariants.{Nowhere};
+ghost use Rattle.x86_decode.specs.declared.conditions.UndefinedWhere.TheVariants.{AtWidth16, Nowhere};
+ghost use Rattle.x86_decode.specs.declared.operation.Op.TheVariants.{Bswap};
 ghost use Rattle.x86_decode.specs.Conditions.{conditions_of};
 ghost use Rattle.x86_regs.specs.Effects.{is_control_register, is_locked_wrongly, is_memory, is_undefined, is_undefined_at_cpl_0, names_no_register, raised, refusal, refusal_by_cpl};
 
@@ -45,7 +46,7 @@ fn refusal_by_conditions(instr: &Instr, cpl: u8) -> Option<Fault>
 pub fn is_unconditional(instr: &Instr) -> bool
     ensures { result ≡ true → (cpl : ℕ) → refusal instr.now cpl ≡ None }
 {
-    !instr.lock && has_no_condition(instr.op)
+    !instr.lock && (has_no_condition(instr.op) || is_wide_swap(instr.op, instr.width))
 }
 
 #[inline(always)]
@@ -62,8 +63,21 @@ fn has_no_condition(op: Op) -> bool
         Op::Set(_) | Op::Lea | Op::Push | Op::Pop => true,
         Op::J(_) | Op::Jmp | Op::Call | Op::Ret => true,
         Op::Loop | Op::Loope | Op::Loopne | Op::Jrcxz => true,
+        Op::Mul | Op::Imul3 | Op::Div | Op::Idiv | Op::Bsf | Op::Bsr => true,
+        Op::Cbw | Op::Cwde | Op::Cdqe | Op::Cwd | Op::Cdq | Op::Cqo => true,
+        Op::Bt | Op::Bts | Op::Btr | Op::Btc | Op::Leave | Op::Nop => true,
+        Op::Movs | Op::Cmps | Op::Stos | Op::Lods | Op::Scas => true,
+        Op::Cmc | Op::Clc | Op::Stc | Op::Cld | Op::Std => true,
         _ => false,
     }
+}
+
+/// Whether it is a BSWAP of 32 or 64 bits.
+fn is_wide_swap(op: Op, width: u8) -> bool
+    ensures op { result ≡ true → op ≡ Bswap }
+    ensures width { result ≡ true → is_undefined AtWidth16 width ≡ false }
+{
+    matches!(op, Op::Bswap) && width != 16
 }
 
 fn refusal_by_cpl(conditions: Conditions, cpl: u8) -> Option<Fault>

@@ -119,8 +119,10 @@ fn low_written(width: u8, old: u64, value: u64) -> u64
     requires { IsWidth width }
     ensures { result ≡ low_written width old value }
 {
-    if width >= 32 {
-        low(width, value)
+    if width == 64 {
+        value
+    } else if width == 32 {
+        low(32, value)
     } else {
         joined(width, old, low(width, value))
     }

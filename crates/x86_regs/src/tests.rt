@@ -1,5 +1,7 @@
 //! Partial reads and writes at worked values: SDM volume 1, 3.4.1.1.
 
+mod conditions;
+
 ghost use Rattle.x86_regs.specs.Registers.{IsRegister};
 
 use crate::{Act, Effect, Fault, Frame, Regs, Tables, Write};

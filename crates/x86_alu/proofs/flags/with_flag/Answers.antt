@@ -1,8 +1,9 @@
-use Rattle.x86_alu.proofs.FlagBits.{or_mask, and_not_mask}
+use Rattle.std.proofs.Common.{rules, ◌≡◌}
+use Rattle.x86_alu.specs.SignedNumbers.{one_if}
+use Rattle.x86_alu.proofs.FlagBits.{by_masks}
 use Rattle.x86_alu.proofs.flags.with_flag.Goals as goal
 
-pub returns-then-set : goal.returns-then-set
-returns-then-set c = rw c.if-set.true (or_mask c.args.flags c.args.place c.requires)
-
-pub returns-else-set : goal.returns-else-set
-returns-else-set c = rw c.if-set.false (and_not_mask c.args.flags c.args.place c.ranges.flags.fits c.requires)
+pub returns : goal.returns
+returns c =
+    let one : c.from.result ≡ one_if c.args.set = search rules in
+    rw one (by_masks c.args.flags c.args.place c.args.set c.ranges.flags.fits c.requires)

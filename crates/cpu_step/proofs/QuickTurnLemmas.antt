@@ -1,0 +1,195 @@
+-- A turn by a quick form is the processor's turn; and such turns in a row.
+use Rattle.std.proofs.Common.{◌≡◌, ℕ, zero, suc, ◌+◌, ◌<◌, ◌≤◌, length, arith, Bool, true, false, List, Option, None, Ok, Err, refl, sym, ap, subst, ◌∙◌}
+use Rattle.std.specs.Prelude.{◌&&◌, not, Result, if◌then◌else◌}
+use Rattle.nk_bits.specs.declared.control.Control.{Control}
+use Rattle.nk_bits.specs.Accesses.{View}
+use Rattle.nk_bits.specs.Translations.{Translations}
+use Rattle.nk_bits.specs.Outcomes.{Outcome, and_then, answered, outcome_of}
+use Rattle.page_walk.specs.MemoryAccess.{view_of}
+use Rattle.x86_alu.specs.SignedNumbers.{bit}
+use Rattle.x86_decode.specs.declared.instruction.Instr.{Instr}
+use Rattle.x86_regs.specs.declared.effects.Act.TheVariants.{Quiet}
+use Rattle.x86_regs.specs.declared.effects.Effect.{Effect}
+use Rattle.x86_regs.specs.declared.faults.Fault.{Fault}
+use Rattle.x86_regs.specs.declared.form.Form.{Form}
+use Rattle.x86_regs.specs.declared.registers.Regs.{Regs}
+use Rattle.x86_regs.specs.Combinations.{interrupt_flag}
+use Rattle.x86_regs.specs.Effects.{effect_by, effect_of, memory_after, planned_effect, refusal, unless_refused}
+use Rattle.x86_regs.specs.OperandPlans.{instr_form}
+use Rattle.exec_quick.specs.declared.quick.Kind.{Kind}
+use Rattle.exec_quick.specs.declared.quick.Kind.TheVariants as kind
+use Rattle.exec_quick.specs.declared.quick.Quick.{Quick}
+use Rattle.exec_quick.specs.QuickForms.{Settled, effect_made, form_by, instr_of, quietly, settled, settled_by}
+use Rattle.cpu_step.specs.declared.fetch.Fetched.{Fetched}
+use Rattle.cpu_step.specs.declared.kept_code.KeptCode.{KeptCode}
+use Rattle.cpu_step.specs.InstructionFetch.{instruction_at}
+use Rattle.cpu_step.specs.KeptFetches.{IsKeptCode}
+use Rattle.cpu_step.specs.Processor.{IsSound, Processor, deliverable, highest_pending}
+use Rattle.cpu_step.specs.QuickTurns.{AreQuickTurns, IsQuickTurn}
+use Rattle.cpu_step.specs.Turns.{Turned, acted, enters_body, instructed, instruction_made, is_at_body, ran, turned, turned_by}
+use Rattle.cpu_step.proofs.TurnLemmas.{instructed_elsewhere, turned_by_vector}
+
+-- nothing is delivered where nothing is pending
+either_way : (b : Bool) (vector : Option ℕ) → (if b then vector else vector) ≡ vector
+either_way true vector = refl
+either_way false vector = refl
+
+nothing_deliverable : (p : Processor) → p.pending ≡ 0 → deliverable p ≡ None
+nothing_deliverable p none =
+    ap (λ n. if bit p.regs.flags interrupt_flag && not p.shielded then highest_pending n else None) none
+    ∙ either_way (bit p.regs.flags interrupt_flag && not p.shielded) None
+
+-- the effect of an instruction that no condition refuses, by its kind's form
+by_kind : (k : Kind) (i : Instr) (size : ℕ) (regs : Regs) (control : Control) (m : List ℕ) (view : View) (tlb : Translations) →
+    effect_by (form_by k) i size regs control m view tlb ≡ planned_effect (form_by k) i size regs control m view tlb
+by_kind kind.Slow i size regs control m view tlb = refl
+by_kind kind.Combine i size regs control m view tlb = refl
+by_kind kind.CombineLoad i size regs control m view tlb = refl
+by_kind kind.CombineStore i size regs control m view tlb = refl
+by_kind kind.Compare i size regs control m view tlb = refl
+by_kind kind.CompareLoad i size regs control m view tlb = refl
+by_kind kind.CompareStore i size regs control m view tlb = refl
+by_kind kind.Move i size regs control m view tlb = refl
+by_kind kind.MoveLoad i size regs control m view tlb = refl
+by_kind kind.MoveStore i size regs control m view tlb = refl
+by_kind kind.Address i size regs control m view tlb = refl
+by_kind kind.Push i size regs control m view tlb = refl
+by_kind kind.PushLoad i size regs control m view tlb = refl
+by_kind kind.Pop i size regs control m view tlb = refl
+by_kind kind.Leave i size regs control m view tlb = refl
+by_kind kind.Branch i size regs control m view tlb = refl
+by_kind kind.BranchLoad i size regs control m view tlb = refl
+by_kind kind.Call i size regs control m view tlb = refl
+by_kind kind.CallLoad i size regs control m view tlb = refl
+by_kind kind.Return i size regs control m view tlb = refl
+by_kind kind.CountDown i size regs control m view tlb = refl
+by_kind kind.ScanBits i size regs control m view tlb = refl
+by_kind kind.ScanBitsLoad i size regs control m view tlb = refl
+by_kind kind.Multiply i size regs control m view tlb = refl
+by_kind kind.MultiplyLoad i size regs control m view tlb = refl
+by_kind kind.Divide i size regs control m view tlb = refl
+by_kind kind.DivideLoad i size regs control m view tlb = refl
+by_kind kind.Widen i size regs control m view tlb = refl
+by_kind kind.Double i size regs control m view tlb = refl
+by_kind kind.ChangeFlag i size regs control m view tlb = refl
+by_kind kind.Nothing i size regs control m view tlb = refl
+by_kind kind.MoveString i size regs control m view tlb = refl
+by_kind kind.StoreString i size regs control m view tlb = refl
+by_kind kind.LoadString i size regs control m view tlb = refl
+by_kind kind.CompareStrings i size regs control m view tlb = refl
+by_kind kind.ScanString i size regs control m view tlb = refl
+
+effect_plain : (k : Kind) (i : Instr) (size : ℕ) (regs : Regs) (control : Control) (m : List ℕ) (tlb : Translations) →
+    instr_form i ≡ form_by k → refusal i regs.cpl ≡ None →
+    effect_of i size regs control m tlb ≡ planned_effect (form_by k) i size regs control m (view_of m control regs.cpl) tlb
+unfolding effect_of
+effect_plain k i size regs control m tlb form lawful =
+    ap (λ r. unless_refused r tlb (effect_by (instr_form i) i size regs control m (view_of m control regs.cpl) tlb)) lawful
+    ∙ (ap (λ (f : Form). effect_by f i size regs control m (view_of m control regs.cpl) tlb) form
+    ∙ by_kind k i size regs control m (view_of m control regs.cpl) tlb)
+
+-- a turn by an effect that leaves this, with its write made
+not_settled : (s : Settled) (fault : Fault) (one other : Result Settled Fault) → one ≡ Ok s → other ≡ Err fault → one ≡ other → ⊥
+not_settled s fault one other a b e = cc
+
+same_settled : (s t : Settled) (one other : Result Settled Fault) → one ≡ Ok s → other ≡ Ok t → one ≡ other → s ≡ t
+same_settled s t one other a b e = cc
+
+module _ (p : Processor) (m : List ℕ) (regs : Regs) (after : List ℕ) where
+  abbrev whole : Settled
+  whole = record { regs = regs; memory = after; act = Quiet }
+
+  by_settled : (o : Outcome Fault Effect) → quietly regs after p.tlb ≡ settled o m → turned_by o.answer p m o.tlb ≡ ran (record p { regs = regs }) after
+  by_settled o is = go o.answer o.tlb is
+    where
+      go : (answer : Result Effect Fault) (tlb : Translations) → quietly regs after p.tlb ≡ outcome_of (settled_by answer m) tlb →
+          turned_by answer p m tlb ≡ ran (record p { regs = regs }) after
+      go (Ok effect) tlb is =
+          let kept : tlb ≡ p.tlb = sym (ap (λ (o : Outcome Fault Settled). o.tlb) is) in
+          let left : Settled = record { regs = effect.regs; memory = memory_after effect.write m; act = effect.act } in
+          let same : left ≡ whole =
+          sym (same_settled whole left (Ok whole) (Ok left) refl refl (ap (λ (o : Outcome Fault Settled). o.answer) is)) in
+          ap (λ (x : Settled × Translations). acted x.0.act p.regs (record p { regs = x.0.regs; tlb = x.1 }) x.0.memory) (λ j. (same j, kept j))
+      go (Err fault) tlb is =
+          absurd (not_settled whole fault (Ok whole) (Err fault) refl refl (ap (λ (o : Outcome Fault Settled). o.answer) is))
+
+  -- the turn of a processor with a quick form at RIP
+  pub quick_turned : (q : Quick) → p.pending ≡ 0 → p.shielded ≡ false → is_at_body p.regs ≡ false →
+      instr_form (instr_of q) ≡ form_by q.kind → refusal (instr_of q) p.regs.cpl ≡ None →
+      instruction_at m (view_of m p.control p.regs.cpl) p.regs.rip p.tlb ≡ answered (record { instr = instr_of q; size = q.size }) p.tlb →
+      quietly regs after p.tlb ≡ effect_made (form_by q.kind) q p.regs p.control m p.tlb → ran (record p { regs = regs }) after ≡ turned p m
+  quick_turned q none clear elsewhere form lawful fetched made =
+      let fetches : instruction_made p m ≡ effect_of (instr_of q) q.size p.regs p.control m p.tlb =
+      ap (λ (o : Outcome Fault Fetched). and_then o (λ it last. effect_of it.instr it.size p.regs p.control m last)) fetched in
+      let effect : instruction_made p m ≡ planned_effect (form_by q.kind) (instr_of q) q.size p.regs p.control m (view_of m p.control p.regs.cpl) p.tlb =
+      fetches ∙ effect_plain q.kind (instr_of q) q.size p.regs p.control m p.tlb form lawful in
+      let unshielded : instructed (record p { shielded = false }) m ≡ instructed p m =
+      ap (λ (b : Bool). instructed (record p { shielded = b }) m) (sym clear) in
+      sym (turned_by_vector p m None (nothing_deliverable p none)
+      ∙ (unshielded ∙ (instructed_elsewhere p m elsewhere
+      ∙ by_settled (instruction_made p m) (made ∙ ap (λ (o : Outcome Fault Effect). settled o m) (sym effect)))))
+
+-- one turn more
+one_more : (k : ℕ) (p q r : Processor) (m n o : List ℕ) → AreQuickTurns k p m q n → IsQuickTurn q n → ran r o ≡ turned q n → AreQuickTurns (suc k) p m r o
+unfolding AreQuickTurns
+one_more zero p q r m n o are one made =
+    let now : turned q n ≡ turned p m = λ j. turned (are.0 j) (are.1 j) in (
+      subst (λ (x : Processor × List ℕ). IsQuickTurn x.0 x.1) (λ j. (are.0 j, are.1 j)) one,
+      (
+        ap (λ (t : Turned). t.processor) (made ∙ now),
+        ap (λ (t : Turned). t.memory) (made ∙ now),
+      ),
+    )
+one_more (suc k) p q r m n o are one made = (are.0, one_more k (turned p m).processor q r (turned p m).memory n o are.1 one made)
+
+-- no turn yet
+pub no_turns : (p : Processor) (m : List ℕ) → AreQuickTurns 0 p m p m
+unfolding AreQuickTurns
+no_turns p m = (refl, refl)
+
+-- so many turns of at most this many were made, and the next one may be quick, by code of this page if RIP is still there
+pub record AreMade (most count : ℕ) (p : Processor) (m : List ℕ) (code : KeptCode) (q : Processor) (n : List ℕ) : Type 0 where
+  pub within : count ≤ most
+  pub turns : AreQuickTurns count p m q n
+  pub runs : q.halted ≡ false
+  pub open_to : q.shielded ≡ false
+  pub none : q.pending ≡ 0
+  pub kept : IsKeptCode (length n) q.control q.regs.cpl q.tlb code
+  pub sound : IsSound (length n) q
+  pub size : length n ≡ length m
+
+pub none_made : (most : ℕ) (p : Processor) (m : List ℕ) (code : KeptCode) → p.halted ≡ false → p.shielded ≡ false → p.pending ≡ 0 →
+    IsKeptCode (length m) p.control p.regs.cpl p.tlb code → IsSound (length m) p → AreMade most 0 p m code p m
+none_made most p m code runs open_to none kept sound = record {
+  within = omega arith;
+  turns = no_turns p m;
+  runs = runs;
+  open_to = open_to;
+  none = none;
+  kept = kept;
+  sound = sound;
+  size = refl;
+}
+
+pub more_made : (most count : ℕ) (p q r : Processor) (m n o : List ℕ) (before next : KeptCode) → AreMade most count p m before q n → count < most →
+    IsKeptCode (length n) q.control q.regs.cpl q.tlb next → enters_body q ≡ false → ran r o ≡ turned q n → r ≡ record q { regs = r.regs } →
+    r.regs.cpl ≡ q.regs.cpl → IsSound (length o) r → length o ≡ length n → AreMade most (count + 1) p m next r o
+more_made most count p q r m n o last next before less kept no_body made rest cpl sound size =
+    let turn : IsQuickTurn q n = record {
+      no_body = no_body;
+      runs = before.runs;
+      ran = ap (λ (t : Turned). t.stepped) (sym made);
+      control = ap (λ (t : Turned). t.processor.control) (sym made) ∙ ap (λ (x : Processor). x.control) rest;
+    } in
+    record {
+      within = omega (arith, less);
+      turns = subst (λ k. AreQuickTurns k p m r o) (omega arith) (one_more count p q r m n o before.turns turn made);
+      runs = ap (λ (x : Processor). x.halted) rest ∙ before.runs;
+      open_to = ap (λ (x : Processor). x.shielded) rest ∙ before.open_to;
+      none = ap (λ (x : Processor). x.pending) rest ∙ before.none;
+      kept =
+          subst (λ (x : ℕ × Control × ℕ × Translations). IsKeptCode x.0 x.1 x.2 x.3 next)
+          (λ j. (sym size j, sym (ap (λ (x : Processor). x.control) rest) j, sym cpl j, sym (ap (λ (x : Processor). x.tlb) rest) j)) kept;
+      sound = sound;
+      size = size ∙ before.size;
+    }

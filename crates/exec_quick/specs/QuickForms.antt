@@ -1,0 +1,169 @@
+-- Quick forms: an instruction of a common kind, taken apart once, when it is decoded. A quick form means an instruction, and
+-- what it does is that instruction's effect with its write made.
+use Rattle.std.specs.Prelude.{ℕ, ◌≡◌, ◌<◌, ◌≤◌, Bool, true, false, ◌==◌, ◌-◌, nat_le, if◌then◌else◌, List, Option, None, Some, Result, Ok, Err}
+use Rattle.decode_fields.specs.declared.place.Address.{Address}
+use Rattle.decode_fields.specs.declared.place.Place.{Place}
+use Rattle.decode_fields.specs.declared.place.Place.TheVariants.{Nothing, Reg, High, Mem, Value}
+use Rattle.decode_fields.specs.Widths.{IsWidth}
+use Rattle.x86_decode.specs.declared.instruction.Decoded.{Decoded}
+use Rattle.x86_decode.specs.declared.instruction.Decoded.TheVariants.{Whole}
+use Rattle.x86_decode.specs.declared.instruction.Instr.{Instr}
+use Rattle.nk_bits.specs.declared.control.Control.{Control}
+use Rattle.nk_bits.specs.Translations.{Translations}
+use Rattle.nk_bits.specs.Outcomes.{Outcome, answered, outcome_of}
+use Rattle.page_walk.specs.MemoryAccess.{view_of}
+use Rattle.x86_regs.specs.declared.effects.Act.{Act}
+use Rattle.x86_regs.specs.declared.effects.Act.TheVariants.{Quiet}
+use Rattle.x86_regs.specs.declared.effects.Effect.{Effect}
+use Rattle.x86_regs.specs.declared.faults.Fault.{Fault}
+use Rattle.x86_regs.specs.declared.form.Form.{Form}
+use Rattle.x86_regs.specs.declared.form.Form.TheVariants as form
+use Rattle.x86_regs.specs.declared.registers.Regs.{Regs}
+use Rattle.x86_regs.specs.Effects.{memory_after, planned_effect, refusal}
+use Rattle.x86_regs.specs.OperandPlans.{instr_form}
+use Rattle.x86_regs.specs.Registers.{held}
+use Rattle.exec_quick.specs.declared.quick.Kind.{Kind}
+use Rattle.exec_quick.specs.declared.quick.Kind.TheVariants as kind
+use Rattle.exec_quick.specs.declared.quick.Quick.{Quick}
+
+-- a kind is no quick one
+abbrev pub is_slow : Kind → Bool
+is_slow kind.Slow = true
+is_slow _ = false
+
+-- the first operand stands in memory, and the second
+abbrev pub has_memory_first : Kind → Bool
+has_memory_first kind.CombineStore = true
+has_memory_first kind.CompareStore = true
+has_memory_first kind.MoveStore = true
+has_memory_first kind.MultiplyLoad = true
+has_memory_first kind.DivideLoad = true
+has_memory_first _ = false
+
+abbrev pub has_memory_second : Kind → Bool
+has_memory_second kind.CombineLoad = true
+has_memory_second kind.CompareLoad = true
+has_memory_second kind.MoveLoad = true
+has_memory_second kind.Address = true
+has_memory_second kind.PushLoad = true
+has_memory_second kind.BranchLoad = true
+has_memory_second kind.CallLoad = true
+has_memory_second kind.ScanBitsLoad = true
+has_memory_second _ = false
+
+-- the form of a kind's instructions
+abbrev pub form_by : Kind → Form
+form_by kind.Slow = form.Nothing
+form_by kind.Combine = form.Combine
+form_by kind.CombineLoad = form.Combine
+form_by kind.CombineStore = form.Combine
+form_by kind.Compare = form.Compare
+form_by kind.CompareLoad = form.Compare
+form_by kind.CompareStore = form.Compare
+form_by kind.Move = form.Move
+form_by kind.MoveLoad = form.Move
+form_by kind.MoveStore = form.Move
+form_by kind.Address = form.Address
+form_by kind.Push = form.Push
+form_by kind.PushLoad = form.Push
+form_by kind.Pop = form.Pop
+form_by kind.Leave = form.Leave
+form_by kind.Branch = form.Branch
+form_by kind.BranchLoad = form.Branch
+form_by kind.Call = form.Call
+form_by kind.CallLoad = form.Call
+form_by kind.Return = form.Return
+form_by kind.CountDown = form.CountDown
+form_by kind.ScanBits = form.ScanBits
+form_by kind.ScanBitsLoad = form.ScanBits
+form_by kind.Multiply = form.Multiply
+form_by kind.MultiplyLoad = form.Multiply
+form_by kind.Divide = form.Divide
+form_by kind.DivideLoad = form.Divide
+form_by kind.Widen = form.Widen
+form_by kind.Double = form.Double
+form_by kind.ChangeFlag = form.ChangeFlag
+form_by kind.Nothing = form.Nothing
+form_by kind.MoveString = form.MoveString
+form_by kind.StoreString = form.StoreString
+form_by kind.LoadString = form.LoadString
+form_by kind.CompareStrings = form.CompareStrings
+form_by kind.ScanString = form.ScanString
+
+-- a register of an address: 16 is none
+abbrev pub register_of : ℕ → Option ℕ
+register_of n = if n == 16 then None else Some n
+
+-- an operand that isn't in memory: 16 is the instruction's number, 17 nothing, and from 18 on stand AH, CH, DH and BH
+abbrev pub operand_of : ℕ → Place
+operand_of n = if n == 16 then Value else if n == 17 then Nothing else if nat_le 18 n then High (n - 18) else Reg n
+
+abbrev pub address_of : Quick → Address
+address_of q = record { base = register_of q.base; index = register_of q.index; scale = q.scale; disp = q.displacement; rip = q.follows_rip }
+
+abbrev pub to_of : Quick → Place
+to_of q = if has_memory_first q.kind then Mem (address_of q) else operand_of q.to
+
+abbrev pub from_of : Quick → Place
+from_of q = if has_memory_second q.kind then Mem (address_of q) else operand_of q.from
+
+-- the instruction that a quick form means
+abbrev pub instr_of : Quick → Instr
+instr_of q = record { op = q.op; width = q.width; to = to_of q; from = from_of q; value = q.value; rep = q.rep; lock = false }
+
+-- the value of an operand that isn't in memory, at a width
+abbrev pub operand_value : ℕ → ℕ → List ℕ → ℕ → ℕ
+operand_value n value general w =
+    if n == 16 then value else if n == 17 then 0 else if nat_le 18 n then held general (High (n - 18)) w else held general (Reg n) w
+
+-- numbers of registers are among the sixteen, or say that there is none; the width is one of four
+pub record IsReady (q : Quick) : Type 0 where
+  pub width : IsWidth q.width
+  pub to : q.to < 22
+  pub from : q.from < 22
+  pub base : q.base ≤ 16
+  pub index : q.index ≤ 16
+
+-- the kinds whose first operand is a register
+abbrev pub has_register_first : Kind → Bool
+has_register_first kind.Combine = true
+has_register_first kind.CombineLoad = true
+has_register_first kind.Compare = true
+has_register_first kind.CompareLoad = true
+has_register_first kind.Move = true
+has_register_first kind.MoveLoad = true
+has_register_first kind.Address = true
+has_register_first kind.Pop = true
+has_register_first kind.ScanBits = true
+has_register_first kind.ScanBitsLoad = true
+has_register_first _ = false
+
+-- a quick form stands for what code decoded to: that is its instruction, which no condition refuses
+pub record StandsFor (q : Quick) (answer : Decoded) : Type 0 where
+  pub means : answer ≡ Whole (instr_of q) q.size
+  pub ready : IsReady q
+  pub register : has_register_first q.kind ≡ true → q.to < 16
+  pub form : instr_form (instr_of q) ≡ form_by q.kind
+  pub lawful : (cpl : ℕ) → refusal (instr_of q) cpl ≡ None
+
+-- an effect whose write is made
+pub record Settled : Type 0 where
+  pub regs : Regs
+  pub memory : List ℕ
+  pub act : Act
+
+abbrev pub settled_by : Result Effect Fault → List ℕ → Result Settled Fault
+settled_by (Ok effect) m = Ok (record { regs = effect.regs; memory = memory_after effect.write m; act = effect.act })
+settled_by (Err fault) m = Err fault
+
+abbrev pub settled : Outcome Fault Effect → List ℕ → Outcome Fault Settled
+settled outcome m = outcome_of (settled_by outcome.answer m) outcome.tlb
+
+-- registers and memory after an instruction that asks nothing, with all that is kept of walks as before
+abbrev pub quietly : Regs → List ℕ → Translations → Outcome Fault Settled
+quietly regs m tlb = answered (record { regs = regs; memory = m; act = Quiet }) tlb
+
+-- the effect of a quick form's instruction, by this form
+abbrev pub effect_made : Form → Quick → Regs → Control → List ℕ → Translations → Outcome Fault Settled
+effect_made form q regs control m tlb =
+    settled (planned_effect form (instr_of q) q.size regs control m (view_of m control regs.cpl) tlb) m

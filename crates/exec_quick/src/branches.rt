@@ -1,0 +1,144 @@
+//! Branches, which change RIP alone, or count down before: they are made where their target is canonical.
+
+ghost use Rattle.std.specs.Prelude.{◌≡◌, ◌⊎◌, ◌<◌, true, false, length};
+ghost use Rattle.nk_bits.specs.Translations.{NamesFramesIn};
+ghost use Rattle.x86_regs.specs.declared.form.Form.TheVariants as Form;
+ghost use Rattle.exec_quick.specs.declared.quick.Kind.TheVariants as Kind;
+ghost use Rattle.page_walk.specs.declared.plan.Source.TheVariants.{Is};
+ghost use Rattle.x86_regs.specs.OperandOutcomes.{target_by};
+ghost use Rattle.x86_regs.specs.Operands.{source_by};
+ghost use Rattle.exec_quick.specs.QuickForms.{IsReady, effect_made, operand_of, operand_value, quietly};
+
+use crate::kept::load;
+use crate::operands::address;
+use crate::quick::Quick;
+use mem_access::kept_place;
+use nk_bits::{Access, Control, canonical};
+use phys_mem::PhysMem;
+use tlb_model::Tlb;
+use x86_alu::ZF;
+use x86_regs::{Regs, bit, count_by, count_taken, is_taken, next_of, set_count};
+
+/// A branch's target: a displacement from the next instruction, or what a register holds.
+#[inline(always)]
+pub(crate) fn target(quick: &Quick, next: u64, general: &[u64; 16]) -> u64
+    requires ready { IsReady quick.now }
+    ensures source { source_by general.now next 64 quick.now.value (operand_of quick.now.from)
+        ≡ Is (operand_value quick.now.from quick.now.value general.now 64) }
+    ensures target { result ≡ target_by (operand_of quick.now.from) next
+        (operand_value quick.now.from quick.now.value general.now 64) }
+{
+    if quick.from == 16 {
+        next.wrapping_add(quick.value)
+    } else if quick.from < 16 {
+        general[usize::from(quick.from)]
+    } else if quick.from == 17 {
+        0
+    } else {
+        general[usize::from(quick.from - 18)] >> 8 & 0xFF
+    }
+}
+
+/// Jcc and JMP.
+#[inline(always)]
+#[tactic(auto, unfolding(page_walk::specs::AccessPlans::gathered))]
+pub(crate) fn branch(
+    quick: &Quick,
+    regs: &mut Regs,
+    control: &Control,
+    mem: &mut PhysMem,
+    tlb: &Tlb,
+) -> bool
+    requires ready { IsReady quick.now }
+    requires kind { quick.now.kind ≡ Kind.Branch }
+    requires cpl { (regs.old.cpl ≡ 0) ⊎ (regs.old.cpl ≡ 3) }
+    requires frames { NamesFramesIn (length mem.old) tlb.now }
+    ensures made { result ≡ true → quietly regs.new mem.new tlb.now
+        ≡ effect_made Form.Branch quick.now regs.old control.now mem.old tlb.now }
+    ensures left { result ≡ false → (regs.new ≡ regs.old) × (mem.new ≡ mem.old) }
+    ensures length { length mem.new ≡ length mem.old }
+    ensures privilege { regs.new.cpl ≡ regs.old.cpl }
+{
+    let next = next_of(regs, quick.size);
+    if !is_taken(quick.op, regs.flags) {
+        regs.rip = next;
+        return true;
+    }
+    let target = target(quick, next, &regs.general);
+    if !canonical(target) {
+        return false;
+    }
+    regs.rip = target;
+    true
+}
+
+/// JMP to an address in memory. No jump with a condition has one.
+#[inline(always)]
+#[tactic(auto, unfolding(page_walk::specs::AccessPlans::gathered))]
+pub(crate) fn branch_load(
+    quick: &Quick,
+    regs: &mut Regs,
+    control: &Control,
+    mem: &mut PhysMem,
+    tlb: &Tlb,
+) -> bool
+    requires ready { IsReady quick.now }
+    requires kind { quick.now.kind ≡ Kind.BranchLoad }
+    requires cpl { (regs.old.cpl ≡ 0) ⊎ (regs.old.cpl ≡ 3) }
+    requires frames { NamesFramesIn (length mem.old) tlb.now }
+    ensures made { result ≡ true → quietly regs.new mem.new tlb.now
+        ≡ effect_made Form.Branch quick.now regs.old control.now mem.old tlb.now }
+    ensures left { result ≡ false → (regs.new ≡ regs.old) × (mem.new ≡ mem.old) }
+    ensures length { length mem.new ≡ length mem.old }
+    ensures privilege { regs.new.cpl ≡ regs.old.cpl }
+{
+    if !is_taken(quick.op, regs.flags) {
+        return false;
+    }
+    let next = next_of(regs, quick.size);
+    let va = address(quick, &regs.general, next);
+    let Some(place) = kept_place(mem, tlb, Access::Read, control, regs.cpl, va, 8) else {
+        return false;
+    };
+    let target = load(mem, place, va, 8);
+    if !canonical(target) {
+        return false;
+    }
+    regs.rip = target;
+    true
+}
+
+/// LOOP, LOOPE, LOOPNE and JRCXZ, which count RCX down but for JRCXZ.
+#[inline(always)]
+#[tactic(auto, unfolding(page_walk::specs::AccessPlans::gathered))]
+pub(crate) fn count_down(
+    quick: &Quick,
+    regs: &mut Regs,
+    control: &Control,
+    mem: &mut PhysMem,
+    tlb: &Tlb,
+) -> bool
+    requires ready { IsReady quick.now }
+    requires kind { quick.now.kind ≡ Kind.CountDown }
+    requires cpl { (regs.old.cpl ≡ 0) ⊎ (regs.old.cpl ≡ 3) }
+    requires frames { NamesFramesIn (length mem.old) tlb.now }
+    ensures made { result ≡ true → quietly regs.new mem.new tlb.now
+        ≡ effect_made Form.CountDown quick.now regs.old control.now mem.old tlb.now }
+    ensures left { result ≡ false → (regs.new ≡ regs.old) × (mem.new ≡ mem.old) }
+    ensures length { length mem.new ≡ length mem.old }
+    ensures privilege { regs.new.cpl ≡ regs.old.cpl }
+{
+    let next = next_of(regs, quick.size);
+    let count = count_by(quick.op, &regs.general);
+    let rip = if count_taken(quick.op, count, bit(regs.flags, ZF)) {
+        next.wrapping_add(quick.value)
+    } else {
+        next
+    };
+    if !canonical(rip) {
+        return false;
+    }
+    set_count(quick.op, count, regs);
+    regs.rip = rip;
+    true
+}

@@ -1,0 +1,35 @@
+//! Loads and stores on one page at a place that was found kept: they are those of the address.
+
+ghost use Rattle.std.specs.Prelude.{◌≡◌, ◌+◌, ◌^◌, ◌<◌, ◌≤◌, false, length};
+ghost use Rattle.phys_mem.specs.Memory.{stored};
+ghost use Rattle.nk_bits.specs.Accesses.{IsAccessSize, crosses};
+ghost use Rattle.page_walk.specs.MemoryAccess.{stores_at, value_at};
+
+use mem_access::{kept_number, one_page_law, put_kept};
+use phys_mem::PhysMem;
+
+/// The number that stands on one page at this address, whose place was found kept.
+#[inline(always)]
+pub(crate) fn load(mem: &PhysMem, place: u64, va: u64, bytes: u8) -> u64
+    requires bytes { IsAccessSize bytes }
+    requires one { crosses va bytes ≡ false }
+    requires fits { place + bytes ≤ length mem.now }
+    ensures value { result ≡ value_at mem.now va bytes (record { first = place; second = 0 }) }
+    ensures bound { result < 256 ^ bytes }
+{
+    one_page_law();
+    kept_number(mem, place, bytes)
+}
+
+/// Puts a number on one page at this address, whose place was found kept.
+#[inline(always)]
+pub(crate) fn store(mem: &mut PhysMem, place: u64, va: u64, bytes: u8, value: u64)
+    requires bytes { IsAccessSize bytes }
+    requires one { crosses va bytes ≡ false }
+    requires fits { place + bytes ≤ length mem.old }
+    ensures stored { mem.new ≡ stored mem.old (stores_at va bytes (record { first = place; second = 0 }) value) }
+    ensures length { length mem.new ≡ length mem.old }
+{
+    one_page_law();
+    put_kept(mem, place, bytes, value);
+}

@@ -1,0 +1,33 @@
+//! The common instructions in place: an instruction is taken apart once, into a quick form, and a turn by it reads and writes
+//! registers and memory where they stand. It is made where each page that it needs is kept and serves it; else nothing is
+//! changed, and the turn is left to others. No call takes memory. Floor: processor.
+#![tactic(auto)]
+
+// What an instruction is taken apart into.
+mod quick;
+mod taken_apart;
+
+// Loads and stores at a place that was found kept.
+mod kept;
+
+// The kinds: over registers, over memory, over the stack, of branches, of products and scans, of no operand, and of
+// strings.
+mod branches;
+mod memory;
+mod operands;
+mod plain;
+mod products;
+mod registers;
+mod scans;
+mod stack;
+mod strings;
+
+// The call.
+mod turn;
+
+pub use quick::{Kind, Quick, SLOW};
+pub use taken_apart::quick_of;
+pub use turn::make;
+
+#[cfg(test)]
+mod tests;

@@ -1,0 +1,88 @@
+//! The operands of a quick form.
+
+ghost use Rattle.std.specs.Prelude.{◌≡◌, ◌<◌, ◌≤◌, ◌*◌, ◌^◌, ℕ};
+ghost use Rattle.decode_fields.specs.Widths.{IsWidth};
+ghost use Rattle.x86_alu.specs.SignedNumbers.{cut};
+ghost use Rattle.page_walk.specs.declared.plan.Source.TheVariants.{Is};
+ghost use Rattle.x86_regs.specs.Operands.{added, address_by, next_of, source_by};
+ghost use Rattle.exec_quick.specs.QuickForms.{IsReady, address_of, operand_of, operand_value, register_of};
+
+use crate::quick::Quick;
+use x86_regs::Regs;
+
+/// The value of an operand that isn't in memory, of which the low bits count.
+#[inline(always)]
+pub(crate) fn operand(number: u8, value: u64, general: &[u64; 16]) -> u64
+    requires number { number < 22 }
+    ensures { (w : ℕ) → IsWidth w → cut w result ≡ cut w (operand_value number value general.now w) }
+{
+    if number < 16 {
+        general[usize::from(number)]
+    } else if number == 16 {
+        value
+    } else if number == 17 {
+        0
+    } else {
+        general[usize::from(number - 18)] >> 8 & 0xFF
+    }
+}
+
+/// The value of the first operand, which isn't in memory, of which so many low bits count.
+#[inline(always)]
+pub(crate) fn first(quick: &Quick, width: u8, regs: &Regs) -> u64
+    requires ready { IsReady quick.now }
+    requires width { IsWidth width }
+    ensures source { source_by regs.now.general (next_of regs.now quick.now.size) width quick.now.value
+        (operand_of quick.now.to) ≡ Is (operand_value quick.now.to quick.now.value regs.now.general width) }
+    ensures value { cut width result
+        ≡ cut width (operand_value quick.now.to quick.now.value regs.now.general width) }
+{
+    operand(quick.to, quick.value, &regs.general)
+}
+
+/// The value of the second operand, which isn't in memory, of which so many low bits count.
+#[inline(always)]
+pub(crate) fn source(quick: &Quick, width: u8, regs: &Regs) -> u64
+    requires ready { IsReady quick.now }
+    requires width { IsWidth width }
+    ensures source { source_by regs.now.general (next_of regs.now quick.now.size) width quick.now.value
+        (operand_of quick.now.from) ≡ Is (operand_value quick.now.from quick.now.value regs.now.general width) }
+    ensures value { cut width result
+        ≡ cut width (operand_value quick.now.from quick.now.value regs.now.general width) }
+{
+    operand(quick.from, quick.value, &regs.general)
+}
+
+/// The linear address of the operand in memory.
+#[inline(always)]
+pub(crate) fn address(quick: &Quick, general: &[u64; 16], next: u64) -> u64
+    requires ready { IsReady quick.now }
+    ensures { result ≡ address_by general.now next (address_of quick.now) }
+{
+    let base = register(quick.base, general);
+    let index = scaled(register(quick.index, general), quick.scale);
+    let start = if quick.follows_rip { next } else { 0 };
+    let sum = base as u128 + index + quick.displacement as u128 + start as u128;
+    (sum & u64::MAX as u128) as u64
+}
+
+#[inline(always)]
+fn scaled(index: u64, scale: u8) -> u128
+    ensures value { result ≡ index * scale }
+    ensures bound { result ≤ 2 ^ 72 }
+{
+    index as u128 * scale as u128
+}
+
+/// What a register of an address adds.
+#[inline(always)]
+fn register(number: u8, general: &[u64; 16]) -> u64
+    requires number { number ≤ 16 }
+    ensures { result ≡ added general.now (register_of number) }
+{
+    if number < 16 {
+        general[usize::from(number)]
+    } else {
+        0
+    }
+}

@@ -1,0 +1,160 @@
+//! Kinds without an operand, over registers and flags alone.
+
+ghost use Rattle.std.specs.Prelude.{◌≡◌, ◌⊎◌, ◌-◌, ◌^◌, if◌then◌else◌, IfSome, true, false, length};
+ghost use Rattle.decode_fields.specs.Widths.{IsWidth};
+ghost use Rattle.nk_bits.specs.Translations.{NamesFramesIn};
+ghost use Rattle.x86_alu.specs.SignedNumbers.{cut, sign};
+ghost use Rattle.x86_regs.specs.declared.effects.Act.TheVariants.{Quiet};
+ghost use Rattle.x86_regs.specs.declared.form.Form.TheVariants as Form;
+ghost use Rattle.x86_regs.specs.OperandOutcomes.{flag_act, flags_changed};
+ghost use Rattle.exec_quick.specs.declared.quick.Kind.TheVariants as Kind;
+ghost use Rattle.exec_quick.specs.QuickForms.{IsReady, effect_made, quietly};
+
+use crate::quick::Quick;
+use decode_fields::Place;
+use nk_bits::Control;
+use phys_mem::PhysMem;
+use tlb_model::Tlb;
+use x86_alu::{CF, with_flag};
+use x86_decode::Op;
+use x86_regs::{
+    DF, RAX, RDX, Regs, bit, extended, low, next_of, ones, set_place, sign, source_width,
+};
+
+/// NOP.
+#[inline(always)]
+#[tactic(auto, unfolding(page_walk::specs::AccessPlans::gathered))]
+pub(crate) fn nothing(
+    quick: &Quick,
+    regs: &mut Regs,
+    control: &Control,
+    mem: &mut PhysMem,
+    tlb: &Tlb,
+) -> bool
+    requires ready { IsReady quick.now }
+    requires kind { quick.now.kind ≡ Kind.Nothing }
+    requires cpl { (regs.old.cpl ≡ 0) ⊎ (regs.old.cpl ≡ 3) }
+    requires frames { NamesFramesIn (length mem.old) tlb.now }
+    ensures made { result ≡ true → quietly regs.new mem.new tlb.now
+        ≡ effect_made Form.Nothing quick.now regs.old control.now mem.old tlb.now }
+    ensures left { result ≡ false → (regs.new ≡ regs.old) × (mem.new ≡ mem.old) }
+    ensures length { length mem.new ≡ length mem.old }
+    ensures privilege { regs.new.cpl ≡ regs.old.cpl }
+{
+    regs.rip = next_of(regs, quick.size);
+    true
+}
+
+/// CBW, CWDE and CDQE.
+#[inline(always)]
+#[tactic(auto, unfolding(page_walk::specs::AccessPlans::gathered))]
+pub(crate) fn widen(
+    quick: &Quick,
+    regs: &mut Regs,
+    control: &Control,
+    mem: &mut PhysMem,
+    tlb: &Tlb,
+) -> bool
+    requires ready { IsReady quick.now }
+    requires kind { quick.now.kind ≡ Kind.Widen }
+    requires cpl { (regs.old.cpl ≡ 0) ⊎ (regs.old.cpl ≡ 3) }
+    requires frames { NamesFramesIn (length mem.old) tlb.now }
+    ensures made { result ≡ true → quietly regs.new mem.new tlb.now
+        ≡ effect_made Form.Widen quick.now regs.old control.now mem.old tlb.now }
+    ensures left { result ≡ false → (regs.new ≡ regs.old) × (mem.new ≡ mem.old) }
+    ensures length { length mem.new ≡ length mem.old }
+    ensures privilege { regs.new.cpl ≡ regs.old.cpl }
+{
+    let next = next_of(regs, quick.size);
+    let width = source_width(quick.op, quick.width);
+    let number = low(width, regs.general[usize::from(RAX)]);
+    let value = extended(width, quick.width, number);
+    set_place(&mut regs.general, &Place::Reg(RAX), quick.width, value);
+    regs.rip = next;
+    true
+}
+
+/// CWD, CDQ and CQO.
+#[inline(always)]
+#[tactic(auto, unfolding(page_walk::specs::AccessPlans::gathered))]
+pub(crate) fn double(
+    quick: &Quick,
+    regs: &mut Regs,
+    control: &Control,
+    mem: &mut PhysMem,
+    tlb: &Tlb,
+) -> bool
+    requires ready { IsReady quick.now }
+    requires kind { quick.now.kind ≡ Kind.Double }
+    requires cpl { (regs.old.cpl ≡ 0) ⊎ (regs.old.cpl ≡ 3) }
+    requires frames { NamesFramesIn (length mem.old) tlb.now }
+    ensures made { result ≡ true → quietly regs.new mem.new tlb.now
+        ≡ effect_made Form.Double quick.now regs.old control.now mem.old tlb.now }
+    ensures left { result ≡ false → (regs.new ≡ regs.old) × (mem.new ≡ mem.old) }
+    ensures length { length mem.new ≡ length mem.old }
+    ensures privilege { regs.new.cpl ≡ regs.old.cpl }
+{
+    let next = next_of(regs, quick.size);
+    let value = signs(quick.width, regs.general[usize::from(RAX)]);
+    set_place(&mut regs.general, &Place::Reg(RDX), quick.width, value);
+    regs.rip = next;
+    true
+}
+
+/// The sign of a number's low bits, as many as the width, at each of as many places.
+#[inline(always)]
+fn signs(width: u8, number: u64) -> u64
+    requires { IsWidth width }
+    ensures { result ≡ (if sign width (cut width number) then 2 ^ width - 1 else 0) }
+{
+    if sign(width, low(width, number)) {
+        ones(width)
+    } else {
+        0
+    }
+}
+
+/// CMC, CLC, STC, CLD and STD.
+#[inline(always)]
+#[tactic(auto, unfolding(page_walk::specs::AccessPlans::gathered))]
+pub(crate) fn change_flag(
+    quick: &Quick,
+    regs: &mut Regs,
+    control: &Control,
+    mem: &mut PhysMem,
+    tlb: &Tlb,
+) -> bool
+    requires ready { IsReady quick.now }
+    requires kind { quick.now.kind ≡ Kind.ChangeFlag }
+    requires cpl { (regs.old.cpl ≡ 0) ⊎ (regs.old.cpl ≡ 3) }
+    requires frames { NamesFramesIn (length mem.old) tlb.now }
+    ensures made { result ≡ true → quietly regs.new mem.new tlb.now
+        ≡ effect_made Form.ChangeFlag quick.now regs.old control.now mem.old tlb.now }
+    ensures left { result ≡ false → (regs.new ≡ regs.old) × (mem.new ≡ mem.old) }
+    ensures length { length mem.new ≡ length mem.old }
+    ensures privilege { regs.new.cpl ≡ regs.old.cpl }
+{
+    let next = next_of(regs, quick.size);
+    let Some(flags) = changed(quick.op, regs.flags) else {
+        return false;
+    };
+    regs.flags = flags;
+    regs.rip = next;
+    true
+}
+
+/// The flags after CF or DF is changed, or None for another operation.
+#[inline(always)]
+fn changed(op: Op, flags: u64) -> Option<u64>
+    ensures flags { IfSome result (λ after. after ≡ flags_changed op flags) }
+    ensures act { IfSome result (λ after. flag_act op flags ≡ Quiet) }
+{
+    match op {
+        Op::Cmc => Some(with_flag(flags, CF, !bit(flags, CF))),
+        Op::Clc => Some(with_flag(flags, CF, false)),
+        Op::Stc => Some(with_flag(flags, CF, true)),
+        Op::Cld => Some(with_flag(flags, DF, false)),
+        Op::Std => Some(with_flag(flags, DF, true)),
+        _ => None,
+    }
+}

@@ -1,0 +1,216 @@
+//! Products and quotients of twice the width: a quotient is made where its divisor isn't 0 and it fits.
+
+ghost use Rattle.std.specs.Prelude.{◌≡◌, ◌⊎◌, true, false, length};
+ghost use Rattle.decode_fields.specs.Widths.{IsWidth};
+ghost use Rattle.nk_bits.specs.Translations.{NamesFramesIn};
+ghost use Rattle.x86_alu.specs.SignedNumbers.{cut};
+ghost use Rattle.x86_regs.specs.declared.form.Form.TheVariants as Form;
+ghost use Rattle.x86_regs.specs.Registers.{written};
+ghost use Rattle.x86_regs.specs.OperandOutcomes.{divided, halves_written, is_signed, multiplied_wide, quietly as changing, upper_half, upper_place};
+ghost use Rattle.exec_quick.specs.declared.quick.Kind.TheVariants as Kind;
+ghost use Rattle.exec_quick.specs.QuickForms.{IsReady, effect_made, instr_of, quietly};
+
+use crate::kept::load;
+use crate::operands::{address, first};
+use crate::quick::Quick;
+use decode_fields::Place;
+use mem_access::kept_place;
+use nk_bits::{Access, Control};
+use phys_mem::PhysMem;
+use tlb_model::Tlb;
+use x86_alu::{divide as quotient_of, multiply as product_of};
+use x86_decode::Op;
+use x86_regs::{RAX, RDX, Regs, next_of, set_place};
+
+#[inline(always)]
+fn is_signed(op: Op) -> bool
+    ensures { result ≡ is_signed op }
+{
+    matches!(op, Op::Imul | Op::Idiv)
+}
+
+/// A number whose low bits are the upper half: what stands in AH, or in RDX.
+#[inline(always)]
+fn upper_half(general: &[u64; 16], width: u8) -> u64
+    requires { IsWidth width }
+    ensures { cut width result ≡ upper_half general.now width }
+{
+    if width == 8 {
+        general[usize::from(RAX)] >> 8
+    } else {
+        general[usize::from(RDX)]
+    }
+}
+
+/// Writes AH, or RDX.
+#[inline(always)]
+fn set_upper(general: &mut [u64; 16], width: u8, value: u64)
+    requires { IsWidth width }
+    ensures { general.new ≡ written general.old (upper_place width) width value }
+{
+    if width == 8 {
+        set_place(general, &Place::High(0), width, value);
+    } else {
+        set_place(general, &Place::Reg(RDX), width, value);
+    }
+}
+
+/// Writes both halves of a number of two operands' bits.
+#[inline(always)]
+fn set_halves(general: &mut [u64; 16], width: u8, low: u64, high: u64)
+    requires { IsWidth width }
+    ensures { general.new ≡ halves_written general.old width low high }
+{
+    set_place(general, &Place::Reg(RAX), width, low);
+    set_upper(general, width, high);
+}
+
+/// The accumulator times a number, into both halves, with CF and OF; and on to the next instruction.
+#[inline(always)]
+fn multiply_by(quick: &Quick, next: u64, regs: &mut Regs, by: u64)
+    requires ready { IsReady quick.now }
+    ensures product { changing regs.new ≡ multiplied_wide (instr_of quick.now) regs.old next
+        (is_signed quick.now.op) (cut quick.now.width by) }
+    ensures privilege { regs.new.cpl ≡ regs.old.cpl }
+{
+    let signed = is_signed(quick.op);
+    let accumulator = regs.general[usize::from(RAX)];
+    let low = product_of(signed, false, quick.width, accumulator, by, regs.flags);
+    let high = product_of(signed, true, quick.width, accumulator, by, regs.flags);
+    set_halves(&mut regs.general, quick.width, low.value, high.value);
+    regs.flags = low.flags;
+    regs.rip = next;
+}
+
+/// Both halves by a number, into quotient and remainder, and on to the next instruction; where the number is 0 or the
+/// quotient doesn't fit, nothing.
+#[inline(always)]
+fn divide_by(quick: &Quick, next: u64, regs: &mut Regs, by: u64) -> bool
+    requires ready { IsReady quick.now }
+    ensures quotient { result ≡ true → changing regs.new ≡ divided (instr_of quick.now) regs.old next
+        (is_signed quick.now.op) (cut quick.now.width by) }
+    ensures left { result ≡ false → regs.new ≡ regs.old }
+    ensures privilege { regs.new.cpl ≡ regs.old.cpl }
+{
+    let signed = is_signed(quick.op);
+    let high = upper_half(&regs.general, quick.width);
+    let low = regs.general[usize::from(RAX)];
+    let Ok(it) = quotient_of(signed, quick.width, high, low, by) else {
+        return false;
+    };
+    set_halves(&mut regs.general, quick.width, it.value, it.rest);
+    regs.rip = next;
+    true
+}
+
+/// MUL, and IMUL of one operand.
+#[inline(always)]
+#[tactic(auto, unfolding(page_walk::specs::AccessPlans::gathered))]
+pub(crate) fn multiply(
+    quick: &Quick,
+    regs: &mut Regs,
+    control: &Control,
+    mem: &mut PhysMem,
+    tlb: &Tlb,
+) -> bool
+    requires ready { IsReady quick.now }
+    requires kind { quick.now.kind ≡ Kind.Multiply }
+    requires cpl { (regs.old.cpl ≡ 0) ⊎ (regs.old.cpl ≡ 3) }
+    requires frames { NamesFramesIn (length mem.old) tlb.now }
+    ensures made { result ≡ true → quietly regs.new mem.new tlb.now
+        ≡ effect_made Form.Multiply quick.now regs.old control.now mem.old tlb.now }
+    ensures left { result ≡ false → (regs.new ≡ regs.old) × (mem.new ≡ mem.old) }
+    ensures length { length mem.new ≡ length mem.old }
+    ensures privilege { regs.new.cpl ≡ regs.old.cpl }
+{
+    let next = next_of(regs, quick.size);
+    let by = first(quick, quick.width, regs);
+    multiply_by(quick, next, regs, by);
+    true
+}
+
+/// The same by a number in memory.
+#[inline(always)]
+#[tactic(auto, unfolding(page_walk::specs::AccessPlans::gathered))]
+pub(crate) fn multiply_load(
+    quick: &Quick,
+    regs: &mut Regs,
+    control: &Control,
+    mem: &mut PhysMem,
+    tlb: &Tlb,
+) -> bool
+    requires ready { IsReady quick.now }
+    requires kind { quick.now.kind ≡ Kind.MultiplyLoad }
+    requires cpl { (regs.old.cpl ≡ 0) ⊎ (regs.old.cpl ≡ 3) }
+    requires frames { NamesFramesIn (length mem.old) tlb.now }
+    ensures made { result ≡ true → quietly regs.new mem.new tlb.now
+        ≡ effect_made Form.Multiply quick.now regs.old control.now mem.old tlb.now }
+    ensures left { result ≡ false → (regs.new ≡ regs.old) × (mem.new ≡ mem.old) }
+    ensures length { length mem.new ≡ length mem.old }
+    ensures privilege { regs.new.cpl ≡ regs.old.cpl }
+{
+    let next = next_of(regs, quick.size);
+    let bytes = quick.width / 8;
+    let va = address(quick, &regs.general, next);
+    let Some(place) = kept_place(mem, tlb, Access::Read, control, regs.cpl, va, bytes) else {
+        return false;
+    };
+    let by = load(mem, place, va, bytes);
+    multiply_by(quick, next, regs, by);
+    true
+}
+
+/// DIV and IDIV.
+#[inline(always)]
+#[tactic(auto, unfolding(page_walk::specs::AccessPlans::gathered))]
+pub(crate) fn divide(
+    quick: &Quick,
+    regs: &mut Regs,
+    control: &Control,
+    mem: &mut PhysMem,
+    tlb: &Tlb,
+) -> bool
+    requires ready { IsReady quick.now }
+    requires kind { quick.now.kind ≡ Kind.Divide }
+    requires cpl { (regs.old.cpl ≡ 0) ⊎ (regs.old.cpl ≡ 3) }
+    requires frames { NamesFramesIn (length mem.old) tlb.now }
+    ensures made { result ≡ true → quietly regs.new mem.new tlb.now
+        ≡ effect_made Form.Divide quick.now regs.old control.now mem.old tlb.now }
+    ensures left { result ≡ false → (regs.new ≡ regs.old) × (mem.new ≡ mem.old) }
+    ensures length { length mem.new ≡ length mem.old }
+    ensures privilege { regs.new.cpl ≡ regs.old.cpl }
+{
+    let next = next_of(regs, quick.size);
+    let by = first(quick, quick.width, regs);
+    divide_by(quick, next, regs, by)
+}
+
+/// The same by a number in memory.
+#[inline(always)]
+#[tactic(auto, unfolding(page_walk::specs::AccessPlans::gathered))]
+pub(crate) fn divide_load(
+    quick: &Quick,
+    regs: &mut Regs,
+    control: &Control,
+    mem: &mut PhysMem,
+    tlb: &Tlb,
+) -> bool
+    requires ready { IsReady quick.now }
+    requires kind { quick.now.kind ≡ Kind.DivideLoad }
+    requires cpl { (regs.old.cpl ≡ 0) ⊎ (regs.old.cpl ≡ 3) }
+    requires frames { NamesFramesIn (length mem.old) tlb.now }
+    ensures made { result ≡ true → quietly regs.new mem.new tlb.now
+        ≡ effect_made Form.Divide quick.now regs.old control.now mem.old tlb.now }
+    ensures left { result ≡ false → (regs.new ≡ regs.old) × (mem.new ≡ mem.old) }
+    ensures length { length mem.new ≡ length mem.old }
+    ensures privilege { regs.new.cpl ≡ regs.old.cpl }
+{
+    let next = next_of(regs, quick.size);
+    let bytes = quick.width / 8;
+    let va = address(quick, &regs.general, next);
+    let Some(place) = kept_place(mem, tlb, Access::Read, control, regs.cpl, va, bytes) else {
+        return false;
+    };
+    let by = load(mem, place, va, bytes);
+    divide_by(quick, next, regs, by)
+}

@@ -1,0 +1,96 @@
+//! A quick form.
+
+use decode_fields::Rep;
+use x86_decode::Op;
+
+/// What an instruction does, by its form and by which of its operands stands in memory.
+#[derive(Clone, Copy, Debug, PartialEq, Eq)]
+pub enum Kind {
+    /// Anything else: no quick form is made of it.
+    Slow,
+    // two operands
+    Combine,
+    CombineLoad,
+    CombineStore,
+    Compare,
+    CompareLoad,
+    CompareStore,
+    Move,
+    MoveLoad,
+    MoveStore,
+    Address,
+    // the stack
+    Push,
+    PushLoad,
+    Pop,
+    Leave,
+    // flow
+    Branch,
+    BranchLoad,
+    Call,
+    CallLoad,
+    Return,
+    CountDown,
+    // one operand, and none
+    ScanBits,
+    ScanBitsLoad,
+    Multiply,
+    MultiplyLoad,
+    Divide,
+    DivideLoad,
+    Widen,
+    Double,
+    ChangeFlag,
+    Nothing,
+    // strings
+    MoveString,
+    StoreString,
+    LoadString,
+    CompareStrings,
+    ScanString,
+}
+
+/// An instruction taken apart: numbers of registers stand at fixed places.
+#[derive(Clone, Copy, Debug, PartialEq, Eq)]
+pub struct Quick {
+    pub kind: Kind,
+    pub op: Op,
+    /// In bits: 8, 16, 32 or 64.
+    pub width: u8,
+    /// The instruction's length in bytes.
+    pub size: u8,
+    /// The first operand where it isn't in memory: a register, 16 for the number, 17 for nothing, or from 18 on AH, CH, DH
+    /// or BH.
+    pub to: u8,
+    /// The second operand, likewise.
+    pub from: u8,
+    /// The registers of the address, or 16 for none.
+    pub base: u8,
+    pub index: u8,
+    /// 1, 2, 4 or 8.
+    pub scale: u8,
+    /// The address starts at the next instruction.
+    pub follows_rip: bool,
+    pub displacement: u64,
+    /// The instruction's number.
+    pub value: u64,
+    /// The prefix of a repeated string instruction.
+    pub rep: Rep,
+}
+
+/// No quick form.
+pub const SLOW: Quick = Quick {
+    kind: Kind::Slow,
+    op: Op::Nop,
+    width: 64,
+    size: 1,
+    to: 17,
+    from: 17,
+    base: 16,
+    index: 16,
+    scale: 1,
+    follows_rip: false,
+    displacement: 0,
+    value: 0,
+    rep: Rep::No,
+};

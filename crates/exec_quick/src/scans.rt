@@ -1,0 +1,111 @@
+//! BSF and BSR.
+
+ghost use Rattle.std.specs.Prelude.{◌≡◌, ◌⊎◌, ◌<◌, true, false, length};
+ghost use Rattle.nk_bits.specs.Translations.{NamesFramesIn};
+ghost use Rattle.x86_alu.specs.SignedNumbers.{cut};
+ghost use Rattle.x86_regs.specs.declared.form.Form.TheVariants as Form;
+ghost use Rattle.x86_regs.specs.OperandOutcomes.{bits_scanned, is_forward, quietly as changing};
+ghost use Rattle.exec_quick.specs.declared.quick.Kind.TheVariants as Kind;
+ghost use Rattle.exec_quick.specs.QuickForms.{IsReady, effect_made, has_memory_first, instr_of, quietly};
+
+use crate::kept::load;
+use crate::operands::{address, source};
+use crate::quick::Quick;
+use decode_fields::Place;
+use mem_access::kept_place;
+use nk_bits::{Access, Control};
+use phys_mem::PhysMem;
+use tlb_model::Tlb;
+use x86_alu::scan_bit;
+use x86_decode::Op;
+use x86_regs::{Regs, low, next_of, set_place};
+
+#[inline(always)]
+fn is_forward(op: Op) -> bool
+    ensures { result ≡ is_forward op }
+{
+    matches!(op, Op::Bsf)
+}
+
+/// The place of the first or the last set bit of a number, into the register, and on to the next instruction; where no
+/// bit is set the register keeps its whole value.
+#[inline(always)]
+fn scan(quick: &Quick, next: u64, regs: &mut Regs, from: u64)
+    requires ready { IsReady quick.now }
+    requires first { has_memory_first quick.now.kind ≡ false }
+    requires register { quick.now.to < 16 }
+    ensures scanned { changing regs.new ≡ bits_scanned (instr_of quick.now) regs.old next
+        (is_forward quick.now.op) (cut quick.now.width from) }
+    ensures privilege { regs.new.cpl ≡ regs.old.cpl }
+{
+    let it = scan_bit(is_forward(quick.op), quick.width, from, regs.flags);
+    if low(quick.width, from) != 0 {
+        set_place(
+            &mut regs.general,
+            &Place::Reg(quick.to),
+            quick.width,
+            it.value,
+        );
+    }
+    regs.flags = it.flags;
+    regs.rip = next;
+}
+
+/// BSF and BSR of a register.
+#[inline(always)]
+#[tactic(auto, unfolding(page_walk::specs::AccessPlans::gathered))]
+pub(crate) fn scan_bits(
+    quick: &Quick,
+    regs: &mut Regs,
+    control: &Control,
+    mem: &mut PhysMem,
+    tlb: &Tlb,
+) -> bool
+    requires ready { IsReady quick.now }
+    requires kind { quick.now.kind ≡ Kind.ScanBits }
+    requires register { quick.now.to < 16 }
+    requires cpl { (regs.old.cpl ≡ 0) ⊎ (regs.old.cpl ≡ 3) }
+    requires frames { NamesFramesIn (length mem.old) tlb.now }
+    ensures made { result ≡ true → quietly regs.new mem.new tlb.now
+        ≡ effect_made Form.ScanBits quick.now regs.old control.now mem.old tlb.now }
+    ensures left { result ≡ false → (regs.new ≡ regs.old) × (mem.new ≡ mem.old) }
+    ensures length { length mem.new ≡ length mem.old }
+    ensures privilege { regs.new.cpl ≡ regs.old.cpl }
+{
+    let next = next_of(regs, quick.size);
+    let from = source(quick, quick.width, regs);
+    scan(quick, next, regs, from);
+    true
+}
+
+/// BSF and BSR of memory.
+#[inline(always)]
+#[tactic(auto, unfolding(page_walk::specs::AccessPlans::gathered))]
+pub(crate) fn scan_bits_load(
+    quick: &Quick,
+    regs: &mut Regs,
+    control: &Control,
+    mem: &mut PhysMem,
+    tlb: &Tlb,
+) -> bool
+    requires ready { IsReady quick.now }
+    requires kind { quick.now.kind ≡ Kind.ScanBitsLoad }
+    requires register { quick.now.to < 16 }
+    requires cpl { (regs.old.cpl ≡ 0) ⊎ (regs.old.cpl ≡ 3) }
+    requires frames { NamesFramesIn (length mem.old) tlb.now }
+    ensures made { result ≡ true → quietly regs.new mem.new tlb.now
+        ≡ effect_made Form.ScanBits quick.now regs.old control.now mem.old tlb.now }
+    ensures left { result ≡ false → (regs.new ≡ regs.old) × (mem.new ≡ mem.old) }
+    ensures length { length mem.new ≡ length mem.old }
+    ensures privilege { regs.new.cpl ≡ regs.old.cpl }
+{
+    let next = next_of(regs, quick.size);
+    let bytes = quick.width / 8;
+    let va = address(quick, &regs.general, next);
+    let Some(place) = kept_place(mem, tlb, Access::Read, control, regs.cpl, va, bytes) else {
+        return false;
+    };
+    let from = load(mem, place, va, bytes);
+    scan(quick, next, regs, from);
+    true
+}

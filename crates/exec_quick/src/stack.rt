@@ -1,0 +1,283 @@
+//! Kinds over the stack: they are made where its page is kept and serves them.
+
+ghost use Rattle.std.specs.Prelude.{◌≡◌, ◌⊎◌, ◌<◌, true, false, length};
+ghost use Rattle.nk_bits.specs.Translations.{NamesFramesIn};
+ghost use Rattle.x86_regs.specs.declared.form.Form.TheVariants as Form;
+ghost use Rattle.exec_quick.specs.declared.quick.Kind.TheVariants as Kind;
+ghost use Rattle.page_walk.specs.declared.plan.Source.TheVariants.{Is};
+ghost use Rattle.x86_alu.specs.SignedNumbers.{cut};
+ghost use Rattle.x86_regs.specs.Operands.{next_of, source_by};
+ghost use Rattle.exec_quick.specs.QuickForms.{IsReady, effect_made, operand_of, operand_value, quietly};
+
+use crate::branches::target;
+use crate::kept::{load, store};
+use crate::operands::{address, operand};
+use crate::quick::Quick;
+use decode_fields::Place;
+use mem_access::kept_place;
+use nk_bits::{Access, Control, canonical};
+use phys_mem::PhysMem;
+use tlb_model::Tlb;
+use x86_regs::{RBP, RSP, Regs, low, lowered, next_of, set_place, set_register};
+
+/// The number that a push puts on the stack.
+#[inline(always)]
+fn pushed(quick: &Quick, regs: &Regs) -> u64
+    requires ready { IsReady quick.now }
+    ensures source { source_by regs.now.general (next_of regs.now quick.now.size) quick.now.width quick.now.value
+        (operand_of quick.now.from)
+        ≡ Is (operand_value quick.now.from quick.now.value regs.now.general quick.now.width) }
+    ensures value { result
+        ≡ cut quick.now.width (operand_value quick.now.from quick.now.value regs.now.general quick.now.width) }
+{
+    low(quick.width, operand(quick.from, quick.value, &regs.general))
+}
+
+/// PUSH of a register or a number, which is read before RSP falls.
+#[inline(always)]
+#[tactic(auto, unfolding(page_walk::specs::AccessPlans::gathered))]
+pub(crate) fn push(
+    quick: &Quick,
+    regs: &mut Regs,
+    control: &Control,
+    mem: &mut PhysMem,
+    tlb: &Tlb,
+) -> bool
+    requires ready { IsReady quick.now }
+    requires kind { quick.now.kind ≡ Kind.Push }
+    requires cpl { (regs.old.cpl ≡ 0) ⊎ (regs.old.cpl ≡ 3) }
+    requires frames { NamesFramesIn (length mem.old) tlb.now }
+    ensures made { result ≡ true → quietly regs.new mem.new tlb.now
+        ≡ effect_made Form.Push quick.now regs.old control.now mem.old tlb.now }
+    ensures left { result ≡ false → (regs.new ≡ regs.old) × (mem.new ≡ mem.old) }
+    ensures length { length mem.new ≡ length mem.old }
+    ensures privilege { regs.new.cpl ≡ regs.old.cpl }
+{
+    let next = next_of(regs, quick.size);
+    let bytes = quick.width / 8;
+    let top = lowered(regs.general[usize::from(RSP)], u64::from(bytes));
+    let Some(place) = kept_place(mem, tlb, Access::Write, control, regs.cpl, top, bytes) else {
+        return false;
+    };
+    let value = pushed(quick, regs);
+    store(mem, place, top, bytes, value);
+    set_register(&mut regs.general, RSP, top);
+    regs.rip = next;
+    true
+}
+
+/// PUSH of memory.
+#[inline(always)]
+#[tactic(auto, unfolding(page_walk::specs::AccessPlans::gathered))]
+pub(crate) fn push_load(
+    quick: &Quick,
+    regs: &mut Regs,
+    control: &Control,
+    mem: &mut PhysMem,
+    tlb: &Tlb,
+) -> bool
+    requires ready { IsReady quick.now }
+    requires kind { quick.now.kind ≡ Kind.PushLoad }
+    requires cpl { (regs.old.cpl ≡ 0) ⊎ (regs.old.cpl ≡ 3) }
+    requires frames { NamesFramesIn (length mem.old) tlb.now }
+    ensures made { result ≡ true → quietly regs.new mem.new tlb.now
+        ≡ effect_made Form.Push quick.now regs.old control.now mem.old tlb.now }
+    ensures left { result ≡ false → (regs.new ≡ regs.old) × (mem.new ≡ mem.old) }
+    ensures length { length mem.new ≡ length mem.old }
+    ensures privilege { regs.new.cpl ≡ regs.old.cpl }
+{
+    let next = next_of(regs, quick.size);
+    let bytes = quick.width / 8;
+    let va = address(quick, &regs.general, next);
+    let Some(place) = kept_place(mem, tlb, Access::Read, control, regs.cpl, va, bytes) else {
+        return false;
+    };
+    let from = load(mem, place, va, bytes);
+    let top = lowered(regs.general[usize::from(RSP)], u64::from(bytes));
+    let Some(place) = kept_place(mem, tlb, Access::Write, control, regs.cpl, top, bytes) else {
+        return false;
+    };
+    store(mem, place, top, bytes, from);
+    set_register(&mut regs.general, RSP, top);
+    regs.rip = next;
+    true
+}
+
+/// POP to a register, which may be RSP: it is written last.
+#[inline(always)]
+#[tactic(auto, unfolding(page_walk::specs::AccessPlans::gathered))]
+pub(crate) fn pop(
+    quick: &Quick,
+    regs: &mut Regs,
+    control: &Control,
+    mem: &mut PhysMem,
+    tlb: &Tlb,
+) -> bool
+    requires ready { IsReady quick.now }
+    requires kind { quick.now.kind ≡ Kind.Pop }
+    requires register { quick.now.to < 16 }
+    requires cpl { (regs.old.cpl ≡ 0) ⊎ (regs.old.cpl ≡ 3) }
+    requires frames { NamesFramesIn (length mem.old) tlb.now }
+    ensures made { result ≡ true → quietly regs.new mem.new tlb.now
+        ≡ effect_made Form.Pop quick.now regs.old control.now mem.old tlb.now }
+    ensures left { result ≡ false → (regs.new ≡ regs.old) × (mem.new ≡ mem.old) }
+    ensures length { length mem.new ≡ length mem.old }
+    ensures privilege { regs.new.cpl ≡ regs.old.cpl }
+{
+    let next = next_of(regs, quick.size);
+    let bytes = quick.width / 8;
+    let top = regs.general[usize::from(RSP)];
+    let Some(place) = kept_place(mem, tlb, Access::Read, control, regs.cpl, top, bytes) else {
+        return false;
+    };
+    let popped = load(mem, place, top, bytes);
+    set_register(&mut regs.general, RSP, top.wrapping_add(u64::from(bytes)));
+    set_place(
+        &mut regs.general,
+        &Place::Reg(quick.to),
+        quick.width,
+        popped,
+    );
+    regs.rip = next;
+    true
+}
+
+/// CALL, which pushes the address of the next instruction.
+#[inline(always)]
+#[tactic(auto, unfolding(page_walk::specs::AccessPlans::gathered))]
+pub(crate) fn call(
+    quick: &Quick,
+    regs: &mut Regs,
+    control: &Control,
+    mem: &mut PhysMem,
+    tlb: &Tlb,
+) -> bool
+    requires ready { IsReady quick.now }
+    requires kind { quick.now.kind ≡ Kind.Call }
+    requires cpl { (regs.old.cpl ≡ 0) ⊎ (regs.old.cpl ≡ 3) }
+    requires frames { NamesFramesIn (length mem.old) tlb.now }
+    ensures made { result ≡ true → quietly regs.new mem.new tlb.now
+        ≡ effect_made Form.Call quick.now regs.old control.now mem.old tlb.now }
+    ensures left { result ≡ false → (regs.new ≡ regs.old) × (mem.new ≡ mem.old) }
+    ensures length { length mem.new ≡ length mem.old }
+    ensures privilege { regs.new.cpl ≡ regs.old.cpl }
+{
+    let next = next_of(regs, quick.size);
+    let target = target(quick, next, &regs.general);
+    if !canonical(target) {
+        return false;
+    }
+    let top = lowered(regs.general[usize::from(RSP)], 8);
+    let Some(place) = kept_place(mem, tlb, Access::Write, control, regs.cpl, top, 8) else {
+        return false;
+    };
+    store(mem, place, top, 8, next);
+    set_register(&mut regs.general, RSP, top);
+    regs.rip = target;
+    true
+}
+
+/// CALL of an address in memory.
+#[inline(always)]
+#[tactic(auto, unfolding(page_walk::specs::AccessPlans::gathered))]
+pub(crate) fn call_load(
+    quick: &Quick,
+    regs: &mut Regs,
+    control: &Control,
+    mem: &mut PhysMem,
+    tlb: &Tlb,
+) -> bool
+    requires ready { IsReady quick.now }
+    requires kind { quick.now.kind ≡ Kind.CallLoad }
+    requires cpl { (regs.old.cpl ≡ 0) ⊎ (regs.old.cpl ≡ 3) }
+    requires frames { NamesFramesIn (length mem.old) tlb.now }
+    ensures made { result ≡ true → quietly regs.new mem.new tlb.now
+        ≡ effect_made Form.Call quick.now regs.old control.now mem.old tlb.now }
+    ensures left { result ≡ false → (regs.new ≡ regs.old) × (mem.new ≡ mem.old) }
+    ensures length { length mem.new ≡ length mem.old }
+    ensures privilege { regs.new.cpl ≡ regs.old.cpl }
+{
+    let next = next_of(regs, quick.size);
+    let va = address(quick, &regs.general, next);
+    let Some(place) = kept_place(mem, tlb, Access::Read, control, regs.cpl, va, 8) else {
+        return false;
+    };
+    let target = load(mem, place, va, 8);
+    if !canonical(target) {
+        return false;
+    }
+    let top = lowered(regs.general[usize::from(RSP)], 8);
+    let Some(place) = kept_place(mem, tlb, Access::Write, control, regs.cpl, top, 8) else {
+        return false;
+    };
+    store(mem, place, top, 8, next);
+    set_register(&mut regs.general, RSP, top);
+    regs.rip = target;
+    true
+}
+
+/// RET, which lets as many bytes go as the instruction's number says beyond the address that it pops.
+#[inline(always)]
+#[tactic(auto, unfolding(page_walk::specs::AccessPlans::gathered))]
+pub(crate) fn ret(
+    quick: &Quick,
+    regs: &mut Regs,
+    control: &Control,
+    mem: &mut PhysMem,
+    tlb: &Tlb,
+) -> bool
+    requires ready { IsReady quick.now }
+    requires kind { quick.now.kind ≡ Kind.Return }
+    requires cpl { (regs.old.cpl ≡ 0) ⊎ (regs.old.cpl ≡ 3) }
+    requires frames { NamesFramesIn (length mem.old) tlb.now }
+    ensures made { result ≡ true → quietly regs.new mem.new tlb.now
+        ≡ effect_made Form.Return quick.now regs.old control.now mem.old tlb.now }
+    ensures left { result ≡ false → (regs.new ≡ regs.old) × (mem.new ≡ mem.old) }
+    ensures length { length mem.new ≡ length mem.old }
+    ensures privilege { regs.new.cpl ≡ regs.old.cpl }
+{
+    let top = regs.general[usize::from(RSP)];
+    let Some(place) = kept_place(mem, tlb, Access::Read, control, regs.cpl, top, 8) else {
+        return false;
+    };
+    let popped = load(mem, place, top, 8);
+    if !canonical(popped) {
+        return false;
+    }
+    let above = top.wrapping_add(8).wrapping_add(quick.value);
+    set_register(&mut regs.general, RSP, above);
+    regs.rip = popped;
+    true
+}
+
+/// LEAVE: RSP rises to above what RBP points at, and RBP gets that.
+#[inline(always)]
+#[tactic(auto, unfolding(page_walk::specs::AccessPlans::gathered))]
+pub(crate) fn leave(
+    quick: &Quick,
+    regs: &mut Regs,
+    control: &Control,
+    mem: &mut PhysMem,
+    tlb: &Tlb,
+) -> bool
+    requires ready { IsReady quick.now }
+    requires kind { quick.now.kind ≡ Kind.Leave }
+    requires cpl { (regs.old.cpl ≡ 0) ⊎ (regs.old.cpl ≡ 3) }
+    requires frames { NamesFramesIn (length mem.old) tlb.now }
+    ensures made { result ≡ true → quietly regs.new mem.new tlb.now
+        ≡ effect_made Form.Leave quick.now regs.old control.now mem.old tlb.now }
+    ensures left { result ≡ false → (regs.new ≡ regs.old) × (mem.new ≡ mem.old) }
+    ensures length { length mem.new ≡ length mem.old }
+    ensures privilege { regs.new.cpl ≡ regs.old.cpl }
+{
+    let next = next_of(regs, quick.size);
+    let base = regs.general[usize::from(RBP)];
+    let Some(place) = kept_place(mem, tlb, Access::Read, control, regs.cpl, base, 8) else {
+        return false;
+    };
+    let popped = load(mem, place, base, 8);
+    set_register(&mut regs.general, RSP, base.wrapping_add(8));
+    set_register(&mut regs.general, RBP, popped);
+    regs.rip = next;
+    true
+}

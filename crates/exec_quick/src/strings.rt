@@ -1,0 +1,294 @@
+//! Kinds of string instructions, one turn of each: it is made where the pages at RSI and RDI are kept and serve it. Where a
+//! repeated one's count is 0, the turn only goes on.
+
+ghost use Rattle.std.specs.Prelude.{◌≡◌, ◌⊎◌, ◌<◌, if◌then◌else◌, true, false, length};
+ghost use Rattle.decode_fields.specs.Widths.{IsWidth};
+ghost use Rattle.nk_bits.specs.Translations.{NamesFramesIn};
+ghost use Rattle.x86_regs.specs.declared.form.Form.TheVariants as Form;
+ghost use Rattle.x86_regs.specs.OperandPlans.{is_idle, is_repeated};
+ghost use Rattle.x86_regs.specs.OperandOutcomes.{counted, is_again, is_asked, pointer_moved};
+ghost use Rattle.exec_quick.specs.declared.quick.Kind.TheVariants as Kind;
+ghost use Rattle.exec_quick.specs.QuickForms.{IsReady, effect_made, instr_of, quietly};
+
+use crate::kept::{load, store};
+use crate::quick::Quick;
+use decode_fields::{Place, Rep};
+use mem_access::kept_place;
+use nk_bits::{Access, Control};
+use phys_mem::PhysMem;
+use tlb_model::Tlb;
+use x86_alu::ZF;
+use x86_regs::{
+    DF, RAX, RCX, RDI, RSI, Regs, bit, difference, held, low, lowered, next_of, set_place,
+    set_register,
+};
+
+#[inline(always)]
+fn is_repeated(rep: Rep) -> bool
+    ensures { result ≡ is_repeated rep }
+{
+    match rep {
+        Rep::No => false,
+        Rep::WhileEqual | Rep::WhileNot => true,
+    }
+}
+
+/// A repeated instruction whose count is 0 does nothing.
+#[inline(always)]
+fn is_idle(quick: &Quick, regs: &Regs) -> bool
+    ensures { result ≡ is_idle (instr_of quick.now) regs.now }
+{
+    is_repeated(quick.rep) & (regs.general[usize::from(RCX)] == 0)
+}
+
+/// Moves a pointer by an operand of `width` bits, down where DF is set.
+#[inline(always)]
+fn move_pointer(regs: &mut Regs, width: u8, number: u8)
+    requires width { IsWidth width }
+    requires number { number < 16 }
+    ensures { regs.new ≡ record regs.old { general = pointer_moved regs.old width number regs.old.general } }
+{
+    let at = regs.general[usize::from(number)];
+    let step = u64::from(width / 8);
+    let moved = if bit(regs.flags, DF) {
+        lowered(at, step)
+    } else {
+        at.wrapping_add(step)
+    };
+    set_register(&mut regs.general, number, moved);
+}
+
+/// Counts a repeated instruction.
+#[inline(always)]
+fn count(quick: &Quick, regs: &mut Regs)
+    ensures { regs.new ≡ record regs.old { general = counted (instr_of quick.now) regs.old.general } }
+{
+    if is_repeated(quick.rep) {
+        let left = lowered(regs.general[usize::from(RCX)], 1);
+        set_register(&mut regs.general, RCX, left);
+    }
+}
+
+/// Counts a repeated instruction and goes on: at itself where it is made again, else at the next one.
+#[inline(always)]
+fn go_on(quick: &Quick, regs: &mut Regs, next: u64, asked: bool)
+    ensures { let after = counted (instr_of quick.now) regs.old.general in
+        regs.new ≡ record regs.old {
+          general = after;
+          rip = if is_again (instr_of quick.now) after asked then regs.old.rip else next;
+        } }
+{
+    count(quick, regs);
+    if !(is_repeated(quick.rep) & (regs.general[usize::from(RCX)] != 0) & asked) {
+        regs.rip = next;
+    }
+}
+
+/// Whether ZF is what the prefix of an instruction that compares asks.
+#[inline(always)]
+fn is_asked(rep: Rep, zero: bool) -> bool
+    ensures { result ≡ is_asked rep zero }
+{
+    match rep {
+        Rep::No => false,
+        Rep::WhileEqual => zero,
+        Rep::WhileNot => !zero,
+    }
+}
+
+/// MOVS: the bytes are read before they are written, since they may be the same.
+#[inline(always)]
+#[tactic(auto, unfolding(page_walk::specs::AccessPlans::gathered))]
+pub(crate) fn move_string(
+    quick: &Quick,
+    regs: &mut Regs,
+    control: &Control,
+    mem: &mut PhysMem,
+    tlb: &Tlb,
+) -> bool
+    requires ready { IsReady quick.now }
+    requires kind { quick.now.kind ≡ Kind.MoveString }
+    requires cpl { (regs.old.cpl ≡ 0) ⊎ (regs.old.cpl ≡ 3) }
+    requires frames { NamesFramesIn (length mem.old) tlb.now }
+    ensures made { result ≡ true → quietly regs.new mem.new tlb.now
+        ≡ effect_made Form.MoveString quick.now regs.old control.now mem.old tlb.now }
+    ensures left { result ≡ false → (regs.new ≡ regs.old) × (mem.new ≡ mem.old) }
+    ensures length { length mem.new ≡ length mem.old }
+    ensures privilege { regs.new.cpl ≡ regs.old.cpl }
+{
+    let next = next_of(regs, quick.size);
+    if is_idle(quick, regs) {
+        regs.rip = next;
+        return true;
+    }
+    let bytes = quick.width / 8;
+    let from = regs.general[usize::from(RSI)];
+    let Some(from_place) = kept_place(mem, tlb, Access::Read, control, regs.cpl, from, bytes) else {
+        return false;
+    };
+    let to = regs.general[usize::from(RDI)];
+    let Some(to_place) = kept_place(mem, tlb, Access::Write, control, regs.cpl, to, bytes) else {
+        return false;
+    };
+    let value = load(mem, from_place, from, bytes);
+    store(mem, to_place, to, bytes, low(quick.width, value));
+    move_pointer(regs, quick.width, RSI);
+    move_pointer(regs, quick.width, RDI);
+    go_on(quick, regs, next, true);
+    true
+}
+
+/// STOS.
+#[inline(always)]
+#[tactic(auto, unfolding(page_walk::specs::AccessPlans::gathered))]
+pub(crate) fn store_string(
+    quick: &Quick,
+    regs: &mut Regs,
+    control: &Control,
+    mem: &mut PhysMem,
+    tlb: &Tlb,
+) -> bool
+    requires ready { IsReady quick.now }
+    requires kind { quick.now.kind ≡ Kind.StoreString }
+    requires cpl { (regs.old.cpl ≡ 0) ⊎ (regs.old.cpl ≡ 3) }
+    requires frames { NamesFramesIn (length mem.old) tlb.now }
+    ensures made { result ≡ true → quietly regs.new mem.new tlb.now
+        ≡ effect_made Form.StoreString quick.now regs.old control.now mem.old tlb.now }
+    ensures left { result ≡ false → (regs.new ≡ regs.old) × (mem.new ≡ mem.old) }
+    ensures length { length mem.new ≡ length mem.old }
+    ensures privilege { regs.new.cpl ≡ regs.old.cpl }
+{
+    let next = next_of(regs, quick.size);
+    if is_idle(quick, regs) {
+        regs.rip = next;
+        return true;
+    }
+    let bytes = quick.width / 8;
+    let to = regs.general[usize::from(RDI)];
+    let Some(place) = kept_place(mem, tlb, Access::Write, control, regs.cpl, to, bytes) else {
+        return false;
+    };
+    let value = held(&regs.general, &Place::Reg(RAX), quick.width);
+    store(mem, place, to, bytes, value);
+    move_pointer(regs, quick.width, RDI);
+    go_on(quick, regs, next, true);
+    true
+}
+
+/// LODS.
+#[inline(always)]
+#[tactic(auto, unfolding(page_walk::specs::AccessPlans::gathered))]
+pub(crate) fn load_string(
+    quick: &Quick,
+    regs: &mut Regs,
+    control: &Control,
+    mem: &mut PhysMem,
+    tlb: &Tlb,
+) -> bool
+    requires ready { IsReady quick.now }
+    requires kind { quick.now.kind ≡ Kind.LoadString }
+    requires cpl { (regs.old.cpl ≡ 0) ⊎ (regs.old.cpl ≡ 3) }
+    requires frames { NamesFramesIn (length mem.old) tlb.now }
+    ensures made { result ≡ true → quietly regs.new mem.new tlb.now
+        ≡ effect_made Form.LoadString quick.now regs.old control.now mem.old tlb.now }
+    ensures left { result ≡ false → (regs.new ≡ regs.old) × (mem.new ≡ mem.old) }
+    ensures length { length mem.new ≡ length mem.old }
+    ensures privilege { regs.new.cpl ≡ regs.old.cpl }
+{
+    let next = next_of(regs, quick.size);
+    if is_idle(quick, regs) {
+        regs.rip = next;
+        return true;
+    }
+    let bytes = quick.width / 8;
+    let from = regs.general[usize::from(RSI)];
+    let Some(place) = kept_place(mem, tlb, Access::Read, control, regs.cpl, from, bytes) else {
+        return false;
+    };
+    let value = low(quick.width, load(mem, place, from, bytes));
+    move_pointer(regs, quick.width, RSI);
+    set_place(&mut regs.general, &Place::Reg(RAX), quick.width, value);
+    go_on(quick, regs, next, true);
+    true
+}
+
+/// CMPS: the bytes at RDI are taken from those at RSI, which are read first.
+#[inline(always)]
+#[tactic(auto, unfolding(page_walk::specs::AccessPlans::gathered))]
+pub(crate) fn compare_strings(
+    quick: &Quick,
+    regs: &mut Regs,
+    control: &Control,
+    mem: &mut PhysMem,
+    tlb: &Tlb,
+) -> bool
+    requires ready { IsReady quick.now }
+    requires kind { quick.now.kind ≡ Kind.CompareStrings }
+    requires cpl { (regs.old.cpl ≡ 0) ⊎ (regs.old.cpl ≡ 3) }
+    requires frames { NamesFramesIn (length mem.old) tlb.now }
+    ensures made { result ≡ true → quietly regs.new mem.new tlb.now
+        ≡ effect_made Form.CompareStrings quick.now regs.old control.now mem.old tlb.now }
+    ensures left { result ≡ false → (regs.new ≡ regs.old) × (mem.new ≡ mem.old) }
+    ensures length { length mem.new ≡ length mem.old }
+    ensures privilege { regs.new.cpl ≡ regs.old.cpl }
+{
+    let next = next_of(regs, quick.size);
+    if is_idle(quick, regs) {
+        regs.rip = next;
+        return true;
+    }
+    let bytes = quick.width / 8;
+    let to = regs.general[usize::from(RSI)];
+    let Some(to_place) = kept_place(mem, tlb, Access::Read, control, regs.cpl, to, bytes) else {
+        return false;
+    };
+    let from = regs.general[usize::from(RDI)];
+    let Some(from_place) = kept_place(mem, tlb, Access::Read, control, regs.cpl, from, bytes) else {
+        return false;
+    };
+    let to = load(mem, to_place, to, bytes);
+    let from = load(mem, from_place, from, bytes);
+    move_pointer(regs, quick.width, RSI);
+    move_pointer(regs, quick.width, RDI);
+    regs.flags = difference(quick.width, to, from, false, regs.flags).flags;
+    go_on(quick, regs, next, is_asked(quick.rep, bit(regs.flags, ZF)));
+    true
+}
+
+/// SCAS: the bytes at RDI are taken from RAX.
+#[inline(always)]
+#[tactic(auto, unfolding(page_walk::specs::AccessPlans::gathered))]
+pub(crate) fn scan_string(
+    quick: &Quick,
+    regs: &mut Regs,
+    control: &Control,
+    mem: &mut PhysMem,
+    tlb: &Tlb,
+) -> bool
+    requires ready { IsReady quick.now }
+    requires kind { quick.now.kind ≡ Kind.ScanString }
+    requires cpl { (regs.old.cpl ≡ 0) ⊎ (regs.old.cpl ≡ 3) }
+    requires frames { NamesFramesIn (length mem.old) tlb.now }
+    ensures made { result ≡ true → quietly regs.new mem.new tlb.now
+        ≡ effect_made Form.ScanString quick.now regs.old control.now mem.old tlb.now }
+    ensures left { result ≡ false → (regs.new ≡ regs.old) × (mem.new ≡ mem.old) }
+    ensures length { length mem.new ≡ length mem.old }
+    ensures privilege { regs.new.cpl ≡ regs.old.cpl }
+{
+    let next = next_of(regs, quick.size);
+    if is_idle(quick, regs) {
+        regs.rip = next;
+        return true;
+    }
+    let bytes = quick.width / 8;
+    let from = regs.general[usize::from(RDI)];
+    let Some(place) = kept_place(mem, tlb, Access::Read, control, regs.cpl, from, bytes) else {
+        return false;
+    };
+    let from = load(mem, place, from, bytes);
+    let to = regs.general[usize::from(RAX)];
+    move_pointer(regs, quick.width, RDI);
+    regs.flags = difference(quick.width, to, from, false, regs.flags).flags;
+    go_on(quick, regs, next, is_asked(quick.rep, bit(regs.flags, ZF)));
+    true
+}
