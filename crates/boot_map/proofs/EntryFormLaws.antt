@@ -108,7 +108,7 @@ part_form : (b : List ℕ) (frames i : ℕ) (part : Part) → IsLayout b (divisi
     → HasForm (table_level part) (entry_of_part b (division_of b frames) part i)
 part_form b frames i Root layout =
     let d : Division = division_of b frames in
-    let most : frames ≤ 16384 = layout.most in
+    let most : frames ≤ 65536 = layout.most in
     let room : free_start d ≤ frames = layout.room in
     cond_both (i == 256) _ _ (HasForm 4) (λ u there. link_form (map_start d) (omega arith))
     (λ u. cond_both (i == 511) _ _ (HasForm 4) (λ u there. link_form slot_table (omega arith)) (λ u. none_form 4))
@@ -120,30 +120,30 @@ part_form b frames i AreaDirectory layout =
 part_form b frames i AreaTable layout = area_form i
 part_form b frames i ImageDirectory layout =
     let d : Division = division_of b frames in
-    let most : frames ≤ 16384 = layout.most in
+    let most : frames ≤ 65536 = layout.most in
     let room : free_start d ≤ frames = layout.room in
     range_form d (position (λ r. r == i) (ranges_of b))
     (λ k at. omega (arith, (position-Some (λ r. r == i) (ranges_of b) k 0 at).0))
 part_form b frames i (RangeTable k) layout =
     let d : Division = division_of b frames in
-    let most : frames ≤ 16384 = layout.most in
+    let most : frames ≤ 65536 = layout.most in
     let room : free_start d ≤ frames = layout.room in
     let n : ℕ = page_in (get_or (ranges_of b) k 0) i in
     placed_form b d n (position (λ m. m == n) (pages_of b))
     (λ j at. omega (arith, (position-Some (λ m. m == n) (pages_of b) j 0 at).0))
 part_form b frames i MapRoot layout =
     let d : Division = division_of b frames in
-    let most : frames ≤ 16384 = layout.most in
+    let most : frames ≤ 65536 = layout.most in
     let room : free_start d ≤ frames = layout.room in
     cond_both (i == 0) _ _ (HasForm 3) (λ u there. link_form (map_start d + 1) (omega arith)) (λ u. none_form 3)
 part_form b frames i MapDirectory layout =
     let d : Division = division_of b frames in
-    let most : frames ≤ 16384 = layout.most in
+    let most : frames ≤ 65536 = layout.most in
     let room : free_start d ≤ frames = layout.room in
     cond_both (nat_lt i (map_tables d)) _ _ (HasForm 2)
     (λ few there. link_form (map_start d + 2 + i) (omega (arith, ltb-true i (map_tables d) few))) (λ u. none_form 2)
 part_form b frames i (MapTable k) layout =
-    let most : frames ≤ 16384 = layout.most in
+    let most : frames ≤ 65536 = layout.most in
     cond_both (nat_lt (512 * k + i) frames) _ _ (HasForm 1)
     (λ inside. mapped_form b (512 * k + i) (part_at (division_of b frames) (512 * k + i)) (omega (arith, ltb-true (512 * k + i) frames inside)))
     (λ u. none_form 1)
@@ -200,7 +200,7 @@ module _ (b : List ℕ) (frames f i : ℕ) (t : ℕ → ℕ → ℕ) (layout : I
       → (k : ℕ) × (k < length (ranges_of b)) × (f ≡ tables_start (division_of b frames) + k)
   range_named named (Some k) at =
       let d : Division = division_of b frames in
-      let most : frames ≤ 16384 = layout.most in
+      let most : frames ≤ 65536 = layout.most in
       let room : free_start d ≤ frames = layout.room in
       let few : k < length (ranges_of b) = (position-Some (λ r. r == named.at) (ranges_of b) k 0 at).0 in
       let links : t image_directory named.at ≡ link (tables_start d + k) =
@@ -220,6 +220,6 @@ module _ (b : List ℕ) (frames f i : ℕ) (t : ℕ → ℕ → ℕ) (layout : I
       own_form AreaTable (omega (arith, table)) (ap (part_at (division_of b frames)) table) refl
   slot_leaf_form (inr named) =
       let at = range_named named (position (λ r. r == named.at) (ranges_of b)) refl in
-      let most : frames ≤ 16384 = layout.most in
+      let most : frames ≤ 65536 = layout.most in
       let room : free_start (division_of b frames) ≤ frames = layout.room in
       own_form (RangeTable at.0) (omega (arith, at.1, at.2)) (ap (part_at (division_of b frames)) at.2 ∙ range_table_part (division_of b frames) at.0 at.1) refl

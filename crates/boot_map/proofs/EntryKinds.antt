@@ -117,7 +117,7 @@ mapped_grants b ks f _ list small kind = grants_read ks f small (ap (λ k. allow
 map_grants : (b : List ℕ) (frames g : ℕ) → IsLayout b (division_of b frames) → IsPageList b (pages_of b) →
     Grants (kinds b frames) (map_entry b (division_of b frames) g)
 map_grants b frames g layout list =
-    let most : frames ≤ 16384 = layout.most in
+    let most : frames ≤ 65536 = layout.most in
     cond_both (nat_lt g frames) _ _ (Grants (kinds b frames))
     (λ t. let inside : g < frames = ltb-true g frames t in
     mapped_grants b (kinds b frames) g (part_at (division_of b frames) g) list (omega arith)
@@ -170,7 +170,7 @@ part_links : (b : List ℕ) (frames i : ℕ) (part : Part) → IsLayout b (divis
     Links (kinds b frames) (level_of (kind_of_part b part)) (entry_of_part b (division_of b frames) part i)
 part_links b frames i Root layout is other =
     let d : Division = division_of b frames in
-    let most : frames ≤ 16384 = layout.most in
+    let most : frames ≤ 65536 = layout.most in
     let room : free_start d ≤ frames = layout.room in
     cond_both (i == 256) _ _ (Links (kinds b frames) 4)
     (λ t. links_to b frames 4 (map_start d) MapRoot (omega arith) (omega arith) (map_root_part d) refl)
@@ -178,14 +178,14 @@ part_links b frames i Root layout is other =
     (λ t. links_none (kinds b frames) 4))
 part_links b frames i MapRoot layout is other =
     let d : Division = division_of b frames in
-    let most : frames ≤ 16384 = layout.most in
+    let most : frames ≤ 65536 = layout.most in
     let room : free_start d ≤ frames = layout.room in
     cond_both (i == 0) _ _ (Links (kinds b frames) 3)
     (λ t. links_to b frames 3 (map_start d + 1) MapDirectory (omega arith) (omega arith) (map_directory_part d) refl)
     (λ t. links_none (kinds b frames) 3)
 part_links b frames i MapDirectory layout is other =
     let d : Division = division_of b frames in
-    let most : frames ≤ 16384 = layout.most in
+    let most : frames ≤ 65536 = layout.most in
     let room : free_start d ≤ frames = layout.room in
     cond_both (nat_lt i (map_tables d)) _ _ (Links (kinds b frames) 2)
     (λ t. let few : i < map_tables d = ltb-true i (map_tables d) t in

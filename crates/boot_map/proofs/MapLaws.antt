@@ -89,7 +89,7 @@ map_table_walk : (b : List ℕ) (frames page k : ℕ) → IsLayout b (division_o
 unfolding Shows
 map_table_walk b frames page k layout list small =
     let d : Division = division_of b frames in
-    let most : frames ≤ 16384 = layout.most in
+    let most : frames ≤ 65536 = layout.most in
     let i : ℕ = page_index page 1 in
     let g : ℕ = 512 * k + i in
     let table : ℕ = map_start d + 2 + k in
@@ -111,7 +111,7 @@ map_directory_walk : (b : List ℕ) (frames page : ℕ) → IsLayout b (division
     IfOk (walk_from (opening_entry b frames) frames page 2 (map_start (division_of b frames) + 1) all_rights) (Respected b frames)
 map_directory_walk b frames page layout list =
     let d : Division = division_of b frames in
-    let most : frames ≤ 16384 = layout.most in
+    let most : frames ≤ 65536 = layout.most in
     let room : free_start d ≤ frames = layout.room in
     let i : ℕ = page_index page 2 in
     let f : ℕ = map_start d + 1 in
@@ -132,7 +132,7 @@ map_root_walk : (b : List ℕ) (frames page : ℕ) → IsLayout b (division_of b
     IfOk (walk_from (opening_entry b frames) frames page 3 (map_start (division_of b frames)) all_rights) (Respected b frames)
 map_root_walk b frames page layout list =
     let d : Division = division_of b frames in
-    let most : frames ≤ 16384 = layout.most in
+    let most : frames ≤ 65536 = layout.most in
     let room : free_start d ≤ frames = layout.room in
     let i : ℕ = page_index page 3 in
     let f : ℕ = map_start d in
@@ -153,7 +153,7 @@ pub opening_respects : (b : List ℕ) (frames page : ℕ) → IsLayout b (divisi
     IfOk (walk (opening_entry b frames) frames opening_root page) (λ leaf. allows (kind_of (kinds b frames) leaf.frame) leaf.rights ≡ true)
 opening_respects b frames page layout list canonical below =
     let d : Division = division_of b frames in
-    let most : frames ≤ 16384 = layout.most in
+    let most : frames ≤ 65536 = layout.most in
     let room : free_start d ≤ frames = layout.room in
     let i : ℕ = page_index page 4 in
     let entry : opening_entry b frames opening_root i ≡ root_entry d i = root_entries b frames i (index_small page 4) in

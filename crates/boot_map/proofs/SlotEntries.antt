@@ -51,7 +51,7 @@ range_names b frames (Some k) layout within there =
     let d : Division = division_of b frames in
     let g : ℕ = tables_start d + k in
     let few : k < length (ranges_of b) = within k refl in
-    let most : frames ≤ 16384 = layout.most in
+    let most : frames ≤ 65536 = layout.most in
     let room : free_start d ≤ frames = layout.room in
     let names : frame_of (link g) ≡ g = frame_of_link g (omega arith) in (
       ap (kind_of (kinds b frames)) names ∙ kind_inside b frames g (omega arith)
@@ -142,7 +142,7 @@ page_written b frames page k t layout list holds low high past at closed written
     let r : ℕ = page_index page 2 in
     let i : ℕ = page_index page 1 in
     let g : ℕ = pages_start d + k in
-    let most : frames ≤ 16384 = layout.most in
+    let most : frames ≤ 65536 = layout.most in
     let least : 512 ≤ frames = layout.least in
     let room : free_start d ≤ frames = layout.room in
     let found = position-Some (λ m. m == page) (pages_of b) k 0 at in

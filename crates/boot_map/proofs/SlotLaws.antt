@@ -255,7 +255,7 @@ image_walk b frames page list layout low high home (Some k) at =
     let r : ℕ = page_index page 2 in
     let i : ℕ = page_index page 1 in
     let g : ℕ = tables_start d + k in
-    let most : frames ≤ 16384 = layout.most in
+    let most : frames ≤ 65536 = layout.most in
     let room : free_start d ≤ frames = layout.room in
     let found = position-Some (λ x. x == r) (ranges_of b) k 0 at in
     let range : get_or (ranges_of b) k 0 ≡ r = eqb-true _ _ found.1 in

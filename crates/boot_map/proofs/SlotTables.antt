@@ -88,7 +88,7 @@ pub slot_walk_any : (b : List ℕ) (frames root page : ℕ) (t : ℕ → ℕ →
 slot_walk_any b frames root page t layout list holds entry low high =
     let d : Division = division_of b frames in
     let least : 512 ≤ frames = layout.least in
-    let most : frames ≤ 16384 = layout.most in
+    let most : frames ≤ 65536 = layout.most in
     let room : free_start d ≤ frames = layout.room in
     let small : free_start d ≤ 2 ^ 40 = omega arith in
     let index = slot_indices page low high in

@@ -20,7 +20,7 @@ use Rattle.boot_map.proofs.WalkSchema.{upper_alike, upper_has, walk_alike, walk_
 small_layout : (b : List ℕ) (frames : ℕ) → IsLayout b (division_of b frames) → (512 ≤ frames) × (free_start (division_of b frames) ≤ 2 ^ 40)
 small_layout b frames layout =
     let least : 512 ≤ frames = layout.least in
-    let most : frames ≤ 16384 = layout.most in
+    let most : frames ≤ 65536 = layout.most in
     let room : free_start (division_of b frames) ≤ frames = layout.room in
     (least, omega arith)
 

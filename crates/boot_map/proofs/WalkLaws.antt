@@ -165,7 +165,7 @@ pub held_walk : (b : List ℕ) (frames page : ℕ) (t : ℕ → ℕ → ℕ) →
 held_walk b frames page t holds layout =
     let d : Division = division_of b frames in
     let least : 512 ≤ frames = layout.least in
-    let most : frames ≤ 16384 = layout.most in
+    let most : frames ≤ 65536 = layout.most in
     let room : free_start d ≤ frames = layout.room in
     let small : free_start d ≤ 2 ^ 40 = omega arith in
     walk_by_level t frames opening_root page

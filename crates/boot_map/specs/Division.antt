@@ -55,9 +55,9 @@ free_start d = map_start d + 2 + map_tables d
 abbrev pub need : List ℕ → ℕ → ℕ
 need b frames = free_start (division_of b frames)
 
--- the layout is that of this image, which has room in its memory of 512 to 16,384 frames
+-- the layout is that of this image, which has room in its memory of 512 to 65,536 frames
 pub record IsLayout (b : List ℕ) (layout : Division) : Type 0 where
   pub division : layout ≡ division_of b layout.frames
   pub least : 512 ≤ layout.frames
-  pub most : layout.frames ≤ 16384
+  pub most : layout.frames ≤ 65536
   pub room : need b layout.frames ≤ layout.frames

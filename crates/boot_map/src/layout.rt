@@ -38,16 +38,16 @@ impl Model for Layout {
 
     ghost view = { λ l. record { frames = l.frames; ranges = l.ranges.items; pages = l.pages } };
 
-    ghost invariant = { λ l. (l.frames ≤ 16384) × (l.pages ≤ 8192) };
+    ghost invariant = { λ l. (l.frames ≤ 65536) × (l.pages ≤ 8192) };
 }
 
 impl Layout {
-    /// The layout of an image in a memory of this many frames, 512 to 16,384.
+    /// The layout of an image in a memory of this many frames, 512 to 65,536.
     ///
     /// Returns an error where the opening needs more frames than the memory has.
     pub fn of(image: &Image, frames: u32) -> Result<Layout, NoRoom>
         requires least { 512 ≤ frames }
-        requires most { frames ≤ 16384 }
+        requires most { frames ≤ 65536 }
         ensures ok { IfOk result (λ layout. layout ≡ division_of image.now frames) }
         ensures layout { IfOk result (λ layout. IsLayout image.now layout) }
         ensures room { IsOk result ↔ (need image.now frames ≤ frames) }
@@ -69,7 +69,7 @@ impl Layout {
     /// The number of frames in the memory.
     pub fn frames(&self) -> u32
         ensures frames { result ≡ self.now.frames }
-        ensures most { result ≤ 16384 }
+        ensures most { result ≤ 65536 }
     {
         self.frames
     }
@@ -84,7 +84,7 @@ impl Layout {
     /// The number of the direct map's tables of level 1.
     pub(crate) fn map_tables(&self) -> u32
         ensures tables { result ≡ map_tables self.now }
-        ensures small { result ≤ 32 }
+        ensures small { result ≤ 128 }
     {
         self.frames.div_ceil(512)
     }
@@ -92,7 +92,7 @@ impl Layout {
     /// The first frame of the tables of the image's ranges.
     pub(crate) fn tables_start(&self) -> u32
         ensures start { result ≡ tables_start self.now }
-        ensures small { result ≤ 128 }
+        ensures small { result ≤ 320 }
     {
         DESCRIPTORS_START + self.frames.div_ceil(256)
     }
@@ -100,7 +100,7 @@ impl Layout {
     /// The first frame of the image's pages.
     pub(crate) fn pages_start(&self) -> u32
         ensures start { result ≡ pages_start self.now }
-        ensures small { result ≤ 640 }
+        ensures small { result ≤ 832 }
     {
         self.tables_start() + self.ranges.len() as u32
     }
@@ -108,7 +108,7 @@ impl Layout {
     /// The first frame of the direct map's tables.
     pub(crate) fn map_start(&self) -> u32
         ensures start { result ≡ map_start self.now }
-        ensures small { result ≤ 8832 }
+        ensures small { result ≤ 9024 }
     {
         self.pages_start() + self.pages
     }

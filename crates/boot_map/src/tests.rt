@@ -71,6 +71,12 @@ fn divides_memory(rt: HostRuntime) -> Result<(), Fail> {
         })
     );
     assert_eq!(rt; Layout::of(&large, 561)?.first_free(), 561);
+    // 65,536 frames, the most, have 256 frames of descriptors, and 128 tables of the direct map.
+    assert_eq!(rt; Layout::of(&image, 16_384)?.first_free(), 164);
+    assert_eq!(rt; Layout::of(&image, 16_385)?.first_free(), 166);
+    assert_eq!(rt; Layout::of(&image, 65_535)?.first_free(), 452);
+    assert_eq!(rt; Layout::of(&image, 65_536)?.first_free(), 452);
+    assert_eq!(rt; Layout::of(&large, 65_536)?.first_free(), 940);
     Ok(())
 }
 
@@ -97,6 +103,27 @@ fn gives_each_frame_its_kind(rt: HostRuntime) -> Result<(), Fail> {
     ];
     for (first, last, kind) in rows {
         assert!(rt; first < 512 && last < 512);
+        assert_eq!(rt; layout.kind(&image, first), kind);
+        assert_eq!(rt; layout.kind(&image, last), kind);
+    }
+    Ok(())
+}
+
+#[test]
+fn gives_each_frame_of_the_largest_memory_its_kind(rt: HostRuntime) -> Result<(), Fail> {
+    let image = halting(&rt, rt.alloc(), 1)?;
+    let layout = Layout::of(&image, 65_536)?;
+    let rows: [(u32, u32, Kind); 7] = [
+        (26, 319, Kind::Hidden),
+        (320, 320, Kind::Fixed),
+        (321, 321, Kind::Code),
+        (322, 322, Kind::Table(3)),
+        (323, 323, Kind::Table(2)),
+        (324, 451, Kind::Table(1)),
+        (452, 65_535, Kind::Data),
+    ];
+    for (first, last, kind) in rows {
+        assert!(rt; first < 65_536 && last < 65_536);
         assert_eq!(rt; layout.kind(&image, first), kind);
         assert_eq!(rt; layout.kind(&image, last), kind);
     }
@@ -146,6 +173,38 @@ fn enters_the_tables(rt: HostRuntime) -> Result<(), Fail> {
             memory.load64(4096 * frame as u64 + 8 * index as u64),
             entry
         );
+    }
+    Ok(())
+}
+
+/// Entries of the opening's tables in 65,536 frames: the image's page is frame 321, and table k of the direct map's level 1
+/// is frame 324 + k, which maps frames 512 k and following.
+const MOST_ENTRIES: [(u32, usize, u64); 16] = [
+    (5, 256, 0x14_2027),
+    (9, 0, 0x14_0027),
+    (320, 0, 0x14_1021),
+    (322, 0, 0x14_3027),
+    (322, 1, 0),
+    (323, 0, 0x14_4027),
+    (323, 127, 0x1C_3027),
+    (323, 128, 0),
+    (324, 319, 0),
+    (324, 320, 0x8000_0000_0014_0021),
+    (324, 321, 0x8000_0000_0014_1021),
+    (324, 451, 0x8000_0000_001C_3021),
+    (324, 452, 0x8000_0000_001C_4063),
+    (325, 0, 0x8000_0000_0020_0063),
+    (451, 0, 0x8000_0000_0FE0_0063),
+    (451, 511, 0x8000_0000_0FFF_F063),
+];
+
+#[test]
+fn enters_the_tables_of_the_largest_memory(rt: HostRuntime) -> Result<(), Fail> {
+    let image = halting(&rt, rt.alloc(), 1)?;
+    let layout = Layout::of(&image, 65_536)?;
+    for (frame, index, entry) in MOST_ENTRIES {
+        assert!(rt; frame < 65_536 && index < 512);
+        assert_eq!(rt; layout.entry(&image, frame, index), entry);
     }
     Ok(())
 }

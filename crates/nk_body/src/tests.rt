@@ -57,7 +57,7 @@ fn image(alloc: Global) -> Option<Image> {
 
 /// Memory and books of the opening in so many frames; None for want of memory.
 fn open(alloc: Global, frames: u32) -> Option<Opened>
-    requires { (512 ≤ frames) × (frames ≤ 16384) }
+    requires { (512 ≤ frames) × (frames ≤ 65536) }
     ensures { IfSome result (λ it. HoldsBooks it.kernel it.mem) }
 {
     let Some(image) = image(alloc) else {
@@ -217,7 +217,7 @@ fn play(alloc: Global, kernel: &mut Kernel, mem: &mut PhysMem, rows: &[(Row, u64
 
 /// The number at a place of memory.
 fn load(mem: &PhysMem, at: u64) -> u64 {
-    if at < 0x400_0000 && at + 8 <= 4096 * u64::from(mem.frames()) {
+    if at < 0x1000_0000 && at + 8 <= 4096 * u64::from(mem.frames()) {
         mem.load64(at)
     } else {
         u64::MAX

@@ -13,17 +13,17 @@ use Rattle.page_desc.proofs.KindChanges.{links_any_kind, loose_any_kind}
 use Rattle.page_desc.proofs.SlotLeafTables.{leaves_by_kind}
 
 -- each count has room for one more
-loose_room : (d : Descriptors) (t : ℕ → ℕ → ℕ) → AreCounted d t → length d.kinds ≤ 16384 → (frame : ℕ)
+loose_room : (d : Descriptors) (t : ℕ → ℕ → ℕ) → AreCounted d t → length d.kinds ≤ 65536 → (frame : ℕ)
     → frame < length d.kinds → slice_index d.loose frame < 2 ^ 32 - 1
 loose_room d t counted most frame inside = omega (arith, counted.loose frame inside, loose_most d.kinds t frame)
 
-links_room : (d : Descriptors) (t : ℕ → ℕ → ℕ) → AreCounted d t → length d.kinds ≤ 16384 → (frame : ℕ)
+links_room : (d : Descriptors) (t : ℕ → ℕ → ℕ) → AreCounted d t → length d.kinds ≤ 65536 → (frame : ℕ)
     → frame < length d.kinds → slice_index d.links frame < 2 ^ 32 - 1
 links_room d t counted most frame inside = omega (arith, counted.links frame inside, links_most d.kinds t frame)
 
 -- an entry of a table may be replaced
 pub table_replaceable : (d : Descriptors) (t : ℕ → ℕ → ℕ) (a b c : ℕ) → AreCounted d t → IsSlotFixed d.kinds t
-    → length d.kinds ≤ 16384 → a < length d.kinds → 1 ≤ level_of (kind_of d.kinds a) → b < 512
+    → length d.kinds ≤ 65536 → a < length d.kinds → 1 ≤ level_of (kind_of d.kinds a) → b < 512
     → IsReplaceable (level_of (kind_of d.kinds a)) (t a b) c d
 unfolding holds_links
 table_replaceable d t a b c counted fixed most inside table small =
@@ -42,7 +42,7 @@ table_replaceable d t a b c counted fixed most inside table small =
 
 -- an absent value may be replaced, also after a kind is set
 pub absent_replaceable : (d : Descriptors) (t : ℕ → ℕ → ℕ) (a level e c : ℕ) (kind : Kind) → AreCounted d t
-    → length d.kinds ≤ 16384 → is_present e ≡ false
+    → length d.kinds ≤ 65536 → is_present e ≡ false
     → IsReplaceable level e c (record d { kinds = set d.kinds a kind })
 absent_replaceable d t a level e c kind counted most absent =
     record {

@@ -126,7 +126,7 @@ fn count_links_in(mem: &mut PhysMem, count: u32, kinds: &[Kind], frame: u32)
 // Counts the loose leaves of every frame, by the marks that stand for the kernel slot's tables of level 1 but frame 8.
 fn count_loose(mem: &mut PhysMem, count: u32, kinds: &[Kind])
     requires count { count ≡ length kinds.now }
-    requires most { count ≤ 16384 }
+    requires most { count ≤ 65536 }
     requires readable { IsReadable kinds.now mem.old }
     requires marked { (frame : ℕ) → frame < count
         → field_in mem.old 8 frame ≡ sum_below 512 (λ i. one_if (is_link_to frame (entry_in mem.old 9 i))) }
@@ -142,7 +142,7 @@ fn count_loose(mem: &mut PhysMem, count: u32, kinds: &[Kind])
 // Counts the links of every frame.
 fn count_links(mem: &mut PhysMem, count: u32, kinds: &[Kind])
     requires count { count ≡ length kinds.now }
-    requires most { count ≤ 16384 }
+    requires most { count ≤ 65536 }
     requires readable { IsReadable kinds.now mem.old }
     requires zero { (other : ℕ) → other < count → field_in mem.old 8 other ≡ 0 }
     ensures each { (other : ℕ) → other < count → field_in mem.new 8 other ≡ links_in kinds.now (entry_in mem.old) other }
@@ -181,7 +181,7 @@ pub fn put_kinds(mem: &mut PhysMem, count: u32, kinds: &[Kind])
 /// level 1 but frame 8: those that a present entry of frame 9 names.
 pub fn count_all(mem: &mut PhysMem, count: u32, kinds: &[Kind])
     requires count { count ≡ length kinds.now }
-    requires most { count ≤ 16384 }
+    requires most { count ≤ 65536 }
     requires readable { IsReadable kinds.now mem.old }
     requires zero { (f : ℕ) → f < count → (field_in mem.old 4 f ≡ 0) × (field_in mem.old 8 f ≡ 0) }
     ensures loose { (f : ℕ) → f < count → field_in mem.new 4 f ≡ loose_in kinds.now (entry_in mem.old) f }

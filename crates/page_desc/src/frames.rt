@@ -30,7 +30,7 @@ impl Model for Frames {
 
     ghost view = { λ f. f.count };
 
-    ghost invariant = { λ f. (65 ≤ f.count) × (f.count ≤ 16384) };
+    ghost invariant = { λ f. (65 ≤ f.count) × (f.count ≤ 65536) };
 }
 
 impl Frames {
@@ -54,10 +54,10 @@ impl Frames {
         Frames { count }
     }
 
-    /// The number of frames, 65 to 16,384.
+    /// The number of frames, 65 to 65,536.
     pub fn frames(&self) -> u32
         ensures frames { result ≡ self.now }
-        ensures bounds { (65 ≤ result) × (result ≤ 16384) }
+        ensures bounds { (65 ≤ result) × (result ≤ 65536) }
     {
         self.count
     }

@@ -70,10 +70,10 @@ pub fn count_law()
 /// more.
 pub fn descriptor_law()
     ensures replaceable { (d : Descriptors) (t : ℕ → ℕ → ℕ) (a b c : ℕ) → AreCounted d t → IsSlotFixed d.kinds t
-        → length d.kinds ≤ 16384 → 1 ≤ level_of (kind_of d.kinds a) → b < 512
+        → length d.kinds ≤ 65536 → 1 ≤ level_of (kind_of d.kinds a) → b < 512
         → IsReplaceable (level_of (kind_of d.kinds a)) (t a b) c d }
     ensures absent_replaceable { (d : Descriptors) (t : ℕ → ℕ → ℕ) (a level e c : ℕ) (kind : Kind) → AreCounted d t
-        → length d.kinds ≤ 16384 → is_present e ≡ false
+        → length d.kinds ≤ 65536 → is_present e ≡ false
         → IsReplaceable level e c (record d { kinds = slice_set d.kinds a kind }) }
     ensures replaced { (before after : Descriptors) (t : ℕ → ℕ → ℕ) (a b c : ℕ) → AreCounted before t
         → IsSlotFixed before.kinds t → 1 ≤ level_of (kind_of before.kinds a) → b < 512

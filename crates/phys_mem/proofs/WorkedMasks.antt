@@ -31,19 +31,28 @@ unfolding is_book_frame
 odd_past = refl
 
 -- 16,384 frames have 64 of them: the books' are 26 to 127
-most_below : is_book_frame 16384 25 ≡ false
+many_last : is_book_frame 16384 127 ≡ true
+unfolding is_book_frame
+many_last = refl
+
+many_past : is_book_frame 16384 128 ≡ false
+unfolding is_book_frame
+many_past = refl
+
+-- 65,536 frames, the most that a memory has, have 256 of them: the books' are 26 to 319
+most_below : is_book_frame 65536 25 ≡ false
 unfolding is_book_frame
 most_below = refl
 
-most_first : is_book_frame 16384 26 ≡ true
+most_first : is_book_frame 65536 26 ≡ true
 unfolding is_book_frame
 most_first = refl
 
-most_last : is_book_frame 16384 127 ≡ true
+most_last : is_book_frame 65536 319 ≡ true
 unfolding is_book_frame
 most_last = refl
 
-most_past : is_book_frame 16384 128 ≡ false
+most_past : is_book_frame 65536 320 ≡ false
 unfolding is_book_frame
 most_past = refl
 

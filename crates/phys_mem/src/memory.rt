@@ -28,15 +28,15 @@ impl Model for PhysMem {
 
     ghost view = { λ m. m.block };
 
-    ghost invariant = { λ m. (1 ≤ m.frames) × (m.frames ≤ 16384) × (length m.block ≡ 4096 * m.frames) };
+    ghost invariant = { λ m. (1 ≤ m.frames) × (m.frames ≤ 65536) × (length m.block ≡ 4096 * m.frames) };
 }
 
 impl PhysMem {
     ghost use Rattle.phys_mem.specs.FrameLends.{LendsFrame};
 
-    /// A memory of `frames` frames, from 1 to 16,384.
+    /// A memory of `frames` frames, from 1 to 65,536.
     pub fn new(alloc: Global, frames: u32) -> Result<PhysMem, NoMemory>
-        requires { (1 ≤ frames) × (frames ≤ 16384) }
+        requires { (1 ≤ frames) × (frames ≤ 65536) }
         ensures length { IfOk result (λ m. length m ≡ 4096 * frames) }
         ensures zeroed { IfOk result (λ m. (p : ℕ) → byte_at m p ≡ 0) }
     {
@@ -46,10 +46,10 @@ impl PhysMem {
         }
     }
 
-    /// The number of frames, 1 to 16,384.
+    /// The number of frames, 1 to 65,536.
     pub fn frames(&self) -> u32
         ensures length { 4096 * result ≡ length self.now }
-        ensures bounds { (1 ≤ result) × (result ≤ 16384) }
+        ensures bounds { (1 ≤ result) × (result ≤ 65536) }
     {
         self.frames
     }

@@ -103,7 +103,7 @@ const OPENING: State = State {
 
 /// The number at a place of memory.
 fn load(mem: &PhysMem, at: u64) -> u64 {
-    if at < 0x400_0000 && at + 8 <= 4096 * u64::from(mem.frames()) {
+    if at < 0x1000_0000 && at + 8 <= 4096 * u64::from(mem.frames()) {
         mem.load64(at)
     } else {
         u64::MAX

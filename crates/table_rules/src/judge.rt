@@ -88,7 +88,7 @@ fn allows(kind: Kind, rights: Rights) -> bool
 fn is_inside(frames: &Frames, mem: &PhysMem, frame: u64) -> bool
     requires held { HoldsDescriptors frames.now mem.now }
     ensures inside { result ≡ nat_lt frame (length (kinds_in mem.now)) }
-    ensures bound { result ≡ true → frame < 16384 }
+    ensures bound { result ≡ true → frame < 65536 }
 {
     stored_law();
     frame < u64::from(frames.frames())

@@ -24,7 +24,7 @@ const ENTRIES: u64 = 512;
 fn frame_count(frames: &Frames, mem: &PhysMem) -> u64
     requires held { HoldsDescriptors frames.now mem.now }
     ensures count { result ≡ length (kinds_in mem.now) }
-    ensures bounds { (result ≡ frames.now) × (result ≤ 16384) }
+    ensures bounds { (result ≡ frames.now) × (result ≤ 65536) }
 {
     stored_law();
     u64::from(frames.frames())
@@ -34,7 +34,7 @@ fn frame_count(frames: &Frames, mem: &PhysMem) -> u64
 fn is_outside(frames: &Frames, mem: &PhysMem, frame: u64) -> bool
     requires held { HoldsDescriptors frames.now mem.now }
     ensures outside { result ≡ not (nat_lt frame (length (kinds_in mem.now))) }
-    ensures bounds { result ≡ false → (frame < frames.now) × (frame < 16384) }
+    ensures bounds { result ≡ false → (frame < frames.now) × (frame < 65536) }
 {
     frame >= frame_count(frames, mem)
 }
@@ -127,7 +127,7 @@ fn is_filled(mem: &PhysMem, level: u8, frame: u64) -> bool
 /// Judges that a table of this level is declared in a frame.
 pub fn judge_declare(frames: &Frames, mem: &PhysMem, level: u64, frame: u64) -> Option<Rule>
     requires held { HoldsDescriptors frames.now mem.now }
-    ensures bounds { IfNone result ((frame < frames.now) × (frame < 16384) × (level ≤ 4)) }
+    ensures bounds { IfNone result ((frame < frames.now) × (frame < 65536) × (level ≤ 4)) }
     ensures judged { result ≡ broken (not (nat_lt frame (length (kinds_in mem.now)))) BadFrame
         (broken (not (nat_le 1 level && nat_le level 4)) BadLevel
         (broken (not (is_data (kind_of (kinds_in mem.now) frame))) NotData
@@ -159,7 +159,7 @@ pub fn judge_write(
 ) -> Option<Rule>
     requires held { HoldsDescriptors frames.now mem.now }
     requires levels { (f : ℕ) → level_of (kind_of (kinds_in mem.now) f) ≤ 4 }
-    ensures bounds { IfNone result ((frame < frames.now) × (frame < 16384) × (index < 512)) }
+    ensures bounds { IfNone result ((frame < frames.now) × (frame < 65536) × (index < 512)) }
     ensures judged { (root : ℕ) (m : List ℕ) → result ≡ entry_rule (tables_in (kinds_in mem.now) root m) frame index value }
 {
     if is_outside(frames, mem, frame) {
@@ -181,7 +181,7 @@ pub fn judge_write(
 /// Judges that the table in a frame is removed.
 pub fn judge_remove(frames: &Frames, root: u32, mem: &PhysMem, frame: u64) -> Option<Rule>
     requires held { HoldsDescriptors frames.now mem.now }
-    ensures bounds { IfNone result ((frame < frames.now) × (frame < 16384)) }
+    ensures bounds { IfNone result ((frame < frames.now) × (frame < 65536)) }
     ensures judged { result ≡ broken (not (nat_lt frame (length (kinds_in mem.now)))) BadFrame
         (broken (not (is_table (kind_of (kinds_in mem.now) frame))) NotTable
         (broken (not (slice_index (descriptors_in mem.now).links frame == 0) || frame == root) StillLinked
@@ -207,7 +207,7 @@ pub fn judge_remove(frames: &Frames, root: u32, mem: &PhysMem, frame: u64) -> Op
 #[tactic(auto, unfolding(crate::specs::TableCalls::root_rule))]
 pub fn judge_root(frames: &Frames, mem: &PhysMem, frame: u64) -> Option<Rule>
     requires held { HoldsDescriptors frames.now mem.now }
-    ensures bounds { IfNone result ((frame < frames.now) × (frame < 16384)) }
+    ensures bounds { IfNone result ((frame < frames.now) × (frame < 65536)) }
     ensures judged { (root : ℕ) (m : List ℕ) → result ≡ root_rule (tables_in (kinds_in mem.now) root m) frame }
 {
     if is_outside(frames, mem, frame) {

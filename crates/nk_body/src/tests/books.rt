@@ -1,6 +1,8 @@
 //! Regions and log as memory holds them after calls, by numbers of eight bytes that are worked out by hand: the slots stand
 //! from 3C000 on, the bits from 2A000, and the log from 1A000.
 
+ghost use Rattle.std.specs.Prelude.{◌≤◌};
+
 use super::{DECLARED, ONCE, PAGE, POOL, Row, TAIL, load, open, play};
 use phys_mem::PhysMem;
 use region_book::Region;
@@ -23,7 +25,14 @@ fn numbers_at(mem: &PhysMem, at: u32) -> [u64; 8] {
 
 /// Those that stand there after these calls; None where one isn't answered so.
 fn numbers(alloc: Global, rows: &[(Row, u64)], at: u32) -> Option<[u64; 8]> {
-    let Some(mut it) = open(alloc, 512) else {
+    numbers_in(alloc, 512, rows, at)
+}
+
+/// As above, in a memory of so many frames.
+fn numbers_in(alloc: Global, frames: u32, rows: &[(Row, u64)], at: u32) -> Option<[u64; 8]>
+    requires { (512 ≤ frames) × (frames ≤ 65536) }
+{
+    let Some(mut it) = open(alloc, frames) else {
         return None;
     };
     if play(alloc, &mut it.kernel, &mut it.mem, rows) != rows.len() {
@@ -61,6 +70,24 @@ fn slots_after_calls(rt: HostRuntime) {
     assert_eq!(rt;
         shown(&DECLARED, SLOTS),
         Some([256, PAGE, 4096, 1, 71, 0, 0, 0])
+    );
+}
+
+/// The last two frames of the largest memory: entry 511 of frame 451 maps the last one.
+const HIGH: u64 = 0xFFFF_8000_0FFF_E000;
+
+const HIGHEST: [(Row, u64); 3] = [
+    ((3, 451, 510, 0x8000_0000_0FFF_E021), 0),
+    ((3, 451, 511, 0x8000_0000_0FFF_F021), 0),
+    ((6, HIGH, 0x2000, 3), 256),
+];
+
+/// A frame's number takes two bytes, also that of the last frame.
+#[test]
+fn a_slot_of_the_last_frames(rt: HostRuntime) {
+    assert_eq!(rt;
+        numbers_in(rt.alloc(), 65_536, &HIGHEST, SLOTS),
+        Some([256, HIGH, 0x2000, 3, 0xFFFF_FFFE, 0, 0, 0])
     );
 }
 

@@ -18,7 +18,7 @@ struct Counts {
 }
 
 fn entry(mem: &PhysMem, frame: u64, index: u64) -> Entry {
-    if frame < 16_384 && index < 512 {
+    if frame < 65_536 && index < 512 {
         Entry(load(mem, 4096 * frame + 8 * index))
     } else {
         Entry(0)
@@ -166,7 +166,7 @@ fn is_held(mem: &PhysMem, frames: &Frames) -> bool
 /// How many of the calls are answered as they should be, in so many frames, whether the counts then are the tables', and
 /// whether the bytes are those of kinds and counts; None for want of memory.
 fn left(alloc: Global, frames: u32, rows: &[(Row, u64)]) -> Option<(usize, bool, bool)>
-    requires { (512 ≤ frames) × (frames ≤ 16384) }
+    requires { (512 ≤ frames) × (frames ≤ 65536) }
 {
     let Some(mut it) = open(alloc, frames) else {
         return None;
@@ -193,6 +193,17 @@ const LAST: [(Row, u64); 6] = [
     ((4, 163, 0, 0), 12),
 ];
 
+/// In 65,536 frames, the most, entry 511 of frame 451 maps the last frame.
+const MOST: [(Row, u64); 7] = [
+    ((2, 1, 65_536, 0), 2),
+    ((2, 1, 65_535, 0), 5),
+    ((3, 451, 511, 0x8000_0000_0FFF_F021), 0),
+    ((2, 2, 65_535, 0), 0),
+    ((3, 65_535, 511, 0x1C_3027), 0),
+    ((3, 65_536, 511, 0x1C_3027), 2),
+    ((4, 451, 0, 0), 12),
+];
+
 #[test]
 fn counts_and_bytes_are_those_of_the_tables(rt: HostRuntime) {
     for rows in [
@@ -209,6 +220,32 @@ fn counts_and_bytes_are_those_of_the_tables(rt: HostRuntime) {
         left(rt.alloc(), 16_384, &LAST),
         Some((LAST.len(), true, true))
     );
+    assert_eq!(rt;
+        left(rt.alloc(), 65_536, &MOST),
+        Some((MOST.len(), true, true))
+    );
+}
+
+/// Two numbers of eight bytes, from a place of the opening's memory of so many frames on; None for want of memory.
+fn opening_bytes(alloc: Global, frames: u32, at: u64) -> Option<[u64; 2]>
+    requires { (512 ≤ frames) × (frames ≤ 65536) }
+{
+    let Some(it) = open(alloc, frames) else {
+        return None;
+    };
+    Some([load(&it.mem, at), load(&it.mem, at.saturating_add(8))])
+}
+
+/// The last frame is data, which one leaf of the direct map names, a writable one, and no link. Its descriptor is the last
+/// one: 16,384 frames have it from byte 4,080 of frame 127 on, one frame more from byte 0 of frame 128 on; 65,535 and 65,536
+/// have it in frame 319, from byte 4,064 and from byte 4,080 on.
+#[test]
+fn the_last_frame_has_the_last_descriptor(rt: HostRuntime) {
+    let last = Some([0x1_0000_0000, 0]);
+    assert_eq!(rt; opening_bytes(rt.alloc(), 16_384, 0x7_FFF0), last);
+    assert_eq!(rt; opening_bytes(rt.alloc(), 16_385, 0x8_0000), last);
+    assert_eq!(rt; opening_bytes(rt.alloc(), 65_535, 0x13_FFE0), last);
+    assert_eq!(rt; opening_bytes(rt.alloc(), 65_536, 0x13_FFF0), last);
 }
 
 /// The bytes of a frame's descriptor after these calls, as they stand in memory.

@@ -29,7 +29,7 @@ replace-requires-clause-counted c =
     let call = removable _ c.args.table c.requires.rule in
     let count : length (kinds_in c.args.mem.now) ≡ c.args.self.now.frames =
     (c.stored_law.ensures.count c.args.self.now.frames c.args.mem.now c.requires.books.stored).0 in
-    let most : length (kinds_in c.args.mem.now) ≤ 16384 = omega (arith, count, c.frames-frames.ensures.frames, c.frames-frames.ensures.bounds) in
+    let most : length (kinds_in c.args.mem.now) ≤ 65536 = omega (arith, count, c.frames-frames.ensures.frames, c.frames-frames.ensures.bounds) in
     let level : c.level_at-level.result ≡ level_of (kind_of (kinds_in c.args.mem.now) c.args.table) =
     c.level_at-level.ensures ∙ (λ j. level_of (kind_of (c.clear_frame.ensures.descriptors j).kinds (c.from-2.ensures j))) in
     let old : c.seen_entry-old.result.0 ≡ entry_in (seen c.args.mem.now) c.args.table 511 =

@@ -28,7 +28,7 @@ pub replace-requires-clause-counted : goal.replace-requires-clause-counted
 replace-requires-clause-counted c =
     let count : length (kinds_in c.args.mem.now) ≡ c.args.self.now.frames =
     (c.stored_law.ensures.count c.args.self.now.frames c.args.mem.now c.requires.books.stored).0 in
-    let most : length (kinds_in c.args.mem.now) ≤ 16384 = omega (arith, count, c.frames-frames.ensures.frames, c.frames-frames.ensures.bounds) in
+    let most : length (kinds_in c.args.mem.now) ≤ 65536 = omega (arith, count, c.frames-frames.ensures.frames, c.frames-frames.ensures.bounds) in
     let set_then : descriptors_in c.set_kind.new.mem
     ≡ record (descriptors_in c.args.mem.now) { kinds = set (kinds_in c.args.mem.now) c.args.frame (Table c.args.level) } =
     c.set_kind.ensures.set

@@ -27,7 +27,7 @@ replace-requires-clause-counted c =
     let call = writable _ c.args.frame c.args.index c.args.value c.requires.rule in
     let count : length (kinds_in c.args.mem.now) ≡ c.args.self.now.frames =
     (c.stored_law.ensures.count c.args.self.now.frames c.args.mem.now c.requires.books.stored).0 in
-    let most : length (kinds_in c.args.mem.now) ≤ 16384 = omega (arith, count, c.frames-frames.ensures.frames, c.frames-frames.ensures.bounds) in
+    let most : length (kinds_in c.args.mem.now) ≤ 65536 = omega (arith, count, c.frames-frames.ensures.frames, c.frames-frames.ensures.bounds) in
     let level : c.level_at-level.result ≡ level_of (kind_of (kinds_in c.args.mem.now) c.args.frame) =
     c.level_at-level.ensures ∙ ap (λ (d : Descriptors). level_of (kind_of d.kinds c.args.frame)) c.store_entry.ensures.descriptors in
     subst (IsReplaceable c.level_at-level.result c.seen_entry-old.result.0 c.args.value) (sym c.store_entry.ensures.descriptors)
