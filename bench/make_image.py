@@ -1,14 +1,14 @@
-"""Writes an ELF image of 32 MiB whose one segment is real machine code without a protected encoding.
+"""make_image.py FILE MIB: writes an ELF image whose one segment is so many MiB of real machine code without a protected encoding.
 
 The code is that of the machine's own programs and libraries: the executable segments of the ELF files in the usual folders,
-one after another until 32 MiB are full. A byte that would complete a protected encoding is turned into 90 (NOP)."""
+one after another until the segment is full. A byte that would complete a protected encoding is turned into 90 (NOP)."""
 import glob
 import os
 import re
 import struct
 import sys
 
-SIZE = 32 * 1024 * 1024
+SIZE = int(sys.argv[2]) * 1024 * 1024
 PAGE = 4096
 HOME = 0xFFFFFFFF80000000
 

@@ -1,4 +1,9 @@
 pub mod ProtectedLemmas
-pub mod Windows
-pub mod OnePage
-pub mod AllPages
+pub mod EscapePlaces
+pub mod KeptLemmas
+pub mod SeamLemmas
+pub mod JoinedRuns
+pub mod PageBytes
+pub mod AllCode
+pub mod ScannedRuns
+pub mod WalkedPages

@@ -2,5 +2,10 @@
 pub mod LeastPlace
 pub mod ImageCode
 pub mod FirstFound
+pub mod Scanned
+pub mod PieceRuns
+pub mod ScannedCode
 -- Words of private clauses and proofs.
-pub mod PageScan
+pub mod FoundBytes
+pub mod Escapes
+pub mod KeptBytes

@@ -8,16 +8,19 @@
 // Encodings in a slice.
 mod encoding;
 mod slice_scan;
-// A page of an image's code.
-mod window;
-// All its pages.
+// In a run of bytes that comes in pieces.
+mod kept;
+mod piece_scan;
+mod seam;
+// In the pages of an image.
 mod image_scan;
-// What follows where nothing is found.
+// What follows where nothing is found, and what the pieces of an image's code say of it.
 mod laws;
 #[cfg(test)]
 mod tests;
 
 pub use crate::encoding::Found;
 pub use crate::image_scan::scan;
-pub use crate::laws::{clean_image_law, clean_law};
+pub use crate::laws::{clean_image_law, clean_law, page_pieces_law, pieces_law};
+pub use crate::piece_scan::Scanner;
 pub use crate::slice_scan::first_protected;

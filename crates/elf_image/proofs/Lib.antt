@@ -3,3 +3,5 @@ pub mod Pairs
 pub mod Ranges
 pub mod SegmentLaws
 pub mod PageLaws
+pub mod PartLaws
+pub mod ImageLaws

@@ -5,5 +5,9 @@ pub mod Segments
 pub mod Rows
 pub mod ImageFaults
 pub mod Pages
+pub mod FileParts
+-- Computations that a law says are right.
+pub mod HeaderRows
+pub mod SegmentPages
 -- Words of private clauses and proofs.
 pub mod Loaded

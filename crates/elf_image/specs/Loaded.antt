@@ -1,45 +1,60 @@
--- What a reader may rely on once an image, the file b, is in form.
-use Rattle.std.specs.Prelude.{◌≡◌, ℕ, ◌+◌, ◌*◌, ◌<◌, ◌≤◌, ◌-◌, ◌/◌, false, if◌then◌else◌, Option, Some, None, List, length, slice_index, true}
+-- What the headers of an image keep.
+use Rattle.std.specs.Prelude.{◌≡◌, ℕ, ◌+◌, ◌*◌, ◌<◌, ◌≤◌, ◌-◌, ◌/◌, true, false, if◌then◌else◌, Option, Some, None, option_map, List, length}
+use Rattle.std.specs.List.{All, AllPairs}
 use Rattle.std.specs.List.Sorted.{IsNonDecreasingBy, IsPermutation}
 use Rattle.elf_image.specs.declared.program_header.ProgramHeader.{ProgramHeader}
-use Rattle.elf_image.specs.Elf.{e_phnum, e_phoff, ehdr_size, phdr_size, segments}
+use Rattle.elf_image.specs.Elf.{e_phnum, e_phoff, is_segment, phdr_size}
 use Rattle.elf_image.specs.Home.{home_end, home_start, page_size}
 use Rattle.elf_image.specs.Segments.{loads}
-use Rattle.elf_image.specs.Rows.{IsForm}
-use Rattle.elf_image.specs.Pages.{byte_from, byte_of}
+use Rattle.elf_image.specs.HeaderRows.{FileShape, later_fault}
+use Rattle.elf_image.specs.SegmentPages.{place_in, place_of}
 
--- the program header table is in the file, and has 1 to 64 entries
-pub record HasTable (b : List ℕ) : Type 0 where
-  pub header : ehdr_size ≤ length b
-  pub some : 0 < e_phnum b
-  pub few : e_phnum b ≤ 64
-  pub inside : e_phoff b + phdr_size * e_phnum b ≤ length b
+-- the program header table lies in a file of this size that begins with the bytes head, and has 1 to 64 entries
+pub record HasTableIn (size : ℕ) (head : List ℕ) : Type 0 where
+  pub some : 0 < e_phnum head
+  pub few : e_phnum head ≤ 64
+  pub inside : e_phoff head + phdr_size * e_phnum head ≤ size
 
--- the segment takes memory in the home, and bytes of a file of this length
-pub record IsPlaced (file_length : ℕ) (s : ProgramHeader) : Type 0 where
+-- the same of a shape
+pub record HasTable (shape : FileShape) : Type 0 where
+  pub some : 0 < shape.count
+  pub few : shape.count ≤ 64
+  pub inside : shape.table + phdr_size * shape.count ≤ shape.size
+
+-- no row stands on the segments of a file of this size with this entry, which are in table order
+pub record AreJudged (size entry : ℕ) (segs : List ProgramHeader) : Type 0 where
+  pub form : later_fault size entry segs ≡ None
+  pub counting : All (λ s. is_segment s ≡ true) segs
+  pub ordered : AllPairs (λ s t. s.index < t.index) segs
+
+-- and sorted are the same in the order of their addresses
+pub record AreLoaded (size entry : ℕ) (segs sorted : List ProgramHeader) : Type 0 where
+  pub judged : AreJudged size entry segs
+  pub few : length segs ≤ 64
+  pub same : IsPermutation segs sorted
+  pub ascending : IsNonDecreasingBy (λ s. s.address) sorted
+
+-- the segment takes memory in the home, and bytes of a file of this size
+pub record IsPlaced (size : ℕ) (s : ProgramHeader) : Type 0 where
   pub takes : 0 < s.memory_size
   pub backed : s.file_size ≤ s.memory_size
-  pub inside : s.offset + s.file_size ≤ file_length
+  pub inside : s.offset + s.file_size ≤ size
   pub above : home_start ≤ s.address
   pub below : s.address + s.memory_size ≤ home_end
 
--- the image is in form, and these are its segments in the order of their addresses
-pub record IsLoaded (b : List ℕ) (segs : List ProgramHeader) : Type 0 where
-  pub form : IsForm b
-  pub same : IsPermutation (segments b) segs
-  pub ascending : IsNonDecreasingBy (λ s. s.address) segs
+-- what the segment that touches page n, or that there is none, says of the places of the bytes of that page
+abbrev pub Supplies : ℕ → List ProgramHeader → ℕ → Option ProgramHeader → Type 0
+Supplies size segs n None = (va : ℕ) → va / page_size ≡ n → place_of segs va ≡ None
+Supplies size segs n (Some s) =
+    IsPlaced size s
+    × ((va : ℕ) → va / page_size ≡ n → place_of segs va ≡ option_map (λ t. place_in va t) (if loads s va then Some s else None))
 
--- what the image's segment that touches page n, or that there is none, says of the bytes of that page
-abbrev pub Supplies : List ℕ → ℕ → Option ProgramHeader → Type 0
-Supplies b n None = (va : ℕ) → va / page_size ≡ n → byte_of b va ≡ 0
-Supplies b n (Some s) =
-    IsPlaced (length b) s
-    × ((va : ℕ) → va / page_size ≡ n → byte_of b va ≡ byte_from b va (if loads s va then Some s else None))
-
--- of the page at address va the segment loads these bytes, from this place on, and no others
-pub record IsPartOf (b : List ℕ) (s : ProgramHeader) (va place : ℕ) (part : List ℕ) : Type 0 where
-  pub fits : place + length part ≤ page_size
-  pub within : (k : ℕ) → k < length part → (loads s (va + (place + k)) ≡ true)
-      × (slice_index part k ≡ slice_index b (s.offset + (va + (place + k) - s.address)))
-  pub before : (k : ℕ) → k < place → loads s (va + k) ≡ false
-  pub after : (k : ℕ) → place + length part ≤ k → k < page_size → loads s (va + k) ≡ false
+-- of the page at address va the segment loads len bytes of a file of this size, from the file's place at on, to the page's
+-- byte skip and those behind it, and no others
+pub record IsPartOf (size : ℕ) (s : ProgramHeader) (va at skip len : ℕ) : Type 0 where
+  pub fits : skip + len ≤ page_size
+  pub inside : at + len ≤ size
+  pub blank : len ≡ 0 → (at ≡ 0) × (skip ≡ 0)
+  pub within : (k : ℕ) → skip ≤ k → k < skip + len → (loads s (va + k) ≡ true) × (place_in (va + k) s ≡ at + (k - skip))
+  pub before : (k : ℕ) → k < skip → loads s (va + k) ≡ false
+  pub after : (k : ℕ) → skip + len ≤ k → k < page_size → loads s (va + k) ≡ false

@@ -1,9 +1,10 @@
-//! The file header, and the rows on it.
+//! The rows on the file header, over the first bytes of a file.
 
-ghost use Rattle.std.specs.Prelude.{◌≡◌, ◌+◌, ◌*◌, ◌≤◌, length, nat_lt, IfNone, Some};
+ghost use Rattle.std.specs.Prelude.{◌≡◌, ◌+◌, ◌*◌, ◌≤◌, length, min, nat_lt, IfNone, Some};
 ghost use Rattle.elf_image.specs.Elf.{e_phnum, e_phoff, ehdr_size, phdr_size};
-ghost use Rattle.elf_image.specs.Loaded.{HasTable};
-ghost use Rattle.elf_image.specs.Rows.{file_fault, has_magic, wrong_class, wrong_table};
+ghost use Rattle.elf_image.specs.HeaderRows.{head_fault, wrong_table_of};
+ghost use Rattle.elf_image.specs.Loaded.{HasTableIn};
+ghost use Rattle.elf_image.specs.Rows.{has_magic, wrong_class};
 
 use crate::elf::{
     E_MACHINE, E_PHENTSIZE, E_PHNUM, E_PHOFF, E_TYPE, EHDR_SIZE, EI_CLASS, EI_DATA, EI_MAG0,
@@ -13,79 +14,80 @@ use crate::elf::{
 use crate::fault::{FaultKind, ImageFault};
 use crate::fields::{half, xword};
 
-fn has_magic(bytes: &[u8]) -> bool
-    requires { ehdr_size ≤ length bytes.now }
-    ensures { result ≡ has_magic bytes.now }
+fn has_magic(head: &[u8]) -> bool
+    requires { ehdr_size ≤ length head.now }
+    ensures { result ≡ has_magic head.now }
 {
-    bytes[EI_MAG0] == ELFMAG0
-        && bytes[EI_MAG1] == ELFMAG1
-        && bytes[EI_MAG2] == ELFMAG2
-        && bytes[EI_MAG3] == ELFMAG3
+    head[EI_MAG0] == ELFMAG0
+        && head[EI_MAG1] == ELFMAG1
+        && head[EI_MAG2] == ELFMAG2
+        && head[EI_MAG3] == ELFMAG3
 }
 
-fn wrong_class(bytes: &[u8]) -> Option<usize>
-    requires { ehdr_size ≤ length bytes.now }
-    ensures { result ≡ wrong_class bytes.now }
+fn wrong_class(head: &[u8]) -> Option<usize>
+    requires { ehdr_size ≤ length head.now }
+    ensures { result ≡ wrong_class head.now }
 {
-    if bytes[EI_CLASS] != ELFCLASS64 {
+    if head[EI_CLASS] != ELFCLASS64 {
         Some(EI_CLASS)
-    } else if bytes[EI_DATA] != ELFDATA2LSB {
+    } else if head[EI_DATA] != ELFDATA2LSB {
         Some(EI_DATA)
-    } else if bytes[EI_VERSION] != EV_CURRENT {
+    } else if head[EI_VERSION] != EV_CURRENT {
         Some(EI_VERSION)
     } else {
         None
     }
 }
 
-fn table_passes_end(bytes: &[u8]) -> bool
-    requires { ehdr_size ≤ length bytes.now }
-    ensures { result
-        ≡ nat_lt (length bytes.now) (e_phoff bytes.now + phdr_size * e_phnum bytes.now) }
+fn table_passes_end(size: u64, head: &[u8]) -> bool
+    requires { ehdr_size ≤ length head.now }
+    ensures { result ≡ nat_lt size (e_phoff head.now + phdr_size * e_phnum head.now) }
 {
-    let size = PHDR_SIZE * half(bytes, E_PHNUM) as usize;
-    (bytes.len() as u128) < xword(bytes, E_PHOFF) as u128 + size as u128
+    let table = PHDR_SIZE * half(head, E_PHNUM) as usize;
+    (size as u128) < xword(head, E_PHOFF) as u128 + table as u128
 }
 
-fn wrong_table(bytes: &[u8]) -> Option<usize>
-    requires { ehdr_size ≤ length bytes.now }
-    ensures place { result ≡ wrong_table bytes.now }
-    ensures none { IfNone result (HasTable bytes.now) }
+fn wrong_table(size: u64, head: &[u8]) -> Option<usize>
+    requires { ehdr_size ≤ length head.now }
+    ensures place { result ≡ wrong_table_of size head.now }
+    ensures none { IfNone result (HasTableIn size head.now) }
 {
-    let count = half(bytes, E_PHNUM) as usize;
-    if half(bytes, E_PHENTSIZE) as usize != PHDR_SIZE {
+    let count = half(head, E_PHNUM) as usize;
+    if half(head, E_PHENTSIZE) as usize != PHDR_SIZE {
         Some(E_PHENTSIZE)
     } else if count == 0 || count > MOST_HEADERS {
         Some(E_PHNUM)
-    } else if table_passes_end(bytes) {
+    } else if table_passes_end(size, head) {
         Some(E_PHOFF)
     } else {
         None
     }
 }
 
-/// The first row on the file header that stands.
-#[tactic(auto, unfolding(crate::specs::Rows::file_fault))]
-pub fn file_fault(bytes: &[u8]) -> Option<ImageFault>
-    ensures fault { result ≡ file_fault bytes.now }
-    ensures none { IfNone result (HasTable bytes.now) }
+/// The first row on the file header that stands, for a file of this size that begins with these bytes.
+#[tactic(auto, unfolding(crate::specs::HeaderRows::head_fault))]
+pub fn head_fault(size: u64, head: &[u8]) -> Option<ImageFault>
+    requires { length head.now ≡ min size 64 }
+    ensures fault { result ≡ head_fault size head.now }
+    ensures none { IfNone result (HasTableIn size head.now) }
+    ensures whole { IfNone result (ehdr_size ≤ size) }
 {
-    if bytes.len() < EHDR_SIZE {
-        return Some(ImageFault::new(FaultKind::Short, bytes.len() as u64));
+    if size < EHDR_SIZE as u64 {
+        return Some(ImageFault::new(FaultKind::Short, size));
     }
-    if !has_magic(bytes) {
+    if !has_magic(head) {
         return Some(ImageFault::new(FaultKind::Magic, 0));
     }
-    if let Some(place) = wrong_class(bytes) {
+    if let Some(place) = wrong_class(head) {
         return Some(ImageFault::new(FaultKind::Class, place as u64));
     }
-    if half(bytes, E_TYPE) != ET_EXEC {
+    if half(head, E_TYPE) != ET_EXEC {
         return Some(ImageFault::new(FaultKind::FileType, E_TYPE as u64));
     }
-    if half(bytes, E_MACHINE) != EM_X86_64 {
+    if half(head, E_MACHINE) != EM_X86_64 {
         return Some(ImageFault::new(FaultKind::Machine, E_MACHINE as u64));
     }
-    if let Some(place) = wrong_table(bytes) {
+    if let Some(place) = wrong_table(size, head) {
         return Some(ImageFault::new(FaultKind::Table, place as u64));
     }
     None

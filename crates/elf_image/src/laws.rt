@@ -1,6 +1,9 @@
 //! What follows from the definitions for those who run an image.
 
-ghost use Rattle.std.specs.Prelude.{◌≡◌, ℕ, ◌^◌, ◌<◌, List, None, slice_index};
+ghost use Rattle.std.specs.Prelude.{◌≡◌, ℕ, ◌^◌, ◌<◌, List, length, slice_index, take, None, Some, Result, MatchResult};
+ghost use Rattle.elf_image.specs.declared.fault.ImageFault.{ImageFault};
+ghost use Rattle.elf_image.specs.FileParts.{AreTrueOf, IsImage, IsReadInParts, IsShapeOf};
+ghost use Rattle.elf_image.specs.HeaderRows.{FileHeaders, FileShape, head_fault, headers_of, shape_of, table_fault, table_of};
 ghost use Rattle.elf_image.specs.Pages.{IsPageList, entry_of, pages_of};
 ghost use Rattle.elf_image.specs.Rows.{first_fault};
 
@@ -12,4 +15,32 @@ pub fn entry_law()
 /// The pages of a file without a fault are an image's.
 pub fn pages_law()
     ensures { (b : List ℕ) → first_fault b ≡ None → IsPageList b (pages_of b) }
+{}
+
+/// What is judged and told of a file by its first 64 bytes and its program header table is what holds of the whole file.
+pub fn parts_law()
+    ensures { (b : List ℕ) → IsReadInParts b }
+{}
+
+/// What is answered by the first 64 bytes of a file, and then by its program header table, is the file's: its shape, then
+/// its headers, or its first fault.
+pub fn headers_law()
+    ensures head { (b head : List ℕ) (size : ℕ) (answer : Result FileShape ImageFault)
+        → length b ≡ size → head ≡ take 64 b
+        → MatchResult answer
+        (λ shape. (shape ≡ shape_of size head) × (head_fault size head ≡ None))
+        (λ fault. head_fault size head ≡ Some fault)
+        → MatchResult answer (IsShapeOf b) (λ fault. first_fault b ≡ Some fault) }
+    ensures table { (b table : List ℕ) (shape : FileShape) (answer : Result FileHeaders ImageFault)
+        → IsShapeOf b shape → table ≡ table_of b
+        → MatchResult answer
+        (λ headers. (headers ≡ headers_of shape table) × (table_fault shape table ≡ None))
+        (λ fault. table_fault shape table ≡ Some fault)
+        → MatchResult answer (IsImage b) (λ fault. first_fault b ≡ Some fault) }
+{}
+
+/// The headers of a file in form say what the file says. A page with its part of the file, and zeros elsewhere, has the
+/// image's bytes.
+pub fn image_law()
+    ensures { (b : List ℕ) (headers : FileHeaders) → IsImage b headers → AreTrueOf b headers }
 {}

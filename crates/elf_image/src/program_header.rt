@@ -75,7 +75,7 @@ impl ProgramHeader {
     }
 
     /// Whether its part of the file is longer than its memory, or passes the end of a file of this length.
-    pub fn passes_end(&self, file_length: usize) -> bool
+    pub fn passes_end(&self, file_length: u64) -> bool
         ensures { result ≡ passes_end file_length self.now }
     {
         let end = self.offset as u128 + self.file_size as u128;

@@ -7,7 +7,7 @@ ghost use Rattle.elf_image.specs.Segments.{is_misaligned, is_writable_code, leav
 use crate::fault::{FaultKind, ImageFault};
 use crate::program_header::ProgramHeader;
 
-fn first_past_end(segments: &[ProgramHeader], file_length: usize) -> Option<u64>
+fn first_past_end(segments: &[ProgramHeader], file_length: u64) -> Option<u64>
     ensures { result ≡ first_index (passes_end file_length) segments.now }
 {
     let first = segments.iter().find(|s| s.passes_end(file_length))?;
@@ -52,7 +52,7 @@ fn first_sharing(segments: &[ProgramHeader]) -> Option<u64>
 
 /// The first row on the segments of a file of this length that stands.
 #[tactic(auto, unfolding(crate::specs::Rows::segment_fault))]
-pub fn segment_fault(segments: &[ProgramHeader], file_length: usize) -> Option<ImageFault>
+pub fn segment_fault(segments: &[ProgramHeader], file_length: u64) -> Option<ImageFault>
     ensures { result ≡ segment_fault file_length segments.now }
 {
     if let Some(index) = first_past_end(segments, file_length) {

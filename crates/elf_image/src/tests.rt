@@ -4,7 +4,7 @@ use crate::FaultKind::{
     Align, BadEntry, Class, FileType, Machine, Magic, OutsideHome, SegmentRange, SharedPage, Short,
     Table, TooLarge, WritableCode,
 };
-use crate::{FaultKind, Image};
+use crate::{FaultKind, Headers, Image, ImageFault, Shape};
 use std::alloc::{AllocError, Global};
 use std::process::Abort;
 use std::test::Fail;
@@ -50,6 +50,39 @@ fn halting(rt: &impl Abort, alloc: Global) -> Result<Vec<u8>, AllocError> {
         change(rt, &mut file, it);
     }
     Ok(file)
+}
+
+/// The headers of a file by its first 64 bytes and then by its program header table.
+fn in_parts(rt: &impl Abort, file: &[u8]) -> Result<Headers, ImageFault> {
+    let size = file.len() as u64;
+    let shape = match Shape::new(size, file.split_at(file.len().min(64)).0) {
+        Ok(shape) => shape,
+        Err(fault) => return Err(fault),
+    };
+    let at = shape.table_at() as usize;
+    let length = shape.table_len();
+    assert!(rt; at <= file.len() && length <= file.len() - at);
+    let table = file.split_at(at).1.split_at(length).0;
+    shape.headers(table)
+}
+
+/// The first fault, in these two steps, of the halting file after these changes, cut to this length.
+fn fault_in_parts(
+    rt: &impl Abort,
+    alloc: Global,
+    length: usize,
+    changes: &[Change],
+) -> Result<Option<(FaultKind, u64)>, AllocError> {
+    let mut file = halting(rt, alloc)?;
+    for it in changes {
+        change(rt, &mut file, *it);
+    }
+    file.truncate(length);
+    Ok(
+        in_parts(rt, &file)
+            .err()
+            .map(|fault| (fault.kind, fault.value)),
+    )
 }
 
 /// The first fault of the halting file after these changes, cut to this length.
@@ -334,6 +367,105 @@ fn loads_the_most_segments_and_pages(rt: HostRuntime) -> Result<(), Fail> {
         assert!(rt; i < image.pages());
         assert_eq!(rt; image.page(i).va, HOME + 4096 * u64::from(i));
     }
+    Ok(())
+}
+
+/// Each row of the form, in order, by the file's head or by its program header table.
+#[test]
+fn the_rows_in_two_steps(rt: HostRuntime) -> Result<(), Fail> {
+    let shared = [
+        (56, 2, 2),
+        (120, 4, 1),
+        (124, 4, 4),
+        (136, 8, HOME + 4095),
+        (160, 8, 1),
+    ];
+    let cases: [(usize, &[Change], FaultKind, u64); 15] = [
+        (63, &[], Short, 63),
+        (WHOLE, &[(1, 1, 0x46)], Magic, 0),
+        (WHOLE, &[(5, 1, 2)], Class, 5),
+        (WHOLE, &[(16, 2, 1)], FileType, 16),
+        (WHOLE, &[(18, 2, 40)], Machine, 18),
+        (WHOLE, &[(54, 2, 64)], Table, 54),
+        (WHOLE, &[(56, 2, 65)], Table, 56),
+        (WHOLE, &[(32, 8, 4042)], Table, 32),
+        (4096, &[], SegmentRange, 0),
+        (WHOLE, &[(72, 8, 4095)], Align, 0),
+        (WHOLE, &[(80, 8, HOME - 4096)], OutsideHome, 0),
+        (WHOLE, &shared, SharedPage, 1),
+        (WHOLE, &[(68, 4, 7)], WritableCode, 0),
+        (WHOLE, &[(24, 8, HOME + 1)], BadEntry, 24),
+        (WHOLE, &[(104, 8, 8192 * 4096 + 1)], TooLarge, 8193),
+    ];
+    for (length, changes, kind, value) in cases {
+        assert_eq!(rt;
+            fault_in_parts(&rt, rt.alloc(), length, changes)?,
+            Some((kind, value))
+        );
+    }
+    Ok(())
+}
+
+/// Files that end with their head or one byte before or behind it; the table, without a segment, lies in the head.
+#[test]
+fn files_of_63_64_and_65_bytes(rt: HostRuntime) -> Result<(), Fail> {
+    let cases: [(usize, u64, FaultKind, u64); 6] = [
+        (63, 0, Short, 63),
+        (64, 0, BadEntry, 24),
+        (64, 8, BadEntry, 24),
+        (64, 9, Table, 32),
+        (65, 9, BadEntry, 24),
+        (65, 10, Table, 32),
+    ];
+    for (length, table, kind, value) in cases {
+        assert_eq!(rt;
+            fault_in_parts(&rt, rt.alloc(), length, &[(32, 8, table)])?,
+            Some((kind, value))
+        );
+    }
+    Ok(())
+}
+
+/// A second segment loads the file's last two bytes, one to the end of its first page, one to the start of its second.
+#[test]
+fn a_page_with_a_part_at_its_end(rt: HostRuntime) -> Result<(), Fail> {
+    let mut file = halting(&rt, rt.alloc())?;
+    for it in [
+        (56, 2, 2),
+        (120, 4, 1),
+        (124, 4, 6),
+        (128, 8, 4095),
+        (136, 8, HOME + 0x1FFF),
+        (152, 8, 2),
+        (160, 8, 0x1002),
+    ] {
+        change(&rt, &mut file, it);
+    }
+    let headers = in_parts(&rt, &file).ok().expect(&rt, "the file is in form");
+    assert_eq!(rt; headers.entry(), HOME);
+    assert_eq!(rt; (headers.pages(), headers.executable_pages()), (4, 1));
+    for (i, va, can_write, at, skip, len) in [
+        (0, HOME, false, 4096, 0, 1),
+        (1, HOME + 0x1000, true, 4095, 4095, 1),
+        (2, HOME + 0x2000, true, 4096, 0, 1),
+        (3, HOME + 0x3000, true, 0, 0, 0),
+    ] {
+        assert!(rt; i < headers.pages());
+        let page = headers.page(i);
+        assert_eq!(rt;
+            (page.va, page.can_write, page.exec),
+            (va, can_write, !can_write)
+        );
+        let part = headers.part(i);
+        assert_eq!(rt; (part.at, part.skip, part.len), (at, skip, len));
+    }
+    assert!(rt; headers.segments() == 2);
+    let segment = headers.segment(1);
+    assert_eq!(rt;
+        (segment.flags, segment.offset, segment.va),
+        (6, 4095, HOME + 0x1FFF)
+    );
+    assert_eq!(rt; (segment.file_size, segment.mem_size), (2, 0x1002));
     Ok(())
 }
 

@@ -1,8 +1,11 @@
 -- What a reader gave in several reads.
-use Rattle.std.proofs.Common.{ℕ, ◌+◌, ◌≤◌, Option, List, ◌++◌, length, arith, length-append}
+use Rattle.std.proofs.Common.{◌≡◌, ℕ, ◌+◌, ◌<◌, ◌≤◌, Option, Result, Ok, Err, IfOk, List, ◌++◌, length, take, refl, ap, sym, ◌∙◌, arith, length-append, length-take-le, take-take}
+use Rattle.std.proofs.Math.Seq.{take-append-add}
+use Rattle.std.proofs.lemmas.Slice.{take-put_mid}
 use Rattle.std.proofs.KnownBytes.{Consumes-trans}
 use Rattle.std.specs.Io.KnownBytes.{Consumes}
-use Rattle.nk_host.specs.Streams.{GivesAtMost}
+use borrow.Rule.Slice.PartMut.{put_mid}
+use Rattle.nk_host.specs.Streams.{GivesAtMost, GivesMore}
 
 -- some bytes, and then at most n more, are at most m
 pub given_more : (before now after : Option (List ℕ)) (given : List ℕ) (n m : ℕ)
@@ -10,3 +13,24 @@ pub given_more : (before now after : Option (List ℕ)) (given : List ℕ) (n m 
 given_more before now after given n m first next fits =
     let (more, short, consumed) = next in
     (given ++ more, omega (arith, length-append given more, short, fits), Consumes-trans before now after given more first consumed)
+
+-- a part behind some elements was written, and its first n count
+taken_behind : (a k n : ℕ) (xs ys : List ℕ) → a ≤ length xs → n ≤ length ys → take (a + n) (put_mid a k xs ys) ≡ take a xs ++ take n ys
+taken_behind a k n xs ys within few =
+    sym (take-take (a + n) (a + length ys) (put_mid a k xs ys) (omega (arith, few)))
+    ∙ ap (take (a + n)) (take-put_mid a k xs ys (a + length ys) refl within)
+    ∙ ap (λ m. take (m + n) (take a xs ++ ys)) (sym (length-take-le a xs within))
+    ∙ take-append-add (take a xs) ys n
+
+-- a read of at least one byte, into the part of a block behind some bytes
+pub read_behind : {E : Type 0} (r : Result ℕ E) (before after : Option (List ℕ)) (a k : ℕ) (xs ys : List ℕ) → a ≤ length xs
+    → IfOk r (λ n. 0 < n) → IfOk r (λ n. n ≤ length ys) → IfOk r (λ n. Consumes before after (take n ys))
+    → IfOk r (λ n. GivesMore before after (take a xs) (take (a + n) (put_mid a k xs ys)) n)
+read_behind (Err _) before after a k xs ys within some few given = tt
+read_behind (Ok n) before after a k xs ys within some few given = record {
+  given = take n ys;
+  count = length-take-le n ys few;
+  behind = taken_behind a k n xs ys within few;
+  consumed = given;
+  end = λ none. absurd (omega (arith, some, none));
+}

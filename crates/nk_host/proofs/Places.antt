@@ -6,7 +6,7 @@ use Rattle.std.proofs.lemmas.Bool.{cases_eq, false≢true}
 use Rattle.std.proofs.lemmas.List.Quantifiers.{position-Some}
 use Rattle.std.proofs.lemmas.Slice.Eq.{bytes_eq-Decides}
 use Rattle.nk_host.specs.FaultCounts.{raised, NeverFalls, OnlyAt}
-use Rattle.nk_host.specs.ShelfInMemory.{NamedFile, Stock, at_place, place_of, file_of, count_of, with_fault, fetch_fails, after_fetch}
+use Rattle.nk_host.specs.ShelfInMemory.{NamedFile, Stock, at_place, place_of, file_of, count_of, with_fault, read_fails, after_read}
 
 abbrev no_file : NamedFile
 no_file = record { name = []; bytes = [] }
@@ -94,26 +94,26 @@ others_stay s name other held apart =
     let (j, e) = held_place s.files other _ refl held in
     fault_stays s (place_of s.files name) other j e (λ same. apart (one_name s.files other name j e same))
 
--- ---- a fetch
+-- ---- a read
 
--- the shelf once the next fetch began
+-- the shelf once the next read began
 abbrev begun : Stock → Stock
-begun s = record s { fetches = raised s.fetches }
+begun s = record s { reads = raised s.reads }
 
--- the shelf after a fetch that fails or not
-abbrev fetched : Bool → Stock → List ℕ → Stock
-fetched b s name = if b then with_fault (begun s) name else begun s
+-- the shelf after a read that fails or not
+abbrev after_begun : Bool → Stock → List ℕ → Stock
+after_begun b s name = if b then with_fault (begun s) name else begun s
 
-fetched_above : (b : Bool) (s : Stock) (name : List ℕ) → (b ≡ true → length s.files ≡ length s.counts) → (b ≡ true → count_of s name ≤ 2 ^ 64 - 1) → NeverFalls (count_of s) (count_of (fetched b s name))
-fetched_above true s name same h = never_falls (begun s) name (same refl) (h refl)
-fetched_above false s name same h = λ n. omega arith
+begun_above : (b : Bool) (s : Stock) (name : List ℕ) → (b ≡ true → length s.files ≡ length s.counts) → (b ≡ true → count_of s name ≤ 2 ^ 64 - 1) → NeverFalls (count_of s) (count_of (after_begun b s name))
+begun_above true s name same h = never_falls (begun s) name (same refl) (h refl)
+begun_above false s name same h = λ n. omega arith
 
-pub fetch_never_falls : (s : Stock) (name : List ℕ) → (fetch_fails s name ≡ true → length s.files ≡ length s.counts) → (fetch_fails s name ≡ true → count_of s name ≤ 2 ^ 64 - 1) → NeverFalls (count_of s) (count_of (after_fetch s name))
-fetch_never_falls s name same h = fetched_above (fetch_fails s name) s name same h
+pub read_never_falls : (s : Stock) (name : List ℕ) → (read_fails s name ≡ true → length s.files ≡ length s.counts) → (read_fails s name ≡ true → count_of s name ≤ 2 ^ 64 - 1) → NeverFalls (count_of s) (count_of (after_read s name))
+read_never_falls s name same h = begun_above (read_fails s name) s name same h
 
-fetched_only_at : (b : Bool) (s : Stock) (name : List ℕ) → OnlyAt (file_of s.files) (count_of s) (count_of (fetched b s name)) name
-fetched_only_at true s name = others_stay (begun s) name
-fetched_only_at false s name = λ other held apart. refl
+begun_only_at : (b : Bool) (s : Stock) (name : List ℕ) → OnlyAt (file_of s.files) (count_of s) (count_of (after_begun b s name)) name
+begun_only_at true s name = others_stay (begun s) name
+begun_only_at false s name = λ other held apart. refl
 
-pub fetch_only_at : (s : Stock) (name : List ℕ) → OnlyAt (file_of s.files) (count_of s) (count_of (after_fetch s name)) name
-fetch_only_at s name = fetched_only_at (fetch_fails s name) s name
+pub read_only_at : (s : Stock) (name : List ℕ) → OnlyAt (file_of s.files) (count_of s) (count_of (after_read s name)) name
+read_only_at s name = begun_only_at (read_fails s name) s name

@@ -1,5 +1,5 @@
 -- What no shelf may tell.
-use Rattle.std.proofs.Common.{◌≡◌, ℕ, List, [], ◌∷◌, Option, Some, IfSome, subst, arith}
+use Rattle.std.proofs.Common.{◌≡◌, ℕ, List, ◌∷◌, Option, Some, IfSome, subst, arith}
 use Rattle.nk_host.specs.Files.{HoldsBytes, IsFileOfBytes}
 
 -- a shelf that tells a file with 256 in it doesn't meet the contract

@@ -1,4 +1,4 @@
--- How counts of faults are read. A count is a `u64` that stays at its type's end.
+-- How counts of faults and of wants of memory are read. A count is a `u64` that stays at its type's end.
 use Rattle.std.specs.Prelude.{◌≡◌, ◌≢◌, ℕ, ◌+◌, ◌-◌, ◌^◌, ◌≤◌, min, List, Option, IsSome}
 
 -- a count, raised by one
@@ -21,3 +21,8 @@ NeverFalls before now = (name : List ℕ) → before name ≤ now name
 abbrev pub OnlyAt : (List ℕ → Option (List ℕ)) → (List ℕ → ℕ) → (List ℕ → ℕ) → List ℕ → Type 0
 OnlyAt files before now name =
     (other : List ℕ) → IsSome (files other) → other ≢ name → now other ≡ before other
+
+-- the counts of all faults and of all wants of memory
+pub record Counts : Type 0 where
+  pub faults : ℕ
+  pub wants : ℕ

@@ -11,14 +11,14 @@ pub record NamedFile : Type 0 where
   pub name : List ℕ
   pub bytes : List ℕ
 
--- the files, the count of faults beside each of them and that of all names not held, which fetches fail, and the
--- fetches so far
+-- the files, the count of faults beside each of them and that of all names not held, which reads fail, and the reads so
+-- far: fetches, sizes and pieces
 pub record Stock : Type 0 where
   pub files : List NamedFile
   pub counts : List ℕ
   pub others : ℕ
   pub failing : List ℕ
-  pub fetches : ℕ
+  pub reads : ℕ
 
 -- the place of the first file of a name
 abbrev pub place_of : List NamedFile → List ℕ → Option ℕ
@@ -43,15 +43,15 @@ with_fault s name = at_place (place_of s.files name)
     (record s { others = raised s.others })
     (λ i. record s { counts = slice_set s.counts i (raised (slice_index s.counts i)) })
 
--- the fetch of a name fails: its number is among the failing ones, or the name isn't held
-abbrev pub fetch_fails : Stock → List ℕ → Bool
-fetch_fails s name = is_due s.failing (raised s.fetches) || is_none (file_of s.files name)
+-- the read of a name fails: its number is among the failing ones, or the name isn't held
+abbrev pub read_fails : Stock → List ℕ → Bool
+read_fails s name = is_due s.failing (raised s.reads) || is_none (file_of s.files name)
 
--- the shelf after the fetch of a name
-abbrev pub after_fetch : Stock → List ℕ → Stock
-after_fetch s name =
-    let begun = record s { fetches = raised s.fetches } in
-    if fetch_fails s name then with_fault begun name else begun
+-- the shelf after the read of a name
+abbrev pub after_read : Stock → List ℕ → Stock
+after_read s name =
+    let begun = record s { reads = raised s.reads } in
+    if read_fails s name then with_fault begun name else begun
 
 -- the files of a vector of names and bytes
 abbrev pub named_files : List (String Global × Vec ℕ Global) → List NamedFile

@@ -1,5 +1,5 @@
 -- What readers gave and writers took, where their bytes are known.
-use Rattle.std.specs.Prelude.{◌≡◌, ℕ, ◌<◌, ◌≤◌, List, ◌++◌, length, Option, IfSome}
+use Rattle.std.specs.Prelude.{◌≡◌, ℕ, ◌<◌, ◌≤◌, List, ◌++◌, length, Option, Some, IfSome}
 use Rattle.std.specs.Io.KnownBytes.{Consumes, IsAtEnd}
 
 -- the reader gave some bytes, at most so many
@@ -21,3 +21,13 @@ IsWhole before bytes = IfSome before (λ all. bytes ≡ all)
 -- the reader had more bytes than so many
 abbrev pub HadMore : Option (List ℕ) → ℕ → Type 0
 HadMore before most = IfSome before (λ all. most < length all)
+
+-- the stream has so many bytes in all
+abbrev pub HasLength : Option (List ℕ) → ℕ → Type 0
+HasLength all n = IfSome all (λ bytes. n ≡ length bytes)
+
+-- the reader was moved to a place, where its place is known, and then gave the bytes
+pub record GivesAt {F : Type 0} (position : F → Option ℕ) (remaining : F → Option (List ℕ)) (before after : F) (at : ℕ) (bytes : List ℕ) : Type 0 where
+  pub moved : F
+  pub there : IfSome (position before) (λ _. position moved ≡ Some at)
+  pub given : Consumes (remaining moved) (remaining after) bytes

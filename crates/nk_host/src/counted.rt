@@ -1,11 +1,13 @@
 //! A reader or a writer whose faults are counted. Such a writer is a sink.
-ghost use Rattle.std.specs.Prelude.{◌≡◌, ◌≢◌, ◌<◌, ◌≤◌, [], length, take, IfOk, OnOk, OnErr, IfErr};
+ghost use Rattle.std.specs.Prelude.{◌≡◌, ◌≢◌, ◌<◌, ◌≤◌, [], length, take, IfOk, IfSome, OnOk, OnErr, IfErr};
 ghost use Rattle.std.specs.Io.KnownBytes.{Appends, Keeps, ReadConsumes};
+ghost use Rattle.std.specs.Io.Seek.{MovesTo};
 ghost use Rattle.nk_host.specs.FaultCounts.{RoseTo, raised};
+ghost use Rattle.nk_host.specs.Streams.{HasLength};
 
 use crate::whole::write_whole;
-use crate::{FetchFault, Sink, SinkFault};
-use std::io::{Read, Write};
+use crate::{FetchFault, PieceFault, Sink, SinkFault};
+use std::io::{Read, Seek, SeekFrom, Write};
 
 /// A reader or a writer, and the count of its faults.
 #[derive(Drop)]
@@ -30,7 +32,15 @@ impl<T> Counted<T> {
         self.faults
     }
 
-    fn count_fault(&mut self)
+    /// The reader or the writer.
+    pub(crate) fn into_inner(self) -> T
+        ensures { result ≡ self.inner }
+    {
+        self.inner
+    }
+
+    /// Counts a fault.
+    pub(crate) fn count_fault(&mut self)
         ensures after { self.new ≡ record self.old { faults = raised self.old.faults } }
         ensures never_falls { self.old.faults ≤ self.new.faults }
     {
@@ -53,6 +63,43 @@ impl<F: Read> Counted<F> {
             Err(_) => {
                 self.count_fault();
                 Err(FetchFault::Failed)
+            }
+        }
+    }
+}
+
+impl<F: Seek> Counted<F> {
+    /// How many bytes the stream has in all. What has no end to go to, as a pipe, is a fault.
+    pub(crate) fn size(&mut self) -> Result<u64, PieceFault>
+        ensures whole { IfSome (F.stream_position self.old.inner)
+            (λ _. IfOk result (HasLength (F.stream_bytes self.old.inner))) }
+        ensures never_falls { self.old.faults ≤ self.new.faults }
+        ensures failed { OnErr result (RoseTo self.old.faults self.new.faults) }
+        ensures kept { OnOk result (self.new.faults ≡ self.old.faults) }
+        ensures only { IfErr result (λ fault. fault ≡ PieceFault.Failed) }
+    {
+        match self.inner.seek(SeekFrom::End(0)) {
+            Ok(n) => Ok(n),
+            Err(_) => {
+                self.count_fault();
+                Err(PieceFault::Failed)
+            }
+        }
+    }
+
+    /// Moves the stream to place `at`.
+    pub(crate) fn go_to(&mut self, at: u64) -> Result<(), PieceFault>
+        ensures there { MovesTo (F.stream_position self.old.inner) (F.stream_position self.new.inner) at result }
+        ensures never_falls { self.old.faults ≤ self.new.faults }
+        ensures failed { OnErr result (RoseTo self.old.faults self.new.faults) }
+        ensures kept { OnOk result (self.new.faults ≡ self.old.faults) }
+        ensures only { IfErr result (λ fault. fault ≡ PieceFault.Failed) }
+    {
+        match self.inner.seek(SeekFrom::Start(at)) {
+            Ok(_) => Ok(()),
+            Err(_) => {
+                self.count_fault();
+                Err(PieceFault::Failed)
             }
         }
     }

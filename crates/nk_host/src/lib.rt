@@ -16,6 +16,7 @@ mod pieces;
 
 // Readers and writers, with their faults counted.
 mod counted;
+mod fill;
 mod whole;
 
 // The machine's files and its standard output.
@@ -29,7 +30,7 @@ mod mem_sink;
 mod tests;
 
 pub use counted::Counted;
-pub use fault::{FetchFault, NoMemory, SinkFault};
+pub use fault::{FetchFault, NoMemory, PieceFault, SinkFault};
 pub use file_shelf::FileShelf;
 pub use mem_shelf::MemShelf;
 pub use mem_sink::MemSink;

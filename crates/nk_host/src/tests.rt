@@ -1,14 +1,20 @@
 //! The shelves and sinks at worked values.
+ghost use Rattle.std.specs.Prelude.{length};
+ghost use Rattle.nk_host.specs.Files.{IsWithin};
+ghost use Rattle.nk_host.specs.Told.{IfTold};
+
 use crate::counted::Counted;
+use crate::fill::{fill, fill_from};
 use crate::whole::{read_whole, write_whole};
 use crate::{
-    FetchFault, FileShelf, MemShelf, MemSink, PIECE, Pieces, Shelf, Sink, SinkFault, StdSink,
-    put_all,
+    FetchFault, FileShelf, MemShelf, MemSink, PIECE, PieceFault, Pieces, Shelf, Sink, SinkFault,
+    StdSink, put_all,
 };
 use std::alloc::Global;
 use std::fmt::Display;
 use std::fs::{self, File};
-use std::io::{Error, ErrorKind, Read, Result as IoResult, Write};
+use std::io::{Cursor, Error, ErrorKind, Read, Result as IoResult, Seek, SeekFrom, Write};
+use std::rt::Files;
 use std::test::Fail;
 
 fn named(alloc: Global, name: &str, bytes: &[u8]) -> Result<(String, Vec<u8>), Fail> {
@@ -45,6 +51,55 @@ fn put<O: Sink>(out: &mut O, bytes: &[u8]) -> Result<(), SinkFault> {
     out.put(bytes)
 }
 
+fn size<S: Shelf>(shelf: &mut S, alloc: Global, name: &str, most: u64) -> Result<u64, FetchFault> {
+    shelf.size(alloc, name, most)
+}
+
+// Whether the piece from a place on is these bytes.
+fn gives<S: Shelf>(
+    shelf: &mut S,
+    alloc: Global,
+    name: &str,
+    at: u64,
+    bytes: &[u8],
+) -> Result<bool, Fail>
+    requires { IfTold (S.files shelf.old) (λ held. IsWithin held name.now at (length bytes.now)) }
+{
+    let mut into = vec![in alloc; 0; bytes.len()]?;
+    let read = shelf.piece(alloc, name, at, &mut into);
+    Ok(read == Ok(()) && into.as_slice() == bytes)
+}
+
+fn piece_fault<S: Shelf>(
+    shelf: &mut S,
+    alloc: Global,
+    name: &str,
+    at: u64,
+    len: usize,
+) -> Result<Option<PieceFault>, Fail>
+    requires { IfTold (S.files shelf.old) (λ held. IsWithin held name.now at len) }
+{
+    let mut into = vec![in alloc; 0; len]?;
+    Ok(shelf.piece(alloc, name, at, &mut into).err())
+}
+
+// The same of a shelf in memory, whose file may not be asked for more than it has.
+fn held_gives(shelf: &mut MemShelf, alloc: Global, at: u64, bytes: &[u8]) -> Result<bool, Fail> {
+    if shelf.is_within("one", at, bytes.len()) {
+        gives(shelf, alloc, "one", at, bytes)
+    } else {
+        Ok(false)
+    }
+}
+
+fn held_fault(shelf: &mut MemShelf, alloc: Global, name: &str) -> Result<Option<PieceFault>, Fail> {
+    if shelf.is_within(name, 0, 5) {
+        piece_fault(shelf, alloc, name, 0, 5)
+    } else {
+        Ok(None)
+    }
+}
+
 #[test]
 fn the_first_file_of_a_name_counts(rt: HostRuntime) -> Result<(), Fail> {
     let alloc = rt.alloc();
@@ -78,6 +133,48 @@ fn a_fetch_fails_at_its_number(rt: HostRuntime) -> Result<(), Fail> {
         Some(FetchFault::Failed)
     );
     assert_eq!(rt; fault(&mut shelf, alloc, "one", 5), None);
+    Ok(())
+}
+
+#[test]
+fn a_file_in_memory_is_read_in_pieces(rt: HostRuntime) -> Result<(), Fail> {
+    let alloc = rt.alloc();
+    let mut shelf = two_files(alloc, &[])?;
+    assert_eq!(rt; size(&mut shelf, alloc, "one", 5), Ok(5));
+    assert_eq!(rt; size(&mut shelf, alloc, "one", 4), Err(FetchFault::Longer));
+    assert_eq!(rt; size(&mut shelf, alloc, "two", 0), Ok(0));
+    assert_eq!(rt;
+        size(&mut shelf, alloc, "three", 9),
+        Err(FetchFault::Failed)
+    );
+    let pieces: [(u64, &[u8]); 5] = [(0, b"first"), (0, b"f"), (1, b"irs"), (4, b"t"), (5, b"")];
+    for (at, bytes) in pieces {
+        assert!(rt; held_gives(&mut shelf, alloc, at, bytes)?, "{at}");
+    }
+    assert_eq!(rt;
+        held_fault(&mut shelf, alloc, "three")?,
+        Some(PieceFault::Failed)
+    );
+    Ok(())
+}
+
+#[test]
+fn fetches_sizes_and_pieces_are_counted_together(rt: HostRuntime) -> Result<(), Fail> {
+    let alloc = rt.alloc();
+    let mut shelf = two_files(alloc, &[2, 3, 4])?;
+    assert_eq!(rt; size(&mut shelf, alloc, "one", 5), Ok(5));
+    assert_eq!(rt;
+        held_fault(&mut shelf, alloc, "one")?,
+        Some(PieceFault::Failed)
+    );
+    assert_eq!(rt;
+        fault(&mut shelf, alloc, "one", 5),
+        Some(FetchFault::Failed)
+    );
+    assert_eq!(rt; size(&mut shelf, alloc, "one", 4), Err(FetchFault::Failed));
+    assert!(rt; held_gives(&mut shelf, alloc, 1, b"irs")?);
+    assert_eq!(rt; fault(&mut shelf, alloc, "one", 5), None);
+    assert_eq!(rt; size(&mut shelf, alloc, "one", 5), Ok(5));
     Ok(())
 }
 
@@ -229,6 +326,13 @@ impl Write for Halting {
     }
 }
 
+// It has no end to go to.
+impl Seek for Halting {
+    fn seek(&mut self, _to: SeekFrom) -> IoResult<u64> {
+        Err(Error::from(ErrorKind::NotSeekable))
+    }
+}
+
 fn halting_after(left: u64, kind: ErrorKind) -> Counted<Halting> {
     Counted::after(Halting { left, kind }, 5)
 }
@@ -270,6 +374,39 @@ fn a_write_that_halts_is_a_fault(rt: HostRuntime) {
 }
 
 #[test]
+fn a_block_is_filled_by_single_bytes(rt: HostRuntime) {
+    let mut block = [0; 3];
+    let mut from = halting_after(3, ErrorKind::Interrupted);
+    assert_eq!(rt; fill(&mut from, &mut block), Ok(()));
+    assert_eq!(rt; block, [7, 7, 7]);
+    assert_eq!(rt; fill(&mut from, &mut []), Ok(()));
+    assert_eq!(rt; from.faults(), 5);
+    assert_eq!(rt; fill(&mut from, &mut block), Err(PieceFault::Failed));
+    assert_eq!(rt; from.faults(), 6);
+    assert_eq!(rt; from.size(), Err(PieceFault::Failed));
+    assert_eq!(rt; from.faults(), 7);
+    assert_eq!(rt; from.go_to(0), Err(PieceFault::Failed));
+    assert_eq!(rt; from.faults(), 8);
+}
+
+#[test]
+fn a_block_is_filled_from_its_place(rt: HostRuntime) {
+    let mut block = [0; 3];
+    let mut from = Counted::after(Cursor::new(b"abcdef".as_slice()), 5);
+    assert_eq!(rt; from.size(), Ok(6));
+    assert_eq!(rt; fill_from(&mut from, 2, &mut block), Ok(()));
+    assert_eq!(rt; block.as_slice(), b"cde".as_slice());
+    assert_eq!(rt; fill_from(&mut from, 3, &mut block), Ok(()));
+    assert_eq!(rt; block.as_slice(), b"def".as_slice());
+    assert_eq!(rt; from.faults(), 5);
+    assert_eq!(rt;
+        fill_from(&mut from, 4, &mut block),
+        Err(PieceFault::Failed)
+    );
+    assert_eq!(rt; from.faults(), 6);
+}
+
+#[test]
 fn the_machine_s_files_are_fetched(rt: HostRuntime) -> Result<(), Fail> {
     let alloc = rt.alloc();
     let zeros = vec![in alloc; 0; 5000]?;
@@ -292,6 +429,111 @@ fn the_machine_s_files_are_fetched(rt: HostRuntime) -> Result<(), Fail> {
         fault(&mut shelf, alloc, "/dev/zero", 10),
         Some(FetchFault::Longer)
     );
+    Ok(())
+}
+
+fn counting_bytes(alloc: Global, len: usize) -> Result<Vec<u8>, Fail> {
+    let mut bytes = Vec::new(alloc);
+    for i in 0..len {
+        bytes.push((i % 251) as u8)?;
+    }
+    Ok(bytes)
+}
+
+// Whether the piece of so many bytes from a place on is what stands there in all of the file.
+fn gives_part<R: Files>(
+    shelf: &mut FileShelf<'_, R>,
+    alloc: Global,
+    all: &[u8],
+    at: usize,
+    len: usize,
+) -> Result<bool, Fail> {
+    if at > all.len() || len > all.len() - at {
+        return Ok(false);
+    }
+    let part = all.split_at(at).1.split_at(len).0;
+    gives(shelf, alloc, "pieces.tmp", at as u64, part)
+}
+
+#[test]
+fn a_file_on_disk_is_read_in_pieces(rt: HostRuntime) -> Result<(), Fail> {
+    let alloc = rt.alloc();
+    let bytes = counting_bytes(alloc, 5000)?;
+    fs::write(&rt, "pieces.tmp", bytes.as_slice())?;
+    let mut shelf = FileShelf::new(&rt);
+    assert_eq!(rt; size(&mut shelf, alloc, "pieces.tmp", 5000), Ok(5000));
+    assert_eq!(rt;
+        size(&mut shelf, alloc, "pieces.tmp", 4999),
+        Err(FetchFault::Longer)
+    );
+    for len in [1, 2, 4096] {
+        for at in [0, 1, 451, 5000 - len] {
+            assert!(rt;
+                gives_part(&mut shelf, alloc, &bytes, at, len)?,
+                "{len} from {at}"
+            );
+        }
+    }
+    assert!(rt; gives_part(&mut shelf, alloc, &bytes, 5000, 0)?);
+    let past = piece_fault(&mut shelf, alloc, "pieces.tmp", 4999, 2)?;
+    fs::remove_file(&rt, "pieces.tmp")?;
+    assert_eq!(rt; past, Some(PieceFault::Failed));
+    Ok(())
+}
+
+#[test]
+fn a_file_that_shrinks_is_a_fault(rt: HostRuntime) -> Result<(), Fail> {
+    let alloc = rt.alloc();
+    fs::write(&rt, "shrinks.tmp", b"twelve bytes".as_slice())?;
+    let mut shelf = FileShelf::new(&rt);
+    assert_eq!(rt; size(&mut shelf, alloc, "shrinks.tmp", 12), Ok(12));
+    fs::write(&rt, "shrinks.tmp", b"four".as_slice())?;
+    let across = piece_fault(&mut shelf, alloc, "shrinks.tmp", 2, 4)?;
+    let past = piece_fault(&mut shelf, alloc, "shrinks.tmp", 8, 4)?;
+    let left = gives(&mut shelf, alloc, "shrinks.tmp", 0, b"four")?;
+    fs::remove_file(&rt, "shrinks.tmp")?;
+    assert_eq!(rt; across, Some(PieceFault::Failed));
+    assert_eq!(rt; past, Some(PieceFault::Failed));
+    assert!(rt; left);
+    Ok(())
+}
+
+#[test]
+fn each_piece_is_of_its_own_file(rt: HostRuntime) -> Result<(), Fail> {
+    let alloc = rt.alloc();
+    fs::write(&rt, "a.tmp", b"of a".as_slice())?;
+    fs::write(&rt, "b.tmp", b"of b".as_slice())?;
+    let mut shelf = FileShelf::new(&rt);
+    assert_eq!(rt; size(&mut shelf, alloc, "a.tmp", 4), Ok(4));
+    assert!(rt; gives(&mut shelf, alloc, "b.tmp", 3, b"b")?);
+    assert!(rt; gives(&mut shelf, alloc, "a.tmp", 3, b"a")?);
+    assert!(rt; gives(&mut shelf, alloc, "a.tmp", 0, b"of a")?);
+    fs::remove_file(&rt, "a.tmp")?;
+    fs::remove_file(&rt, "b.tmp")?;
+    Ok(())
+}
+
+#[test]
+fn what_has_no_piece_is_a_fault(rt: HostRuntime) -> Result<(), Fail> {
+    let alloc = rt.alloc();
+    fs::write(&rt, "empty.tmp", b"".as_slice())?;
+    let mut shelf = FileShelf::new(&rt);
+    assert_eq!(rt; size(&mut shelf, alloc, "empty.tmp", 0), Ok(0));
+    assert!(rt; gives(&mut shelf, alloc, "empty.tmp", 0, b"")?);
+    for (name, at) in [
+        ("empty.tmp", 0),
+        ("empty.tmp", u64::MAX),
+        (".", 0),
+        ("missing.tmp", 0),
+    ] {
+        let fault = piece_fault(&mut shelf, alloc, name, at, 1)?;
+        assert_eq!(rt; fault, Some(PieceFault::Failed), "{name}");
+    }
+    fs::remove_file(&rt, "empty.tmp")?;
+    for name in [".", "missing.tmp"] {
+        let fault = size(&mut shelf, alloc, name, u64::MAX);
+        assert_eq!(rt; fault, Err(FetchFault::Failed), "{name}");
+    }
     Ok(())
 }
 

@@ -1,13 +1,12 @@
 -- A replay goes over the whole text of a run.
-use Rattle.std.proofs.Common.{◌≡◌, ℕ, zero, suc, ◌+◌, ◌-◌, ◌^◌, ◌<◌, ◌≤◌, Bool, true, false, List, [], ◌∷◌, ◌++◌, length, refl, sym, ap, subst, ◌∙◌, append-nil, append_assoc, inl, inr, arith}
-use Rattle.std.specs.Prelude.{Option, None, Some, ◌==◌, if◌then◌else◌}
-use Rattle.std.proofs.lemmas.Bool.{cases_lt, eq-eqb, eqb-false}
+use Rattle.std.proofs.Common.{◌≡◌, ℕ, zero, suc, ◌^◌, ◌<◌, ◌≤◌, List, [], ◌∷◌, ◌++◌, refl, sym, ap, subst, ◌∙◌, append-nil, append_assoc, arith}
+use Rattle.std.specs.Prelude.{Option, None, Some, if◌then◌else◌}
+use Rattle.std.proofs.lemmas.Bool.{eq-eqb}
 use Rattle.irq_plan.specs.declared.event.Event.{Event}
 use Rattle.text_lines.specs.TextLines.{lines}
 use Rattle.nk_body.specs.CallRules.{made}
 use Rattle.nk_body.specs.NestedRecord.{IsKept, Nested}
 use Rattle.gate_state.specs.declared.moves.Move.{Move}
-use Rattle.gate_state.specs.declared.moves.Move.TheVariants as move
 use Rattle.gate_state.specs.GuardedStates.{IsGuarded}
 use Rattle.gate_state.specs.MachineStates.{MachineState, Opening, nested_of}
 use Rattle.gate_state.specs.MachineSteps.{Made, called_by, calls, made_by_all, move_of, next, seen_by, state}
@@ -27,7 +26,7 @@ use Rattle.nk_run.proofs.Beside.{IsBeside}
 use Rattle.nk_run.proofs.HeardLines.{ending_heard}
 use Rattle.nk_run.proofs.LawsBelow.{AcceptedLaws, ByteLaws}
 use Rattle.nk_run.proofs.ReplaySteps.{replay_line}
-use Rattle.nk_run.proofs.Runs.{IsStep, counted, left, not_resting, turn_left}
+use Rattle.nk_run.proofs.Runs.{counted, left, not_resting, turn_left}
 use Rattle.nk_run.proofs.RunSteps.{IsStepped, called_first, replay_beside, step_beside}
 use Rattle.nk_run.proofs.ToldSections.{opened}
 

@@ -5,6 +5,10 @@ pub mod Numerals
 pub mod Rows
 pub mod RunRows
 pub mod Promises
+pub mod HeldFiles
+pub mod HeaderPieces
+pub mod PageReads
+pub mod ScanRows
 pub mod Runs
 pub mod RunEnds
 pub mod JournalOutcomes

@@ -16,7 +16,7 @@ use Rattle.nk_run.specs.CommandLine.{command_of, name_in}
 use Rattle.nk_run.specs.Lines.{longest_file}
 use Rattle.nk_run.specs.Witness.{Change, Files, ShelfState, Witness}
 use Rattle.nk_run.specs.Outcome.{Answer, Verdict, passes, decided, first_verdict, checks_of, text_of, outcome, outcome_of, fetched, formed, clean, journaled, opened, opening_in, planned, replay_in, roomy, file_in}
-use Rattle.nk_run.specs.Clauses.{HasEnd, HasJournal, HasOutside, HasSafeRun, IsComplete, IsCutByCount, IsCutWritten, IsDoable, IsDone, IsFaultless, IsGoodImage, IsGoodJournal, IsGoodPlan, IsOutside, IsStatus, IsText, IsUnreadByCount, IsUnreadWritten, IsUsage, IsUsageAlone, IsWantWritten, MaySay, Promises, TookAll, TookPrefix}
+use Rattle.nk_run.specs.Clauses.{HasEnd, HasJournal, HasOutside, HasSafeRun, IsComplete, IsCutByCount, IsCutWritten, IsDoable, IsDone, IsFaultless, IsGoodImage, IsGoodJournal, IsGoodPlan, IsOutside, IsStatus, IsText, IsUnreadByCount, IsUnreadWritten, IsUsage, IsUsageAlone, IsWantByCount, IsWantWritten, MaySay, Promises, TookAll, TookPrefix}
 use Rattle.nk_host.specs.Told.{IfTold}
 use Rattle.nk_run.proofs.Told.{if_told, told_at}
 use Rattle.nk_run.specs.Replies.{CommandSays, IsAnswered, IsWritten, ReadsBytes, Says, SaysUsage}
@@ -202,6 +202,13 @@ module _ (seen : Witness) (status : ℕ) (text : List ℕ) (result : ℕ) where
   cut_by_count says (inr cut) = λ four. cut.1
   cut_by_count says (inl whole) = λ four. absurd (not_four says (sym whole.0 ∙ four))
 
+  want_by_count : Says seen.words seen.shelf status text → IsWritten seen.sink status text result → IsWantByCount seen result
+  want_by_count says (inr cut) = λ scan five. absurd (omega (arith, cut.0, five))
+  want_by_count (inl plain) (inl whole) = λ scan five. absurd (omega (arith, whole.0, plain.status_is, five))
+  want_by_count (inr (inl said)) (inl whole) = λ scan five. absurd (omega (arith, whole.0, said.status_is, five))
+  want_by_count (inr (inr (inl want))) (inl whole) = λ scan five. want.counted scan
+  want_by_count (inr (inr (inr other))) (inl whole) = λ scan five. absurd (other.own.not_want (sym whole.0 ∙ five))
+
   -- what is written whole is the outcome, or the status is one of the outside
   whole_outcome : (files : Files) → seen.shelf.before.files ≡ Some files → Says seen.words seen.shelf status text
       → IsWritten seen.sink status text result → IsOutside result ⊎ IsOutcome files
@@ -327,6 +334,7 @@ promised seen result ended law again bytes r = record {
   usage_alone = usage_alone seen r.status r.text result r.says r.written;
   unread_by_count = unread_by_count seen r.status r.text result r.says r.written;
   cut_by_count = cut_by_count seen r.status r.text result r.says r.written;
+  want_by_count = want_by_count seen r.status r.text result r.says r.written;
   outcome_status = outcome_status seen r.status r.text result r.says r.written;
   outcome_text = outcome_text seen r.status r.text result r.says r.written;
   unread_written = unread_written seen r.status r.text result r.says r.written;

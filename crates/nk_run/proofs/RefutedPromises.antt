@@ -1,8 +1,10 @@
 -- What the top call doesn't promise, each named by the sentence that it guards.
-use Rattle.std.proofs.Common.{◌≡◌, ◌≢◌, ℕ, List, ◌++◌, None, Some, Option, inl, inr, refl, sym, ap, subst, ◌∙◌, arith}
+use Rattle.std.proofs.Common.{◌≡◌, ◌≢◌, ℕ, List, ◌++◌, None, Some, Option, inl, inr, refl, sym, subst, ◌∙◌, arith}
 use Rattle.std.specs.Prelude.{MatchOption, ◌⊎◌, ⊤}
 use Rattle.std.specs.Io.KnownBytes.{Appends}
+use Rattle.nk_host.specs.FaultCounts.{RoseTo}
 use Rattle.nk_run.specs.declared.command_line.Command.{Command}
+use Rattle.nk_run.specs.declared.command_line.Command.TheVariants.{Scan}
 use Rattle.nk_run.specs.declared.command_line.Role.{Role}
 use Rattle.nk_run.specs.Clauses.{IsOutside, NameRose, Promises, SinkRose, TookAll}
 use Rattle.nk_run.specs.CommandLine.{IsAsked, command_of}
@@ -49,6 +51,11 @@ module _ (seen : Witness) where
   -- status 4 doesn't come where the sink's count didn't rise
   cut_without_a_fault : (SinkRose seen.sink → ⊥) → Promises seen 4 → ⊥
   cut_without_a_fault quiet it = quiet (it.cut_by_count refl)
+
+  -- status 5 isn't the answer to `scan` where the shelf's count of wants didn't rise
+  want_without_a_count : command_of seen.words ≡ Some Scan
+      → (RoseTo seen.shelf.before.wants seen.shelf.after.wants → ⊥) → Promises seen 5 → ⊥
+  want_without_a_count asked quiet it = quiet (it.want_by_count asked refl)
 
   -- no file of the shelf changes
   changed_file : (status : ℕ) (before after : Files) (name : List ℕ) → seen.shelf.before.files ≡ Some before

@@ -1,11 +1,12 @@
 -- What a row of checks says of the outcome.
-use Rattle.std.proofs.Common.{◌≡◌, ◌≢◌, ◌⊎◌, ℕ, suc, ◌≤◌, inl, inr, Bool, true, false, List, [], ◌∷◌, ◌++◌, Option, Some, None, IsSome, IsSomeAnd, Ok, Result, Contains, arith, refl, sym, ap, subst, ◌∙◌}
+use Rattle.std.proofs.Common.{◌≡◌, ◌≢◌, ◌⊎◌, ℕ, suc, ◌≤◌, inl, inr, Bool, true, false, List, [], ◌∷◌, ◌++◌, Option, Some, None, IsSome, IsSomeAnd, Contains, arith, refl, sym, ap, subst, ◌∙◌}
 use Rattle.std.proofs.lemmas.Bool.{or_cases, or_right}
 use Rattle.std.proofs.lemmas.Grind.{common_steps}
 use Rattle.std.specs.Prelude.{MatchBool, ⊤}
 use Rattle.nk_host.specs.FaultCounts.{NeverFalls, RoseTo}
 use Rattle.nk_host.specs.Told.{IfTold}
 use Rattle.nk_run.specs.declared.command_line.Command.{Command}
+use Rattle.nk_run.specs.declared.command_line.Command.TheVariants.{Scan}
 use Rattle.nk_run.specs.declared.command_line.Role.{Role}
 use Rattle.nk_run.specs.declared.command_line.Role.TheVariants.{Image, Input, Plan, Journal}
 use Rattle.nk_run.specs.CommandLine.{IsAsked, command_of, is_same, name_in, roles_of}
@@ -124,7 +125,7 @@ own_number number status kinds e = record {
 pub own_zero : IsOwn 0
 own_zero = own_number 0 0 (inl refl) refl
 
-some_is : {A : Type 0} (o : Option A) (x : A) → o ≡ Some x → IsSome o
+pub some_is : {A : Type 0} (o : Option A) (x : A) → o ≡ Some x → IsSome o
 some_is {A = A} o x e = let P : Option A → Type 0 = λ p. IsSome p in subst P (sym e) refl
 
 -- two roles that are the same are one
@@ -158,7 +159,7 @@ listed_contains (other ∷ roles) role e = elim (or_cases (is_same other role) (
 
 -- the row of a command's checks on files, and the checks behind it
 module _ (words : List (List ℕ)) (command : Command) (asked : command_of words ≡ Some command) (row later : Files → List Check)
-    (whole : (files : Files) → checks_of command files words ≡ row files ++ later files) where
+    (whole : (files : Files) → checks_of command files words ≡ row files ++ later files) (other : Some command ≢ Some Scan) where
   role_asked : (role : Role) → is_listed (roles_of command) role ≡ true → IsAsked words role
   role_asked role listed =
       let P : Option Command → Type 0 = λ o. IsSomeAnd o (λ command. Contains (roles_of command) role) in
@@ -187,7 +188,11 @@ module _ (words : List (List ℕ)) (command : Command) (asked : command_of words
       ∙ ap (λ (u : Verdict). decided u (answer files)) is
 
   pub wants_says : (shelf : Change ShelfState) (status : ℕ) (text : List ℕ) → IsWant status text → CommandSays words shelf status text
-  wants_says shelf status text want = inr (inl (record { asked = some_is (command_of words) _ asked; want = want }))
+  wants_says shelf status text want = inr (inl (record {
+    asked = some_is (command_of words) _ asked;
+    want = want;
+    counted = λ scan. absurd (other (sym asked ∙ scan));
+  }))
 
   pub row_says : (shelf : Change ShelfState) (status : ℕ) (text : List ℕ)
       → StopsIn words shelf (roles_of command) row status text → CommandSays words shelf status text

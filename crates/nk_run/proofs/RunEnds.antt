@@ -1,6 +1,6 @@
 -- Where a run ends: each step takes a turn or an event, so the steps that its length counts lead to the first state at
 -- which it ends.
-use Rattle.std.proofs.Common.{◌≡◌, ℕ, suc, ◌<◌, ◌≤◌, zero, List, [], sym, ap, ◌∙◌, refl, subst, arith}
+use Rattle.std.proofs.Common.{◌≡◌, ℕ, suc, ◌<◌, ◌≤◌, zero, List, [], sym, ap, refl, subst, arith}
 use Rattle.std.specs.Prelude.{Option, None, Some, IsSome}
 use Rattle.irq_plan.specs.declared.event.Event.{Event}
 use Rattle.irq_plan.specs.PlanFile.{plan_of}

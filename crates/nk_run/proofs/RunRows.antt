@@ -38,13 +38,13 @@ module _ (words : List (List ℕ)) (steps frames : ℕ) (asked : command_of word
 
   pub run_row_says : (shelf : Change ShelfState) (status : ℕ) (text : List ℕ)
       → StopsIn words shelf (roles_of (Run steps frames)) (λ files. run_checks files words) status text → CommandSays words shelf status text
-  run_row_says = row_says words (Run steps frames) asked (λ files. run_checks files words) (λ files. test (roomy (need (file_in files words Image) frames) frames) ∷ []) (λ files. refl)
+  run_row_says = row_says words (Run steps frames) asked (λ files. run_checks files words) (λ files. test (roomy (need (file_in files words Image) frames) frames) ∷ []) (λ files. refl) (λ e. cc)
 
   -- the run was made
   pub ran_says : (shelf : Change ShelfState) (text : List ℕ)
       → IfTold shelf.before.files (λ files. outcome words files ≡ Some (record { status = 0; text = text })) → CommandSays words shelf 0 text
   ran_says shelf text is =
-      outcome_says words (Run steps frames) asked (λ files. run_checks files words) (λ files. test (roomy (need (file_in files words Image) frames) frames) ∷ []) (λ files. refl) shelf 0 text own_zero is
+      outcome_says words (Run steps frames) asked (λ files. run_checks files words) (λ files. test (roomy (need (file_in files words Image) frames) frames) ∷ []) (λ files. refl) (λ e. cc) shelf 0 text own_zero is
 
   -- the files are those that are told, where they are told, and the row passed on them
   module _ (told : Option Files) (image input : List ℕ) (plan : List Event) (held : IfTold told (λ files. (image ≡ file_in files words Image) × (input ≡ file_in files words Input) × (plan_of (file_in files words Plan) ≡ Ok plan) × (first_verdict (run_checks files words) ≡ passes))) where
@@ -56,7 +56,7 @@ module _ (words : List (List ℕ)) (steps frames : ℕ) (asked : command_of word
     pub run_room_says : (shelf : Change ShelfState) (status : ℕ) (text : List ℕ) → shelf.before.files ≡ told
         → RefusesBy 1 (roomy (need image frames) frames) status text → CommandSays words shelf status text
     run_room_says shelf status text same refuses =
-        later_says words (Run steps frames) asked (λ files. run_checks files words) (λ files. test (roomy (need (file_in files words Image) frames) frames) ∷ []) (λ files. refl)
+        later_says words (Run steps frames) asked (λ files. run_checks files words) (λ files. test (roomy (need (file_in files words Image) frames) frames) ∷ []) (λ files. refl) (λ e. cc)
         shelf 1 status text (roomy (need image frames) frames) (inr (inl refl))
         (if_told shelf.before.files _ (λ files e.
         let told_is : told ≡ Some files = sym same ∙ e in
@@ -83,7 +83,7 @@ module _ (words : List (List ℕ)) (steps frames : ℕ) (asked : command_of word
     ready_says fits =
         if_told told _ (λ files e.
         let given = told_at told _ files e held in
-        all_says words (Run steps frames) asked (λ files. run_checks files words) (λ files. test (roomy (need (file_in files words Image) frames) frames) ∷ []) (λ files. refl)
+        all_says words (Run steps frames) asked (λ files. run_checks files words) (λ files. test (roomy (need (file_in files words Image) frames) frames) ∷ []) (λ files. refl) (λ e. cc)
         files given.3 (ap (λ (v : Verdict). unless_ended v passes) (run_room files passes e fits))
         ∙ ap (λ (l : List ℕ). Some (record { status = 0; text = l })) (text_is files given.2 given.0 given.1))
 
@@ -98,12 +98,12 @@ module _ (words : List (List ℕ)) (frames : ℕ) (asked : command_of words ≡ 
 
   pub replay_row_says : (shelf : Change ShelfState) (status : ℕ) (text : List ℕ)
       → StopsIn words shelf (roles_of (ReplayCommand frames)) (λ files. journal_checks files words) status text → CommandSays words shelf status text
-  replay_row_says = row_says words (ReplayCommand frames) asked replay_row replay_later (λ files. refl)
+  replay_row_says = row_says words (ReplayCommand frames) asked replay_row replay_later (λ files. refl) (λ e. cc)
 
   pub replayed_says : (shelf : Change ShelfState) (text : List ℕ)
       → IfTold shelf.before.files (λ files. outcome words files ≡ Some (record { status = 0; text = text })) → CommandSays words shelf 0 text
   replayed_says shelf text is =
-      outcome_says words (ReplayCommand frames) asked replay_row replay_later (λ files. refl) shelf 0 text own_zero is
+      outcome_says words (ReplayCommand frames) asked replay_row replay_later (λ files. refl) (λ e. cc) shelf 0 text own_zero is
 
   module _ (told : Option Files) (image journal : List ℕ) (held : IfTold told (λ files. (image ≡ file_in files words Image) × (journal ≡ file_in files words Journal) × (first_verdict (journal_checks files words) ≡ passes))) where
     replay_made : Replay
@@ -124,7 +124,7 @@ module _ (words : List (List ℕ)) (frames : ℕ) (asked : command_of words ≡ 
     pub replay_room_says : (shelf : Change ShelfState) (status : ℕ) (text : List ℕ) → shelf.before.files ≡ told
         → RefusesBy 1 (roomy (need image frames) frames) status text → CommandSays words shelf status text
     replay_room_says shelf status text same refuses =
-        later_says words (ReplayCommand frames) asked replay_row replay_later (λ files. refl)
+        later_says words (ReplayCommand frames) asked replay_row replay_later (λ files. refl) (λ e. cc)
         shelf 1 status text (roomy (need image frames) frames) (inr (inl refl))
         (if_told shelf.before.files _ (λ files e.
         let told_is : told ≡ Some files = sym same ∙ e in
@@ -135,7 +135,7 @@ module _ (words : List (List ℕ)) (frames : ℕ) (asked : command_of words ≡ 
         → RefusesBy 6 (journaled (replay_of journal (opened (record { image = image; frames = frames }))).bad) status text
         → CommandSays words shelf status text
     journal_says fits shelf status text same refuses =
-        later_says words (ReplayCommand frames) asked replay_row replay_later (λ files. refl)
+        later_says words (ReplayCommand frames) asked replay_row replay_later (λ files. refl) (λ e. cc)
         shelf 6 status text (journaled (replay_of journal (opened (record { image = image; frames = frames }))).bad) (inr (inr refl))
         (if_told shelf.before.files _ (λ files e.
         let told_is : told ≡ Some files = sym same ∙ e in (
@@ -153,7 +153,7 @@ module _ (words : List (List ℕ)) (frames : ℕ) (asked : command_of words ≡ 
     made_says fits right =
         if_told told _ (λ files e.
         let given = told_at told _ files e held in
-        all_says words (ReplayCommand frames) asked replay_row replay_later (λ files. refl)
+        all_says words (ReplayCommand frames) asked replay_row replay_later (λ files. refl) (λ e. cc)
         files given.2 (both _ _ (replay_room files passes e fits) (ap (λ (r : Replay). journaled r.bad) (replay_is files e) ∙ ap journaled right))
         ∙ ap (λ (r : Replay). Some (record { status = 0; text = section (file_in files words Image) frames r.made.nested })) (replay_is files e)
         ∙ ap (λ (b : List ℕ). Some (record { status = 0; text = section b frames (replay_of journal (opened (record { image = image; frames = frames }))).made.nested })) (sym given.0))
@@ -163,26 +163,26 @@ module _ (words : List (List ℕ)) (number : ℕ) (asked : command_of words ≡ 
   work_is : (image : List ℕ) → image ≡ image_of_number number → (files : Files)
       → outcome words files ≡ Some (record { status = 0; text = worked image })
   work_is image made files =
-      all_says words (Work number) asked (λ files. []) (λ files. []) (λ files. refl) files refl refl
+      all_says words (Work number) asked (λ files. []) (λ files. []) (λ files. refl) (λ e. cc) files refl refl
       ∙ ap (λ (b : List ℕ). Some (record { status = 0; text = worked b })) (sym made)
 
   pub work_says : (image : List ℕ) → image ≡ image_of_number number → (shelf : Change ShelfState)
       → CommandSays words shelf 0 (worked image)
   work_says image made shelf =
-      outcome_says words (Work number) asked (λ files. []) (λ files. []) (λ files. refl) shelf 0 (worked image) own_zero
+      outcome_says words (Work number) asked (λ files. []) (λ files. []) (λ files. refl) (λ e. cc) shelf 0 (worked image) own_zero
       (if_told shelf.before.files _ (λ files e. work_is image made files))
 
   pub work_wants : (shelf : Change ShelfState) (status : ℕ) (text : List ℕ) → IsWant status text → CommandSays words shelf status text
-  work_wants = wants_says words (Work number) asked (λ files. []) (λ files. []) (λ files. refl)
+  work_wants = wants_says words (Work number) asked (λ files. []) (λ files. []) (λ files. refl) (λ e. cc)
 
 -- Nor does making one.
 pub make_says : (words : List (List ℕ)) (number : ℕ) → command_of words ≡ Some (Make number) → (shelf : Change ShelfState)
     → CommandSays words shelf 0 (image_of_number number)
 make_says words number asked shelf =
-    outcome_says words (Make number) asked (λ files. []) (λ files. []) (λ files. refl) shelf 0 (image_of_number number) own_zero
+    outcome_says words (Make number) asked (λ files. []) (λ files. []) (λ files. refl) (λ e. cc) shelf 0 (image_of_number number) own_zero
     (if_told shelf.before.files _ (λ files e.
-    all_says words (Make number) asked (λ files. []) (λ files. []) (λ files. refl) files refl refl))
+    all_says words (Make number) asked (λ files. []) (λ files. []) (λ files. refl) (λ e. cc) files refl refl))
 
 pub make_wants : (words : List (List ℕ)) (number : ℕ) → command_of words ≡ Some (Make number) → (shelf : Change ShelfState)
     → (status : ℕ) (text : List ℕ) → IsWant status text → CommandSays words shelf status text
-make_wants words number asked = wants_says words (Make number) asked (λ files. []) (λ files. []) (λ files. refl)
+make_wants words number asked = wants_says words (Make number) asked (λ files. []) (λ files. []) (λ files. refl) (λ e. cc)

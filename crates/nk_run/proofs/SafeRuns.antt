@@ -13,12 +13,8 @@ use Rattle.byte_scanner.specs.LeastPlace.{IsNowhere}
 use Rattle.irq_plan.specs.declared.event.Event.{Event}
 use Rattle.irq_plan.specs.PlanFile.{plan_of}
 use Rattle.irq_plan.specs.PlannedEvents.{IsPlan}
-use Rattle.gate_state.specs.GateCalls.{IsCalledThrough, IsCalling}
 use Rattle.gate_state.specs.GuardedStates.{IsAdmitted}
-use Rattle.gate_state.specs.MachineOpening.{opening_state}
-use Rattle.gate_state.specs.MachineStates.{Opening, nested_of}
-use Rattle.gate_state.specs.MachineSteps.{calls, made_by_all, state}
-use Rattle.gate_state.specs.SafeStates.{IsSafe}
+use Rattle.gate_state.specs.MachineStates.{Opening}
 use Rattle.std.specs.Option.{option_map}
 use Rattle.nk_run.specs.declared.command_line.Command.{Command}
 use Rattle.nk_run.specs.declared.command_line.Command.TheVariants.{Scan, Map, Run, Replay, Make, Work}
@@ -96,25 +92,25 @@ run_steps None b steps frames e = absurd (cc)
 -- the bounds of a run
 record IsRunWithin (steps frames : ℕ) : Type 0 where
   least : 512 ≤ frames
-  most : frames ≤ 16384
+  most : frames ≤ 65536
   turns : steps ≤ 4294967296
 
 run_chosen : (b : Bool) (word_steps word_frames : List ℕ) (steps frames : ℕ)
-    → (if b then run_with (decimal_within 0 4294967296 word_steps) (decimal_within 512 16384 word_frames) else None) ≡ Some (Run steps frames)
+    → (if b then run_with (decimal_within 0 4294967296 word_steps) (decimal_within 512 65536 word_frames) else None) ≡ Some (Run steps frames)
     → IsRunWithin steps frames
 run_chosen true word_steps word_frames steps frames e =
-    let room = spelled_within 512 16384 word_frames frames (run_frames (decimal_within 0 4294967296 word_steps) (decimal_within 512 16384 word_frames) steps frames e) in
-    let turns = spelled_within 0 4294967296 word_steps steps (run_steps (decimal_within 0 4294967296 word_steps) (decimal_within 512 16384 word_frames) steps frames e) in
+    let room = spelled_within 512 65536 word_frames frames (run_frames (decimal_within 0 4294967296 word_steps) (decimal_within 512 65536 word_frames) steps frames e) in
+    let turns = spelled_within 0 4294967296 word_steps steps (run_steps (decimal_within 0 4294967296 word_steps) (decimal_within 512 65536 word_frames) steps frames e) in
     record { least = room.0; most = room.1; turns = turns.1 }
 run_chosen false word_steps word_frames steps frames e = absurd (cc)
 
--- a run is asked for with 512 to 16,384 frames, and 4,294,967,296 turns at most
+-- a run is asked for with 512 to 65,536 frames, and 4,294,967,296 turns at most
 run_within : (words : List (List ℕ)) (steps frames : ℕ) → command_of words ≡ Some (Run steps frames) → IsRunWithin steps frames
 run_within [] steps frames e = absurd (cc)
 run_within (a ∷ []) steps frames e = absurd (cc)
 run_within (a ∷ b ∷ []) steps frames e = absurd (no_short _ _ _ (decimal_within 1 100 b) steps frames e)
 run_within (a ∷ b ∷ c ∷ []) steps frames e = absurd (cc)
-run_within (a ∷ b ∷ c ∷ d ∷ []) steps frames e = absurd (no_middle _ _ (decimal_within 512 16384 c) (address_of d) steps frames e)
+run_within (a ∷ b ∷ c ∷ d ∷ []) steps frames e = absurd (no_middle _ _ (decimal_within 512 65536 c) (address_of d) steps frames e)
 run_within (a ∷ b ∷ c ∷ d ∷ x ∷ []) steps frames e = absurd (cc)
 run_within (a ∷ b ∷ c ∷ d ∷ x ∷ f ∷ []) steps frames e = run_chosen _ x f steps frames e
 run_within (a ∷ b ∷ c ∷ d ∷ x ∷ f ∷ g ∷ more) steps frames e = absurd (cc)

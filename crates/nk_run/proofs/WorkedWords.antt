@@ -1,15 +1,16 @@
 -- Words of the command line and lines of statuses at worked values.
-use Rattle.std.proofs.Common.{◌≡◌, ℕ, ◌-◌, ◌^◌, true, false, List, [], ◌∷◌, None, Some, Ok, Err, Option, codes, refl}
+use Rattle.std.proofs.Common.{◌≡◌, ℕ, true, false, List, [], ◌∷◌, None, Some, Ok, Err, Option, codes, refl}
 use Rattle.std.specs.Fmt.{char_count, digits, padded_integral}
 use Rattle.hex.specs.Hex.{encode_with}
 use Rattle.nk_bits.specs.declared.leaf.Leaf.{Leaf}
 use Rattle.nk_bits.specs.declared.leaf.Rights.{Rights}
+use Rattle.report_text.specs.ImageLines.{admitted_line, image_line, protected_line}
 use Rattle.report_text.specs.RunLines.{hex_16}
 use Rattle.nk_run.specs.declared.command_line.Command.{Command}
 use Rattle.nk_run.specs.declared.command_line.Command.TheVariants.{Scan, Map, Run, Replay, Make, Work}
 use Rattle.nk_run.specs.declared.command_line.Role.TheVariants.{Image, Input, Plan, Journal}
 use Rattle.nk_run.specs.CommandLine.{command_of}
-use Rattle.nk_run.specs.Lines.{admitted_line, frame_line, image_line, journal_line, longer_line, missing_line, no_memory_line, noroom_line, plan_line, protected_line, rights_text, unread_line, usage_line, walk_line}
+use Rattle.nk_run.specs.Lines.{frame_line, journal_line, longer_line, missing_line, no_memory_line, noroom_line, plan_line, rights_text, unread_line, usage_line, walk_line}
 
 -- `scan IMAGE`, whatever the name of the file
 scans :
@@ -25,12 +26,15 @@ scans = (refl, refl, refl, refl, refl, refl, refl)
 abbrev mapped : List ℕ → List ℕ → Option Command
 mapped frames va = command_of (codes "map" ∷ codes "a" ∷ frames ∷ va ∷ [])
 
--- FRAMES is 512 to 16,384, decimal, without sign and without leading zeros
+-- FRAMES is 512 to 65,536, decimal, without sign and without leading zeros
 frames :
     (mapped (codes "512") (codes "0") ≡ Some (Map 512 0)) ×
     (mapped (codes "16384") (codes "0") ≡ Some (Map 16384 0)) ×
+    (mapped (codes "16385") (codes "0") ≡ Some (Map 16385 0)) ×
+    (mapped (codes "65535") (codes "0") ≡ Some (Map 65535 0)) ×
+    (mapped (codes "65536") (codes "0") ≡ Some (Map 65536 0)) ×
     (mapped (codes "511") (codes "0") ≡ None) ×
-    (mapped (codes "16385") (codes "0") ≡ None) ×
+    (mapped (codes "65537") (codes "0") ≡ None) ×
     (mapped (codes "0512") (codes "0") ≡ None) ×
     (mapped (codes "+512") (codes "0") ≡ None) ×
     (mapped (codes "-512") (codes "0") ≡ None) ×
@@ -40,7 +44,7 @@ frames :
     (mapped (codes "2ff") (codes "0") ≡ None) ×
     (mapped [] (codes "0") ≡ None) ×
     (mapped (codes "18446744073709552128") (codes "0") ≡ None)
-frames = (refl, refl, refl, refl, refl, refl, refl, refl, refl, refl, refl, refl, refl)
+frames = (refl, refl, refl, refl, refl, refl, refl, refl, refl, refl, refl, refl, refl, refl, refl, refl)
 
 -- VA has 1 to 16 hexadecimal digits of either case, and is canonical
 addresses :
@@ -65,31 +69,33 @@ run_by steps frames = command_of (codes "run" ∷ codes "a" ∷ codes "b" ∷ co
 -- STEPS is 0 to 4,294,967,296; the words of `run` have their order
 runs :
     (run_by (codes "0") (codes "512") ≡ Some (Run 0 512)) ×
-    (run_by (codes "4294967296") (codes "16384") ≡ Some (Run 4294967296 16384)) ×
+    (run_by (codes "4294967296") (codes "65536") ≡ Some (Run 4294967296 65536)) ×
     (run_by (codes "4294967297") (codes "512") ≡ None) ×
     (run_by (codes "512") (codes "2000000") ≡ None) ×
     (run_by (codes "00") (codes "512") ≡ None) ×
     (run_by (codes "01") (codes "512") ≡ None) ×
     (run_by (codes "+1") (codes "512") ≡ None) ×
     (run_by (codes "1") (codes "511") ≡ None) ×
-    (run_by (codes "1") (codes "16385") ≡ None) ×
+    (run_by (codes "1") (codes "16385") ≡ Some (Run 1 16385)) ×
+    (run_by (codes "1") (codes "65537") ≡ None) ×
     (run_by [] (codes "512") ≡ None) ×
     (command_of (codes "run" ∷ codes "a" ∷ codes "b" ∷ codes "c" ∷ codes "1" ∷ []) ≡ None) ×
     (command_of (codes "run" ∷ codes "a" ∷ codes "b" ∷ codes "c" ∷ codes "1" ∷ codes "512" ∷ codes "d" ∷ []) ≡ None) ×
     (command_of (codes "run" ∷ codes "a" ∷ codes "512" ∷ codes "1" ∷ []) ≡ None)
-runs = (refl, refl, refl, refl, refl, refl, refl, refl, refl, refl, refl, refl, refl)
+runs = (refl, refl, refl, refl, refl, refl, refl, refl, refl, refl, refl, refl, refl, refl)
 
 -- `replay IMAGE FRAMES JOURNAL`
 replays :
     (command_of (codes "replay" ∷ codes "a" ∷ codes "512" ∷ codes "b" ∷ []) ≡ Some (Replay 512)) ×
-    (command_of (codes "replay" ∷ codes "a" ∷ codes "16384" ∷ codes "b" ∷ []) ≡ Some (Replay 16384)) ×
+    (command_of (codes "replay" ∷ codes "a" ∷ codes "16385" ∷ codes "b" ∷ []) ≡ Some (Replay 16385)) ×
+    (command_of (codes "replay" ∷ codes "a" ∷ codes "65536" ∷ codes "b" ∷ []) ≡ Some (Replay 65536)) ×
     (command_of (codes "replay" ∷ codes "a" ∷ codes "511" ∷ codes "b" ∷ []) ≡ None) ×
-    (command_of (codes "replay" ∷ codes "a" ∷ codes "16385" ∷ codes "b" ∷ []) ≡ None) ×
+    (command_of (codes "replay" ∷ codes "a" ∷ codes "65537" ∷ codes "b" ∷ []) ≡ None) ×
     (command_of (codes "replay" ∷ codes "a" ∷ codes "0512" ∷ codes "b" ∷ []) ≡ None) ×
     (command_of (codes "replay" ∷ codes "a" ∷ codes "b" ∷ codes "512" ∷ []) ≡ None) ×
     (command_of (codes "replay" ∷ codes "a" ∷ codes "512" ∷ []) ≡ None) ×
     (command_of (codes "replays" ∷ codes "a" ∷ codes "512" ∷ codes "b" ∷ []) ≡ None)
-replays = (refl, refl, refl, refl, refl, refl, refl, refl)
+replays = (refl, refl, refl, refl, refl, refl, refl, refl, refl)
 
 abbrev making : List ℕ → Option Command
 making number = command_of (codes "make" ∷ number ∷ [])

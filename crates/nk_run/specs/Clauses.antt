@@ -1,6 +1,6 @@
 -- What the top call promises, in the order of the record `Promises` at the end: each promise is over what the call saw
 -- and its status.
-use Rattle.std.specs.Prelude.{◌≡◌, ℕ, ◌<◌, ◌≤◌, ◌⊎◌, List, [], length, None, MatchOption, IfSome, IsSomeAnd, IsOk, ⊤}
+use Rattle.std.specs.Prelude.{◌≡◌, ℕ, ◌≤◌, ◌⊎◌, List, [], length, None, Some, MatchOption, IfSome, IsSomeAnd, IsOk, ⊤}
 use Rattle.std.specs.Io.KnownBytes.{Appends}
 use Rattle.nk_host.specs.FaultCounts.{Rose, RoseTo}
 use Rattle.nk_host.specs.Taken.{AppendsPrefix}
@@ -75,6 +75,11 @@ IsUnreadByCount seen status =
 -- status 4 comes only where the sink's count rose
 abbrev pub IsCutByCount : Witness → ℕ → Type 0
 IsCutByCount seen status = status ≡ 4 → SinkRose seen.sink
+
+-- of `scan` status 5 comes only where the shelf's count of wants rose
+abbrev pub IsWantByCount : Witness → ℕ → Type 0
+IsWantByCount seen status =
+    command_of seen.words ≡ Some Scan → status ≡ 5 → RoseTo seen.shelf.before.wants seen.shelf.after.wants
 
 -- the status is the outcome's, or one of those of the outside; where the outcome is undefined it is one of these
 abbrev pub IsStatus : Witness → ℕ → Type 0
@@ -232,6 +237,7 @@ pub record Promises (seen : Witness) (status : ℕ) : Type 0 where
   pub usage_alone : IsUsageAlone seen status
   pub unread_by_count : IsUnreadByCount seen status
   pub cut_by_count : IsCutByCount seen status
+  pub want_by_count : IsWantByCount seen status
   -- otherwise status and text are the outcome's
   pub outcome_status : IsStatus seen status
   pub outcome_text : IsText seen status

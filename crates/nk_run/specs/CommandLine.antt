@@ -17,7 +17,7 @@ short_of name word =
     else if bytes_eq name (codes "work") then option_map Work (decimal_within 1 100 word)
     else None
 
--- `map IMAGE FRAMES VA`: FRAMES from 512 to 16,384, which are 2 MiB to 64 MiB, and VA a canonical address
+-- `map IMAGE FRAMES VA`: FRAMES from 512 to 65,536, which are 2 MiB to 256 MiB, and VA a canonical address
 abbrev pub map_with : Option ℕ → Option ℕ → Option Command
 map_with (Some frames) (Some va) = Some (Map frames va)
 map_with (Some frames) None = None
@@ -26,8 +26,8 @@ map_with None va = None
 -- that, or `replay IMAGE FRAMES JOURNAL` with the same bounds on FRAMES
 abbrev pub middle_of : List ℕ → List ℕ → List ℕ → Option Command
 middle_of name frames word =
-    if bytes_eq name (codes "map") then map_with (decimal_within 512 16384 frames) (address_of word)
-    else if bytes_eq name (codes "replay") then option_map Replay (decimal_within 512 16384 frames)
+    if bytes_eq name (codes "map") then map_with (decimal_within 512 65536 frames) (address_of word)
+    else if bytes_eq name (codes "replay") then option_map Replay (decimal_within 512 65536 frames)
     else None
 
 -- `run IMAGE INPUT PLAN STEPS FRAMES`: STEPS at most 2^32, the most turns that the run may take, and FRAMES as above
@@ -39,7 +39,7 @@ run_with None frames = None
 abbrev pub run_of : List ℕ → List ℕ → List ℕ → Option Command
 run_of name steps frames =
     if bytes_eq name (codes "run")
-    then run_with (decimal_within 0 4294967296 steps) (decimal_within 512 16384 frames)
+    then run_with (decimal_within 0 4294967296 steps) (decimal_within 512 65536 frames)
     else None
 
 -- the command that the words spell, without the program's own name; other words have no form
@@ -61,9 +61,9 @@ word_count (Work number) = 2
 -- a command's numbers lie within their bounds
 abbrev pub IsBounded : Command → Type 0
 IsBounded Scan = ⊤
-IsBounded (Map frames va) = (512 ≤ frames) × (frames ≤ 16384) × IsTrue (is_canonical va)
-IsBounded (Run steps frames) = (steps ≤ 4294967296) × (512 ≤ frames) × (frames ≤ 16384)
-IsBounded (Replay frames) = (512 ≤ frames) × (frames ≤ 16384)
+IsBounded (Map frames va) = (512 ≤ frames) × (frames ≤ 65536) × IsTrue (is_canonical va)
+IsBounded (Run steps frames) = (steps ≤ 4294967296) × (512 ≤ frames) × (frames ≤ 65536)
+IsBounded (Replay frames) = (512 ≤ frames) × (frames ≤ 65536)
 IsBounded (Make number) = (1 ≤ number) × (number ≤ 100)
 IsBounded (Work number) = (1 ≤ number) × (number ≤ 100)
 

@@ -12,3 +12,6 @@ pub mod Clauses
 -- Words of private clauses and proofs.
 pub mod ReplyText
 pub mod Replies
+pub mod HeldFile
+pub mod ScanStops
+pub mod WalkedPieces

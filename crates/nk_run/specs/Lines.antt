@@ -1,10 +1,8 @@
 -- The lines that the program writes beside those of a run, byte for byte. Lists of bytes nest to the right, as a format writes them.
 use Rattle.std.specs.Prelude.{ℕ, ◌++◌, if◌then◌else◌, List, codes, Result, Ok, Err}
 use Rattle.std.specs.Fmt.{decimal}
-use Rattle.hex.specs.Hex.{encode_lower}
 use Rattle.nk_bits.specs.declared.leaf.Leaf.{Leaf}
 use Rattle.nk_bits.specs.declared.leaf.Rights.{Rights}
-use Rattle.report_text.specs.RunLines.{hex_16}
 use Rattle.nk_run.specs.declared.command_line.Role.{Role}
 use Rattle.nk_run.specs.declared.command_line.Role.TheVariants.{Image, Input, Plan, Journal}
 
@@ -34,21 +32,6 @@ unread_line role = codes "unread " ++ (role_text role ++ codes "\n")
 -- a file has more bytes than the limit
 unfoldable pub longer_line : Role → List ℕ
 longer_line role = codes "longer " ++ (role_text role ++ (codes " " ++ (decimal longest_file ++ codes "\n")))
-
--- the image's first fault: its number, its name and its value
-unfoldable pub image_line : ℕ → List ℕ → ℕ → List ℕ
-image_line number name value =
-    codes "image " ++ (decimal number ++ (codes " " ++ (name ++ (codes " " ++ (decimal value ++ codes "\n")))))
-
--- the least address with a protected encoding, and the encoding's bytes
-unfoldable pub protected_line : ℕ → List ℕ → List ℕ
-protected_line address bytes =
-    codes "protected " ++ (hex_16 address ++ (codes " " ++ (encode_lower bytes ++ codes "\n")))
-
--- the image is admitted: its entry and the number of its executable pages
-unfoldable pub admitted_line : ℕ → ℕ → List ℕ
-admitted_line entry pages =
-    codes "admitted entry " ++ (hex_16 entry ++ (codes " pages " ++ (decimal pages ++ codes "\n")))
 
 -- the opening needs more frames than there are
 unfoldable pub noroom_line : ℕ → ℕ → List ℕ

@@ -17,6 +17,7 @@ use Rattle.boot_map.specs.OpeningEntries.{opening_entry}
 use Rattle.gate_state.specs.MachineOpening.{opening_memory, opening_state}
 use Rattle.gate_state.specs.MachineStates.{Opening, nested_of}
 use Rattle.report_text.specs.ClosingSection.{section}
+use Rattle.report_text.specs.ImageLines.{admitted_line, image_line, protected_line}
 use Rattle.replay_core.specs.ReplayedCalls.{Replay as WholeReplay, Replayed, replay_of}
 use Rattle.image_maker.specs.MadeImage.{image_of_number}
 use Rattle.nk_run.specs.declared.command_line.Command.{Command}
@@ -25,7 +26,7 @@ use Rattle.nk_run.specs.declared.command_line.Role.{Role}
 use Rattle.nk_run.specs.declared.command_line.Role.TheVariants.{Image, Input, Plan, Journal}
 use Rattle.nk_run.specs.CommandLine.{command_of, is_same, name_in}
 use Rattle.nk_run.specs.Witness.{Files}
-use Rattle.nk_run.specs.Lines.{longest_file, usage_line, longer_line, image_line, protected_line, admitted_line, noroom_line, plan_line, journal_line, walk_line}
+use Rattle.nk_run.specs.Lines.{longest_file, usage_line, longer_line, noroom_line, plan_line, journal_line, walk_line}
 use Rattle.nk_run.specs.RunStates.{run_text}
 use Rattle.nk_run.specs.WorkSummary.{work_text}
 

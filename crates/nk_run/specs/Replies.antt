@@ -3,6 +3,7 @@ use Rattle.std.specs.Prelude.{◌≡◌, ◌≢◌, ℕ, ◌*◌, Bool, true, �
 use Rattle.std.specs.List.{list_any}
 use Rattle.nk_bits.specs.declared.leaf.Leaf.{Leaf}
 use Rattle.irq_plan.specs.declared.event.Event.{Event}
+use Rattle.nk_host.specs.FaultCounts.{RoseTo}
 use Rattle.nk_host.specs.Files.{HoldsBytes}
 use Rattle.nk_host.specs.Told.{IfTold}
 use Rattle.byte_scanner.specs.FirstFound.{first_found}
@@ -11,7 +12,7 @@ use Rattle.nk_body.specs.NestedRecord.{HoldsBooks, OwnState, nested_held}
 use Rattle.gate_state.specs.MachineOpening.{opening_state}
 use Rattle.report_text.specs.ClosingSection.{section}
 use Rattle.nk_run.specs.declared.command_line.Command.{Command}
-use Rattle.nk_run.specs.declared.command_line.Command.TheVariants.{Run}
+use Rattle.nk_run.specs.declared.command_line.Command.TheVariants.{Run, Scan}
 use Rattle.image_maker.specs.MadeImage.{image_of_number}
 use Rattle.nk_run.specs.declared.command_line.Role.{Role}
 use Rattle.nk_run.specs.declared.command_line.Role.TheVariants.{Image}
@@ -50,10 +51,11 @@ pub record IsWant (status : ℕ) (text : List ℕ) : Type 0 where
   pub status_is : status ≡ 5
   pub text_is : text ≡ no_memory_line
 
--- there was no memory for a command
-pub record SaysWant (words : List (List ℕ)) (status : ℕ) (text : List ℕ) : Type 0 where
+-- there was no memory for a command; of `scan` the shelf counted it
+pub record SaysWant (words : List (List ℕ)) (shelf : Change ShelfState) (status : ℕ) (text : List ℕ) : Type 0 where
   pub asked : IsSome (command_of words)
   pub want : IsWant status text
+  pub counted : command_of words ≡ Some Scan → RoseTo shelf.before.wants shelf.after.wants
 
 -- a command's outcome, where files are told
 pub record SaysOutcome (words : List (List ℕ)) (shelf : Change ShelfState) (status : ℕ) (text : List ℕ)
@@ -66,7 +68,7 @@ pub record SaysOutcome (words : List (List ℕ)) (shelf : Change ShelfState) (st
 -- what a command says is one of these
 abbrev pub CommandSays : List (List ℕ) → Change ShelfState → ℕ → List ℕ → Type 0
 CommandSays words shelf status text =
-    SaysUnread words shelf status text ⊎ (SaysWant words status text ⊎ SaysOutcome words shelf status text)
+    SaysUnread words shelf status text ⊎ (SaysWant words shelf status text ⊎ SaysOutcome words shelf status text)
 
 -- what is said is that the words have no form, or what their command says
 abbrev pub Says : List (List ℕ) → Change ShelfState → ℕ → List ℕ → Type 0
@@ -133,10 +135,13 @@ StopsIn words shelf roles checks status text =
     StopsUnreadIn words shelf roles checks status text
     ⊎ (IsWant status text ⊎ StopsEnded shelf (λ files. first_verdict (checks files)) status text)
 
--- a check on what was fetched ended the command with its number as the status, or there was no memory to say so
+-- a check on what was fetched ended the command with its number as the status
+abbrev pub EndsBy : ℕ → Verdict → ℕ → List ℕ → Type 0
+EndsBy number verdict status text = (verdict ≡ ends (record { status = status; text = text })) × (status ≡ number)
+
+-- or there was no memory to say so
 abbrev pub RefusesBy : ℕ → Verdict → ℕ → List ℕ → Type 0
-RefusesBy number verdict status text =
-    IsWant status text ⊎ ((verdict ≡ ends (record { status = status; text = text })) × (status ≡ number))
+RefusesBy number verdict status text = IsWant status text ⊎ EndsBy number verdict status text
 
 -- after the checks on the image, the last check decides and the command's text is written, or there was no memory
 abbrev pub Concludes : Verdict → List ℕ → ℕ → List ℕ → Type 0

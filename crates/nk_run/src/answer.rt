@@ -41,7 +41,7 @@ pub(crate) fn answer<S: Shelf, O: Sink>(
         IfSome (command_of names) (λ command. ReadsBytes command names (S.files shelf.old)) }
     ensures answered { IsAnswered (record {
       words = map string_bytes words.now;
-      shelf = shelf_change S.files S.faults shelf.old shelf.new;
+      shelf = shelf_change S.files S.faults S.wants shelf.old shelf.new;
       sink = sink_change O.taken O.faults sink.old sink.new;
     }) result }
 {

@@ -8,8 +8,8 @@ use crate::numbers::{address_of, decimal_within};
 /// The least number of frames that a memory may have: 2 MiB.
 const LEAST_FRAMES: u64 = 512;
 
-/// The greatest number of frames that a memory may have: 64 MiB.
-const MOST_FRAMES: u64 = 16_384;
+/// The greatest number of frames that a memory may have: 256 MiB.
+const MOST_FRAMES: u64 = 65_536;
 
 /// The greatest number of turns that a run may take.
 const MOST_STEPS: u64 = 4_294_967_296;

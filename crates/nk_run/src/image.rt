@@ -1,5 +1,5 @@
 //! The checks on the image, which every command on files makes first.
-ghost use Rattle.std.specs.Prelude.{◌≡◌, ◌<◌, length, map, None, IfOk, MatchOption, MatchResult};
+ghost use Rattle.std.specs.Prelude.{◌≡◌, ◌<◌, ◌≤◌, length, map, None, Some, IfOk, MatchOption, MatchResult};
 ghost use Rattle.std.specs.String.{string_bytes};
 ghost use Rattle.nk_host.specs.FaultCounts.{NeverFalls};
 ghost use Rattle.nk_host.specs.Told.{IfTold};
@@ -9,14 +9,15 @@ ghost use Rattle.nk_run.specs.CommandLine.{name_in, word_place};
 ghost use Rattle.nk_run.specs.Witness.{shelf_change};
 ghost use Rattle.nk_run.specs.Outcome.{fetched, formed, clean, first_verdict, form_checks, image_checks, file_in, passes};
 ghost use Rattle.nk_run.specs.ReplyText.{bytes_of};
-ghost use Rattle.nk_run.specs.Replies.{RefusesBy, Stops, TellsBytes};
+ghost use Rattle.nk_run.specs.Replies.{EndsBy, Stops, TellsBytes};
 
 use crate::command_line::Role;
-use crate::lines::{image_line, longer_line, protected_line, unread_line};
-use crate::reply::{Line, Reply, made, want};
-use byte_scanner::scan;
-use elf_image::Image;
+use crate::lines::{longer_line, unread_line};
+use crate::reply::{Line, Reply, want};
+use byte_scanner::{Found, scan};
+use elf_image::{Image, ImageFault};
 use nk_host::{FetchFault, Shelf};
+use report_text::{ShortLine, image_line, protected_line};
 use std::alloc::Global;
 
 /// The most bytes of a file that is read: 64 MiB.
@@ -37,7 +38,7 @@ pub(crate) fn fetch<S: Shelf>(
         (λ bytes. IfTold (S.files shelf.old) (λ files.
         (files (name_in names role) ≡ Some bytes.items)
         × (fetched role (files (name_in names role)) ≡ passes)))
-        (λ reply. Stops names (shelf_change S.files S.faults shelf.old shelf.new) role
+        (λ reply. Stops names (shelf_change S.files S.faults S.wants shelf.old shelf.new) role
         (λ files. fetched role (files (name_in names role))) reply.status (bytes_of reply.line)) }
 {
     match shelf.fetch(alloc, words[role.word_place()].as_str(), FILE_LIMIT) {
@@ -54,43 +55,70 @@ pub(crate) fn fetch<S: Shelf>(
     }
 }
 
+/// The reply to an image that isn't admitted, of this line.
+fn refused(line: ShortLine) -> Reply
+    ensures status { result.status ≡ 1 }
+    ensures line { bytes_of result.line ≡ line }
+{
+    Reply {
+        status: 1,
+        line: Line::Short(line),
+    }
+}
+
+/// The reply to the image's first fault.
+pub(crate) fn faulty(fault: &ImageFault) -> Reply
+    ensures { EndsBy 1 (formed (Some fault.now)) result.status (bytes_of result.line) }
+{
+    refused(image_line(fault))
+}
+
+/// The reply to the first protected encoding in the image's code.
+pub(crate) fn protected(found: &Found) -> Reply
+    requires { found.now.count ≤ 3 }
+    ensures { EndsBy 1 (clean (Some found.now)) result.status (bytes_of result.line) }
+{
+    let bytes = &found.bytes[..found.count as usize];
+    refused(protected_line(found.at, bytes))
+}
+
 /// The image that the file is, or the reply to its first fault.
-fn form(alloc: Global, bytes: Vec<u8>) -> Result<Image, Reply>
+fn form(bytes: Vec<u8>) -> Result<Image, Reply>
     ensures { MatchResult result
         (λ image. (image ≡ bytes.items) × (formed (first_fault bytes.items) ≡ passes))
-        (λ reply. RefusesBy 1 (formed (first_fault bytes.items))
+        (λ reply. EndsBy 1 (formed (first_fault bytes.items))
         reply.status (bytes_of reply.line)) }
 {
     match Image::read(bytes) {
         Ok(image) => Ok(image),
-        Err(fault) => Err(made(1, image_line(alloc, &fault))),
+        Err(fault) => Err(faulty(&fault)),
     }
 }
 
 /// Nothing where the image's code holds no protected encoding, else the reply to the first one.
-fn admit(alloc: Global, image: &Image) -> Option<Reply>
+fn admit(image: &Image) -> Option<Reply>
     ensures { MatchOption result
         ((first_found image.now ≡ None) × (clean (first_found image.now) ≡ passes))
-        (λ reply. RefusesBy 1 (clean (first_found image.now)) reply.status (bytes_of reply.line)) }
+        (λ reply. EndsBy 1 (clean (first_found image.now)) reply.status (bytes_of reply.line)) }
 {
     match scan(image) {
         None => None,
-        Some(found) => Some(made(1, protected_line(alloc, &found))),
+        Some(found) => Some(protected(&found)),
     }
 }
 
 /// The image that the file is, or the reply to its first fault, else to the first protected encoding in its code.
-fn judge(alloc: Global, bytes: Vec<u8>) -> Result<Image, Reply>
+fn judge(bytes: Vec<u8>) -> Result<Image, Reply>
     ensures clean { IfOk result (λ image. first_found image ≡ None) }
     ensures judged { MatchResult result
         (λ image. (image ≡ bytes.items) × (first_verdict (form_checks bytes.items) ≡ passes))
-        (λ reply. RefusesBy 1 (first_verdict (form_checks bytes.items)) reply.status (bytes_of reply.line)) }
+        (λ reply. EndsBy 1 (first_verdict (form_checks bytes.items)) reply.status (bytes_of reply.line)) }
 {
-    let image = match form(alloc, bytes) {
+    let image = match form(bytes) {
         Ok(image) => image,
         Err(reply) => return Err(reply),
     };
-    match admit(alloc, &image) {
+    match admit(&image) {
         None => Ok(image),
         Some(reply) => Err(reply),
     }
@@ -106,12 +134,12 @@ pub(crate) fn open<S: Shelf>(alloc: Global, words: &[String], shelf: &mut S) -> 
     ensures opened { let names = map string_bytes words.now in MatchResult result
         (λ image. IfTold (S.files shelf.old) (λ files. (image ≡ file_in files names Role.Image)
         × (first_verdict (image_checks files names) ≡ passes)))
-        (λ reply. Stops names (shelf_change S.files S.faults shelf.old shelf.new) Role.Image
+        (λ reply. Stops names (shelf_change S.files S.faults S.wants shelf.old shelf.new) Role.Image
         (λ files. first_verdict (image_checks files names)) reply.status (bytes_of reply.line)) }
 {
     let bytes = match fetch(alloc, words, Role::Image, shelf) {
         Ok(bytes) => bytes,
         Err(reply) => return Err(reply),
     };
-    judge(alloc, bytes)
+    judge(bytes)
 }

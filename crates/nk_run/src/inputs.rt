@@ -46,7 +46,7 @@ fn open_plan<S: Shelf>(alloc: Global, words: &[String], shelf: &mut S) -> Result
     ensures opened { let names = map string_bytes words.now in MatchResult result
         (λ plan. IfTold (S.files shelf.old) (λ files. (plan_of (file_in files names Role.Plan) ≡ Ok plan)
         × (first_verdict (plan_checks files names) ≡ passes)))
-        (λ reply. Stops names (shelf_change S.files S.faults shelf.old shelf.new) Role.Plan
+        (λ reply. Stops names (shelf_change S.files S.faults S.wants shelf.old shelf.new) Role.Plan
         (λ files. first_verdict (plan_checks files names)) reply.status (bytes_of reply.line)) }
 {
     match fetch(alloc, words, Role::Plan, shelf) {
@@ -69,7 +69,7 @@ pub(crate) fn open_outside<S: Shelf>(
         (λ outside. IfTold (S.files shelf.old) (λ files. (outside.input.items ≡ file_in files names Role.Input)
         × (plan_of (file_in files names Role.Plan) ≡ Ok outside.plan)
         × (first_verdict (input_checks files names) ≡ passes)))
-        (λ reply. StopsIn names (shelf_change S.files S.faults shelf.old shelf.new)
+        (λ reply. StopsIn names (shelf_change S.files S.faults S.wants shelf.old shelf.new)
         (Role.Input ∷ Role.Plan ∷ []) (λ files. input_checks files names) reply.status (bytes_of reply.line)) }
 {
     let input = match fetch(alloc, words, Role::Input, shelf) {

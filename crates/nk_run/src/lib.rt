@@ -12,8 +12,10 @@ mod numbers;
 mod lines;
 mod reply;
 
-// The image, which every command on files opens first.
+// The image: held whole, for the commands that open it; and read in pieces, for the scan.
 mod image;
+mod page_pieces;
+mod pieces;
 
 // The commands.
 mod make;

@@ -1,15 +1,11 @@
 //! The lines that the program writes.
-ghost use Rattle.std.specs.Prelude.{◌≡◌, ◌≤◌, IfOk, length, take};
+ghost use Rattle.std.specs.Prelude.{◌≡◌, IfOk};
 ghost use Rattle.std.specs.String.{string_bytes};
-ghost use Rattle.elf_image.specs.ImageFaults.{number_of, name_of};
 ghost use Rattle.nk_run.specs.Lines.{
   usage_line,
   no_memory_line,
   unread_line,
   longer_line,
-  image_line,
-  protected_line,
-  admitted_line,
   noroom_line,
   plan_line,
   journal_line,
@@ -20,8 +16,6 @@ ghost use Rattle.nk_run.specs.Lines.{
 
 use crate::command_line::Role;
 use boot_map::NoRoom;
-use byte_scanner::Found;
-use elf_image::ImageFault;
 use nk_bits::{Leaf, Rights};
 use std::alloc::{AllocError, Global};
 
@@ -64,38 +58,6 @@ pub(crate) fn longer_line(role: Role) -> &'static str
         Role::Plan => "longer plan 67108864\n",
         Role::Journal => "longer journal 67108864\n",
     }
-}
-
-/// The image's first fault.
-#[tactic(auto, unfolding(crate::specs::Lines::image_line))]
-pub(crate) fn image_line(alloc: Global, fault: &ImageFault) -> Result<String, AllocError>
-    ensures { IfOk result (λ line. string_bytes line
-        ≡ image_line (number_of fault.now.kind) (name_of fault.now.kind) fault.now.value) }
-{
-    let number = fault.kind.number();
-    let name = fault.kind.name();
-    let value = fault.value;
-    format!(in alloc; "image {number} {name} {value}\n")
-}
-
-/// The first protected encoding in the image's code.
-#[tactic(auto, unfolding(crate::specs::Lines::protected_line, report_text::specs::RunLines::hex_16))]
-pub(crate) fn protected_line(alloc: Global, found: &Found) -> Result<String, AllocError>
-    requires { found.now.count ≤ length found.now.bytes }
-    ensures { IfOk result (λ line. string_bytes line
-        ≡ protected_line found.now.at (take found.now.count found.now.bytes)) }
-{
-    let address = found.at;
-    let bytes = hex::encode(alloc, &found.bytes[..found.count as usize])?;
-    format!(in alloc; "protected {address:016x} {bytes}\n")
-}
-
-/// The image is admitted.
-#[tactic(auto, unfolding(crate::specs::Lines::admitted_line, report_text::specs::RunLines::hex_16))]
-pub(crate) fn admitted_line(alloc: Global, entry: u64, pages: u32) -> Result<String, AllocError>
-    ensures { IfOk result (λ line. string_bytes line ≡ admitted_line entry pages) }
-{
-    format!(in alloc; "admitted entry {entry:016x} pages {pages}\n")
 }
 
 /// The opening of the image needs more frames than there are.

@@ -67,7 +67,7 @@ pub(crate) fn map<S: Shelf>(
     requires bounds { IsBounded (Command.Map frames va) }
     ensures files_stay { S.files shelf.new ≡ S.files shelf.old }
     ensures says { CommandSays (map string_bytes words.now)
-        (shelf_change S.files S.faults shelf.old shelf.new) result.status (bytes_of result.line) }
+        (shelf_change S.files S.faults S.wants shelf.old shelf.new) result.status (bytes_of result.line) }
 {
     match open(alloc, words, shelf) {
         Ok(image) => translate(alloc, &image, frames, va),

@@ -33,7 +33,7 @@ pub(crate) struct Guarded {
 /// The division of a memory of so many frames for the image, or the reply where it has no room.
 pub(crate) fn divide(alloc: Global, image: &Image, frames: u32) -> Result<Layout, Reply>
     requires least { 512 ≤ frames }
-    requires most { frames ≤ 16384 }
+    requires most { frames ≤ 65536 }
     ensures { MatchResult result
         (λ layout. IsLayout image.now layout × (layout.frames ≡ frames)
         × (roomy (need image.now frames) frames ≡ passes))

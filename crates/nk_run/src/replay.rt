@@ -48,7 +48,7 @@ fn hold<S: Shelf>(alloc: Global, words: &[String], shelf: &mut S) -> Result<Held
         × IfTold (S.files shelf.old) (λ files. (held.image ≡ file_in files names Role.Image)
         × (held.journal.items ≡ file_in files names Role.Journal)
         × (first_verdict (journal_checks files names) ≡ passes)))
-        (λ reply. StopsIn names (shelf_change S.files S.faults shelf.old shelf.new)
+        (λ reply. StopsIn names (shelf_change S.files S.faults S.wants shelf.old shelf.new)
         (Role.Image ∷ Role.Journal ∷ []) (λ files. journal_checks files names) reply.status (bytes_of reply.line)) }
 {
     let image = match open(alloc, words, shelf) {
@@ -109,7 +109,7 @@ fn make_replay<S: Shelf>(
     ensures files_stay { S.files shelf.new ≡ S.files shelf.old }
     ensures made { let names = map string_bytes words.now in MatchResult result
         (λ it. IsReplayedFrom names (S.files shelf.old) frames it.image it.layout it.left.kernel it.left.memory)
-        (λ reply. CommandSays names (shelf_change S.files S.faults shelf.old shelf.new)
+        (λ reply. CommandSays names (shelf_change S.files S.faults S.wants shelf.old shelf.new)
         reply.status (bytes_of reply.line)) }
 {
     let held = match hold(alloc, words, shelf) {
@@ -144,7 +144,7 @@ pub(crate) fn replay<S: Shelf, O: Sink>(
     requires bounds { IsBounded (Command.Replay frames) }
     ensures { IsAnswered (record {
       words = map string_bytes words.now;
-      shelf = shelf_change S.files S.faults shelf.old shelf.new;
+      shelf = shelf_change S.files S.faults S.wants shelf.old shelf.new;
       sink = sink_change O.taken O.faults sink.old sink.new;
     }) result }
 {

@@ -7,13 +7,15 @@ ghost use Rattle.nk_run.specs.Witness.{sink_change};
 
 use crate::lines::no_memory_line;
 use nk_host::{Sink, put_all};
+use report_text::ShortLine;
 use std::alloc::AllocError;
 
-/// A line, made for the occasion or always the same.
+/// A line: always the same, made for the occasion, or made without memory.
 #[derive(Drop)]
 pub(crate) enum Line {
     Fixed(&'static str),
     Made(String),
+    Short(ShortLine),
 }
 
 /// A status and the line that goes with it.
@@ -31,6 +33,7 @@ impl Line {
         match self {
             Line::Fixed(text) => text.as_bytes(),
             Line::Made(text) => text.as_bytes(),
+            Line::Short(line) => line.as_bytes(),
         }
     }
 }

@@ -50,7 +50,7 @@ fn hold<S: Shelf>(alloc: Global, words: &[String], shelf: &mut S) -> Result<Held
         × (held.outside.input.items ≡ file_in files names Role.Input)
         × (plan_of (file_in files names Role.Plan) ≡ Ok held.outside.plan)
         × (first_verdict (run_checks files names) ≡ passes)))
-        (λ reply. StopsIn names (shelf_change S.files S.faults shelf.old shelf.new)
+        (λ reply. StopsIn names (shelf_change S.files S.faults S.wants shelf.old shelf.new)
         (Role.Image ∷ Role.Input ∷ Role.Plan ∷ []) (λ files. run_checks files names) reply.status (bytes_of reply.line)) }
 {
     let image = match open(alloc, words, shelf) {
@@ -78,7 +78,7 @@ fn make_ready<S: Shelf>(
     ensures bytes { TellsBytes (map string_bytes words.now) (S.files shelf.old) Role.Image }
     ensures ready { let names = map string_bytes words.now in MatchResult result
         (λ it. IsReady names (S.files shelf.old) steps frames it.image it.layout it.outside.input.items it.outside.plan)
-        (λ reply. CommandSays names (shelf_change S.files S.faults shelf.old shelf.new)
+        (λ reply. CommandSays names (shelf_change S.files S.faults S.wants shelf.old shelf.new)
         reply.status (bytes_of reply.line)) }
 {
     let held = match hold(alloc, words, shelf) {
@@ -111,7 +111,7 @@ pub(crate) fn run<S: Shelf, O: Sink>(
     ensures bytes { TellsBytes (map string_bytes words.now) (S.files shelf.old) Role.Image }
     ensures answered { IsAnswered (record {
       words = map string_bytes words.now;
-      shelf = shelf_change S.files S.faults shelf.old shelf.new;
+      shelf = shelf_change S.files S.faults S.wants shelf.old shelf.new;
       sink = sink_change O.taken O.faults sink.old sink.new;
     }) result }
 {

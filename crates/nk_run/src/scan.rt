@@ -1,31 +1,63 @@
-//! The command `scan IMAGE`.
-ghost use Rattle.std.specs.Prelude.{◌≡◌, length, map, Some};
+//! The command `scan IMAGE`, which holds neither the file nor the image.
+ghost use Rattle.std.specs.Prelude.{◌≡◌, ◌<◌, length, map, Some};
 ghost use Rattle.std.specs.String.{string_bytes};
-ghost use Rattle.nk_run.specs.CommandLine.{command_of, word_count};
+ghost use Rattle.nk_run.specs.CommandLine.{command_of, name_in, word_count, word_place};
 ghost use Rattle.nk_run.specs.Witness.{shelf_change};
 ghost use Rattle.nk_run.specs.ReplyText.{bytes_of};
 ghost use Rattle.nk_run.specs.Replies.{CommandSays};
+ghost use Rattle.nk_run.specs.ScanStops.{IsReplyTo, IsShort};
 
-use crate::command_line::Command;
-use crate::image::open;
-use crate::lines::admitted_line;
-use crate::reply::{Reply, made};
+use crate::command_line::{Command, Role};
+use crate::image::{faulty, protected};
+use crate::lines::{longer_line, unread_line};
+use crate::page_pieces::scan_file;
+use crate::pieces::Stop;
+use crate::reply::{Line, Reply, want};
 use nk_host::Shelf;
+use report_text::admitted_line;
 use std::alloc::Global;
 
-/// Admits or refuses the image.
+/// The name of the image's file.
+fn image_name(words: &[String]) -> &str
+    requires { word_place Role.Image < length words.now }
+    ensures { result.now ≡ name_in (map string_bytes words.now) Role.Image }
+{
+    words[Role::Image.word_place()].as_str()
+}
+
+/// The reply to a scan that stopped.
+fn stopped(stop: Stop) -> Reply
+    requires { IsShort stop }
+    ensures { IsReplyTo stop result.status (bytes_of result.line) }
+{
+    match stop {
+        Stop::Unread => Reply {
+            status: 3,
+            line: Line::Fixed(unread_line(Role::Image)),
+        },
+        Stop::Want => want(),
+        Stop::Longer => Reply {
+            status: 7,
+            line: Line::Fixed(longer_line(Role::Image)),
+        },
+        Stop::Faulty(fault) => faulty(&fault),
+        Stop::Protected(found) => protected(&found),
+    }
+}
+
+/// Admits or refuses the image. Takes no memory but the shelf's.
 pub(crate) fn scan<S: Shelf>(alloc: Global, words: &[String], shelf: &mut S) -> Reply
     requires asked { command_of (map string_bytes words.now) ≡ Some Command.Scan }
     requires count { length words.now ≡ word_count Command.Scan }
     ensures files_stay { S.files shelf.new ≡ S.files shelf.old }
     ensures says { CommandSays (map string_bytes words.now)
-        (shelf_change S.files S.faults shelf.old shelf.new) result.status (bytes_of result.line) }
+        (shelf_change S.files S.faults S.wants shelf.old shelf.new) result.status (bytes_of result.line) }
 {
-    match open(alloc, words, shelf) {
-        Ok(image) => made(
-            0,
-            admitted_line(alloc, image.entry(), image.executable_pages()),
-        ),
-        Err(reply) => reply,
+    match scan_file(alloc, image_name(words), shelf) {
+        Ok(it) => Reply {
+            status: 0,
+            line: Line::Short(admitted_line(it.entry, it.pages)),
+        },
+        Err(stop) => stopped(stop),
     }
 }

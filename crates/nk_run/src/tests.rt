@@ -5,16 +5,18 @@ mod compiled;
 mod deliveries;
 mod descriptors;
 mod entries;
+mod hostile;
 mod journals;
 mod long_files;
 mod made;
 mod regions;
 mod run;
+mod scans;
 mod sources;
 mod tables;
 
 use crate::{Command, nk_main};
-use nk_host::{FetchFault, MemShelf, MemSink, Shelf};
+use nk_host::{MemShelf, MemSink};
 use std::alloc::{AllocError, Global};
 use std::test::Fail;
 
@@ -237,50 +239,17 @@ fn a_file_past_the_limit_is_longer(rt: HostRuntime) -> Result<(), Fail> {
     Ok(())
 }
 
-/// A shelf that gives nothing and notes the most bytes that were asked for.
-#[derive(Drop)]
-struct Limits {
-    most: u64,
-}
-
-impl Shelf for Limits {
-    ghost use Rattle.std.specs.Prelude.{None};
-
-    ghost files = { λ _. None };
-
-    ghost faults = { λ _ _. 0 };
-
-    fn fetch(&mut self, _alloc: Global, _name: &str, most: u64) -> Result<Vec<u8>, FetchFault> {
-        self.most = most;
-        Err(FetchFault::Memory)
-    }
-}
-
 #[test]
-fn a_file_of_64_mib_is_not_longer(rt: HostRuntime) -> Result<(), Fail> {
-    let alloc = rt.alloc();
-    let mut shelf = Limits { most: 0 };
-    let mut sink = MemSink::new(alloc, 100, Vec::new(alloc), 0)?;
-    let status = nk_main(
-        alloc,
-        &owned(alloc, &["scan", NAME])?,
-        &mut shelf,
-        &mut sink,
-    );
-    assert_eq!(rt; status, 5);
-    assert_eq!(rt; sink.taken(), b"no memory\n".as_slice());
-    assert_eq!(rt; shelf.most, 67_108_864);
-    Ok(())
-}
-
-#[test]
-fn a_memory_has_512_to_16_384_frames(rt: HostRuntime) -> Result<(), Fail> {
+fn a_memory_has_512_to_65_536_frames(rt: HostRuntime) -> Result<(), Fail> {
     let alloc = rt.alloc();
     let ends = [
         ("511", None),
         ("512", Some(512)),
         ("16384", Some(16_384)),
-        ("16385", None),
+        ("16385", Some(16_385)),
+        ("65535", Some(65_535)),
+        ("65536", Some(65_536)),
+        ("65537", None),
     ];
     for (word, frames) in ends {
         let words = owned(alloc, &["map", NAME, word, "0"])?;
@@ -302,7 +271,7 @@ fn other_words_have_no_form(rt: HostRuntime) -> Result<(), Fail> {
         &["run", NAME, NAME, NAME, "10", "511"],
         &["map", NAME, "512"],
         &["map", NAME, "511", "0"],
-        &["map", NAME, "16385", "0"],
+        &["map", NAME, "65537", "0"],
         &["map", NAME, "0512", "0"],
         &["map", NAME, "+512", "0"],
         &["map", NAME, "", "0"],
@@ -315,17 +284,6 @@ fn other_words_have_no_form(rt: HostRuntime) -> Result<(), Fail> {
         let ran = run_with(alloc, words, Vec::new(alloc), &[1], &[], 0)?;
         assert!(rt; gives(&ran, 2, USAGE));
     }
-    Ok(())
-}
-
-#[test]
-fn a_failing_fetch_is_told(rt: HostRuntime) -> Result<(), Fail> {
-    let alloc = rt.alloc();
-    let words = ["scan", NAME];
-    let ran = run_with(alloc, &words, image(alloc, &[0xf4])?, &[1], &[], 0)?;
-    assert!(rt; gives(&ran, 3, "unread image\n"));
-    let missing = run_with(alloc, &["scan", "missing"], Vec::new(alloc), &[], &[], 0)?;
-    assert!(rt; gives(&missing, 3, "unread image\n"));
     Ok(())
 }
 
@@ -408,6 +366,22 @@ fn the_direct_map_shows_each_frame_but_the_hidden_ones(rt: HostRuntime) -> Resul
 }
 
 #[test]
+fn the_largest_memory_is_mapped_to_its_end(rt: HostRuntime) -> Result<(), Fail> {
+    let alloc = rt.alloc();
+    let pages = [
+        ("ffffffff80000000", "frame 321 r-xs\n"),
+        ("ffff80000ffff000", "frame 65535 rw-s\n"),
+        ("ffff800010000000", "missing 2\n"),
+    ];
+    for (va, line) in pages {
+        let words = ["map", NAME, "65536", va];
+        let ran = run_with(alloc, &words, image(alloc, &[0xf4])?, &[], &[], 0)?;
+        assert!(rt; gives(&ran, 0, line), "{va}");
+    }
+    Ok(())
+}
+
+#[test]
 fn an_image_needs_room_for_its_opening(rt: HostRuntime) -> Result<(), Fail> {
     let alloc = rt.alloc();
     let words = ["map", NAME, "512", "0"];
@@ -441,44 +415,6 @@ fn map_refuses_what_scan_refuses(rt: HostRuntime) -> Result<(), Fail> {
     assert!(rt; gives(&refused, 1, "protected ffffffff80000000 0f30\n"));
     let unread = run_with(alloc, &words, Vec::new(alloc), &[1], &[], 0)?;
     assert!(rt; gives(&unread, 3, "unread image\n"));
-    Ok(())
-}
-
-/// The halting kernel's file with some bytes changed.
-fn changed(alloc: Global, changes: &[(usize, u8)]) -> Result<Vec<u8>, AllocError> {
-    let mut file = image(alloc, &[0xf4])?;
-    for (place, value) in changes {
-        if let Some(byte) = file.get_mut(*place) {
-            *byte = *value;
-        }
-    }
-    Ok(file)
-}
-
-#[test]
-fn each_fault_has_its_line(rt: HostRuntime) -> Result<(), Fail> {
-    let alloc = rt.alloc();
-    let cases: [(&[(usize, u8)], &str); 11] = [
-        (&[(3, 0x47)], "image 2 Magic 0\n"),
-        (&[(5, 2)], "image 3 Class 5\n"),
-        (&[(16, 3)], "image 4 FileType 16\n"),
-        (&[(18, 3)], "image 5 Machine 18\n"),
-        (&[(56, 65)], "image 6 Table 56\n"),
-        (&[(96, 2)], "image 7 SegmentRange 0\n"),
-        (&[(80, 1)], "image 8 Align 0\n"),
-        (&[(104, 0), (111, 0x80)], "image 9 OutsideHome 0\n"),
-        (&[(68, 7)], "image 11 WritableCode 0\n"),
-        (&[(68, 4)], "image 12 BadEntry 24\n"),
-        (&[(107, 2)], "image 13 TooLarge 8193\n"),
-    ];
-    for (changes, line) in cases {
-        assert!(rt;
-            gives(&scan(alloc, changed(alloc, changes)?)?, 1, line),
-            "{line}"
-        );
-    }
-    let full = scan(alloc, changed(alloc, &[(104, 0), (107, 2)])?)?;
-    assert!(rt; gives(&full, 0, "admitted entry ffffffff80000000 pages 8192\n"));
     Ok(())
 }
 

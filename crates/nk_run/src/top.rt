@@ -26,7 +26,7 @@ pub fn nk_main<S: Shelf, O: Sink>(
 ) -> u8
     ensures { Promises (record {
       words = map string_bytes words.now;
-      shelf = shelf_change S.files S.faults shelf.old shelf.new;
+      shelf = shelf_change S.files S.faults S.wants shelf.old shelf.new;
       sink = sink_change O.taken O.faults sink.old sink.new;
     }) result }
 {

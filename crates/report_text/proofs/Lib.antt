@@ -9,3 +9,4 @@ pub mod TakenUp
 pub mod HeldBooks
 pub mod LedgerLines
 mod WorkedLines
+pub mod FaultNames

@@ -60,7 +60,7 @@ endings = (refl, refl, refl, refl, refl)
 -- the root's frame is decimal, the handler's address has 16 digits
 roots :
     (root_line 5 ≡ codes "root 5\n") ×
-    (root_line 16383 ≡ codes "root 16383\n") ×
+    (root_line 65535 ≡ codes "root 65535\n") ×
     (trap_line 0 ≡ codes "trap 0000000000000000\n") ×
     (trap_line 0xFFFFFFFF80000200 ≡ codes "trap ffffffff80000200\n")
 unfolding root_line trap_line hex_16 padded_integral char_count digits

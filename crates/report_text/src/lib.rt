@@ -1,11 +1,14 @@
 //! The text of a run: its lines, and the section that closes it. Each call appends to a sink exactly what
-//! `specs/RunLines.antt` and `specs/ClosingSection.antt` say, or a first part of that where the sink fails. It reads
-//! what it is handed, writes to the sink alone, and takes no memory. Which line comes when, and what follows a fault,
-//! it leaves to the crates above. Floor: whole.
+//! `specs/RunLines.antt` and `specs/ClosingSection.antt` say, or a first part of that where the sink fails. The lines on
+//! an image are handed back instead, each as a `ShortLine`. It reads what it is handed, writes to the sink alone, and
+//! takes no memory. Which line comes when, and what follows a fault, it leaves to the crates above. Floor: whole.
 #![tactic(auto)]
 
 // Words, each put before the one behind it.
 mod words;
+
+// The lines on an image.
+mod short_line;
 
 // The lines of a run, and of its end.
 mod call_lines;
@@ -25,6 +28,7 @@ pub use call_lines::called;
 pub use closing::section;
 pub use counts::{RunCounts, summary};
 pub use run_lines::{console, delivery, ending};
+pub use short_line::{ShortLine, admitted_line, image_line, protected_line};
 
 #[cfg(test)]
 mod tests;

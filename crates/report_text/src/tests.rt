@@ -7,9 +7,11 @@ ghost use Rattle.nk_body.specs.CallRules.{IsSourceOf};
 ghost use Rattle.nk_body.specs.NestedRecord.{HoldsBooks};
 ghost use Rattle.nk_body.specs.SourceWords.{sourced_of};
 
-use crate::{called, console, delivery, ending, section};
+use crate::{
+    admitted_line, called, console, delivery, ending, image_line, protected_line, section,
+};
 use boot_map::{Layout, prepare};
-use elf_image::Image;
+use elf_image::{FaultKind, Image, ImageFault};
 use nk_bits::{Answer, CallWords, Delivery};
 use nk_body::{Kernel, Source};
 use nk_host::{MemSink, SinkFault};
@@ -245,5 +247,50 @@ fn a_section_is_cut(rt: HostRuntime) -> Result<(), Fail> {
         Some(Err(SinkFault))
     );
     assert_eq!(rt; sink.taken(), b"root 5\ntrap".as_slice());
+    Ok(())
+}
+
+#[test]
+fn lines_on_an_image(rt: HostRuntime) -> Result<(), Fail> {
+    let entry = 0xffff_ffff_8000_0000;
+    let admitted = admitted_line(entry, 2);
+    assert_eq!(rt;
+        admitted.as_bytes(),
+        b"admitted entry ffffffff80000000 pages 2\n".as_slice()
+    );
+    let two = protected_line(entry + 4095, &[0x0f, 0x30]);
+    assert_eq!(rt;
+        two.as_bytes(),
+        b"protected ffffffff80000fff 0f30\n".as_slice()
+    );
+    let three = protected_line(entry, &[0x0f, 0x22, 0xd8]);
+    assert_eq!(rt;
+        three.as_bytes(),
+        b"protected ffffffff80000000 0f22d8\n".as_slice()
+    );
+    Ok(())
+}
+
+#[test]
+fn lines_on_a_fault(rt: HostRuntime) -> Result<(), Fail> {
+    let align = image_line(&ImageFault {
+        kind: FaultKind::Align,
+        value: 0,
+    });
+    assert_eq!(rt; align.as_bytes(), b"image 8 Align 0\n".as_slice());
+    let short = image_line(&ImageFault {
+        kind: FaultKind::Short,
+        value: 63,
+    });
+    assert_eq!(rt; short.as_bytes(), b"image 1 Short 63\n".as_slice());
+    // The longest line on an image.
+    let longest = image_line(&ImageFault {
+        kind: FaultKind::WritableCode,
+        value: u64::MAX,
+    });
+    assert_eq!(rt;
+        longest.as_bytes(),
+        b"image 11 WritableCode 18446744073709551615\n".as_slice()
+    );
     Ok(())
 }

@@ -294,7 +294,7 @@ struct Ran {
 
 /// Runs the image in a file; None where it isn't admitted, or for want of memory.
 fn run(alloc: Global, file: Vec<u8>, frames: u32) -> Option<Ran>
-    requires { (512 ≤ frames) × (frames ≤ 16384) }
+    requires { (512 ≤ frames) × (frames ≤ 65536) }
     ensures end { IfSome result (λ it. HoldsBooks it.end.kernel it.end.mem) }
     ensures beside { IfSome result (λ it. HoldsBooks it.beside.kernel it.beside.memory) }
 {
@@ -352,7 +352,7 @@ struct Left {
 
 /// What the run of the image in a file leaves; None for want of memory.
 fn leave(alloc: Global, file: Vec<u8>, frames: u32, shown: [u32; 2]) -> Option<Left>
-    requires { (512 ≤ frames) × (frames ≤ 16384) }
+    requires { (512 ≤ frames) × (frames ≤ 65536) }
 {
     let Some(ran) = run(alloc, file, frames) else {
         return None;

@@ -248,13 +248,16 @@ fn a_line_of_a_replay_may_be_cut(rt: HostRuntime) -> Result<(), Fail> {
 }
 
 #[test]
-fn a_replay_s_memory_has_512_to_16_384_frames(rt: HostRuntime) -> Result<(), Fail> {
+fn a_replay_s_memory_has_512_to_65_536_frames(rt: HostRuntime) -> Result<(), Fail> {
     let alloc = rt.alloc();
     let ends = [
         ("511", None),
         ("512", Some(512)),
         ("16384", Some(16_384)),
-        ("16385", None),
+        ("16385", Some(16_385)),
+        ("65535", Some(65_535)),
+        ("65536", Some(65_536)),
+        ("65537", None),
     ];
     for (word, frames) in ends {
         let words = owned(alloc, &["replay", NAME, word, JOURNAL])?;

@@ -104,6 +104,17 @@ fn a_run_is_told_line_by_line(rt: HostRuntime) -> Result<(), Fail> {
 }
 
 #[test]
+fn a_run_may_have_the_largest_memory(rt: HostRuntime) -> Result<(), Fail> {
+    let alloc = rt.alloc();
+    let files = files_of(alloc, &[0xf4], Vec::new(alloc), Vec::new(alloc))?;
+    let words = ["run", NAME, INPUT, PLAN, "10", "65536"];
+    let halted = "end halted\nturns 1\nroot 5\ntrap ffffff80000011da\n";
+    let ran = run_over(alloc, &words, files, &[], &[], 0)?;
+    assert!(rt; gives(&ran, 0, halted));
+    Ok(())
+}
+
+#[test]
 fn a_run_needs_room_for_its_opening(rt: HostRuntime) -> Result<(), Fail> {
     let alloc = rt.alloc();
     let large = vec![in alloc; 0x90; 2_000_000]?;
@@ -216,19 +227,28 @@ fn each_line_of_a_run_may_be_cut(rt: HostRuntime) -> Result<(), Fail> {
 #[test]
 fn steps_and_frames_have_bounds(rt: HostRuntime) -> Result<(), Fail> {
     let alloc = rt.alloc();
-    let words = owned(alloc, &["run", NAME, INPUT, PLAN, "4294967296", "16384"])?;
-    let most = Command::Run {
-        steps: 4_294_967_296,
-        frames: 16_384,
-    };
-    assert_eq!(rt; Command::read(&words), Some(most));
+    let ends = [
+        ("512", 512),
+        ("16384", 16_384),
+        ("16385", 16_385),
+        ("65535", 65_535),
+        ("65536", 65_536),
+    ];
+    for (word, frames) in ends {
+        let words = owned(alloc, &["run", NAME, INPUT, PLAN, "4294967296", word])?;
+        let most = Command::Run {
+            steps: 4_294_967_296,
+            frames,
+        };
+        assert_eq!(rt; Command::read(&words), Some(most), "{word}");
+    }
     let others = [
         ("4294967297", "512"),
         ("01", "512"),
         ("+1", "512"),
         ("-1", "512"),
         ("10", "511"),
-        ("10", "16385"),
+        ("10", "65537"),
     ];
     for (steps, frames) in others {
         let words = ["run", NAME, INPUT, PLAN, steps, frames];

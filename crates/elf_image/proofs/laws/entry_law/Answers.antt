@@ -1,4 +1,4 @@
-use Rattle.std.proofs.Common.{ℕ, ◌+◌, ◌^◌, ◌<◌, List, drop, slice_index, get_or-drop, subst, sym}
+use Rattle.std.proofs.Common.{ℕ, ◌+◌, ◌<◌, drop, get_or-drop, subst, sym}
 use Rattle.byteorder.specs.Numbers.{little_from-lt}
 use Rattle.elf_image.specs.Elf.{field_at}
 use Rattle.elf_image.specs.Pages.{entry_of}

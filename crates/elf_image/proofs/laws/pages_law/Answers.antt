@@ -1,5 +1,5 @@
-use Rattle.elf_image.proofs.PageLaws.{page_list}
+use Rattle.elf_image.proofs.ImageLaws.{file_pages}
 use Rattle.elf_image.proofs.laws.pages_law.Goals as goal
 
 pub returns : goal.returns
-returns c = page_list
+returns c = file_pages

@@ -1,10 +1,10 @@
-use Rattle.std.proofs.Common.{arith, ◌≡◌, ◌+◌, ◌++◌, ◌∷◌, [], ℕ, List, Bool, true, false, ap, append-nil}
+use Rattle.std.proofs.Common.{arith, ◌≡◌, ◌+◌, ◌*◌, ◌++◌, ◌∷◌, [], ℕ, List, Bool, true, false, ap, append-nil}
 use Rattle.std.proofs.lemmas.List.FromFn.{filter_of_map_range_with_len_more}
 use Rattle.std.specs.Prelude.{map, filter}
 use Rattle.std.specs.List.{range_with_len}
 use Rattle.elf_image.specs.declared.program_header.ProgramHeader.{ProgramHeader}
 use Rattle.arrayvec.specs.ArrayVec.{array_vec_len}
-use Rattle.elf_image.specs.Elf.{header_at, is_segment}
+use Rattle.elf_image.specs.Elf.{is_segment, phdr_size, program_header_at}
 use Rattle.elf_image.proofs.table.read_segments.Goals as goal
 use Rattle.elf_image.proofs.table.read_segments.Goals.{then-is_segment, else-is_segment}
 
@@ -28,14 +28,15 @@ passed p f i found more h so_far is_next counts same =
 
 pub loop-index-preserved : goal.loop-index-preserved
 loop-index-preserved c =
-    let is_next : c.read-header.result ≡ header_at c.args.bytes.now c.loop-index.index = cc (c.read-header.ensures, c.xword-table.ensures) in
+    let f : ℕ → ProgramHeader = λ i. program_header_at c.args.table.now (phdr_size * i) i in
+    let is_next : c.read-header.result ≡ f c.loop-index.index = c.read-header.ensures in
     elim c.if-is_segment.branch [
       | then-is_segment w ↦ (
-        kept is_segment (header_at c.args.bytes.now) c.loop-index.index _ _ c.read-header.result c.loop-index.invariant.0 is_next (cc (c.is_segment.ensures, w.if-is_segment.true)) (cc (w.found-is, w.push.ensures.items)),
+        kept is_segment f c.loop-index.index _ _ c.read-header.result c.loop-index.invariant.0 is_next (cc (c.is_segment.ensures, w.if-is_segment.true)) (cc (w.found-is, w.push.ensures.items)),
         omega (arith, ap array_vec_len w.found-is, w.push.ensures.len),
       )
       | else-is_segment w ↦ (
-        passed is_segment (header_at c.args.bytes.now) c.loop-index.index _ _ c.read-header.result c.loop-index.invariant.0 is_next (cc (c.is_segment.ensures, w.if-is_segment.false)) (cc w.found-is),
+        passed is_segment f c.loop-index.index _ _ c.read-header.result c.loop-index.invariant.0 is_next (cc (c.is_segment.ensures, w.if-is_segment.false)) (cc w.found-is),
         omega (arith, ap array_vec_len w.found-is),
       )
     ]

@@ -1,5 +1,4 @@
-use Rattle.std.proofs.Common.{inr, map, subst, ◌∙◌}
-use Rattle.std.specs.String.{string_bytes}
+use Rattle.std.proofs.Common.{inr, subst, ◌∙◌}
 use Rattle.image_maker.specs.MadeImage.{image_of_number}
 use Rattle.nk_run.specs.Replies.{IsWritten}
 use Rattle.nk_run.specs.Witness.{sink_change}

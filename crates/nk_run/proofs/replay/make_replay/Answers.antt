@@ -1,6 +1,5 @@
-use Rattle.std.proofs.Common.{map, refl, ◌∙◌, ap}
-use Rattle.std.specs.String.{string_bytes}
-use Rattle.nk_run.proofs.RunRows.{journal_says, made_says, replay_room_says, replay_row_says}
+use Rattle.std.proofs.Common.{refl}
+use Rattle.nk_run.proofs.RunRows.{replay_room_says, replay_row_says}
 use Rattle.nk_run.proofs.replay.make_replay.Goals as goal
 
 pub returns-in-Err-clause-made : goal.returns-in-Err-clause-made

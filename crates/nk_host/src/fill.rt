@@ -1,0 +1,85 @@
+//! A block of memory that a reader fills.
+ghost use Rattle.std.specs.Prelude.{◌≡◌, ℕ, ◌+◌, ◌<◌, ◌≤◌, length, take, IfOk, OnOk, OnErr, IfErr};
+ghost use Rattle.std.specs.Io.KnownBytes.{Consumes};
+ghost use Rattle.nk_host.specs.FaultCounts.{RoseTo};
+ghost use Rattle.nk_host.specs.Streams.{GivesAt, GivesMore};
+
+use crate::PieceFault;
+use crate::counted::Counted;
+use std::io::{Read, Seek};
+
+/// Fills the block with what the reader has from place `at` on.
+pub(crate) fn fill_from<F: Read + Seek>(
+    from: &mut Counted<F>,
+    at: u64,
+    block: &mut [u8],
+) -> Result<(), PieceFault>
+    ensures given { OnOk result
+        (GivesAt F.stream_position F.remaining from.old.inner from.new.inner at block.new) }
+    ensures never_falls { from.old.faults ≤ from.new.faults }
+    ensures failed { OnErr result (RoseTo from.old.faults from.new.faults) }
+    ensures kept { OnOk result (from.new.faults ≡ from.old.faults) }
+    ensures only { IfErr result (λ fault. fault ≡ PieceFault.Failed) }
+{
+    match from.go_to(at) {
+        Ok(()) => fill(from, block),
+        Err(fault) => Err(fault),
+    }
+}
+
+/// Fills the block with what the reader has next. An end before the block's is a fault.
+pub(crate) fn fill<F: Read>(from: &mut Counted<F>, block: &mut [u8]) -> Result<(), PieceFault>
+    ensures given { OnOk result (Consumes (F.remaining from.old.inner) (F.remaining from.new.inner) block.new) }
+    ensures never_falls { from.old.faults ≤ from.new.faults }
+    ensures failed { OnErr result (RoseTo from.old.faults from.new.faults) }
+    ensures kept { OnOk result (from.new.faults ≡ from.old.faults) }
+    ensures only { IfErr result (λ fault. fault ≡ PieceFault.Failed) }
+{
+    let mut done = 0;
+    while done < block.len() {
+        let count = read_behind(from, block, done)?;
+        done += count;
+    }
+    Ok(())
+}
+
+// One read into the block behind the bytes that are done.
+fn read_behind<F: Read>(
+    from: &mut Counted<F>,
+    block: &mut [u8],
+    done: usize,
+) -> Result<usize, PieceFault>
+    requires { done < length block.old }
+    ensures some { IfOk result (λ n. 0 < n) }
+    ensures bound { IfOk result (λ n. done + n ≤ length block.new) }
+    ensures given { IfOk result (λ n. GivesMore (F.remaining from.old.inner) (F.remaining from.new.inner)
+        (take done block.old) (take (done + n) block.new) n) }
+    ensures never_falls { from.old.faults ≤ from.new.faults }
+    ensures failed { OnErr result (RoseTo from.old.faults from.new.faults) }
+    ensures kept { OnOk result (from.new.faults ≡ from.old.faults) }
+    ensures only { IfErr result (λ fault. fault ≡ PieceFault.Failed) }
+{
+    read_some(from, &mut block[done..])
+}
+
+// One read, of at least one byte.
+fn read_some<F: Read>(from: &mut Counted<F>, block: &mut [u8]) -> Result<usize, PieceFault>
+    requires { 0 < length block.old }
+    ensures some { IfOk result (λ n. 0 < n) }
+    ensures bound { IfOk result (λ n. n ≤ length block.new) }
+    ensures given { IfOk result
+        (λ n. Consumes (F.remaining from.old.inner) (F.remaining from.new.inner) (take n block.new)) }
+    ensures never_falls { from.old.faults ≤ from.new.faults }
+    ensures failed { OnErr result (RoseTo from.old.faults from.new.faults) }
+    ensures kept { OnOk result (from.new.faults ≡ from.old.faults) }
+    ensures only { IfErr result (λ fault. fault ≡ PieceFault.Failed) }
+{
+    match from.read(block) {
+        Ok(n) if n > 0 => Ok(n),
+        Ok(_) => {
+            from.count_fault();
+            Err(PieceFault::Failed)
+        }
+        Err(_) => Err(PieceFault::Failed),
+    }
+}

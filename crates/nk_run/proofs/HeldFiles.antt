@@ -1,0 +1,51 @@
+-- From what holds where a file is held to what holds of the file that is.
+use Rattle.std.proofs.Common.{◌≡◌, ℕ, ◌<◌, List, length, Option, Some, None, refl, sym, subst, arith}
+use Rattle.std.specs.Prelude.{IsSomeAnd, MatchResult, Result, Ok, Err}
+use Rattle.nk_run.specs.declared.pieces.Admitted.{Admitted}
+use Rattle.nk_run.specs.declared.pieces.Stop.{Stop}
+use Rattle.nk_run.specs.declared.pieces.Stop.TheVariants.{Faulty, Longer, Protected, Unread, Want}
+use Rattle.nk_run.specs.HeldFile.{IsKept, OfFile, WhereHeld}
+use Rattle.nk_run.specs.Lines.{longest_file}
+use Rattle.nk_run.specs.ScanStops.{HasFault, HasFound, IsGoodWith, IsStop, IsStopWhereHeld}
+use Rattle.nk_run.specs.Witness.{Files, ShelfState}
+
+some_file : (o : Option (List ℕ)) (P Q : List ℕ → Type 0) → IsSomeAnd o Q → ((b : List ℕ) → o ≡ Some b → P b) → IsSomeAnd o P
+some_file None P Q held all = absurd held
+some_file (Some b) P Q held all = all b refl
+
+of_file : (told : Option Files) (name : List ℕ) (P Q : List ℕ → Type 0) → OfFile told name Q → WhereHeld told name P → OfFile told name P
+of_file None name P Q held all = tt
+of_file (Some files) name P Q held all = some_file (files name) P Q held all
+
+the_file : (o : Option (List ℕ)) (b : List ℕ) (Q : List ℕ → Type 0) → IsSomeAnd o Q → o ≡ Some b → Q b
+the_file o b Q held is =
+    let R : Option (List ℕ) → Type 0 = λ it. IsSomeAnd it Q in
+    subst R is held
+
+where_held : (told : Option Files) (name : List ℕ) (Q : List ℕ → Type 0) → OfFile told name Q → WhereHeld told name Q
+where_held None name Q held b is = absurd is
+where_held (Some files) name Q held b is = the_file (files name) b Q held is
+
+module _ (before between after : ShelfState) (name : List ℕ) (Q : List ℕ → Type 0) (held : OfFile before.files name Q)
+    (kept : IsKept (record { before = before; after = between })) where
+  since : (P : List ℕ → Type 0) → WhereHeld between.files name P → OfFile before.files name P
+  since P all =
+      let R : Option Files → Type 0 = λ files. WhereHeld files name P in
+      of_file before.files name P Q held (subst R kept.same_files all)
+
+  pub still_held : WhereHeld between.files name Q
+  still_held =
+      let R : Option Files → Type 0 = λ files. WhereHeld files name Q in
+      subst R (sym kept.same_files) (where_held before.files name Q held)
+
+  pub said_since : (r : Result Admitted Stop)
+      → MatchResult r (λ it. WhereHeld between.files name (IsGoodWith it.entry it.pages))
+      (IsStopWhereHeld (record { before = between; after = after }) name)
+      → MatchResult r (λ it. OfFile before.files name (IsGoodWith it.entry it.pages))
+      (IsStop (record { before = before; after = after }) name)
+  said_since (Ok it) all = since (IsGoodWith it.entry it.pages) all
+  said_since (Err Unread) rose = omega (arith, kept.never_falls name, rose)
+  said_since (Err Want) rose = omega (arith, kept.wants_stand, rose)
+  said_since (Err Longer) all = since (λ b. longest_file < length b) all
+  said_since (Err (Faulty fault)) all = since (HasFault fault) all
+  said_since (Err (Protected found)) all = (all.0, all.1, since (HasFound found) all.2)

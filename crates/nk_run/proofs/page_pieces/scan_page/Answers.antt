@@ -1,0 +1,10 @@
+use Rattle.std.proofs.lemmas.Bool.{not-true}
+use Rattle.nk_run.proofs.PageReads.{may_not_run}
+use Rattle.nk_run.proofs.page_pieces.scan_page.Goals as goal
+
+pub returns-then-not-info-clause-walked : goal.returns-then-not-info-clause-walked
+returns-then-not-info-clause-walked g c = λ b held.
+    let h = c.args.headers.now in
+    let told = c.image_law.ensures b h (c.requires.headers b held).image in
+    c.page_pieces_law.ensures.passed b c.args.scanner.now c.args.i (c.requires.walked b held)
+    (may_not_run h b told c.args.i _ c.page-info.ensures.exec (not-true _ c.if-not-info.true))
