@@ -1,6 +1,7 @@
 -- A turn by a quick form is the processor's turn; and such turns in a row.
-use Rattle.std.proofs.Common.{◌≡◌, ℕ, zero, suc, ◌+◌, ◌<◌, ◌≤◌, length, arith, Bool, true, false, List, Option, None, Ok, Err, refl, sym, ap, subst, ◌∙◌}
-use Rattle.std.specs.Prelude.{◌&&◌, not, Result, if◌then◌else◌}
+use Rattle.std.proofs.Common.{◌≡◌, ℕ, zero, suc, ◌+◌, ◌-◌, ◌<◌, ◌≤◌, ◌⊎◌, inl, inr, length, arith, Bool, true, false, List, Option, None, Ok, Err, refl, sym, ap, subst, ◌∙◌}
+use Rattle.std.proofs.lemmas.Bool.{and_parts, eqb-true}
+use Rattle.std.specs.Prelude.{◌==◌, ◌&&◌, not, Result, if◌then◌else◌}
 use Rattle.nk_bits.specs.declared.control.Control.{Control}
 use Rattle.nk_bits.specs.Accesses.{View}
 use Rattle.nk_bits.specs.Translations.{Translations}
@@ -78,6 +79,43 @@ by_kind kind.StoreString i size regs control m view tlb = refl
 by_kind kind.LoadString i size regs control m view tlb = refl
 by_kind kind.CompareStrings i size regs control m view tlb = refl
 by_kind kind.ScanString i size regs control m view tlb = refl
+by_kind kind.Add64 i size regs control m view tlb = refl
+by_kind kind.Add32 i size regs control m view tlb = refl
+by_kind kind.Sub64 i size regs control m view tlb = refl
+by_kind kind.Sub32 i size regs control m view tlb = refl
+by_kind kind.And64 i size regs control m view tlb = refl
+by_kind kind.And32 i size regs control m view tlb = refl
+by_kind kind.Or64 i size regs control m view tlb = refl
+by_kind kind.Or32 i size regs control m view tlb = refl
+by_kind kind.Xor64 i size regs control m view tlb = refl
+by_kind kind.Xor32 i size regs control m view tlb = refl
+by_kind kind.Inc64 i size regs control m view tlb = refl
+by_kind kind.Inc32 i size regs control m view tlb = refl
+by_kind kind.Dec64 i size regs control m view tlb = refl
+by_kind kind.Dec32 i size regs control m view tlb = refl
+by_kind kind.Cmp64 i size regs control m view tlb = refl
+by_kind kind.Cmp32 i size regs control m view tlb = refl
+by_kind kind.Test64 i size regs control m view tlb = refl
+by_kind kind.Test32 i size regs control m view tlb = refl
+by_kind kind.Mov64 i size regs control m view tlb = refl
+by_kind kind.Mov32 i size regs control m view tlb = refl
+by_kind kind.Load64 i size regs control m view tlb = refl
+by_kind kind.Load32 i size regs control m view tlb = refl
+by_kind kind.LoadByte i size regs control m view tlb = refl
+by_kind kind.Store64 i size regs control m view tlb = refl
+by_kind kind.Store32 i size regs control m view tlb = refl
+by_kind kind.Loop i size regs control m view tlb = refl
+by_kind kind.Jump i size regs control m view tlb = refl
+by_kind kind.JumpZero i size regs control m view tlb = refl
+by_kind kind.JumpNotZero i size regs control m view tlb = refl
+by_kind kind.JumpBelow i size regs control m view tlb = refl
+by_kind kind.JumpNotBelow i size regs control m view tlb = refl
+by_kind kind.JumpNotAbove i size regs control m view tlb = refl
+by_kind kind.JumpAbove i size regs control m view tlb = refl
+by_kind kind.JumpLess i size regs control m view tlb = refl
+by_kind kind.JumpNotLess i size regs control m view tlb = refl
+by_kind kind.JumpNotGreater i size regs control m view tlb = refl
+by_kind kind.JumpGreater i size regs control m view tlb = refl
 
 effect_plain : (k : Kind) (i : Instr) (size : ℕ) (regs : Regs) (control : Control) (m : List ℕ) (tlb : Translations) →
     instr_form i ≡ form_by k → refusal i regs.cpl ≡ None →
@@ -147,49 +185,115 @@ pub no_turns : (p : Processor) (m : List ℕ) → AreQuickTurns 0 p m p m
 unfolding AreQuickTurns
 no_turns p m = (refl, refl)
 
--- so many turns of at most this many were made, and the next one may be quick, by code of this page if RIP is still there
-pub record AreMade (most count : ℕ) (p : Processor) (m : List ℕ) (code : KeptCode) (q : Processor) (n : List ℕ) : Type 0 where
+-- a turn, and then turns
+one_before : (p : Processor) (m : List ℕ) (k : ℕ) (r : Processor) (o : List ℕ) → IsQuickTurn p m → AreQuickTurns k (turned p m).processor (turned p m).memory r o →
+    AreQuickTurns (suc k) p m r o
+unfolding AreQuickTurns
+one_before p m k r o turn later = (turn, later)
+
+-- turns, and then turns
+more_turns : (k j : ℕ) (p q r : Processor) (m n o : List ℕ) → AreQuickTurns k p m q n → AreQuickTurns j q n r o → AreQuickTurns (k + j) p m r o
+unfolding AreQuickTurns
+more_turns zero j p q r m n o are later =
+    let same : j ≡ 0 + j = omega arith in
+    subst (λ k. AreQuickTurns k p m r o) same (subst (λ (x : Processor × List ℕ). AreQuickTurns j x.0 x.1 r o) (λ i. (are.0 i, are.1 i)) later)
+more_turns (suc k) j p q r m n o are later =
+    let same : suc (k + j) ≡ suc k + j = omega arith in
+    subst (λ i. AreQuickTurns i p m r o) same
+    (one_before p m (k + j) r o are.0 (more_turns k j (turned p m).processor q r (turned p m).memory n o are.1 later))
+
+-- RIP so far ahead in kept code isn't the body's place, for the supervisor
+away : (cpl rip start last ahead : ℕ) → ahead ≤ last → start + ahead ≡ rip →
+    (cpl ≡ 0 → (start + last < 0xFFFFFF800000101B) ⊎ (0xFFFFFF800000101B < start)) → (cpl == 0 && rip == 0xFFFFFF800000101B) ≡ false
+away cpl rip start last ahead near here apart = go (cpl == 0 && rip == 0xFFFFFF800000101B) refl
+  where
+    go : (b : Bool) → (cpl == 0 && rip == 0xFFFFFF800000101B) ≡ b → (cpl == 0 && rip == 0xFFFFFF800000101B) ≡ false
+    go false e = e
+    go true e =
+        let parts = and_parts (cpl == 0) (rip == 0xFFFFFF800000101B) e in
+        let there : rip ≡ 0xFFFFFF800000101B = eqb-true rip 0xFFFFFF800000101B parts.1 in
+        elim (apart (eqb-true cpl 0 parts.0)) [
+          | inl below ↦ absurd (omega (arith, near, here, there, below))
+          | inr above ↦ absurd (omega (arith, here, there, above))
+        ]
+
+pub not_at_body : (size : ℕ) (p : Processor) (code : KeptCode) (ahead : ℕ) → IsKeptCode size p.control p.regs.cpl p.tlb code →
+    ahead ≤ code.last → code.start + ahead ≡ p.regs.rip → is_at_body p.regs ≡ false
+not_at_body size p code ahead kept near here = away p.regs.cpl p.regs.rip code.start code.last ahead near here kept.elsewhere
+
+-- so many turns of at most this many were made, and the next one may be quick
+pub record AreMade (most count : ℕ) (p : Processor) (m : List ℕ) (q : Processor) (n : List ℕ) : Type 0 where
   pub within : count ≤ most
   pub turns : AreQuickTurns count p m q n
   pub runs : q.halted ≡ false
   pub open_to : q.shielded ≡ false
   pub none : q.pending ≡ 0
-  pub kept : IsKeptCode (length n) q.control q.regs.cpl q.tlb code
   pub sound : IsSound (length n) q
   pub size : length n ≡ length m
 
-pub none_made : (most : ℕ) (p : Processor) (m : List ℕ) (code : KeptCode) → p.halted ≡ false → p.shielded ≡ false → p.pending ≡ 0 →
-    IsKeptCode (length m) p.control p.regs.cpl p.tlb code → IsSound (length m) p → AreMade most 0 p m code p m
-none_made most p m code runs open_to none kept sound = record {
+pub none_made : (most : ℕ) (p : Processor) (m : List ℕ) → p.halted ≡ false → p.shielded ≡ false → p.pending ≡ 0 →
+    IsSound (length m) p → AreMade most 0 p m p m
+none_made most p m runs open_to none sound = record {
   within = omega arith;
   turns = no_turns p m;
   runs = runs;
   open_to = open_to;
   none = none;
-  kept = kept;
   sound = sound;
   size = refl;
 }
 
-pub more_made : (most count : ℕ) (p q r : Processor) (m n o : List ℕ) (before next : KeptCode) → AreMade most count p m before q n → count < most →
-    IsKeptCode (length n) q.control q.regs.cpl q.tlb next → enters_body q ≡ false → ran r o ≡ turned q n → r ≡ record q { regs = r.regs } →
-    r.regs.cpl ≡ q.regs.cpl → IsSound (length o) r → length o ≡ length n → AreMade most (count + 1) p m next r o
-more_made most count p q r m n o last next before less kept no_body made rest cpl sound size =
+-- some more of them
+pub some_made : (most count more : ℕ) (p q r : Processor) (m n o : List ℕ) → AreMade most count p m q n → more ≤ most - count →
+    AreQuickTurns more q n r o → r ≡ record q { regs = r.regs } → IsSound (length o) r → length o ≡ length n → AreMade most (count + more) p m r o
+some_made most count more p q r m n o before fit turns rest sound size = record {
+  within = omega (arith, fit, before.within);
+  turns = more_turns count more p q r m n o before.turns turns;
+  runs = ap (λ (x : Processor). x.halted) rest ∙ before.runs;
+  open_to = ap (λ (x : Processor). x.shielded) rest ∙ before.open_to;
+  none = ap (λ (x : Processor). x.pending) rest ∙ before.none;
+  sound = sound;
+  size = size ∙ before.size;
+}
+
+-- the same by code that is kept, which goes on being kept
+pub record AreMadeBy (most count : ℕ) (code : KeptCode) (p : Processor) (m : List ℕ) (q : Processor) (n : List ℕ) : Type 0 where
+  pub made : AreMade most count p m q n
+  pub kept : IsKeptCode (length n) q.control q.regs.cpl q.tlb code
+  pub rest : q ≡ record p { regs = q.regs }
+
+pub none_made_by : (most : ℕ) (code : KeptCode) (p : Processor) (m : List ℕ) → p.halted ≡ false → p.shielded ≡ false → p.pending ≡ 0 →
+    IsKeptCode (length m) p.control p.regs.cpl p.tlb code → IsSound (length m) p → AreMadeBy most 0 code p m p m
+none_made_by most code p m runs open_to none kept sound = record {
+  made = none_made most p m runs open_to none sound;
+  kept = kept;
+  rest = refl;
+}
+
+pub one_made : (most count : ℕ) (code : KeptCode) (p q r : Processor) (m n o : List ℕ) → AreMadeBy most count code p m q n → count < most →
+    enters_body q ≡ false → ran r o ≡ turned q n → r ≡ record q { regs = r.regs } →
+    r.regs.cpl ≡ q.regs.cpl → IsSound (length o) r → length o ≡ length n → AreMadeBy most (count + 1) code p m r o
+one_made most count code p q r m n o before less no_body made rest cpl sound size =
     let turn : IsQuickTurn q n = record {
       no_body = no_body;
-      runs = before.runs;
+      runs = before.made.runs;
       ran = ap (λ (t : Turned). t.stepped) (sym made);
       control = ap (λ (t : Turned). t.processor.control) (sym made) ∙ ap (λ (x : Processor). x.control) rest;
     } in
+    let all : AreQuickTurns (count + 1) p m r o =
+    subst (λ k. AreQuickTurns k p m r o) (omega arith) (one_more count p q r m n o before.made.turns turn made) in
     record {
-      within = omega (arith, less);
-      turns = subst (λ k. AreQuickTurns k p m r o) (omega arith) (one_more count p q r m n o before.turns turn made);
-      runs = ap (λ (x : Processor). x.halted) rest ∙ before.runs;
-      open_to = ap (λ (x : Processor). x.shielded) rest ∙ before.open_to;
-      none = ap (λ (x : Processor). x.pending) rest ∙ before.none;
+      made = record {
+        within = omega (arith, less);
+        turns = all;
+        runs = ap (λ (x : Processor). x.halted) rest ∙ before.made.runs;
+        open_to = ap (λ (x : Processor). x.shielded) rest ∙ before.made.open_to;
+        none = ap (λ (x : Processor). x.pending) rest ∙ before.made.none;
+        sound = sound;
+        size = size ∙ before.made.size;
+      };
       kept =
-          subst (λ (x : ℕ × Control × ℕ × Translations). IsKeptCode x.0 x.1 x.2 x.3 next)
-          (λ j. (sym size j, sym (ap (λ (x : Processor). x.control) rest) j, sym cpl j, sym (ap (λ (x : Processor). x.tlb) rest) j)) kept;
-      sound = sound;
-      size = size ∙ before.size;
+          subst (λ (x : ℕ × Control × ℕ × Translations). IsKeptCode x.0 x.1 x.2 x.3 code)
+          (λ j. (sym size j, sym (ap (λ (x : Processor). x.control) rest) j, sym cpl j, sym (ap (λ (x : Processor). x.tlb) rest) j)) before.kept;
+      rest = rest ∙ ap (λ (x : Processor). record x { regs = r.regs }) before.rest;
     }

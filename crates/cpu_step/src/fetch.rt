@@ -1,6 +1,6 @@
 //! The fetch of an instruction.
 
-ghost use Rattle.std.specs.Prelude.{◌≡◌, ◌⊎◌, ◌+◌, ◌-◌, ◌*◌, ◌%◌, ◌<◌, ◌≤◌, ◌++◌, ℕ, true, IfErr, IfOk, IfSome, None, length, take};
+ghost use Rattle.std.specs.Prelude.{◌≡◌, ◌⊎◌, ◌+◌, ◌-◌, ◌*◌, ◌%◌, ◌<◌, ◌≤◌, ◌++◌, ℕ, true, false, IfErr, IfOk, IfSome, None, length, take};
 ghost use Rattle.nk_bits.specs.declared.control.Control.{Control};
 ghost use Rattle.nk_bits.specs.Translations.{NamesFramesIn, Translations};
 ghost use Rattle.nk_bits.specs.Outcomes.{answered, outcome_of, refused};
@@ -11,10 +11,10 @@ ghost use Rattle.x86_decode.specs.WellFormed.{IsWellFormed};
 ghost use Rattle.x86_regs.specs.declared.faults.Fault.TheVariants.{General};
 ghost use Rattle.x86_regs.specs.Effects.{refusal};
 ghost use Rattle.x86_regs.specs.OperandPlans.{instr_form};
-ghost use Rattle.exec_quick.specs.QuickForms.{IsReady, form_by, has_register_first, instr_of};
+ghost use Rattle.exec_quick.specs.QuickForms.{IsReady, form_by, has_register_first, instr_of, is_slow};
 ghost use Rattle.cpu_step.specs.InstructionFetch.{decided_by, fetched_from, in_fetch, instruction_at};
 ghost use Rattle.cpu_step.specs.DecodingMemo.{IsFetched};
-ghost use Rattle.cpu_step.specs.KeptFetches.{HasCodeAt, IsKeptCode};
+ghost use Rattle.cpu_step.specs.KeptFetches.{IsKeptCode};
 
 use crate::kept_code::KeptCode;
 use crate::memo::{Memo, words};
@@ -112,27 +112,31 @@ pub(crate) fn code_on_page<'a>(
     }
 }
 
-/// The quick form of the code at RIP, which lies on a page that is kept, where the memo has it.
+/// The quick form of kept code, so far ahead in it, where the memo has it.
 #[inline(always)]
 pub(crate) fn quick_code<'a>(
     memo: &'a Memo,
     code: &KeptCode,
     mem: &PhysMem,
-    rip: u64,
+    ahead: u64,
 ) -> Option<&'a Quick>
-    requires has { HasCodeAt code.now rip }
-    requires inside { code.now.base + 4096 ≤ length mem.now }
+    requires ahead { ahead ≤ code.now.last }
+    requires inside { code.now.base + code.now.last + 16 ≤ length mem.now }
+    requires slots { code.now.slot + code.now.last < 16384 }
     ensures ready { IfSome result (λ quick. IsReady quick.now) }
     ensures register { IfSome result (λ quick. has_register_first quick.now.kind ≡ true → quick.now.to < 16) }
-    ensures form { IfSome result (λ quick. instr_form (instr_of quick.now) ≡ form_by quick.now.kind) }
-    ensures lawful { IfSome result (λ quick. (cpl : ℕ) → refusal (instr_of quick.now) cpl ≡ None) }
-    ensures fetched { IfSome result (λ quick. (control : Control) (cpl : ℕ) (tlb : Translations)
+    ensures form { IfSome result (λ quick. is_slow quick.now.kind ≡ false
+        → instr_form (instr_of quick.now) ≡ form_by quick.now.kind) }
+    ensures lawful { IfSome result (λ quick. is_slow quick.now.kind ≡ false
+        → (cpl : ℕ) → refusal (instr_of quick.now) cpl ≡ None) }
+    ensures fetched { IfSome result (λ quick. is_slow quick.now.kind ≡ false
+        → (control : Control) (cpl : ℕ) (tlb : Translations)
         → IsKeptCode (length mem.now) control cpl tlb code.now
-        → instruction_at mem.now (view_of mem.now control cpl) rip tlb
+        → instruction_at mem.now (view_of mem.now control cpl) (code.now.start + ahead) tlb
         ≡ answered (record { instr = instr_of quick.now; size = quick.now.size }) tlb) }
 {
-    let (low, high) = code.words(mem, rip);
-    match memo.quick(rip, low, high) {
+    let (low, high) = code.words(mem, ahead);
+    match memo.quick(code.slot_of(ahead), low, high) {
         Some(quick) => Some(quick),
         None => None,
     }

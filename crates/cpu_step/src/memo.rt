@@ -1,150 +1,241 @@
 //! A memo of decodings: code that was decoded before isn't decoded again while its bytes are the same.
 
-ghost use Rattle.std.specs.Prelude.{◌≡◌, ◌+◌, ◌<◌, ◌≤◌, true, false, All, IfSome, drop, length, slice_index_or, take};
+ghost use Rattle.std.specs.Prelude.{◌≡◌, ◌+◌, ◌%◌, ◌<◌, ◌≤◌, true, false, All, IfOk, IfSome, drop, length, slice_index_or, take};
 ghost use Rattle.std.specs.Int.{from_le_bytes, w64};
-ghost use Rattle.exec_quick.specs.QuickForms.{StandsFor, is_slow};
+ghost use Rattle.exec_quick.specs.QuickForms.{IsReady, StandsFor, has_register_first, is_slow};
+ghost use Rattle.x86_decode.specs.declared.instruction.Decoded.TheVariants.{Whole};
 ghost use Rattle.x86_decode.specs.Decoding.{IfWhole};
 ghost use Rattle.x86_decode.specs.Reader.{decoded_of};
 ghost use Rattle.x86_decode.specs.WellFormed.{IsWellFormed};
-ghost use Rattle.cpu_step.specs.declared.memo.MemoEntry.{MemoEntry};
-ghost use Rattle.cpu_step.specs.DecodingMemo.{IsAnswerOf, IsRight, bytes_of_words};
+ghost use Rattle.cpu_step.specs.declared.memo.KeptAnswer.{KeptAnswer};
+ghost use Rattle.cpu_step.specs.DecodingMemo.{IsAnswerOf, IsRight, IsRightForm, bytes_of_words};
 
 use crate::processor::NoMemory;
 use exec_quick::{Kind, Quick, SLOW, quick_of};
 use std::alloc::Global;
 use std::marker::Model;
-use x86_decode::{Decoded, decode};
+use x86_decode::{Decoded, Instr, decode};
 
-/// The entries of the memo, by the low bits of an address.
-const ENTRIES: usize = 16_384;
+/// The answers that are kept, by the low bits of an address.
+const ANSWERS: usize = 4_096;
 
-/// Two words of code, what their first fifteen bytes decode to, and its quick form.
+/// The quick forms that are kept, likewise.
+const QUICK_FORMS: usize = 16_384;
+
+/// Two words of code, and what their first fifteen bytes decode to.
 #[derive(Clone, Copy)]
-pub(crate) struct MemoEntry {
+pub(crate) struct KeptAnswer {
     low: u64,
     high: u64,
-    quick: Quick,
     answer: Decoded,
 }
 
-impl MemoEntry {
-    /// Whether it has the answer of these words.
-    fn is_of(&self, low: u64, high: u64) -> bool
-        ensures low { result ≡ true → self.now.low ≡ low }
-        ensures high { result ≡ true → self.now.high ≡ high }
-    {
-        self.low == low && self.high == high
-    }
+/// Two words of code, and the quick form of their first fifteen bytes.
+#[derive(Clone, Copy)]
+pub(crate) struct KeptForm {
+    low: u64,
+    high: u64,
+    quick: Quick,
 }
 
-/// Decodings of code that was fetched before, each under the low bits of its address. Its room is taken when it is made.
+/// Decodings of code that was fetched before, each under the low bits of its address, and apart from them, for more
+/// addresses, quick forms. Its room is taken when it is made.
 #[derive(Drop)]
 pub(crate) struct Memo {
-    entries: Vec<MemoEntry>,
+    answers: Vec<KeptAnswer>,
+    forms: Vec<KeptForm>,
 }
 
 impl Model for Memo {
     ghost use Rattle.std.specs.Prelude.{◌≡◌, All, length};
-    ghost use Rattle.cpu_step.specs.DecodingMemo.{IsRight};
+    ghost use Rattle.cpu_step.specs.DecodingMemo.{IsRight, IsRightForm};
 
     ghost Value = { Unit };
 
     ghost view = { λ memo. tt };
 
-    ghost invariant = { λ memo. (length memo.entries.items ≡ 16384) × All IsRight memo.entries.items };
+    ghost invariant = { λ memo. (length memo.answers.items ≡ 4096) × All IsRight memo.answers.items
+        × (length memo.forms.items ≡ 16384) × All IsRightForm memo.forms.items };
 }
 
 impl Memo {
     /// A memo that holds the decoding of zeros at each entry.
     pub(crate) fn new(alloc: Global) -> Result<Memo, NoMemory> {
-        let entry = entry_of(0, 0);
-        match vec![in alloc; entry; ENTRIES] {
-            Ok(entries) => Ok(Memo { entries }),
-            Err(_) => Err(NoMemory),
-        }
+        let answers = answers(alloc)?;
+        let forms = forms(alloc)?;
+        Ok(Memo { answers, forms })
     }
 
-    /// What the first fifteen bytes of two words decode to. Their address tells where the answer is kept, and changes
-    /// nothing of it.
+    /// What the first fifteen bytes of two words decode to, after which their quick form is kept too. Their address tells
+    /// where both are kept, and changes nothing of them.
     pub(crate) fn answer(&mut self, rip: u64, low: u64, high: u64) -> &Decoded
         ensures right { IsAnswerOf low high result.now }
     {
-        let slot = slot_of(rip);
-        renew(&mut self.entries, slot, low, high);
-        &self.entries[slot].answer
+        let slot = answer_slot(rip);
+        renew_answer(&mut self.answers, slot, low, high);
+        renew_form(
+            &mut self.forms,
+            form_slot(rip),
+            low,
+            high,
+            &self.answers[slot].answer,
+        );
+        &self.answers[slot].answer
     }
 
-    /// The quick form of two words' first fifteen bytes, where their decoding is kept and has one.
+    /// The quick form of two words' first fifteen bytes, where it is kept at this place. It stands for what they decode to
+    /// unless there is none.
     #[inline(always)]
-    pub(crate) fn quick(&self, rip: u64, low: u64, high: u64) -> Option<&Quick>
-        ensures stands { IfSome result (λ quick. StandsFor quick.now (decoded_of (bytes_of_words low high))) }
+    pub(crate) fn quick(&self, slot: usize, low: u64, high: u64) -> Option<&Quick>
+        requires slot { slot < 16384 }
+        ensures ready { IfSome result (λ quick. IsReady quick.now) }
+        ensures register { IfSome result (λ quick. has_register_first quick.now.kind ≡ true → quick.now.to < 16) }
+        ensures stands { IfSome result (λ quick. is_slow quick.now.kind ≡ false
+            → StandsFor quick.now (decoded_of (bytes_of_words low high))) }
     {
-        let entry = &self.entries[slot_of(rip)];
-        if entry.low == low && entry.high == high && entry.quick.kind != Kind::Slow {
-            Some(&entry.quick)
+        let kept = &self.forms[slot];
+        if kept.low == low && kept.high == high {
+            Some(&kept.quick)
         } else {
             None
         }
     }
 }
 
-/// The entry of an address: by its low bits, so that code of 16 KiB has room.
-#[inline(always)]
-fn slot_of(rip: u64) -> usize
-    ensures { result < 16384 }
+/// The answers of zeros.
+fn answers(alloc: Global) -> Result<Vec<KeptAnswer>, NoMemory>
+    ensures length { IfOk result (λ answers. length answers.items ≡ 4096) }
+    ensures right { IfOk result (λ answers. All IsRight answers.items) }
+{
+    let kept = answer_of(0, 0);
+    match vec![in alloc; kept; ANSWERS] {
+        Ok(answers) => Ok(answers),
+        Err(_) => Err(NoMemory),
+    }
+}
+
+/// The quick forms of zeros.
+fn forms(alloc: Global) -> Result<Vec<KeptForm>, NoMemory>
+    ensures length { IfOk result (λ forms. length forms.items ≡ 16384) }
+    ensures right { IfOk result (λ forms. All IsRightForm forms.items) }
+{
+    let form = form_of(0, 0, &decode_words(0, 0));
+    match vec![in alloc; form; QUICK_FORMS] {
+        Ok(forms) => Ok(forms),
+        Err(_) => Err(NoMemory),
+    }
+}
+
+/// The place of an address' answer: by its low bits, so that code of 4 KiB has room.
+fn answer_slot(rip: u64) -> usize
+    ensures { result < 4096 }
+{
+    (rip % 4096) as usize
+}
+
+/// The place of an address' quick form, likewise of 16 KiB.
+pub(crate) fn form_slot(rip: u64) -> usize
+    ensures { result ≡ rip % 16384 }
 {
     (rip % 16_384) as usize
 }
 
-/// Makes an entry that of two words, if it isn't theirs already.
-fn renew(entries: &mut Vec<MemoEntry>, slot: usize, low: u64, high: u64)
-    requires slot { slot < length entries.old.items }
-    requires right { All IsRight entries.old.items }
-    ensures length { length entries.new.items ≡ length entries.old.items }
-    ensures right { All IsRight entries.new.items }
-    ensures answer { (d : MemoEntry) → IsAnswerOf low high (slice_index_or entries.new.items slot d).answer }
+/// Makes an answer that of two words, if it isn't theirs already.
+fn renew_answer(answers: &mut Vec<KeptAnswer>, slot: usize, low: u64, high: u64)
+    requires slot { slot < length answers.old.items }
+    requires right { All IsRight answers.old.items }
+    ensures length { length answers.new.items ≡ length answers.old.items }
+    ensures right { All IsRight answers.new.items }
+    ensures answer { (d : KeptAnswer) → IsAnswerOf low high (slice_index_or answers.new.items slot d).answer }
 {
-    if !entries[slot].is_of(low, high) {
-        replace(entries, slot, low, high);
+    let kept = &answers[slot];
+    if kept.low != low || kept.high != high {
+        replace_answer(answers, slot, low, high);
     }
 }
 
-/// Makes an entry that of two words.
+/// Makes an answer that of two words.
 #[inline(never)]
-fn replace(entries: &mut Vec<MemoEntry>, slot: usize, low: u64, high: u64)
-    requires slot { slot < length entries.old.items }
-    requires right { All IsRight entries.old.items }
-    ensures length { length entries.new.items ≡ length entries.old.items }
-    ensures right { All IsRight entries.new.items }
-    ensures answer { (d : MemoEntry) → IsAnswerOf low high (slice_index_or entries.new.items slot d).answer }
+fn replace_answer(answers: &mut Vec<KeptAnswer>, slot: usize, low: u64, high: u64)
+    requires slot { slot < length answers.old.items }
+    requires right { All IsRight answers.old.items }
+    ensures length { length answers.new.items ≡ length answers.old.items }
+    ensures right { All IsRight answers.new.items }
+    ensures answer { (d : KeptAnswer) → IsAnswerOf low high (slice_index_or answers.new.items slot d).answer }
 {
-    entries[slot] = entry_of(low, high);
+    answers[slot] = answer_of(low, high);
 }
 
-/// The entry of two words.
-fn entry_of(low: u64, high: u64) -> MemoEntry
+/// Makes a quick form that of two words and their answer, if it isn't theirs already.
+fn renew_form(forms: &mut Vec<KeptForm>, slot: usize, low: u64, high: u64, answer: &Decoded)
+    requires slot { slot < length forms.old.items }
+    requires right { All IsRightForm forms.old.items }
+    requires answer { IsAnswerOf low high answer.now }
+    ensures length { length forms.new.items ≡ length forms.old.items }
+    ensures right { All IsRightForm forms.new.items }
+{
+    let form = &forms[slot];
+    if form.low != low || form.high != high {
+        replace_form(forms, slot, low, high, answer);
+    }
+}
+
+/// Makes a quick form that of two words and their answer.
+#[inline(never)]
+fn replace_form(forms: &mut Vec<KeptForm>, slot: usize, low: u64, high: u64, answer: &Decoded)
+    requires slot { slot < length forms.old.items }
+    requires right { All IsRightForm forms.old.items }
+    requires answer { IsAnswerOf low high answer.now }
+    ensures length { length forms.new.items ≡ length forms.old.items }
+    ensures right { All IsRightForm forms.new.items }
+{
+    forms[slot] = form_of(low, high, answer);
+}
+
+/// The answer of two words.
+fn answer_of(low: u64, high: u64) -> KeptAnswer
     ensures right { IsRight result }
     ensures low { result.low ≡ low }
     ensures high { result.high ≡ high }
 {
     let answer = decode_words(low, high);
-    let quick = quick_by(&answer);
-    MemoEntry {
-        low,
-        high,
-        quick,
-        answer,
-    }
+    KeptAnswer { low, high, answer }
+}
+
+/// The quick form of two words and their answer.
+fn form_of(low: u64, high: u64, answer: &Decoded) -> KeptForm
+    requires answer { IsAnswerOf low high answer.now }
+    ensures right { IsRightForm result }
+{
+    let quick = quick_by(answer);
+    KeptForm { low, high, quick }
 }
 
 /// The quick form of what code decodes to.
 fn quick_by(answer: &Decoded) -> Quick
     requires formed { IfWhole answer.now (λ instr size. IsWellFormed instr) }
+    ensures ready { IsReady result }
+    ensures register { has_register_first result.kind ≡ true → result.to < 16 }
     ensures stands { is_slow result.kind ≡ false → StandsFor result answer.now }
 {
     match answer {
-        Decoded::Whole(instr, size) => quick_of(instr, *size),
+        Decoded::Whole(instr, size) => whole_quick(instr, *size),
         Decoded::Short | Decoded::TooLong | Decoded::Unknown => SLOW,
+    }
+}
+
+/// The quick form of an instruction of so many bytes.
+fn whole_quick(instr: &Instr, size: u8) -> Quick
+    requires formed { IsWellFormed instr.now }
+    ensures ready { IsReady result }
+    ensures register { has_register_first result.kind ≡ true → result.to < 16 }
+    ensures stands { is_slow result.kind ≡ false → StandsFor result (Whole instr.now size) }
+{
+    let quick = quick_of(instr, size);
+    if quick.kind == Kind::Slow {
+        SLOW
+    } else {
+        quick
     }
 }
 

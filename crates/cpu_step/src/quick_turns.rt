@@ -1,7 +1,7 @@
 //! Turns by quick forms.
 
-ghost use Rattle.std.specs.Prelude.{◌≡◌, ◌≤◌, true, false, IfSome, length};
-ghost use Rattle.cpu_step.specs.KeptFetches.{HasCodeAt, IsKeptCode};
+ghost use Rattle.std.specs.Prelude.{◌≡◌, ◌+◌, ◌≤◌, true, false, IfSome, length};
+ghost use Rattle.cpu_step.specs.KeptFetches.{IsKeptCode};
 ghost use Rattle.cpu_step.specs.Processor.{IsSound};
 ghost use Rattle.cpu_step.specs.QuickTurns.{AreQuickTurns};
 ghost use Rattle.cpu_step.specs.Turns.{enters_body, ran, turned};
@@ -9,7 +9,6 @@ ghost use Rattle.cpu_step.specs.Turns.{enters_body, ran, turned};
 use crate::fetch::quick_code;
 use crate::kept_code::{KeptCode, kept_code};
 use crate::processor::Cpu;
-use crate::turn::is_at_body;
 use exec_quick::make;
 use phys_mem::PhysMem;
 
@@ -40,16 +39,47 @@ impl Cpu {
         ensures sound { IsSound (length mem.new) self.new }
         ensures length { length mem.new ≡ length mem.old }
     {
-        let Some(mut code) = self.code_at(mem) else {
-            return 0;
-        };
         let mut count = 0;
         while count < most {
-            let Some(next) = self.code_from(code, mem) else {
+            let Some(code) = self.code_at(mem) else {
                 break;
             };
-            code = next;
-            if !self.quick_turn(&code, mem) {
+            let made = self.turns_by(&code, mem, most - count);
+            count += made;
+            if made == 0 {
+                break;
+            }
+        }
+        count
+    }
+
+    /// The code around RIP, looked up.
+    fn code_at(&self, mem: &PhysMem) -> Option<KeptCode>
+        requires sound { IsSound (length mem.now) self.now }
+        ensures kept { IfSome result (IsKeptCode (length mem.now) self.now.control self.now.regs.cpl self.now.tlb) }
+    {
+        kept_code(mem, &self.tlb, &self.control, &self.regs)
+    }
+
+    /// Makes quick turns by code that is kept, at most so many, as long as RIP stays in it.
+    fn turns_by(&mut self, code: &KeptCode, mem: &mut PhysMem, most: u64) -> u64
+        requires sound { IsSound (length mem.old) self.old }
+        requires runs { self.old.halted ≡ false }
+        requires shielded { self.old.shielded ≡ false }
+        requires pending { self.old.pending ≡ 0 }
+        requires kept { IsKeptCode (length mem.old) self.old.control self.old.regs.cpl self.old.tlb code.now }
+        ensures most { result ≤ most }
+        ensures turns { AreQuickTurns result self.old mem.old self.new mem.new }
+        ensures rest { self.new ≡ record self.old { regs = self.new.regs } }
+        ensures sound { IsSound (length mem.new) self.new }
+        ensures length { length mem.new ≡ length mem.old }
+    {
+        let mut count = 0;
+        while count < most {
+            let Some(ahead) = code.ahead(self.regs.rip) else {
+                break;
+            };
+            if !self.quick_turn(code, ahead, mem) {
                 break;
             }
             count += 1;
@@ -57,40 +87,16 @@ impl Cpu {
         count
     }
 
-    /// The page of RIP, where it is kept and has code for a turn: this one, or else one that is looked up.
+    /// Makes one turn by code that is kept, RIP so far ahead in it, or changes nothing and says so.
     #[inline(always)]
-    fn code_from(&self, code: KeptCode, mem: &PhysMem) -> Option<KeptCode>
-        requires sound { IsSound (length mem.now) self.now }
-        requires kept { IsKeptCode (length mem.now) self.now.control self.now.regs.cpl self.now.tlb code }
-        ensures kept { IfSome result (IsKeptCode (length mem.now) self.now.control self.now.regs.cpl self.now.tlb) }
-        ensures has { IfSome result (λ code. HasCodeAt code self.now.regs.rip) }
-    {
-        if code.has(self.regs.rip) {
-            Some(code)
-        } else {
-            self.code_at(mem)
-        }
-    }
-
-    /// The page of RIP, looked up.
-    #[inline(always)]
-    fn code_at(&self, mem: &PhysMem) -> Option<KeptCode>
-        requires sound { IsSound (length mem.now) self.now }
-        ensures kept { IfSome result (IsKeptCode (length mem.now) self.now.control self.now.regs.cpl self.now.tlb) }
-        ensures has { IfSome result (λ code. HasCodeAt code self.now.regs.rip) }
-    {
-        kept_code(mem, &self.tlb, &self.control, &self.regs)
-    }
-
-    /// Makes one turn by code of a page that is kept, or changes nothing and says so.
-    #[inline(always)]
-    fn quick_turn(&mut self, code: &KeptCode, mem: &mut PhysMem) -> bool
+    fn quick_turn(&mut self, code: &KeptCode, ahead: u64, mem: &mut PhysMem) -> bool
         requires sound { IsSound (length mem.old) self.old }
         requires runs { self.old.halted ≡ false }
         requires shielded { self.old.shielded ≡ false }
         requires pending { self.old.pending ≡ 0 }
         requires kept { IsKeptCode (length mem.old) self.old.control self.old.regs.cpl self.old.tlb code.now }
-        requires has { HasCodeAt code.now self.old.regs.rip }
+        requires ahead { ahead ≤ code.now.last }
+        requires here { code.now.start + ahead ≡ self.old.regs.rip }
         ensures turned { result ≡ true → ran self.new mem.new ≡ turned self.old mem.old }
         ensures no_body { result ≡ true → enters_body self.old ≡ false }
         ensures left { result ≡ false → (self.new ≡ self.old) × (mem.new ≡ mem.old) }
@@ -99,10 +105,7 @@ impl Cpu {
         ensures sound { IsSound (length mem.new) self.new }
         ensures length { length mem.new ≡ length mem.old }
     {
-        if is_at_body(&self.regs) {
-            return false;
-        }
-        match quick_code(&self.memo, code, mem, self.regs.rip) {
+        match quick_code(&self.memo, code, mem, ahead) {
             Some(quick) => make(quick, &mut self.regs, &self.control, mem, &self.tlb),
             None => false,
         }

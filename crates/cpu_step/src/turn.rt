@@ -19,7 +19,7 @@ use x86_decode::Decoded;
 use x86_regs::{ASKED_NOTHING, Asked, Fault, Regs, Write, bit};
 
 /// Offset 27 of the gates' text, where the nested kernel's body stands.
-const BODY: u64 = 0xFFFF_FF80_0000_101B;
+pub(crate) const BODY: u64 = 0xFFFF_FF80_0000_101B;
 
 /// Where the body's first push lies, on the nested stack, which isn't writable.
 const BODY_STACK: u64 = 0xFFFF_FF80_0000_4FF8;

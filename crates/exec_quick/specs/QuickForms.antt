@@ -8,6 +8,8 @@ use Rattle.decode_fields.specs.Widths.{IsWidth}
 use Rattle.x86_decode.specs.declared.instruction.Decoded.{Decoded}
 use Rattle.x86_decode.specs.declared.instruction.Decoded.TheVariants.{Whole}
 use Rattle.x86_decode.specs.declared.instruction.Instr.{Instr}
+use Rattle.x86_decode.specs.declared.operation.Op.{Op}
+use Rattle.x86_decode.specs.declared.operation.Op.TheVariants as op
 use Rattle.nk_bits.specs.declared.control.Control.{Control}
 use Rattle.nk_bits.specs.Translations.{Translations}
 use Rattle.nk_bits.specs.Outcomes.{Outcome, answered, outcome_of}
@@ -38,6 +40,8 @@ has_memory_first kind.CompareStore = true
 has_memory_first kind.MoveStore = true
 has_memory_first kind.MultiplyLoad = true
 has_memory_first kind.DivideLoad = true
+has_memory_first kind.Store64 = true
+has_memory_first kind.Store32 = true
 has_memory_first _ = false
 
 abbrev pub has_memory_second : Kind → Bool
@@ -49,6 +53,9 @@ has_memory_second kind.PushLoad = true
 has_memory_second kind.BranchLoad = true
 has_memory_second kind.CallLoad = true
 has_memory_second kind.ScanBitsLoad = true
+has_memory_second kind.Load64 = true
+has_memory_second kind.Load32 = true
+has_memory_second kind.LoadByte = true
 has_memory_second _ = false
 
 -- the form of a kind's instructions
@@ -89,6 +96,113 @@ form_by kind.StoreString = form.StoreString
 form_by kind.LoadString = form.LoadString
 form_by kind.CompareStrings = form.CompareStrings
 form_by kind.ScanString = form.ScanString
+form_by kind.Add64 = form.Combine
+form_by kind.Add32 = form.Combine
+form_by kind.Sub64 = form.Combine
+form_by kind.Sub32 = form.Combine
+form_by kind.And64 = form.Combine
+form_by kind.And32 = form.Combine
+form_by kind.Or64 = form.Combine
+form_by kind.Or32 = form.Combine
+form_by kind.Xor64 = form.Combine
+form_by kind.Xor32 = form.Combine
+form_by kind.Inc64 = form.Combine
+form_by kind.Inc32 = form.Combine
+form_by kind.Dec64 = form.Combine
+form_by kind.Dec32 = form.Combine
+form_by kind.Cmp64 = form.Compare
+form_by kind.Cmp32 = form.Compare
+form_by kind.Test64 = form.Compare
+form_by kind.Test32 = form.Compare
+form_by kind.Mov64 = form.Move
+form_by kind.Mov32 = form.Move
+form_by kind.Load64 = form.Move
+form_by kind.Load32 = form.Move
+form_by kind.LoadByte = form.Move
+form_by kind.Store64 = form.Move
+form_by kind.Store32 = form.Move
+form_by kind.Loop = form.CountDown
+form_by kind.Jump = form.Branch
+form_by kind.JumpZero = form.Branch
+form_by kind.JumpNotZero = form.Branch
+form_by kind.JumpBelow = form.Branch
+form_by kind.JumpNotBelow = form.Branch
+form_by kind.JumpNotAbove = form.Branch
+form_by kind.JumpAbove = form.Branch
+form_by kind.JumpLess = form.Branch
+form_by kind.JumpNotLess = form.Branch
+form_by kind.JumpNotGreater = form.Branch
+form_by kind.JumpGreater = form.Branch
+
+-- the operation of a kind that has one alone, and else the quick form's own
+abbrev pub op_by : Kind → Op → Op
+op_by kind.Add64 own = op.Add
+op_by kind.Add32 own = op.Add
+op_by kind.Sub64 own = op.Sub
+op_by kind.Sub32 own = op.Sub
+op_by kind.And64 own = op.And
+op_by kind.And32 own = op.And
+op_by kind.Or64 own = op.Or
+op_by kind.Or32 own = op.Or
+op_by kind.Xor64 own = op.Xor
+op_by kind.Xor32 own = op.Xor
+op_by kind.Inc64 own = op.Inc
+op_by kind.Inc32 own = op.Inc
+op_by kind.Dec64 own = op.Dec
+op_by kind.Dec32 own = op.Dec
+op_by kind.Cmp64 own = op.Cmp
+op_by kind.Cmp32 own = op.Cmp
+op_by kind.Test64 own = op.Test
+op_by kind.Test32 own = op.Test
+op_by kind.Mov64 own = op.Mov
+op_by kind.Mov32 own = op.Mov
+op_by kind.Load64 own = op.Mov
+op_by kind.Load32 own = op.Mov
+op_by kind.LoadByte own = op.Movzx8
+op_by kind.Store64 own = op.Mov
+op_by kind.Store32 own = op.Mov
+op_by kind.Loop own = op.Loop
+op_by kind.Jump own = op.Jmp
+op_by kind.JumpZero own = op.J 4
+op_by kind.JumpNotZero own = op.J 5
+op_by kind.JumpBelow own = op.J 2
+op_by kind.JumpNotBelow own = op.J 3
+op_by kind.JumpNotAbove own = op.J 6
+op_by kind.JumpAbove own = op.J 7
+op_by kind.JumpLess own = op.J 12
+op_by kind.JumpNotLess own = op.J 13
+op_by kind.JumpNotGreater own = op.J 14
+op_by kind.JumpGreater own = op.J 15
+op_by _ own = own
+
+-- the width of a kind that has one alone, and else the quick form's own
+abbrev pub width_by : Kind → ℕ → ℕ
+width_by kind.Add64 own = 64
+width_by kind.Add32 own = 32
+width_by kind.Sub64 own = 64
+width_by kind.Sub32 own = 32
+width_by kind.And64 own = 64
+width_by kind.And32 own = 32
+width_by kind.Or64 own = 64
+width_by kind.Or32 own = 32
+width_by kind.Xor64 own = 64
+width_by kind.Xor32 own = 32
+width_by kind.Inc64 own = 64
+width_by kind.Inc32 own = 32
+width_by kind.Dec64 own = 64
+width_by kind.Dec32 own = 32
+width_by kind.Cmp64 own = 64
+width_by kind.Cmp32 own = 32
+width_by kind.Test64 own = 64
+width_by kind.Test32 own = 32
+width_by kind.Mov64 own = 64
+width_by kind.Mov32 own = 32
+width_by kind.Load64 own = 64
+width_by kind.Load32 own = 32
+width_by kind.LoadByte own = 32
+width_by kind.Store64 own = 64
+width_by kind.Store32 own = 32
+width_by _ own = own
 
 -- a register of an address: 16 is none
 abbrev pub register_of : ℕ → Option ℕ
@@ -109,7 +223,7 @@ from_of q = if has_memory_second q.kind then Mem (address_of q) else operand_of 
 
 -- the instruction that a quick form means
 abbrev pub instr_of : Quick → Instr
-instr_of q = record { op = q.op; width = q.width; to = to_of q; from = from_of q; value = q.value; rep = q.rep; lock = false }
+instr_of q = record { op = op_by q.kind q.op; width = width_by q.kind q.width; to = to_of q; from = from_of q; value = q.value; rep = q.rep; lock = false }
 
 -- the value of an operand that isn't in memory, at a width
 abbrev pub operand_value : ℕ → ℕ → List ℕ → ℕ → ℕ
@@ -136,6 +250,29 @@ has_register_first kind.Address = true
 has_register_first kind.Pop = true
 has_register_first kind.ScanBits = true
 has_register_first kind.ScanBitsLoad = true
+has_register_first kind.Add64 = true
+has_register_first kind.Add32 = true
+has_register_first kind.Sub64 = true
+has_register_first kind.Sub32 = true
+has_register_first kind.And64 = true
+has_register_first kind.And32 = true
+has_register_first kind.Or64 = true
+has_register_first kind.Or32 = true
+has_register_first kind.Xor64 = true
+has_register_first kind.Xor32 = true
+has_register_first kind.Inc64 = true
+has_register_first kind.Inc32 = true
+has_register_first kind.Dec64 = true
+has_register_first kind.Dec32 = true
+has_register_first kind.Cmp64 = true
+has_register_first kind.Cmp32 = true
+has_register_first kind.Test64 = true
+has_register_first kind.Test32 = true
+has_register_first kind.Mov64 = true
+has_register_first kind.Mov32 = true
+has_register_first kind.Load64 = true
+has_register_first kind.Load32 = true
+has_register_first kind.LoadByte = true
 has_register_first _ = false
 
 -- a quick form stands for what code decoded to: that is its instruction, which no condition refuses

@@ -17,6 +17,7 @@ use nk_bits::{Access, Control, canonical};
 use phys_mem::PhysMem;
 use tlb_model::Tlb;
 use x86_alu::ZF;
+use x86_decode::Op;
 use x86_regs::{Regs, bit, count_by, count_taken, is_taken, next_of, set_count};
 
 /// A branch's target: a displacement from the next instruction, or what a register holds.
@@ -44,23 +45,24 @@ pub(crate) fn target(quick: &Quick, next: u64, general: &[u64; 16]) -> u64
 #[tactic(auto, unfolding(page_walk::specs::AccessPlans::gathered))]
 pub(crate) fn branch(
     quick: &Quick,
+    op: Op,
     regs: &mut Regs,
     control: &Control,
     mem: &mut PhysMem,
     tlb: &Tlb,
 ) -> bool
     requires ready { IsReady quick.now }
-    requires kind { quick.now.kind ≡ Kind.Branch }
     requires cpl { (regs.old.cpl ≡ 0) ⊎ (regs.old.cpl ≡ 3) }
     requires frames { NamesFramesIn (length mem.old) tlb.now }
     ensures made { result ≡ true → quietly regs.new mem.new tlb.now
-        ≡ effect_made Form.Branch quick.now regs.old control.now mem.old tlb.now }
+        ≡ effect_made Form.Branch (record quick.now { kind = Kind.Branch; op = op }) regs.old
+        control.now mem.old tlb.now }
     ensures left { result ≡ false → (regs.new ≡ regs.old) × (mem.new ≡ mem.old) }
     ensures length { length mem.new ≡ length mem.old }
     ensures privilege { regs.new.cpl ≡ regs.old.cpl }
 {
     let next = next_of(regs, quick.size);
-    if !is_taken(quick.op, regs.flags) {
+    if !is_taken(op, regs.flags) {
         regs.rip = next;
         return true;
     }
@@ -73,7 +75,7 @@ pub(crate) fn branch(
 }
 
 /// JMP to an address in memory. No jump with a condition has one.
-#[inline(always)]
+#[inline(never)]
 #[tactic(auto, unfolding(page_walk::specs::AccessPlans::gathered))]
 pub(crate) fn branch_load(
     quick: &Quick,
@@ -113,24 +115,25 @@ pub(crate) fn branch_load(
 #[tactic(auto, unfolding(page_walk::specs::AccessPlans::gathered))]
 pub(crate) fn count_down(
     quick: &Quick,
+    op: Op,
     regs: &mut Regs,
     control: &Control,
     mem: &mut PhysMem,
     tlb: &Tlb,
 ) -> bool
     requires ready { IsReady quick.now }
-    requires kind { quick.now.kind ≡ Kind.CountDown }
     requires cpl { (regs.old.cpl ≡ 0) ⊎ (regs.old.cpl ≡ 3) }
     requires frames { NamesFramesIn (length mem.old) tlb.now }
     ensures made { result ≡ true → quietly regs.new mem.new tlb.now
-        ≡ effect_made Form.CountDown quick.now regs.old control.now mem.old tlb.now }
+        ≡ effect_made Form.CountDown (record quick.now { kind = Kind.CountDown; op = op }) regs.old
+        control.now mem.old tlb.now }
     ensures left { result ≡ false → (regs.new ≡ regs.old) × (mem.new ≡ mem.old) }
     ensures length { length mem.new ≡ length mem.old }
     ensures privilege { regs.new.cpl ≡ regs.old.cpl }
 {
     let next = next_of(regs, quick.size);
-    let count = count_by(quick.op, &regs.general);
-    let rip = if count_taken(quick.op, count, bit(regs.flags, ZF)) {
+    let count = count_by(op, &regs.general);
+    let rip = if count_taken(op, count, bit(regs.flags, ZF)) {
         next.wrapping_add(quick.value)
     } else {
         next
@@ -138,7 +141,7 @@ pub(crate) fn count_down(
     if !canonical(rip) {
         return false;
     }
-    set_count(quick.op, count, regs);
+    set_count(op, count, regs);
     regs.rip = rip;
     true
 }

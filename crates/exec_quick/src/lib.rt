@@ -4,6 +4,7 @@
 #![tactic(auto)]
 
 // What an instruction is taken apart into.
+mod kinds;
 mod quick;
 mod taken_apart;
 

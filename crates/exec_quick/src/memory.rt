@@ -1,6 +1,8 @@
-//! Kinds with an operand in memory: they are made where its page is kept and serves them.
+//! Kinds with an operand in memory: they are made where its page is kept and serves them. Most are calls of
+//! their own: the turns over registers alone stay smaller by it.
 
 ghost use Rattle.std.specs.Prelude.{◌≡◌, ◌⊎◌, ◌<◌, true, false, length};
+ghost use Rattle.decode_fields.specs.Widths.{IsWidth};
 ghost use Rattle.nk_bits.specs.Translations.{NamesFramesIn};
 ghost use Rattle.x86_regs.specs.declared.form.Form.TheVariants as Form;
 ghost use Rattle.exec_quick.specs.declared.quick.Kind.TheVariants as Kind;
@@ -14,10 +16,13 @@ use mem_access::kept_place;
 use nk_bits::{Access, Control};
 use phys_mem::PhysMem;
 use tlb_model::Tlb;
-use x86_regs::{Regs, combination, comparison, movement, next_of, set_place, source_width};
+use x86_decode::Op;
+use x86_regs::{
+    Regs, movement, next_of, set_place, source_width, usual_combination, usual_comparison,
+};
 
 /// ADD and its kin of a register and memory.
-#[inline(always)]
+#[inline(never)]
 #[tactic(auto, unfolding(page_walk::specs::AccessPlans::gathered))]
 pub(crate) fn combine_load(
     quick: &Quick,
@@ -45,7 +50,7 @@ pub(crate) fn combine_load(
     };
     let from = load(mem, place, va, bytes);
     let to = regs.general[usize::from(quick.to)];
-    let it = combination(quick.op, quick.width, to, from, quick.value, regs.flags);
+    let it = usual_combination(quick.op, quick.width, to, from, quick.value, regs.flags);
     set_place(
         &mut regs.general,
         &Place::Reg(quick.to),
@@ -58,7 +63,7 @@ pub(crate) fn combine_load(
 }
 
 /// ADD and its kin of memory, which is read and written: what may be written may be read.
-#[inline(always)]
+#[inline(never)]
 #[tactic(auto, unfolding(page_walk::specs::AccessPlans::gathered))]
 pub(crate) fn combine_store(
     quick: &Quick,
@@ -86,7 +91,7 @@ pub(crate) fn combine_store(
     let to = load(mem, kept, va, bytes);
     let width = source_width(quick.op, quick.width);
     let from = source(quick, width, regs);
-    let it = combination(quick.op, quick.width, to, from, quick.value, regs.flags);
+    let it = usual_combination(quick.op, quick.width, to, from, quick.value, regs.flags);
     store(mem, kept, va, bytes, it.value);
     regs.flags = it.flags;
     regs.rip = next;
@@ -94,7 +99,7 @@ pub(crate) fn combine_store(
 }
 
 /// CMP and TEST of a register and memory.
-#[inline(always)]
+#[inline(never)]
 #[tactic(auto, unfolding(page_walk::specs::AccessPlans::gathered))]
 pub(crate) fn compare_load(
     quick: &Quick,
@@ -122,13 +127,13 @@ pub(crate) fn compare_load(
     };
     let from = load(mem, place, va, bytes);
     let to = regs.general[usize::from(quick.to)];
-    regs.flags = comparison(quick.op, quick.width, to, from, regs.flags);
+    regs.flags = usual_comparison(quick.op, quick.width, to, from, regs.flags);
     regs.rip = next;
     true
 }
 
 /// CMP and TEST of memory.
-#[inline(always)]
+#[inline(never)]
 #[tactic(auto, unfolding(page_walk::specs::AccessPlans::gathered))]
 pub(crate) fn compare_store(
     quick: &Quick,
@@ -155,7 +160,7 @@ pub(crate) fn compare_store(
     };
     let to = load(mem, place, va, bytes);
     let from = operand(quick.from, quick.value, &regs.general);
-    regs.flags = comparison(quick.op, quick.width, to, from, regs.flags);
+    regs.flags = usual_comparison(quick.op, quick.width, to, from, regs.flags);
     regs.rip = next;
     true
 }
@@ -165,31 +170,35 @@ pub(crate) fn compare_store(
 #[tactic(auto, unfolding(page_walk::specs::AccessPlans::gathered))]
 pub(crate) fn move_load(
     quick: &Quick,
+    op: Op,
+    width: u8,
     regs: &mut Regs,
     control: &Control,
     mem: &mut PhysMem,
     tlb: &Tlb,
 ) -> bool
     requires ready { IsReady quick.now }
-    requires kind { quick.now.kind ≡ Kind.MoveLoad }
+    requires width { IsWidth width }
     requires register { quick.now.to < 16 }
     requires cpl { (regs.old.cpl ≡ 0) ⊎ (regs.old.cpl ≡ 3) }
     requires frames { NamesFramesIn (length mem.old) tlb.now }
     ensures made { result ≡ true → quietly regs.new mem.new tlb.now
-        ≡ effect_made Form.Move quick.now regs.old control.now mem.old tlb.now }
+        ≡ effect_made Form.Move (record quick.now { kind = Kind.MoveLoad; op = op; width = width }) regs.old
+        control.now mem.old tlb.now }
     ensures left { result ≡ false → (regs.new ≡ regs.old) × (mem.new ≡ mem.old) }
     ensures length { length mem.new ≡ length mem.old }
     ensures privilege { regs.new.cpl ≡ regs.old.cpl }
 {
     let next = next_of(regs, quick.size);
-    let bytes = source_width(quick.op, quick.width) / 8;
+    let read = source_width(op, width);
+    let bytes = read / 8;
     let va = address(quick, &regs.general, next);
     let Some(place) = kept_place(mem, tlb, Access::Read, control, regs.cpl, va, bytes) else {
         return false;
     };
     let from = load(mem, place, va, bytes);
-    let value = movement(quick.op, quick.width, from, regs.flags);
-    set_place(&mut regs.general, &Place::Reg(quick.to), quick.width, value);
+    let value = movement(op, width, from, regs.flags);
+    set_place(&mut regs.general, &Place::Reg(quick.to), width, value);
     regs.rip = next;
     true
 }
@@ -199,29 +208,33 @@ pub(crate) fn move_load(
 #[tactic(auto, unfolding(page_walk::specs::AccessPlans::gathered))]
 pub(crate) fn move_store(
     quick: &Quick,
+    op: Op,
+    width: u8,
     regs: &mut Regs,
     control: &Control,
     mem: &mut PhysMem,
     tlb: &Tlb,
 ) -> bool
     requires ready { IsReady quick.now }
-    requires kind { quick.now.kind ≡ Kind.MoveStore }
+    requires width { IsWidth width }
     requires cpl { (regs.old.cpl ≡ 0) ⊎ (regs.old.cpl ≡ 3) }
     requires frames { NamesFramesIn (length mem.old) tlb.now }
     ensures made { result ≡ true → quietly regs.new mem.new tlb.now
-        ≡ effect_made Form.Move quick.now regs.old control.now mem.old tlb.now }
+        ≡ effect_made Form.Move (record quick.now { kind = Kind.MoveStore; op = op; width = width }) regs.old
+        control.now mem.old tlb.now }
     ensures left { result ≡ false → (regs.new ≡ regs.old) × (mem.new ≡ mem.old) }
     ensures length { length mem.new ≡ length mem.old }
     ensures privilege { regs.new.cpl ≡ regs.old.cpl }
 {
     let next = next_of(regs, quick.size);
-    let bytes = quick.width / 8;
+    let bytes = width / 8;
     let va = address(quick, &regs.general, next);
     let Some(place) = kept_place(mem, tlb, Access::Write, control, regs.cpl, va, bytes) else {
         return false;
     };
-    let from = operand(quick.from, quick.value, &regs.general);
-    let value = movement(quick.op, quick.width, from, regs.flags);
+    let read = source_width(op, width);
+    let from = source(quick, read, regs);
+    let value = movement(op, width, from, regs.flags);
     store(mem, place, va, bytes, value);
     regs.rip = next;
     true

@@ -1,14 +1,17 @@
 //! The operands of a quick form.
 
-ghost use Rattle.std.specs.Prelude.{◌≡◌, ◌<◌, ◌≤◌, ◌*◌, ◌^◌, ℕ};
+ghost use Rattle.std.specs.Prelude.{◌≡◌, ◌<◌, ◌≤◌, ◌*◌, ◌^◌, ℕ, None};
 ghost use Rattle.decode_fields.specs.Widths.{IsWidth};
 ghost use Rattle.x86_alu.specs.SignedNumbers.{cut};
 ghost use Rattle.page_walk.specs.declared.plan.Source.TheVariants.{Is};
-ghost use Rattle.x86_regs.specs.Operands.{added, address_by, next_of, source_by};
+ghost use Rattle.x86_regs.specs.Operands.{added, address_by, next_of, place_span, source_by};
+ghost use Rattle.x86_regs.specs.Registers.{written};
 ghost use Rattle.exec_quick.specs.QuickForms.{IsReady, address_of, operand_of, operand_value, register_of};
 
 use crate::quick::Quick;
-use x86_regs::Regs;
+use decode_fields::Place;
+use x86_alu::Out;
+use x86_regs::{Regs, set_place};
 
 /// The value of an operand that isn't in memory, of which the low bits count.
 #[inline(always)]
@@ -38,6 +41,35 @@ pub(crate) fn first(quick: &Quick, width: u8, regs: &Regs) -> u64
         ≡ cut width (operand_value quick.now.to quick.now.value regs.now.general width) }
 {
     operand(quick.to, quick.value, &regs.general)
+}
+
+/// The value of the first operand, which is a register, of which so many low bits count.
+#[inline(always)]
+pub(crate) fn first_register(quick: &Quick, width: u8, regs: &Regs) -> u64
+    requires register { quick.now.to < 16 }
+    requires width { IsWidth width }
+    ensures source { source_by regs.now.general (next_of regs.now quick.now.size) width quick.now.value
+        (operand_of quick.now.to) ≡ Is (cut width result) }
+    ensures span { place_span regs.now.general (next_of regs.now quick.now.size) width (operand_of quick.now.to)
+        ≡ None }
+{
+    regs.general[usize::from(quick.to)]
+}
+
+/// Puts a result into the first operand, which is a register, with flags, and goes on to the next instruction.
+#[inline(always)]
+pub(crate) fn put_result(quick: &Quick, width: u8, it: Out, next: u64, regs: &mut Regs)
+    requires register { quick.now.to < 16 }
+    requires width { IsWidth width }
+    ensures put { regs.new ≡ record regs.old {
+      general = written regs.old.general (operand_of quick.now.to) width it.value;
+      flags = it.flags;
+      rip = next;
+    } }
+{
+    set_place(&mut regs.general, &Place::Reg(quick.to), width, it.value);
+    regs.flags = it.flags;
+    regs.rip = next;
 }
 
 /// The value of the second operand, which isn't in memory, of which so many low bits count.

@@ -8,7 +8,7 @@ ghost use Rattle.x86_regs.specs.declared.form.Form.TheVariants as Form;
 ghost use Rattle.x86_regs.specs.Registers.{written};
 ghost use Rattle.x86_regs.specs.OperandOutcomes.{divided, halves_written, is_signed, multiplied_wide, quietly as changing, upper_half, upper_place};
 ghost use Rattle.exec_quick.specs.declared.quick.Kind.TheVariants as Kind;
-ghost use Rattle.exec_quick.specs.QuickForms.{IsReady, effect_made, instr_of, quietly};
+ghost use Rattle.exec_quick.specs.QuickForms.{IsReady, effect_made, instr_of, quietly, width_by};
 
 use crate::kept::load;
 use crate::operands::{address, first};
@@ -69,6 +69,7 @@ fn set_halves(general: &mut [u64; 16], width: u8, low: u64, high: u64)
 #[inline(always)]
 fn multiply_by(quick: &Quick, next: u64, regs: &mut Regs, by: u64)
     requires ready { IsReady quick.now }
+    requires width { width_by quick.now.kind quick.now.width ≡ quick.now.width }
     ensures product { changing regs.new ≡ multiplied_wide (instr_of quick.now) regs.old next
         (is_signed quick.now.op) (cut quick.now.width by) }
     ensures privilege { regs.new.cpl ≡ regs.old.cpl }
@@ -87,6 +88,7 @@ fn multiply_by(quick: &Quick, next: u64, regs: &mut Regs, by: u64)
 #[inline(always)]
 fn divide_by(quick: &Quick, next: u64, regs: &mut Regs, by: u64) -> bool
     requires ready { IsReady quick.now }
+    requires width { width_by quick.now.kind quick.now.width ≡ quick.now.width }
     ensures quotient { result ≡ true → changing regs.new ≡ divided (instr_of quick.now) regs.old next
         (is_signed quick.now.op) (cut quick.now.width by) }
     ensures left { result ≡ false → regs.new ≡ regs.old }

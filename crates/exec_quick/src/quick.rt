@@ -3,7 +3,8 @@
 use decode_fields::Rep;
 use x86_decode::Op;
 
-/// What an instruction does, by its form and by which of its operands stands in memory.
+/// What an instruction does, by its form and by which of its operands stands in memory. The most frequent have kinds of
+/// their own, which say the operation, and the width too.
 #[derive(Clone, Copy, Debug, PartialEq, Eq)]
 pub enum Kind {
     /// Anything else: no quick form is made of it.
@@ -48,6 +49,46 @@ pub enum Kind {
     LoadString,
     CompareStrings,
     ScanString,
+    // the most frequent operations, each at one width, in bits
+    Add64,
+    Add32,
+    Sub64,
+    Sub32,
+    And64,
+    And32,
+    Or64,
+    Or32,
+    Xor64,
+    Xor32,
+    Inc64,
+    Inc32,
+    Dec64,
+    Dec32,
+    Cmp64,
+    Cmp32,
+    Test64,
+    Test32,
+    Mov64,
+    Mov32,
+    // moves from and to memory
+    Load64,
+    Load32,
+    LoadByte,
+    Store64,
+    Store32,
+    // branches by one condition
+    Loop,
+    Jump,
+    JumpZero,
+    JumpNotZero,
+    JumpBelow,
+    JumpNotBelow,
+    JumpNotAbove,
+    JumpAbove,
+    JumpLess,
+    JumpNotLess,
+    JumpNotGreater,
+    JumpGreater,
 }
 
 /// An instruction taken apart: numbers of registers stand at fixed places.
@@ -71,11 +112,11 @@ pub struct Quick {
     pub scale: u8,
     /// The address starts at the next instruction.
     pub follows_rip: bool,
+    /// The prefix of a repeated string instruction.
+    pub rep: Rep,
     pub displacement: u64,
     /// The instruction's number.
     pub value: u64,
-    /// The prefix of a repeated string instruction.
-    pub rep: Rep,
 }
 
 /// No quick form.

@@ -1,53 +1,54 @@
 //! Kinds over registers alone: they are always made.
 
 ghost use Rattle.std.specs.Prelude.{◌≡◌, ◌⊎◌, ◌<◌, true, false, length};
+ghost use Rattle.decode_fields.specs.Widths.{IsWidth};
 ghost use Rattle.nk_bits.specs.Translations.{NamesFramesIn};
 ghost use Rattle.x86_regs.specs.declared.form.Form.TheVariants as Form;
 ghost use Rattle.exec_quick.specs.declared.quick.Kind.TheVariants as Kind;
 ghost use Rattle.exec_quick.specs.QuickForms.{IsReady, effect_made, quietly};
 
-use crate::operands::{address, operand, source};
+use crate::operands::{address, first_register, put_result, source};
 use crate::quick::Quick;
 use decode_fields::Place;
 use nk_bits::Control;
 use phys_mem::PhysMem;
 use tlb_model::Tlb;
-use x86_regs::{Regs, combination, comparison, low, movement, next_of, set_place, source_width};
+use x86_decode::Op;
+use x86_regs::{
+    Regs, frequent_combination, frequent_comparison, low, movement, next_of, set_place,
+    source_width,
+};
 
 /// ADD and all that writes its first operand by both.
 #[inline(always)]
 #[tactic(auto, unfolding(page_walk::specs::AccessPlans::gathered))]
 pub(crate) fn combine(
     quick: &Quick,
+    op: Op,
+    width: u8,
     regs: &mut Regs,
     control: &Control,
     mem: &mut PhysMem,
     tlb: &Tlb,
 ) -> bool
     requires ready { IsReady quick.now }
-    requires kind { quick.now.kind ≡ Kind.Combine }
+    requires width { IsWidth width }
     requires register { quick.now.to < 16 }
     requires cpl { (regs.old.cpl ≡ 0) ⊎ (regs.old.cpl ≡ 3) }
     requires frames { NamesFramesIn (length mem.old) tlb.now }
     ensures made { result ≡ true → quietly regs.new mem.new tlb.now
-        ≡ effect_made Form.Combine quick.now regs.old control.now mem.old tlb.now }
+        ≡ effect_made Form.Combine (record quick.now { kind = Kind.Combine; op = op; width = width }) regs.old
+        control.now mem.old tlb.now }
     ensures left { result ≡ false → (regs.new ≡ regs.old) × (mem.new ≡ mem.old) }
     ensures length { length mem.new ≡ length mem.old }
     ensures privilege { regs.new.cpl ≡ regs.old.cpl }
 {
     let next = next_of(regs, quick.size);
-    let to = regs.general[usize::from(quick.to)];
-    let width = source_width(quick.op, quick.width);
-    let from = source(quick, width, regs);
-    let it = combination(quick.op, quick.width, to, from, quick.value, regs.flags);
-    set_place(
-        &mut regs.general,
-        &Place::Reg(quick.to),
-        quick.width,
-        it.value,
-    );
-    regs.flags = it.flags;
-    regs.rip = next;
+    let to = first_register(quick, width, regs);
+    let bits = source_width(op, width);
+    let from = source(quick, bits, regs);
+    let it = frequent_combination(op, width, to, from, quick.value, regs.flags);
+    put_result(quick, width, it, next, regs);
     true
 }
 
@@ -56,26 +57,29 @@ pub(crate) fn combine(
 #[tactic(auto, unfolding(page_walk::specs::AccessPlans::gathered))]
 pub(crate) fn compare(
     quick: &Quick,
+    op: Op,
+    width: u8,
     regs: &mut Regs,
     control: &Control,
     mem: &mut PhysMem,
     tlb: &Tlb,
 ) -> bool
     requires ready { IsReady quick.now }
-    requires kind { quick.now.kind ≡ Kind.Compare }
+    requires width { IsWidth width }
     requires register { quick.now.to < 16 }
     requires cpl { (regs.old.cpl ≡ 0) ⊎ (regs.old.cpl ≡ 3) }
     requires frames { NamesFramesIn (length mem.old) tlb.now }
     ensures made { result ≡ true → quietly regs.new mem.new tlb.now
-        ≡ effect_made Form.Compare quick.now regs.old control.now mem.old tlb.now }
+        ≡ effect_made Form.Compare (record quick.now { kind = Kind.Compare; op = op; width = width }) regs.old
+        control.now mem.old tlb.now }
     ensures left { result ≡ false → (regs.new ≡ regs.old) × (mem.new ≡ mem.old) }
     ensures length { length mem.new ≡ length mem.old }
     ensures privilege { regs.new.cpl ≡ regs.old.cpl }
 {
     let next = next_of(regs, quick.size);
-    let to = regs.general[usize::from(quick.to)];
-    let from = operand(quick.from, quick.value, &regs.general);
-    regs.flags = comparison(quick.op, quick.width, to, from, regs.flags);
+    let to = first_register(quick, width, regs);
+    let from = source(quick, width, regs);
+    regs.flags = frequent_comparison(op, width, to, from, regs.flags);
     regs.rip = next;
     true
 }
@@ -85,27 +89,30 @@ pub(crate) fn compare(
 #[tactic(auto, unfolding(page_walk::specs::AccessPlans::gathered))]
 pub(crate) fn move_over(
     quick: &Quick,
+    op: Op,
+    width: u8,
     regs: &mut Regs,
     control: &Control,
     mem: &mut PhysMem,
     tlb: &Tlb,
 ) -> bool
     requires ready { IsReady quick.now }
-    requires kind { quick.now.kind ≡ Kind.Move }
+    requires width { IsWidth width }
     requires register { quick.now.to < 16 }
     requires cpl { (regs.old.cpl ≡ 0) ⊎ (regs.old.cpl ≡ 3) }
     requires frames { NamesFramesIn (length mem.old) tlb.now }
     ensures made { result ≡ true → quietly regs.new mem.new tlb.now
-        ≡ effect_made Form.Move quick.now regs.old control.now mem.old tlb.now }
+        ≡ effect_made Form.Move (record quick.now { kind = Kind.Move; op = op; width = width }) regs.old
+        control.now mem.old tlb.now }
     ensures left { result ≡ false → (regs.new ≡ regs.old) × (mem.new ≡ mem.old) }
     ensures length { length mem.new ≡ length mem.old }
     ensures privilege { regs.new.cpl ≡ regs.old.cpl }
 {
     let next = next_of(regs, quick.size);
-    let width = source_width(quick.op, quick.width);
-    let from = source(quick, width, regs);
-    let value = movement(quick.op, quick.width, from, regs.flags);
-    set_place(&mut regs.general, &Place::Reg(quick.to), quick.width, value);
+    let bits = source_width(op, width);
+    let from = source(quick, bits, regs);
+    let value = movement(op, width, from, regs.flags);
+    set_place(&mut regs.general, &Place::Reg(quick.to), width, value);
     regs.rip = next;
     true
 }

@@ -6,7 +6,7 @@ ghost use Rattle.x86_alu.specs.SignedNumbers.{cut};
 ghost use Rattle.x86_regs.specs.declared.form.Form.TheVariants as Form;
 ghost use Rattle.x86_regs.specs.OperandOutcomes.{bits_scanned, is_forward, quietly as changing};
 ghost use Rattle.exec_quick.specs.declared.quick.Kind.TheVariants as Kind;
-ghost use Rattle.exec_quick.specs.QuickForms.{IsReady, effect_made, has_memory_first, instr_of, quietly};
+ghost use Rattle.exec_quick.specs.QuickForms.{IsReady, effect_made, has_memory_first, instr_of, quietly, width_by};
 
 use crate::kept::load;
 use crate::operands::{address, source};
@@ -32,6 +32,7 @@ fn is_forward(op: Op) -> bool
 #[inline(always)]
 fn scan(quick: &Quick, next: u64, regs: &mut Regs, from: u64)
     requires ready { IsReady quick.now }
+    requires width { width_by quick.now.kind quick.now.width ≡ quick.now.width }
     requires first { has_memory_first quick.now.kind ≡ false }
     requires register { quick.now.to < 16 }
     ensures scanned { changing regs.new ≡ bits_scanned (instr_of quick.now) regs.old next

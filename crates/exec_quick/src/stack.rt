@@ -1,4 +1,5 @@
-//! Kinds over the stack: they are made where its page is kept and serves them.
+//! Kinds over the stack: they are made where its page is kept and serves them. Each is a call of its own: the
+//! turns over registers alone stay smaller by it.
 
 ghost use Rattle.std.specs.Prelude.{◌≡◌, ◌⊎◌, ◌<◌, true, false, length};
 ghost use Rattle.nk_bits.specs.Translations.{NamesFramesIn};
@@ -34,7 +35,7 @@ fn pushed(quick: &Quick, regs: &Regs) -> u64
 }
 
 /// PUSH of a register or a number, which is read before RSP falls.
-#[inline(always)]
+#[inline(never)]
 #[tactic(auto, unfolding(page_walk::specs::AccessPlans::gathered))]
 pub(crate) fn push(
     quick: &Quick,
@@ -67,7 +68,7 @@ pub(crate) fn push(
 }
 
 /// PUSH of memory.
-#[inline(always)]
+#[inline(never)]
 #[tactic(auto, unfolding(page_walk::specs::AccessPlans::gathered))]
 pub(crate) fn push_load(
     quick: &Quick,
@@ -104,7 +105,7 @@ pub(crate) fn push_load(
 }
 
 /// POP to a register, which may be RSP: it is written last.
-#[inline(always)]
+#[inline(never)]
 #[tactic(auto, unfolding(page_walk::specs::AccessPlans::gathered))]
 pub(crate) fn pop(
     quick: &Quick,
@@ -143,7 +144,7 @@ pub(crate) fn pop(
 }
 
 /// CALL, which pushes the address of the next instruction.
-#[inline(always)]
+#[inline(never)]
 #[tactic(auto, unfolding(page_walk::specs::AccessPlans::gathered))]
 pub(crate) fn call(
     quick: &Quick,
@@ -178,7 +179,7 @@ pub(crate) fn call(
 }
 
 /// CALL of an address in memory.
-#[inline(always)]
+#[inline(never)]
 #[tactic(auto, unfolding(page_walk::specs::AccessPlans::gathered))]
 pub(crate) fn call_load(
     quick: &Quick,
@@ -202,8 +203,8 @@ pub(crate) fn call_load(
     let Some(place) = kept_place(mem, tlb, Access::Read, control, regs.cpl, va, 8) else {
         return false;
     };
-    let target = load(mem, place, va, 8);
-    if !canonical(target) {
+    let callee = load(mem, place, va, 8);
+    if !canonical(callee) {
         return false;
     }
     let top = lowered(regs.general[usize::from(RSP)], 8);
@@ -212,12 +213,12 @@ pub(crate) fn call_load(
     };
     store(mem, place, top, 8, next);
     set_register(&mut regs.general, RSP, top);
-    regs.rip = target;
+    regs.rip = callee;
     true
 }
 
 /// RET, which lets as many bytes go as the instruction's number says beyond the address that it pops.
-#[inline(always)]
+#[inline(never)]
 #[tactic(auto, unfolding(page_walk::specs::AccessPlans::gathered))]
 pub(crate) fn ret(
     quick: &Quick,
@@ -251,7 +252,7 @@ pub(crate) fn ret(
 }
 
 /// LEAVE: RSP rises to above what RBP points at, and RBP gets that.
-#[inline(always)]
+#[inline(never)]
 #[tactic(auto, unfolding(page_walk::specs::AccessPlans::gathered))]
 pub(crate) fn leave(
     quick: &Quick,

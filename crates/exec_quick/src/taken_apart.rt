@@ -6,9 +6,10 @@ ghost use Rattle.x86_decode.specs.declared.instruction.Decoded.TheVariants.{Whol
 ghost use Rattle.x86_decode.specs.WellFormed.{IsWellFormed};
 ghost use Rattle.x86_regs.specs.declared.form.Form.TheVariants as Form;
 ghost use Rattle.x86_regs.specs.OperandPlans.{instr_form};
-ghost use Rattle.exec_quick.specs.QuickForms.{StandsFor, form_by, has_memory_first, has_memory_second, has_register_first, is_slow, operand_of, register_of};
+ghost use Rattle.exec_quick.specs.QuickForms.{StandsFor, form_by, has_memory_first, has_memory_second, has_register_first, is_slow, op_by, operand_of, register_of, width_by};
 ghost use Rattle.exec_quick.specs.QuickParts.{HasParts};
 
+use crate::kinds::of_its_kind;
 use crate::quick::{Kind, Quick, SLOW};
 use decode_fields::{Address, Place};
 use x86_decode::Instr;
@@ -20,7 +21,7 @@ pub fn quick_of(instr: &Instr, size: u8) -> Quick
     ensures stands { is_slow result.kind ≡ false → StandsFor result (Whole instr.now size) }
 {
     if !instr.lock && is_unconditional(instr) {
-        by_form(instr, size)
+        of_its_kind(by_form(instr, size))
     } else {
         SLOW
     }
@@ -175,6 +176,8 @@ fn dividing(instr: &Instr, size: u8) -> Quick
 fn with_register(kind: Kind, instr: &Instr, size: u8) -> Quick
     requires first { has_memory_first kind ≡ false }
     requires second { has_memory_second kind ≡ false }
+    requires op { op_by kind instr.now.op ≡ instr.now.op }
+    requires width { width_by kind instr.now.width ≡ instr.now.width }
     requires formed { IsWellFormed instr.now }
     requires lock { instr.now.lock ≡ false }
     ensures parts { is_slow result.kind ≡ false → HasParts result instr.now size }
@@ -191,6 +194,8 @@ fn without_register(kind: Kind, instr: &Instr, size: u8) -> Quick
     requires first { has_memory_first kind ≡ false }
     requires second { has_memory_second kind ≡ false }
     requires register { has_register_first kind ≡ false }
+    requires op { op_by kind instr.now.op ≡ instr.now.op }
+    requires width { width_by kind instr.now.width ≡ instr.now.width }
     requires formed { IsWellFormed instr.now }
     requires lock { instr.now.lock ≡ false }
     ensures parts { is_slow result.kind ≡ false → HasParts result instr.now size }
@@ -206,6 +211,8 @@ fn without_register(kind: Kind, instr: &Instr, size: u8) -> Quick
 fn loading(kind: Kind, instr: &Instr, size: u8) -> Quick
     requires first { has_memory_first kind ≡ false }
     requires second { has_memory_second kind ≡ true }
+    requires op { op_by kind instr.now.op ≡ instr.now.op }
+    requires width { width_by kind instr.now.width ≡ instr.now.width }
     requires formed { IsWellFormed instr.now }
     requires lock { instr.now.lock ≡ false }
     ensures parts { is_slow result.kind ≡ false → HasParts result instr.now size }
@@ -222,6 +229,8 @@ fn reading(kind: Kind, instr: &Instr, size: u8) -> Quick
     requires first { has_memory_first kind ≡ false }
     requires second { has_memory_second kind ≡ true }
     requires register { has_register_first kind ≡ false }
+    requires op { op_by kind instr.now.op ≡ instr.now.op }
+    requires width { width_by kind instr.now.width ≡ instr.now.width }
     requires formed { IsWellFormed instr.now }
     requires lock { instr.now.lock ≡ false }
     ensures parts { is_slow result.kind ≡ false → HasParts result instr.now size }
@@ -238,6 +247,8 @@ fn storing(kind: Kind, instr: &Instr, size: u8) -> Quick
     requires first { has_memory_first kind ≡ true }
     requires second { has_memory_second kind ≡ false }
     requires register { has_register_first kind ≡ false }
+    requires op { op_by kind instr.now.op ≡ instr.now.op }
+    requires width { width_by kind instr.now.width ≡ instr.now.width }
     requires formed { IsWellFormed instr.now }
     requires lock { instr.now.lock ≡ false }
     ensures parts { is_slow result.kind ≡ false → HasParts result instr.now size }

@@ -101,25 +101,53 @@ fn first_of_another(rows: &[(&'static [u8], Kind)]) -> Option<usize> {
 #[test]
 fn kinds_over_operands(rt: HostRuntime) {
     let rows: [(&[u8], Kind); 19] = [
-        (b"\x48\x01\xC8", Kind::Combine),
-        (b"\x48\x83\xC0\x01", Kind::Combine),
-        (b"\x48\xFF\xC0", Kind::Combine),
+        (b"\x48\x01\xC8", Kind::Add64),
+        (b"\x48\x83\xC0\x01", Kind::Add64),
+        (b"\x48\xFF\xC0", Kind::Inc64),
         (b"\x48\xC1\xE0\x03", Kind::Combine),
         (b"\x48\x0F\x44\xC1", Kind::Combine),
         (b"\x48\x03\x03", Kind::CombineLoad),
         (b"\x48\x01\x03", Kind::CombineStore),
         (b"\x48\xFF\x03", Kind::CombineStore),
-        (b"\x48\x39\xC8", Kind::Compare),
+        (b"\x48\x39\xC8", Kind::Cmp64),
         (b"\x48\x3B\x03", Kind::CompareLoad),
         (b"\x48\x39\x03", Kind::CompareStore),
         (b"\x80\x3B\x05", Kind::CompareStore),
-        (b"\x48\x89\xC8", Kind::Move),
+        (b"\x48\x89\xC8", Kind::Mov64),
         (b"\x0F\x94\xC0", Kind::Move),
-        (b"\x48\x8B\x03", Kind::MoveLoad),
-        (b"\x0F\xB6\x03", Kind::MoveLoad),
-        (b"\x48\x8B\x05\x10\x00\x00\x00", Kind::MoveLoad),
-        (b"\x48\x89\x03", Kind::MoveStore),
+        (b"\x48\x8B\x03", Kind::Load64),
+        (b"\x0F\xB6\x03", Kind::LoadByte),
+        (b"\x48\x8B\x05\x10\x00\x00\x00", Kind::Load64),
+        (b"\x48\x89\x03", Kind::Store64),
         (b"\x48\x8D\x44\x8B\x08", Kind::Address),
+    ];
+    assert_eq!(rt; first_of_another(&rows), None);
+}
+
+/// The most frequent operations at other widths, and others at theirs.
+#[test]
+fn kinds_of_one_operation(rt: HostRuntime) {
+    let rows: [(&[u8], Kind); 20] = [
+        (b"\x01\xC8", Kind::Add32),
+        (b"\x66\x01\xC8", Kind::Combine),
+        (b"\x00\xC8", Kind::Combine),
+        (b"\x48\x11\xC8", Kind::Combine),
+        (b"\x48\x29\xC8", Kind::Sub64),
+        (b"\x83\xE0\x01", Kind::And32),
+        (b"\x48\x09\xC8", Kind::Or64),
+        (b"\x31\xC0", Kind::Xor32),
+        (b"\x48\xFF\xC8", Kind::Dec64),
+        (b"\x85\xC0", Kind::Test32),
+        (b"\x39\xC8", Kind::Cmp32),
+        (b"\x66\x39\xC8", Kind::Compare),
+        (b"\x48\xC7\xC0\x05\x00\x00\x00", Kind::Mov64),
+        (b"\x8B\x03", Kind::Load32),
+        (b"\x8A\x03", Kind::MoveLoad),
+        (b"\x89\x03", Kind::Store32),
+        (b"\x74\xFE", Kind::JumpZero),
+        (b"\x7F\xFE", Kind::JumpGreater),
+        (b"\x70\xFE", Kind::Branch),
+        (b"\xE3\xFE", Kind::CountDown),
     ];
     assert_eq!(rt; first_of_another(&rows), None);
 }
@@ -134,10 +162,10 @@ fn kinds_over_the_stack_and_branches(rt: HostRuntime) {
         (b"\xFF\xD0", Kind::Call),
         (b"\xC3", Kind::Return),
         (b"\xC2\x08\x00", Kind::Return),
-        (b"\x75\xFE", Kind::Branch),
-        (b"\xEB\xFE", Kind::Branch),
-        (b"\xFF\xE0", Kind::Branch),
-        (b"\xE2\xFE", Kind::CountDown),
+        (b"\x75\xFE", Kind::JumpNotZero),
+        (b"\xEB\xFE", Kind::Jump),
+        (b"\xFF\xE0", Kind::Jump),
+        (b"\xE2\xFE", Kind::Loop),
     ];
     assert_eq!(rt; first_of_another(&rows), None);
 }

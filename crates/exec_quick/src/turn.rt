@@ -18,11 +18,11 @@ use crate::strings::{compare_strings, load_string, move_string, scan_string, sto
 use nk_bits::Control;
 use phys_mem::PhysMem;
 use tlb_model::Tlb;
+use x86_decode::Op;
 use x86_regs::Regs;
 
 /// Makes the instruction of a quick form, with its write, where each page that it needs is kept and serves it and no fault is
 /// raised; else changes nothing, and says so.
-#[inline(always)]
 pub fn make(quick: &Quick, regs: &mut Regs, control: &Control, mem: &mut PhysMem, tlb: &Tlb) -> bool
     requires ready { IsReady quick.now }
     requires register { has_register_first quick.now.kind ≡ true → quick.now.to < 16 }
@@ -37,22 +37,52 @@ pub fn make(quick: &Quick, regs: &mut Regs, control: &Control, mem: &mut PhysMem
 {
     match quick.kind {
         Kind::Slow => false,
-        Kind::Combine => combine(quick, regs, control, mem, tlb),
+        Kind::Add64 => combine(quick, Op::Add, 64, regs, control, mem, tlb),
+        Kind::Add32 => combine(quick, Op::Add, 32, regs, control, mem, tlb),
+        Kind::Sub64 => combine(quick, Op::Sub, 64, regs, control, mem, tlb),
+        Kind::Sub32 => combine(quick, Op::Sub, 32, regs, control, mem, tlb),
+        Kind::And64 => combine(quick, Op::And, 64, regs, control, mem, tlb),
+        Kind::And32 => combine(quick, Op::And, 32, regs, control, mem, tlb),
+        Kind::Or64 => combine(quick, Op::Or, 64, regs, control, mem, tlb),
+        Kind::Or32 => combine(quick, Op::Or, 32, regs, control, mem, tlb),
+        Kind::Xor64 => combine(quick, Op::Xor, 64, regs, control, mem, tlb),
+        Kind::Xor32 => combine(quick, Op::Xor, 32, regs, control, mem, tlb),
+        Kind::Inc64 => combine(quick, Op::Inc, 64, regs, control, mem, tlb),
+        Kind::Inc32 => combine(quick, Op::Inc, 32, regs, control, mem, tlb),
+        Kind::Dec64 => combine(quick, Op::Dec, 64, regs, control, mem, tlb),
+        Kind::Dec32 => combine(quick, Op::Dec, 32, regs, control, mem, tlb),
+        Kind::Cmp64 => compare(quick, Op::Cmp, 64, regs, control, mem, tlb),
+        Kind::Cmp32 => compare(quick, Op::Cmp, 32, regs, control, mem, tlb),
+        Kind::Test64 => compare(quick, Op::Test, 64, regs, control, mem, tlb),
+        Kind::Test32 => compare(quick, Op::Test, 32, regs, control, mem, tlb),
+        Kind::Mov64 => move_over(quick, Op::Mov, 64, regs, control, mem, tlb),
+        Kind::Mov32 => move_over(quick, Op::Mov, 32, regs, control, mem, tlb),
+        Kind::Load64 => move_load(quick, Op::Mov, 64, regs, control, mem, tlb),
+        Kind::Load32 => move_load(quick, Op::Mov, 32, regs, control, mem, tlb),
+        Kind::LoadByte => move_load(quick, Op::Movzx8, 32, regs, control, mem, tlb),
+        Kind::Store64 => move_store(quick, Op::Mov, 64, regs, control, mem, tlb),
+        Kind::Store32 => move_store(quick, Op::Mov, 32, regs, control, mem, tlb),
+        Kind::Loop => count_down(quick, Op::Loop, regs, control, mem, tlb),
+        Kind::Jump => branch(quick, Op::Jmp, regs, control, mem, tlb),
+        Kind::JumpZero => branch(quick, Op::J(4), regs, control, mem, tlb),
+        Kind::JumpNotZero => branch(quick, Op::J(5), regs, control, mem, tlb),
+        Kind::JumpBelow => branch(quick, Op::J(2), regs, control, mem, tlb),
+        Kind::JumpNotBelow => branch(quick, Op::J(3), regs, control, mem, tlb),
+        Kind::JumpNotAbove => branch(quick, Op::J(6), regs, control, mem, tlb),
+        Kind::JumpAbove => branch(quick, Op::J(7), regs, control, mem, tlb),
+        Kind::JumpLess => branch(quick, Op::J(12), regs, control, mem, tlb),
+        Kind::JumpNotLess => branch(quick, Op::J(13), regs, control, mem, tlb),
+        Kind::JumpNotGreater => branch(quick, Op::J(14), regs, control, mem, tlb),
+        Kind::JumpGreater => branch(quick, Op::J(15), regs, control, mem, tlb),
         Kind::CombineLoad => combine_load(quick, regs, control, mem, tlb),
         Kind::CombineStore => combine_store(quick, regs, control, mem, tlb),
-        Kind::Compare => compare(quick, regs, control, mem, tlb),
         Kind::CompareLoad => compare_load(quick, regs, control, mem, tlb),
         Kind::CompareStore => compare_store(quick, regs, control, mem, tlb),
-        Kind::Move => move_over(quick, regs, control, mem, tlb),
-        Kind::MoveLoad => move_load(quick, regs, control, mem, tlb),
-        Kind::MoveStore => move_store(quick, regs, control, mem, tlb),
         Kind::Address => load_address(quick, regs, control, mem, tlb),
         Kind::Push => push(quick, regs, control, mem, tlb),
         Kind::Pop => pop(quick, regs, control, mem, tlb),
-        Kind::Branch => branch(quick, regs, control, mem, tlb),
         Kind::Call => call(quick, regs, control, mem, tlb),
         Kind::Return => ret(quick, regs, control, mem, tlb),
-        Kind::CountDown => count_down(quick, regs, control, mem, tlb),
         _ => make_rest(quick, regs, control, mem, tlb),
     }
 }
@@ -78,6 +108,13 @@ fn make_rest(
     ensures privilege { regs.new.cpl ≡ regs.old.cpl }
 {
     match quick.kind {
+        Kind::Combine => combine(quick, quick.op, quick.width, regs, control, mem, tlb),
+        Kind::Compare => compare(quick, quick.op, quick.width, regs, control, mem, tlb),
+        Kind::Move => move_over(quick, quick.op, quick.width, regs, control, mem, tlb),
+        Kind::MoveLoad => move_load(quick, quick.op, quick.width, regs, control, mem, tlb),
+        Kind::MoveStore => move_store(quick, quick.op, quick.width, regs, control, mem, tlb),
+        Kind::Branch => branch(quick, quick.op, regs, control, mem, tlb),
+        Kind::CountDown => count_down(quick, quick.op, regs, control, mem, tlb),
         Kind::PushLoad => push_load(quick, regs, control, mem, tlb),
         Kind::Leave => leave(quick, regs, control, mem, tlb),
         Kind::BranchLoad => branch_load(quick, regs, control, mem, tlb),

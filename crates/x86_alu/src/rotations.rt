@@ -8,7 +8,7 @@ ghost use Rattle.x86_alu.specs.Shifts.{masked_count, exchanged, rotated, rotate_
 use crate::answers::Out;
 use crate::flags::{CF, OF, with_flag};
 use crate::shifts::masked_count;
-use crate::width::{bit, cut, differ, sign};
+use crate::width::{differ, flag, low, top};
 
 /// ROL or ROR of `a`, which is cut to the width, in bits, by the count, masked as for a shift.
 pub fn rotate(left: bool, width: u8, a: u64, count: u8, flags: u64) -> Out
@@ -18,7 +18,7 @@ pub fn rotate(left: bool, width: u8, a: u64, count: u8, flags: u64) -> Out
         rotate_flags left width (rotated left width (cut width a) (masked_count width count))
         (masked_count width count) flags }
 {
-    let a = cut(width, a as u128);
+    let a = low(width, a);
     let count = masked_count(width, count);
     let value = rotated(left, width, a, count);
     Out {
@@ -57,7 +57,7 @@ fn rotate_flags(left: bool, width: u8, value: u64, count: u8, flags: u64) -> u64
     let overflow = if count == 1 {
         rotate_overflow(left, width, value)
     } else {
-        bit(flags as u128, OF)
+        flag(flags, OF)
     };
     let flags = with_flag(flags, OF, overflow);
     with_flag(flags, CF, rotate_carry(left, width, value))
@@ -68,9 +68,9 @@ fn rotate_carry(left: bool, width: u8, value: u64) -> bool
     ensures { result ≡ rotate_carry left width value }
 {
     if left {
-        bit(value as u128, 0)
+        flag(value, 0)
     } else {
-        sign(width, value as u128)
+        top(width, value)
     }
 }
 
@@ -79,9 +79,9 @@ fn rotate_overflow(left: bool, width: u8, value: u64) -> bool
     ensures { result ≡ rotate_overflow left width value }
 {
     let other = if left {
-        bit(value as u128, 0)
+        flag(value, 0)
     } else {
-        bit(value as u128, width - 2)
+        flag(value, width - 2)
     };
-    differ(sign(width, value as u128), other)
+    differ(top(width, value), other)
 }

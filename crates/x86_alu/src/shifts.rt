@@ -8,7 +8,7 @@ ghost use Rattle.x86_alu.specs.Shifts.{masked_count, sign_filled, shifted, shift
 use crate::answers::Out;
 use crate::choices::Shift;
 use crate::flags::{CF, OF, result_flags, with_flag};
-use crate::width::{bit, cut, differ, sign};
+use crate::width::{cut, differ, flag, low, top};
 
 /// SHL, SHR or SAR of `a`, which is cut to the width, in bits, by the low 5 bits of the count, or 6 at width 64.
 pub fn shift(op: Shift, width: u8, a: u64, count: u8, flags: u64) -> Out
@@ -17,7 +17,7 @@ pub fn shift(op: Shift, width: u8, a: u64, count: u8, flags: u64) -> Out
     ensures flags { result.flags ≡
         shift_flags op width (cut width a) (masked_count width count) flags }
 {
-    let a = cut(width, a as u128);
+    let a = low(width, a);
     let count = masked_count(width, count);
     let value = shifted(op, width, a, count);
     Out {
@@ -44,7 +44,7 @@ fn shifted(op: Shift, width: u8, a: u64, count: u8) -> u64
     ensures { result ≡ shifted op width a count }
 {
     match op {
-        Shift::Left => cut(width, (a as u128) << count),
+        Shift::Left => low(width, a << count),
         Shift::Right => a >> count,
         Shift::Signed => cut(width, sign_filled(width, a) >> count),
     }
@@ -55,11 +55,7 @@ fn sign_filled(width: u8, a: u64) -> u128
     requires fits { a < 2 ^ width }
     ensures { result ≡ sign_filled width a }
 {
-    let ones = if sign(width, a as u128) {
-        u64::MAX as u128
-    } else {
-        0
-    };
+    let ones = if top(width, a) { u64::MAX as u128 } else { 0 };
     (ones << width) + a as u128
 }
 
@@ -73,11 +69,11 @@ fn shift_flags(op: Shift, width: u8, a: u64, count: u8, value: u64, flags: u64) 
     if count == 0 {
         return flags;
     }
-    let carry = shift_carry(op, width, a, count, bit(flags as u128, CF));
+    let carry = shift_carry(op, width, a, count, flag(flags, CF));
     let overflow = if count == 1 {
         shift_overflow(op, width, a, value, carry)
     } else {
-        bit(flags as u128, OF)
+        flag(flags, OF)
     };
     let flags = result_flags(width, value, flags);
     let flags = with_flag(flags, OF, overflow);
@@ -91,10 +87,10 @@ fn shift_carry(op: Shift, width: u8, a: u64, count: u8, was: bool) -> bool
     ensures { result ≡ shift_carry op width a count was }
 {
     match op {
-        Shift::Left if count < width => bit(a as u128, width - count),
-        Shift::Right | Shift::Signed if count < width => bit(a as u128, count - 1),
+        Shift::Left if count < width => flag(a, width - count),
+        Shift::Right | Shift::Signed if count < width => flag(a, count - 1),
         Shift::Left | Shift::Right => was,
-        Shift::Signed => sign(width, a as u128),
+        Shift::Signed => top(width, a),
     }
 }
 
@@ -103,8 +99,8 @@ fn shift_overflow(op: Shift, width: u8, a: u64, value: u64, carry: bool) -> bool
     ensures { result ≡ shift_overflow op width a value carry }
 {
     match op {
-        Shift::Left => differ(sign(width, value as u128), carry),
-        Shift::Right => sign(width, a as u128),
+        Shift::Left => differ(top(width, value), carry),
+        Shift::Right => top(width, a),
         Shift::Signed => false,
     }
 }

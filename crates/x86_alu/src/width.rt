@@ -21,6 +21,15 @@ pub fn low(width: u8, word: u64) -> u64
     word & (u64::MAX >> (64 - width))
 }
 
+/// The bit of a word at a place.
+#[inline(always)]
+pub(crate) fn flag(word: u64, place: u8) -> bool
+    requires { place < 64 }
+    ensures { result ≡ bit word place }
+{
+    word >> place & 1 == 1
+}
+
 /// The highest bit of a word's low `width` bits.
 #[inline(always)]
 pub fn top(width: u8, word: u64) -> bool

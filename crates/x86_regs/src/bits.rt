@@ -9,24 +9,40 @@ use crate::conditions::bit;
 use crate::registers::low;
 use x86_alu::{CF, Out, Shift, rotate, shift, with_flag};
 
-/// A shift by the low byte of the count.
+/// A shift by the low byte of the count. At the widths of most instructions, 64 and 32, masks are constants.
+#[inline(never)]
 pub(crate) fn shift_by(kind: Shift, width: u8, a: u64, count: u64, flags: u64) -> Out
     requires { IsWidth width }
     ensures { result ≡ shift_by kind width (cut width a) (cut 8 count) flags }
 {
-    let it = shift(kind, width, a, low(8, count) as u8, flags);
+    let count = low(8, count) as u8;
+    let it = if width == 64 {
+        shift(kind, 64, a, count, flags)
+    } else if width == 32 {
+        shift(kind, 32, a, count, flags)
+    } else {
+        shift(kind, width, a, count, flags)
+    };
     Out {
         value: it.value,
         flags: it.flags,
     }
 }
 
-/// A rotation by the low byte of the count.
+/// A rotation by the low byte of the count, likewise.
+#[inline(never)]
 pub(crate) fn rotate_by(left: bool, width: u8, a: u64, count: u64, flags: u64) -> Out
     requires { IsWidth width }
     ensures { result ≡ rotate_by left width (cut width a) (cut 8 count) flags }
 {
-    let it = rotate(left, width, a, low(8, count) as u8, flags);
+    let count = low(8, count) as u8;
+    let it = if width == 64 {
+        rotate(left, 64, a, count, flags)
+    } else if width == 32 {
+        rotate(left, 32, a, count, flags)
+    } else {
+        rotate(left, width, a, count, flags)
+    };
     Out {
         value: it.value,
         flags: it.flags,

@@ -14,7 +14,7 @@ use x86_decode::Op;
 
 /// What an operation makes of the operand that it writes, `a`, and of `b`, at this width in bits; `number` is the
 /// instruction's. At the widths of most instructions, 64 and 32, masks and shifts are constants.
-#[inline(always)]
+#[inline(never)]
 pub fn combination(op: Op, width: u8, a: u64, b: u64, number: u64, flags: u64) -> Out
     requires { IsWidth width }
     ensures { result ≡ combination op width (cut width a) (cut (source_width op width) b) number flags }
@@ -25,6 +25,39 @@ pub fn combination(op: Op, width: u8, a: u64, b: u64, number: u64, flags: u64) -
         combination_at(op, 32, a, b, number, flags)
     } else {
         combination_at(op, width, a, b, number, flags)
+    }
+}
+
+/// `combination`, of which the most frequent operations stand in the caller's own code: it is for callers that know the
+/// operation and the width.
+#[inline(always)]
+pub fn frequent_combination(op: Op, width: u8, a: u64, b: u64, number: u64, flags: u64) -> Out
+    requires { IsWidth width }
+    ensures { result ≡ combination op width (cut width a) (cut (source_width op width) b) number flags }
+{
+    match op {
+        Op::Add => sum(width, a, b, false, flags),
+        Op::Sub => difference(width, a, b, false, flags),
+        Op::And => logical(Logic::And, width, a, b, flags),
+        Op::Or => logical(Logic::Or, width, a, b, flags),
+        Op::Xor => logical(Logic::Xor, width, a, b, flags),
+        Op::Inc => increased(width, a, flags),
+        Op::Dec => decreased(width, a, flags),
+        _ => combination(op, width, a, b, number, flags),
+    }
+}
+
+/// `combination`, of which the most frequent operations at the width of most instructions, 64, stand in the caller's own
+/// code.
+#[inline(always)]
+pub fn usual_combination(op: Op, width: u8, a: u64, b: u64, number: u64, flags: u64) -> Out
+    requires { IsWidth width }
+    ensures { result ≡ combination op width (cut width a) (cut (source_width op width) b) number flags }
+{
+    if width == 64 {
+        frequent_combination(op, 64, a, b, number, flags)
+    } else {
+        combination(op, width, a, b, number, flags)
     }
 }
 
@@ -72,7 +105,7 @@ fn combination_at(op: Op, width: u8, a: u64, b: u64, number: u64, flags: u64) ->
 }
 
 /// The flags after a comparison of `a` with `b`, at this width in bits.
-#[inline(always)]
+#[inline(never)]
 pub fn comparison(op: Op, width: u8, a: u64, b: u64, flags: u64) -> u64
     requires { IsWidth width }
     ensures { result ≡ comparison op width (cut width a) (cut width b) flags }
@@ -83,6 +116,34 @@ pub fn comparison(op: Op, width: u8, a: u64, b: u64, flags: u64) -> u64
         comparison_at(op, 32, a, b, flags)
     } else {
         comparison_at(op, width, a, b, flags)
+    }
+}
+
+/// `comparison`, of which the most frequent operations stand in the caller's own code, likewise.
+#[inline(always)]
+pub fn frequent_comparison(op: Op, width: u8, a: u64, b: u64, flags: u64) -> u64
+    requires { IsWidth width }
+    ensures { result ≡ comparison op width (cut width a) (cut width b) flags }
+{
+    match op {
+        Op::Cmp => difference(width, a, b, false, flags).flags,
+        Op::Test => logical(Logic::And, width, a, b, flags).flags,
+        _ => comparison(op, width, a, b, flags),
+    }
+}
+
+/// `comparison`, of which the most frequent operations at the widths of most instructions stand in the caller's own code.
+#[inline(always)]
+pub fn usual_comparison(op: Op, width: u8, a: u64, b: u64, flags: u64) -> u64
+    requires { IsWidth width }
+    ensures { result ≡ comparison op width (cut width a) (cut width b) flags }
+{
+    if width == 64 {
+        frequent_comparison(op, 64, a, b, flags)
+    } else if width == 32 {
+        frequent_comparison(op, 32, a, b, flags)
+    } else {
+        comparison(op, width, a, b, flags)
     }
 }
 

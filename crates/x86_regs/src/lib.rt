@@ -32,7 +32,10 @@ mod writes;
 // What follows from the definition of an effect.
 mod laws;
 
-pub use combinations::{combination, comparison};
+pub use combinations::{
+    combination, comparison, frequent_combination, frequent_comparison, usual_combination,
+    usual_comparison,
+};
 pub use conditions::{bit, condition_stands};
 pub use delivery::{Frame, Tables};
 pub use effects::{ASKED_NOTHING, Act, Asked, Change, Effect, Write};
