@@ -49,6 +49,7 @@ expect 1 'protected ffffffff80000013 0f22c0' run "$top/examples/images/refused.e
 expect 2 "$usage"
 expect 2 "$usage" scan
 expect 3 'unread image' scan "$work/none"
+expect 3 'unread image' scan "$work"
 expect 3 'unread plan' run "$image" /dev/null "$work/none" 1 512
 expect_within 14000 5 'no memory' work 1
 expect 6 'plan line 2' run "$image" /dev/null "$work/plan" 1 512
@@ -60,6 +61,10 @@ if [ -e /dev/full ]; then
         "$program" scan "$image" >/dev/full 2>/dev/null
         count "$([ $? -eq 4 ] || echo "a full device: another status than 4")"
 fi
+# A pipe has no size, so a scan doesn't read it; what holds the image does.
+count "$("$program" scan /dev/stdin <"$image" | grep -q '^admitted ' || echo 'standard input from a file is not scanned')"
+count "$(cat "$image" | "$program" scan /dev/stdin | grep -qx 'unread image' || echo 'a pipe is not unread')"
+count "$(cat "$image" | "$program" map /dev/stdin 512 0 | grep -qx 'missing 4' || echo 'map of a pipe: another line')"
 # The wrong cases: another status, and another line.
 [ -n "$(difference 1 'missing 4' map "$image" 512 0)" ] && [ -n "$(difference 0 'missing 3' map "$image" 512 0)" ] ||
         count 'a wrong status or line is not found'
