@@ -24,6 +24,8 @@ use Rattle.exec_quick.specs.QuickForms.{Settled, effect_made, form_by, instr_of,
 use Rattle.cpu_step.specs.declared.fetch.Fetched.{Fetched}
 use Rattle.cpu_step.specs.declared.kept_code.KeptCode.{KeptCode}
 use Rattle.cpu_step.specs.InstructionFetch.{instruction_at}
+use Rattle.mem_access.specs.declared.window.Window.{Window}
+use Rattle.mem_access.specs.Windows.{IsWindow}
 use Rattle.cpu_step.specs.KeptFetches.{IsKeptCode}
 use Rattle.cpu_step.specs.Processor.{IsSound, Processor, deliverable, highest_pending}
 use Rattle.cpu_step.specs.QuickTurns.{AreQuickTurns, IsQuickTurn}
@@ -221,8 +223,8 @@ pub not_at_body : (size : ℕ) (p : Processor) (code : KeptCode) (ahead : ℕ) �
     ahead ≤ code.last → code.start + ahead ≡ p.regs.rip → is_at_body p.regs ≡ false
 not_at_body size p code ahead kept near here = away p.regs.cpl p.regs.rip code.start code.last ahead near here kept.elsewhere
 
--- so many turns of at most this many were made, and the next one may be quick
-pub record AreMade (most count : ℕ) (p : Processor) (m : List ℕ) (q : Processor) (n : List ℕ) : Type 0 where
+-- so many turns of at most this many were made, and the next one may be quick, by this window of data
+pub record AreMade (most count : ℕ) (window : Window) (p : Processor) (m : List ℕ) (q : Processor) (n : List ℕ) : Type 0 where
   pub within : count ≤ most
   pub turns : AreQuickTurns count p m q n
   pub runs : q.halted ≡ false
@@ -230,10 +232,11 @@ pub record AreMade (most count : ℕ) (p : Processor) (m : List ℕ) (q : Proces
   pub none : q.pending ≡ 0
   pub sound : IsSound (length n) q
   pub size : length n ≡ length m
+  pub windowed : IsWindow (length n) q.control q.regs.cpl q.tlb window
 
-pub none_made : (most : ℕ) (p : Processor) (m : List ℕ) → p.halted ≡ false → p.shielded ≡ false → p.pending ≡ 0 →
-    IsSound (length m) p → AreMade most 0 p m p m
-none_made most p m runs open_to none sound = record {
+pub none_made : (most : ℕ) (window : Window) (p : Processor) (m : List ℕ) → p.halted ≡ false → p.shielded ≡ false → p.pending ≡ 0 →
+    IsSound (length m) p → IsWindow (length m) p.control p.regs.cpl p.tlb window → AreMade most 0 window p m p m
+none_made most window p m runs open_to none sound windowed = record {
   within = omega arith;
   turns = no_turns p m;
   runs = runs;
@@ -241,12 +244,14 @@ none_made most p m runs open_to none sound = record {
   none = none;
   sound = sound;
   size = refl;
+  windowed = windowed;
 }
 
 -- some more of them
-pub some_made : (most count more : ℕ) (p q r : Processor) (m n o : List ℕ) → AreMade most count p m q n → more ≤ most - count →
-    AreQuickTurns more q n r o → r ≡ record q { regs = r.regs } → IsSound (length o) r → length o ≡ length n → AreMade most (count + more) p m r o
-some_made most count more p q r m n o before fit turns rest sound size = record {
+pub some_made : (most count more : ℕ) (window after : Window) (p q r : Processor) (m n o : List ℕ) → AreMade most count window p m q n → more ≤ most - count →
+    AreQuickTurns more q n r o → r ≡ record q { regs = r.regs } → IsSound (length o) r → length o ≡ length n →
+    IsWindow (length o) r.control r.regs.cpl r.tlb after → AreMade most (count + more) after p m r o
+some_made most count more window after p q r m n o before fit turns rest sound size windowed = record {
   within = omega (arith, fit, before.within);
   turns = more_turns count more p q r m n o before.turns turns;
   runs = ap (λ (x : Processor). x.halted) rest ∙ before.runs;
@@ -254,26 +259,36 @@ some_made most count more p q r m n o before fit turns rest sound size = record 
   none = ap (λ (x : Processor). x.pending) rest ∙ before.none;
   sound = sound;
   size = size ∙ before.size;
+  windowed = windowed;
 }
 
 -- the same by code that is kept, which goes on being kept
-pub record AreMadeBy (most count : ℕ) (code : KeptCode) (p : Processor) (m : List ℕ) (q : Processor) (n : List ℕ) : Type 0 where
-  pub made : AreMade most count p m q n
+pub record AreMadeBy (most count : ℕ) (code : KeptCode) (window : Window) (p : Processor) (m : List ℕ) (q : Processor) (n : List ℕ) : Type 0 where
+  pub made : AreMade most count window p m q n
   pub kept : IsKeptCode (length n) q.control q.regs.cpl q.tlb code
   pub rest : q ≡ record p { regs = q.regs }
 
-pub none_made_by : (most : ℕ) (code : KeptCode) (p : Processor) (m : List ℕ) → p.halted ≡ false → p.shielded ≡ false → p.pending ≡ 0 →
-    IsKeptCode (length m) p.control p.regs.cpl p.tlb code → IsSound (length m) p → AreMadeBy most 0 code p m p m
-none_made_by most code p m runs open_to none kept sound = record {
-  made = none_made most p m runs open_to none sound;
+pub none_made_by : (most : ℕ) (code : KeptCode) (window : Window) (p : Processor) (m : List ℕ) → p.halted ≡ false → p.shielded ≡ false → p.pending ≡ 0 →
+    IsKeptCode (length m) p.control p.regs.cpl p.tlb code → IsSound (length m) p → IsWindow (length m) p.control p.regs.cpl p.tlb window →
+    AreMadeBy most 0 code window p m p m
+none_made_by most code window p m runs open_to none kept sound windowed = record {
+  made = none_made most window p m runs open_to none sound windowed;
   kept = kept;
   rest = refl;
 }
 
-pub one_made : (most count : ℕ) (code : KeptCode) (p q r : Processor) (m n o : List ℕ) → AreMadeBy most count code p m q n → count < most →
-    enters_body q ≡ false → ran r o ≡ turned q n → r ≡ record q { regs = r.regs } →
-    r.regs.cpl ≡ q.regs.cpl → IsSound (length o) r → length o ≡ length n → AreMadeBy most (count + 1) code p m r o
-one_made most count code p q r m n o before less no_body made rest cpl sound size =
+-- what goes by the size of memory, control registers, CPL and translations goes on
+on : (P : ℕ → Control → ℕ → Translations → Type 0) (q r : Processor) (n o : List ℕ) → r ≡ record q { regs = r.regs } → r.regs.cpl ≡ q.regs.cpl →
+    length o ≡ length n → P (length n) q.control q.regs.cpl q.tlb → P (length o) r.control r.regs.cpl r.tlb
+on P q r n o rest cpl size before =
+    subst (λ (x : ℕ × Control × ℕ × Translations). P x.0 x.1 x.2 x.3)
+    (λ j. (sym size j, sym (ap (λ (x : Processor). x.control) rest) j, sym cpl j, sym (ap (λ (x : Processor). x.tlb) rest) j)) before
+
+pub one_made : (most count : ℕ) (code : KeptCode) (window after : Window) (p q r : Processor) (m n o : List ℕ) → AreMadeBy most count code window p m q n →
+    count < most → enters_body q ≡ false → ran r o ≡ turned q n → r ≡ record q { regs = r.regs } →
+    r.regs.cpl ≡ q.regs.cpl → IsSound (length o) r → length o ≡ length n → IsWindow (length n) q.control q.regs.cpl q.tlb after →
+    AreMadeBy most (count + 1) code after p m r o
+one_made most count code window after p q r m n o before less no_body made rest cpl sound size windowed =
     let turn : IsQuickTurn q n = record {
       no_body = no_body;
       runs = before.made.runs;
@@ -291,9 +306,8 @@ one_made most count code p q r m n o before less no_body made rest cpl sound siz
         none = ap (λ (x : Processor). x.pending) rest ∙ before.made.none;
         sound = sound;
         size = size ∙ before.made.size;
+        windowed = on (λ size control cpl tlb. IsWindow size control cpl tlb after) q r n o rest cpl size windowed;
       };
-      kept =
-          subst (λ (x : ℕ × Control × ℕ × Translations). IsKeptCode x.0 x.1 x.2 x.3 code)
-          (λ j. (sym size j, sym (ap (λ (x : Processor). x.control) rest) j, sym cpl j, sym (ap (λ (x : Processor). x.tlb) rest) j)) before.kept;
+      kept = on (λ size control cpl tlb. IsKeptCode size control cpl tlb code) q r n o rest cpl size before.kept;
       rest = rest ∙ ap (λ (x : Processor). record x { regs = r.regs }) before.rest;
     }

@@ -1,6 +1,7 @@
 //! Turns by quick forms.
 
 ghost use Rattle.std.specs.Prelude.{◌≡◌, ◌+◌, ◌≤◌, true, false, IfSome, length};
+ghost use Rattle.mem_access.specs.Windows.{IsWindow};
 ghost use Rattle.cpu_step.specs.KeptFetches.{IsKeptCode};
 ghost use Rattle.cpu_step.specs.Processor.{IsSound};
 ghost use Rattle.cpu_step.specs.QuickTurns.{AreQuickTurns};
@@ -10,6 +11,7 @@ use crate::fetch::quick_code;
 use crate::kept_code::{KeptCode, kept_code};
 use crate::processor::Cpu;
 use exec_quick::make;
+use mem_access::Window;
 use phys_mem::PhysMem;
 
 impl Cpu {
@@ -39,12 +41,13 @@ impl Cpu {
         ensures sound { IsSound (length mem.new) self.new }
         ensures length { length mem.new ≡ length mem.old }
     {
+        let mut window = Window::new();
         let mut count = 0;
         while count < most {
             let Some(code) = self.code_at(mem) else {
                 break;
             };
-            let made = self.turns_by(&code, mem, most - count);
+            let made = self.turns_by(&code, mem, &mut window, most - count);
             count += made;
             if made == 0 {
                 break;
@@ -62,12 +65,20 @@ impl Cpu {
     }
 
     /// Makes quick turns by code that is kept, at most so many, as long as RIP stays in it.
-    fn turns_by(&mut self, code: &KeptCode, mem: &mut PhysMem, most: u64) -> u64
+    fn turns_by(
+        &mut self,
+        code: &KeptCode,
+        mem: &mut PhysMem,
+        window: &mut Window,
+        most: u64,
+    ) -> u64
         requires sound { IsSound (length mem.old) self.old }
         requires runs { self.old.halted ≡ false }
         requires shielded { self.old.shielded ≡ false }
         requires pending { self.old.pending ≡ 0 }
         requires kept { IsKeptCode (length mem.old) self.old.control self.old.regs.cpl self.old.tlb code.now }
+        requires window { IsWindow (length mem.old) self.old.control self.old.regs.cpl self.old.tlb window.old }
+        ensures window { IsWindow (length mem.new) self.new.control self.new.regs.cpl self.new.tlb window.new }
         ensures most { result ≤ most }
         ensures turns { AreQuickTurns result self.old mem.old self.new mem.new }
         ensures rest { self.new ≡ record self.old { regs = self.new.regs } }
@@ -79,7 +90,7 @@ impl Cpu {
             let Some(ahead) = code.ahead(self.regs.rip) else {
                 break;
             };
-            if !self.quick_turn(code, ahead, mem) {
+            if !self.quick_turn(code, ahead, mem, window) {
                 break;
             }
             count += 1;
@@ -89,7 +100,13 @@ impl Cpu {
 
     /// Makes one turn by code that is kept, RIP so far ahead in it, or changes nothing and says so.
     #[inline(always)]
-    fn quick_turn(&mut self, code: &KeptCode, ahead: u64, mem: &mut PhysMem) -> bool
+    fn quick_turn(
+        &mut self,
+        code: &KeptCode,
+        ahead: u64,
+        mem: &mut PhysMem,
+        window: &mut Window,
+    ) -> bool
         requires sound { IsSound (length mem.old) self.old }
         requires runs { self.old.halted ≡ false }
         requires shielded { self.old.shielded ≡ false }
@@ -97,6 +114,8 @@ impl Cpu {
         requires kept { IsKeptCode (length mem.old) self.old.control self.old.regs.cpl self.old.tlb code.now }
         requires ahead { ahead ≤ code.now.last }
         requires here { code.now.start + ahead ≡ self.old.regs.rip }
+        requires window { IsWindow (length mem.old) self.old.control self.old.regs.cpl self.old.tlb window.old }
+        ensures window { IsWindow (length mem.old) self.old.control self.old.regs.cpl self.old.tlb window.new }
         ensures turned { result ≡ true → ran self.new mem.new ≡ turned self.old mem.old }
         ensures no_body { result ≡ true → enters_body self.old ≡ false }
         ensures left { result ≡ false → (self.new ≡ self.old) × (mem.new ≡ mem.old) }
@@ -106,7 +125,7 @@ impl Cpu {
         ensures length { length mem.new ≡ length mem.old }
     {
         match quick_code(&self.memo, code, mem, ahead) {
-            Some(quick) => make(quick, &mut self.regs, &self.control, mem, &self.tlb),
+            Some(quick) => make(quick, &mut self.regs, &self.control, mem, &self.tlb, window),
             None => false,
         }
     }

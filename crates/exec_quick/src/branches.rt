@@ -7,13 +7,14 @@ ghost use Rattle.exec_quick.specs.declared.quick.Kind.TheVariants as Kind;
 ghost use Rattle.page_walk.specs.declared.plan.Source.TheVariants.{Is};
 ghost use Rattle.x86_regs.specs.OperandOutcomes.{target_by};
 ghost use Rattle.x86_regs.specs.Operands.{source_by};
+ghost use Rattle.mem_access.specs.Windows.{IsWindow};
 ghost use Rattle.exec_quick.specs.QuickForms.{IsReady, effect_made, operand_of, operand_value, quietly};
 
 use crate::kept::load;
 use crate::operands::address;
 use crate::quick::Quick;
-use mem_access::kept_place;
-use nk_bits::{Access, Control, canonical};
+use mem_access::Window;
+use nk_bits::{Control, canonical};
 use phys_mem::PhysMem;
 use tlb_model::Tlb;
 use x86_alu::ZF;
@@ -83,11 +84,14 @@ pub(crate) fn branch_load(
     control: &Control,
     mem: &mut PhysMem,
     tlb: &Tlb,
+    window: &mut Window,
 ) -> bool
     requires ready { IsReady quick.now }
     requires kind { quick.now.kind ≡ Kind.BranchLoad }
     requires cpl { (regs.old.cpl ≡ 0) ⊎ (regs.old.cpl ≡ 3) }
     requires frames { NamesFramesIn (length mem.old) tlb.now }
+    requires window { IsWindow (length mem.old) control.now regs.old.cpl tlb.now window.old }
+    ensures window { IsWindow (length mem.old) control.now regs.old.cpl tlb.now window.new }
     ensures made { result ≡ true → quietly regs.new mem.new tlb.now
         ≡ effect_made Form.Branch quick.now regs.old control.now mem.old tlb.now }
     ensures left { result ≡ false → (regs.new ≡ regs.old) × (mem.new ≡ mem.old) }
@@ -99,7 +103,7 @@ pub(crate) fn branch_load(
     }
     let next = next_of(regs, quick.size);
     let va = address(quick, &regs.general, next);
-    let Some(place) = kept_place(mem, tlb, Access::Read, control, regs.cpl, va, 8) else {
+    let Some(place) = window.readable(mem, tlb, control, regs.cpl, va, 8) else {
         return false;
     };
     let target = load(mem, place, va, 8);

@@ -6,14 +6,15 @@ ghost use Rattle.decode_fields.specs.Widths.{IsWidth};
 ghost use Rattle.nk_bits.specs.Translations.{NamesFramesIn};
 ghost use Rattle.x86_regs.specs.declared.form.Form.TheVariants as Form;
 ghost use Rattle.exec_quick.specs.declared.quick.Kind.TheVariants as Kind;
+ghost use Rattle.mem_access.specs.Windows.{IsWindow};
 ghost use Rattle.exec_quick.specs.QuickForms.{IsReady, effect_made, quietly};
 
 use crate::kept::{load, store};
 use crate::operands::{address, operand, source};
 use crate::quick::Quick;
 use decode_fields::Place;
-use mem_access::kept_place;
-use nk_bits::{Access, Control};
+use mem_access::Window;
+use nk_bits::Control;
 use phys_mem::PhysMem;
 use tlb_model::Tlb;
 use x86_decode::Op;
@@ -30,12 +31,15 @@ pub(crate) fn combine_load(
     control: &Control,
     mem: &mut PhysMem,
     tlb: &Tlb,
+    window: &mut Window,
 ) -> bool
     requires ready { IsReady quick.now }
     requires kind { quick.now.kind ≡ Kind.CombineLoad }
     requires register { quick.now.to < 16 }
     requires cpl { (regs.old.cpl ≡ 0) ⊎ (regs.old.cpl ≡ 3) }
     requires frames { NamesFramesIn (length mem.old) tlb.now }
+    requires window { IsWindow (length mem.old) control.now regs.old.cpl tlb.now window.old }
+    ensures window { IsWindow (length mem.old) control.now regs.old.cpl tlb.now window.new }
     ensures made { result ≡ true → quietly regs.new mem.new tlb.now
         ≡ effect_made Form.Combine quick.now regs.old control.now mem.old tlb.now }
     ensures left { result ≡ false → (regs.new ≡ regs.old) × (mem.new ≡ mem.old) }
@@ -45,7 +49,7 @@ pub(crate) fn combine_load(
     let next = next_of(regs, quick.size);
     let bytes = source_width(quick.op, quick.width) / 8;
     let va = address(quick, &regs.general, next);
-    let Some(place) = kept_place(mem, tlb, Access::Read, control, regs.cpl, va, bytes) else {
+    let Some(place) = window.readable(mem, tlb, control, regs.cpl, va, bytes) else {
         return false;
     };
     let from = load(mem, place, va, bytes);
@@ -71,11 +75,14 @@ pub(crate) fn combine_store(
     control: &Control,
     mem: &mut PhysMem,
     tlb: &Tlb,
+    window: &mut Window,
 ) -> bool
     requires ready { IsReady quick.now }
     requires kind { quick.now.kind ≡ Kind.CombineStore }
     requires cpl { (regs.old.cpl ≡ 0) ⊎ (regs.old.cpl ≡ 3) }
     requires frames { NamesFramesIn (length mem.old) tlb.now }
+    requires window { IsWindow (length mem.old) control.now regs.old.cpl tlb.now window.old }
+    ensures window { IsWindow (length mem.old) control.now regs.old.cpl tlb.now window.new }
     ensures made { result ≡ true → quietly regs.new mem.new tlb.now
         ≡ effect_made Form.Combine quick.now regs.old control.now mem.old tlb.now }
     ensures left { result ≡ false → (regs.new ≡ regs.old) × (mem.new ≡ mem.old) }
@@ -85,7 +92,7 @@ pub(crate) fn combine_store(
     let next = next_of(regs, quick.size);
     let bytes = quick.width / 8;
     let va = address(quick, &regs.general, next);
-    let Some(kept) = kept_place(mem, tlb, Access::Write, control, regs.cpl, va, bytes) else {
+    let Some(kept) = window.writable(mem, tlb, control, regs.cpl, va, bytes) else {
         return false;
     };
     let to = load(mem, kept, va, bytes);
@@ -107,12 +114,15 @@ pub(crate) fn compare_load(
     control: &Control,
     mem: &mut PhysMem,
     tlb: &Tlb,
+    window: &mut Window,
 ) -> bool
     requires ready { IsReady quick.now }
     requires kind { quick.now.kind ≡ Kind.CompareLoad }
     requires register { quick.now.to < 16 }
     requires cpl { (regs.old.cpl ≡ 0) ⊎ (regs.old.cpl ≡ 3) }
     requires frames { NamesFramesIn (length mem.old) tlb.now }
+    requires window { IsWindow (length mem.old) control.now regs.old.cpl tlb.now window.old }
+    ensures window { IsWindow (length mem.old) control.now regs.old.cpl tlb.now window.new }
     ensures made { result ≡ true → quietly regs.new mem.new tlb.now
         ≡ effect_made Form.Compare quick.now regs.old control.now mem.old tlb.now }
     ensures left { result ≡ false → (regs.new ≡ regs.old) × (mem.new ≡ mem.old) }
@@ -122,7 +132,7 @@ pub(crate) fn compare_load(
     let next = next_of(regs, quick.size);
     let bytes = quick.width / 8;
     let va = address(quick, &regs.general, next);
-    let Some(place) = kept_place(mem, tlb, Access::Read, control, regs.cpl, va, bytes) else {
+    let Some(place) = window.readable(mem, tlb, control, regs.cpl, va, bytes) else {
         return false;
     };
     let from = load(mem, place, va, bytes);
@@ -141,11 +151,14 @@ pub(crate) fn compare_store(
     control: &Control,
     mem: &mut PhysMem,
     tlb: &Tlb,
+    window: &mut Window,
 ) -> bool
     requires ready { IsReady quick.now }
     requires kind { quick.now.kind ≡ Kind.CompareStore }
     requires cpl { (regs.old.cpl ≡ 0) ⊎ (regs.old.cpl ≡ 3) }
     requires frames { NamesFramesIn (length mem.old) tlb.now }
+    requires window { IsWindow (length mem.old) control.now regs.old.cpl tlb.now window.old }
+    ensures window { IsWindow (length mem.old) control.now regs.old.cpl tlb.now window.new }
     ensures made { result ≡ true → quietly regs.new mem.new tlb.now
         ≡ effect_made Form.Compare quick.now regs.old control.now mem.old tlb.now }
     ensures left { result ≡ false → (regs.new ≡ regs.old) × (mem.new ≡ mem.old) }
@@ -155,7 +168,7 @@ pub(crate) fn compare_store(
     let next = next_of(regs, quick.size);
     let bytes = quick.width / 8;
     let va = address(quick, &regs.general, next);
-    let Some(place) = kept_place(mem, tlb, Access::Read, control, regs.cpl, va, bytes) else {
+    let Some(place) = window.readable(mem, tlb, control, regs.cpl, va, bytes) else {
         return false;
     };
     let to = load(mem, place, va, bytes);
@@ -176,12 +189,15 @@ pub(crate) fn move_load(
     control: &Control,
     mem: &mut PhysMem,
     tlb: &Tlb,
+    window: &mut Window,
 ) -> bool
     requires ready { IsReady quick.now }
     requires width { IsWidth width }
     requires register { quick.now.to < 16 }
     requires cpl { (regs.old.cpl ≡ 0) ⊎ (regs.old.cpl ≡ 3) }
     requires frames { NamesFramesIn (length mem.old) tlb.now }
+    requires window { IsWindow (length mem.old) control.now regs.old.cpl tlb.now window.old }
+    ensures window { IsWindow (length mem.old) control.now regs.old.cpl tlb.now window.new }
     ensures made { result ≡ true → quietly regs.new mem.new tlb.now
         ≡ effect_made Form.Move (record quick.now { kind = Kind.MoveLoad; op = op; width = width }) regs.old
         control.now mem.old tlb.now }
@@ -193,7 +209,7 @@ pub(crate) fn move_load(
     let read = source_width(op, width);
     let bytes = read / 8;
     let va = address(quick, &regs.general, next);
-    let Some(place) = kept_place(mem, tlb, Access::Read, control, regs.cpl, va, bytes) else {
+    let Some(place) = window.readable(mem, tlb, control, regs.cpl, va, bytes) else {
         return false;
     };
     let from = load(mem, place, va, bytes);
@@ -214,11 +230,14 @@ pub(crate) fn move_store(
     control: &Control,
     mem: &mut PhysMem,
     tlb: &Tlb,
+    window: &mut Window,
 ) -> bool
     requires ready { IsReady quick.now }
     requires width { IsWidth width }
     requires cpl { (regs.old.cpl ≡ 0) ⊎ (regs.old.cpl ≡ 3) }
     requires frames { NamesFramesIn (length mem.old) tlb.now }
+    requires window { IsWindow (length mem.old) control.now regs.old.cpl tlb.now window.old }
+    ensures window { IsWindow (length mem.old) control.now regs.old.cpl tlb.now window.new }
     ensures made { result ≡ true → quietly regs.new mem.new tlb.now
         ≡ effect_made Form.Move (record quick.now { kind = Kind.MoveStore; op = op; width = width }) regs.old
         control.now mem.old tlb.now }
@@ -229,7 +248,7 @@ pub(crate) fn move_store(
     let next = next_of(regs, quick.size);
     let bytes = width / 8;
     let va = address(quick, &regs.general, next);
-    let Some(place) = kept_place(mem, tlb, Access::Write, control, regs.cpl, va, bytes) else {
+    let Some(place) = window.writable(mem, tlb, control, regs.cpl, va, bytes) else {
         return false;
     };
     let read = source_width(op, width);

@@ -8,14 +8,15 @@ ghost use Rattle.x86_regs.specs.declared.form.Form.TheVariants as Form;
 ghost use Rattle.x86_regs.specs.Registers.{written};
 ghost use Rattle.x86_regs.specs.OperandOutcomes.{divided, halves_written, is_signed, multiplied_wide, quietly as changing, upper_half, upper_place};
 ghost use Rattle.exec_quick.specs.declared.quick.Kind.TheVariants as Kind;
+ghost use Rattle.mem_access.specs.Windows.{IsWindow};
 ghost use Rattle.exec_quick.specs.QuickForms.{IsReady, effect_made, instr_of, quietly, width_by};
 
 use crate::kept::load;
 use crate::operands::{address, first};
 use crate::quick::Quick;
 use decode_fields::Place;
-use mem_access::kept_place;
-use nk_bits::{Access, Control};
+use mem_access::Window;
+use nk_bits::Control;
 use phys_mem::PhysMem;
 use tlb_model::Tlb;
 use x86_alu::{divide as quotient_of, multiply as product_of};
@@ -140,11 +141,14 @@ pub(crate) fn multiply_load(
     control: &Control,
     mem: &mut PhysMem,
     tlb: &Tlb,
+    window: &mut Window,
 ) -> bool
     requires ready { IsReady quick.now }
     requires kind { quick.now.kind ≡ Kind.MultiplyLoad }
     requires cpl { (regs.old.cpl ≡ 0) ⊎ (regs.old.cpl ≡ 3) }
     requires frames { NamesFramesIn (length mem.old) tlb.now }
+    requires window { IsWindow (length mem.old) control.now regs.old.cpl tlb.now window.old }
+    ensures window { IsWindow (length mem.old) control.now regs.old.cpl tlb.now window.new }
     ensures made { result ≡ true → quietly regs.new mem.new tlb.now
         ≡ effect_made Form.Multiply quick.now regs.old control.now mem.old tlb.now }
     ensures left { result ≡ false → (regs.new ≡ regs.old) × (mem.new ≡ mem.old) }
@@ -154,7 +158,7 @@ pub(crate) fn multiply_load(
     let next = next_of(regs, quick.size);
     let bytes = quick.width / 8;
     let va = address(quick, &regs.general, next);
-    let Some(place) = kept_place(mem, tlb, Access::Read, control, regs.cpl, va, bytes) else {
+    let Some(place) = window.readable(mem, tlb, control, regs.cpl, va, bytes) else {
         return false;
     };
     let by = load(mem, place, va, bytes);
@@ -196,11 +200,14 @@ pub(crate) fn divide_load(
     control: &Control,
     mem: &mut PhysMem,
     tlb: &Tlb,
+    window: &mut Window,
 ) -> bool
     requires ready { IsReady quick.now }
     requires kind { quick.now.kind ≡ Kind.DivideLoad }
     requires cpl { (regs.old.cpl ≡ 0) ⊎ (regs.old.cpl ≡ 3) }
     requires frames { NamesFramesIn (length mem.old) tlb.now }
+    requires window { IsWindow (length mem.old) control.now regs.old.cpl tlb.now window.old }
+    ensures window { IsWindow (length mem.old) control.now regs.old.cpl tlb.now window.new }
     ensures made { result ≡ true → quietly regs.new mem.new tlb.now
         ≡ effect_made Form.Divide quick.now regs.old control.now mem.old tlb.now }
     ensures left { result ≡ false → (regs.new ≡ regs.old) × (mem.new ≡ mem.old) }
@@ -210,7 +217,7 @@ pub(crate) fn divide_load(
     let next = next_of(regs, quick.size);
     let bytes = quick.width / 8;
     let va = address(quick, &regs.general, next);
-    let Some(place) = kept_place(mem, tlb, Access::Read, control, regs.cpl, va, bytes) else {
+    let Some(place) = window.readable(mem, tlb, control, regs.cpl, va, bytes) else {
         return false;
     };
     let by = load(mem, place, va, bytes);

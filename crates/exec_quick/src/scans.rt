@@ -6,14 +6,15 @@ ghost use Rattle.x86_alu.specs.SignedNumbers.{cut};
 ghost use Rattle.x86_regs.specs.declared.form.Form.TheVariants as Form;
 ghost use Rattle.x86_regs.specs.OperandOutcomes.{bits_scanned, is_forward, quietly as changing};
 ghost use Rattle.exec_quick.specs.declared.quick.Kind.TheVariants as Kind;
+ghost use Rattle.mem_access.specs.Windows.{IsWindow};
 ghost use Rattle.exec_quick.specs.QuickForms.{IsReady, effect_made, has_memory_first, instr_of, quietly, width_by};
 
 use crate::kept::load;
 use crate::operands::{address, source};
 use crate::quick::Quick;
 use decode_fields::Place;
-use mem_access::kept_place;
-use nk_bits::{Access, Control};
+use mem_access::Window;
+use nk_bits::Control;
 use phys_mem::PhysMem;
 use tlb_model::Tlb;
 use x86_alu::scan_bit;
@@ -88,12 +89,15 @@ pub(crate) fn scan_bits_load(
     control: &Control,
     mem: &mut PhysMem,
     tlb: &Tlb,
+    window: &mut Window,
 ) -> bool
     requires ready { IsReady quick.now }
     requires kind { quick.now.kind ≡ Kind.ScanBitsLoad }
     requires register { quick.now.to < 16 }
     requires cpl { (regs.old.cpl ≡ 0) ⊎ (regs.old.cpl ≡ 3) }
     requires frames { NamesFramesIn (length mem.old) tlb.now }
+    requires window { IsWindow (length mem.old) control.now regs.old.cpl tlb.now window.old }
+    ensures window { IsWindow (length mem.old) control.now regs.old.cpl tlb.now window.new }
     ensures made { result ≡ true → quietly regs.new mem.new tlb.now
         ≡ effect_made Form.ScanBits quick.now regs.old control.now mem.old tlb.now }
     ensures left { result ≡ false → (regs.new ≡ regs.old) × (mem.new ≡ mem.old) }
@@ -103,7 +107,7 @@ pub(crate) fn scan_bits_load(
     let next = next_of(regs, quick.size);
     let bytes = quick.width / 8;
     let va = address(quick, &regs.general, next);
-    let Some(place) = kept_place(mem, tlb, Access::Read, control, regs.cpl, va, bytes) else {
+    let Some(place) = window.readable(mem, tlb, control, regs.cpl, va, bytes) else {
         return false;
     };
     let from = load(mem, place, va, bytes);

@@ -8,6 +8,7 @@ ghost use Rattle.exec_quick.specs.declared.quick.Kind.TheVariants as Kind;
 ghost use Rattle.page_walk.specs.declared.plan.Source.TheVariants.{Is};
 ghost use Rattle.x86_alu.specs.SignedNumbers.{cut};
 ghost use Rattle.x86_regs.specs.Operands.{next_of, source_by};
+ghost use Rattle.mem_access.specs.Windows.{IsWindow};
 ghost use Rattle.exec_quick.specs.QuickForms.{IsReady, effect_made, operand_of, operand_value, quietly};
 
 use crate::branches::target;
@@ -15,8 +16,8 @@ use crate::kept::{load, store};
 use crate::operands::{address, operand};
 use crate::quick::Quick;
 use decode_fields::Place;
-use mem_access::kept_place;
-use nk_bits::{Access, Control, canonical};
+use mem_access::Window;
+use nk_bits::{Control, canonical};
 use phys_mem::PhysMem;
 use tlb_model::Tlb;
 use x86_regs::{RBP, RSP, Regs, low, lowered, next_of, set_place, set_register};
@@ -43,11 +44,14 @@ pub(crate) fn push(
     control: &Control,
     mem: &mut PhysMem,
     tlb: &Tlb,
+    window: &mut Window,
 ) -> bool
     requires ready { IsReady quick.now }
     requires kind { quick.now.kind ≡ Kind.Push }
     requires cpl { (regs.old.cpl ≡ 0) ⊎ (regs.old.cpl ≡ 3) }
     requires frames { NamesFramesIn (length mem.old) tlb.now }
+    requires window { IsWindow (length mem.old) control.now regs.old.cpl tlb.now window.old }
+    ensures window { IsWindow (length mem.old) control.now regs.old.cpl tlb.now window.new }
     ensures made { result ≡ true → quietly regs.new mem.new tlb.now
         ≡ effect_made Form.Push quick.now regs.old control.now mem.old tlb.now }
     ensures left { result ≡ false → (regs.new ≡ regs.old) × (mem.new ≡ mem.old) }
@@ -57,7 +61,7 @@ pub(crate) fn push(
     let next = next_of(regs, quick.size);
     let bytes = quick.width / 8;
     let top = lowered(regs.general[usize::from(RSP)], u64::from(bytes));
-    let Some(place) = kept_place(mem, tlb, Access::Write, control, regs.cpl, top, bytes) else {
+    let Some(place) = window.writable(mem, tlb, control, regs.cpl, top, bytes) else {
         return false;
     };
     let value = pushed(quick, regs);
@@ -76,11 +80,14 @@ pub(crate) fn push_load(
     control: &Control,
     mem: &mut PhysMem,
     tlb: &Tlb,
+    window: &mut Window,
 ) -> bool
     requires ready { IsReady quick.now }
     requires kind { quick.now.kind ≡ Kind.PushLoad }
     requires cpl { (regs.old.cpl ≡ 0) ⊎ (regs.old.cpl ≡ 3) }
     requires frames { NamesFramesIn (length mem.old) tlb.now }
+    requires window { IsWindow (length mem.old) control.now regs.old.cpl tlb.now window.old }
+    ensures window { IsWindow (length mem.old) control.now regs.old.cpl tlb.now window.new }
     ensures made { result ≡ true → quietly regs.new mem.new tlb.now
         ≡ effect_made Form.Push quick.now regs.old control.now mem.old tlb.now }
     ensures left { result ≡ false → (regs.new ≡ regs.old) × (mem.new ≡ mem.old) }
@@ -90,12 +97,12 @@ pub(crate) fn push_load(
     let next = next_of(regs, quick.size);
     let bytes = quick.width / 8;
     let va = address(quick, &regs.general, next);
-    let Some(place) = kept_place(mem, tlb, Access::Read, control, regs.cpl, va, bytes) else {
+    let Some(place) = window.readable(mem, tlb, control, regs.cpl, va, bytes) else {
         return false;
     };
     let from = load(mem, place, va, bytes);
     let top = lowered(regs.general[usize::from(RSP)], u64::from(bytes));
-    let Some(place) = kept_place(mem, tlb, Access::Write, control, regs.cpl, top, bytes) else {
+    let Some(place) = window.writable(mem, tlb, control, regs.cpl, top, bytes) else {
         return false;
     };
     store(mem, place, top, bytes, from);
@@ -113,12 +120,15 @@ pub(crate) fn pop(
     control: &Control,
     mem: &mut PhysMem,
     tlb: &Tlb,
+    window: &mut Window,
 ) -> bool
     requires ready { IsReady quick.now }
     requires kind { quick.now.kind ≡ Kind.Pop }
     requires register { quick.now.to < 16 }
     requires cpl { (regs.old.cpl ≡ 0) ⊎ (regs.old.cpl ≡ 3) }
     requires frames { NamesFramesIn (length mem.old) tlb.now }
+    requires window { IsWindow (length mem.old) control.now regs.old.cpl tlb.now window.old }
+    ensures window { IsWindow (length mem.old) control.now regs.old.cpl tlb.now window.new }
     ensures made { result ≡ true → quietly regs.new mem.new tlb.now
         ≡ effect_made Form.Pop quick.now regs.old control.now mem.old tlb.now }
     ensures left { result ≡ false → (regs.new ≡ regs.old) × (mem.new ≡ mem.old) }
@@ -128,7 +138,7 @@ pub(crate) fn pop(
     let next = next_of(regs, quick.size);
     let bytes = quick.width / 8;
     let top = regs.general[usize::from(RSP)];
-    let Some(place) = kept_place(mem, tlb, Access::Read, control, regs.cpl, top, bytes) else {
+    let Some(place) = window.readable(mem, tlb, control, regs.cpl, top, bytes) else {
         return false;
     };
     let popped = load(mem, place, top, bytes);
@@ -152,11 +162,14 @@ pub(crate) fn call(
     control: &Control,
     mem: &mut PhysMem,
     tlb: &Tlb,
+    window: &mut Window,
 ) -> bool
     requires ready { IsReady quick.now }
     requires kind { quick.now.kind ≡ Kind.Call }
     requires cpl { (regs.old.cpl ≡ 0) ⊎ (regs.old.cpl ≡ 3) }
     requires frames { NamesFramesIn (length mem.old) tlb.now }
+    requires window { IsWindow (length mem.old) control.now regs.old.cpl tlb.now window.old }
+    ensures window { IsWindow (length mem.old) control.now regs.old.cpl tlb.now window.new }
     ensures made { result ≡ true → quietly regs.new mem.new tlb.now
         ≡ effect_made Form.Call quick.now regs.old control.now mem.old tlb.now }
     ensures left { result ≡ false → (regs.new ≡ regs.old) × (mem.new ≡ mem.old) }
@@ -169,7 +182,7 @@ pub(crate) fn call(
         return false;
     }
     let top = lowered(regs.general[usize::from(RSP)], 8);
-    let Some(place) = kept_place(mem, tlb, Access::Write, control, regs.cpl, top, 8) else {
+    let Some(place) = window.writable(mem, tlb, control, regs.cpl, top, 8) else {
         return false;
     };
     store(mem, place, top, 8, next);
@@ -187,11 +200,14 @@ pub(crate) fn call_load(
     control: &Control,
     mem: &mut PhysMem,
     tlb: &Tlb,
+    window: &mut Window,
 ) -> bool
     requires ready { IsReady quick.now }
     requires kind { quick.now.kind ≡ Kind.CallLoad }
     requires cpl { (regs.old.cpl ≡ 0) ⊎ (regs.old.cpl ≡ 3) }
     requires frames { NamesFramesIn (length mem.old) tlb.now }
+    requires window { IsWindow (length mem.old) control.now regs.old.cpl tlb.now window.old }
+    ensures window { IsWindow (length mem.old) control.now regs.old.cpl tlb.now window.new }
     ensures made { result ≡ true → quietly regs.new mem.new tlb.now
         ≡ effect_made Form.Call quick.now regs.old control.now mem.old tlb.now }
     ensures left { result ≡ false → (regs.new ≡ regs.old) × (mem.new ≡ mem.old) }
@@ -200,7 +216,7 @@ pub(crate) fn call_load(
 {
     let next = next_of(regs, quick.size);
     let va = address(quick, &regs.general, next);
-    let Some(place) = kept_place(mem, tlb, Access::Read, control, regs.cpl, va, 8) else {
+    let Some(place) = window.readable(mem, tlb, control, regs.cpl, va, 8) else {
         return false;
     };
     let callee = load(mem, place, va, 8);
@@ -208,7 +224,7 @@ pub(crate) fn call_load(
         return false;
     }
     let top = lowered(regs.general[usize::from(RSP)], 8);
-    let Some(place) = kept_place(mem, tlb, Access::Write, control, regs.cpl, top, 8) else {
+    let Some(place) = window.writable(mem, tlb, control, regs.cpl, top, 8) else {
         return false;
     };
     store(mem, place, top, 8, next);
@@ -226,11 +242,14 @@ pub(crate) fn ret(
     control: &Control,
     mem: &mut PhysMem,
     tlb: &Tlb,
+    window: &mut Window,
 ) -> bool
     requires ready { IsReady quick.now }
     requires kind { quick.now.kind ≡ Kind.Return }
     requires cpl { (regs.old.cpl ≡ 0) ⊎ (regs.old.cpl ≡ 3) }
     requires frames { NamesFramesIn (length mem.old) tlb.now }
+    requires window { IsWindow (length mem.old) control.now regs.old.cpl tlb.now window.old }
+    ensures window { IsWindow (length mem.old) control.now regs.old.cpl tlb.now window.new }
     ensures made { result ≡ true → quietly regs.new mem.new tlb.now
         ≡ effect_made Form.Return quick.now regs.old control.now mem.old tlb.now }
     ensures left { result ≡ false → (regs.new ≡ regs.old) × (mem.new ≡ mem.old) }
@@ -238,7 +257,7 @@ pub(crate) fn ret(
     ensures privilege { regs.new.cpl ≡ regs.old.cpl }
 {
     let top = regs.general[usize::from(RSP)];
-    let Some(place) = kept_place(mem, tlb, Access::Read, control, regs.cpl, top, 8) else {
+    let Some(place) = window.readable(mem, tlb, control, regs.cpl, top, 8) else {
         return false;
     };
     let popped = load(mem, place, top, 8);
@@ -260,11 +279,14 @@ pub(crate) fn leave(
     control: &Control,
     mem: &mut PhysMem,
     tlb: &Tlb,
+    window: &mut Window,
 ) -> bool
     requires ready { IsReady quick.now }
     requires kind { quick.now.kind ≡ Kind.Leave }
     requires cpl { (regs.old.cpl ≡ 0) ⊎ (regs.old.cpl ≡ 3) }
     requires frames { NamesFramesIn (length mem.old) tlb.now }
+    requires window { IsWindow (length mem.old) control.now regs.old.cpl tlb.now window.old }
+    ensures window { IsWindow (length mem.old) control.now regs.old.cpl tlb.now window.new }
     ensures made { result ≡ true → quietly regs.new mem.new tlb.now
         ≡ effect_made Form.Leave quick.now regs.old control.now mem.old tlb.now }
     ensures left { result ≡ false → (regs.new ≡ regs.old) × (mem.new ≡ mem.old) }
@@ -273,7 +295,7 @@ pub(crate) fn leave(
 {
     let next = next_of(regs, quick.size);
     let base = regs.general[usize::from(RBP)];
-    let Some(place) = kept_place(mem, tlb, Access::Read, control, regs.cpl, base, 8) else {
+    let Some(place) = window.readable(mem, tlb, control, regs.cpl, base, 8) else {
         return false;
     };
     let popped = load(mem, place, base, 8);

@@ -8,13 +8,14 @@ ghost use Rattle.x86_regs.specs.declared.form.Form.TheVariants as Form;
 ghost use Rattle.x86_regs.specs.OperandPlans.{is_idle, is_repeated};
 ghost use Rattle.x86_regs.specs.OperandOutcomes.{counted, is_again, is_asked, pointer_moved};
 ghost use Rattle.exec_quick.specs.declared.quick.Kind.TheVariants as Kind;
+ghost use Rattle.mem_access.specs.Windows.{IsWindow};
 ghost use Rattle.exec_quick.specs.QuickForms.{IsReady, effect_made, instr_of, quietly};
 
 use crate::kept::{load, store};
 use crate::quick::Quick;
 use decode_fields::{Place, Rep};
-use mem_access::kept_place;
-use nk_bits::{Access, Control};
+use mem_access::Window;
+use nk_bits::Control;
 use phys_mem::PhysMem;
 use tlb_model::Tlb;
 use x86_alu::ZF;
@@ -105,11 +106,14 @@ pub(crate) fn move_string(
     control: &Control,
     mem: &mut PhysMem,
     tlb: &Tlb,
+    window: &mut Window,
 ) -> bool
     requires ready { IsReady quick.now }
     requires kind { quick.now.kind ≡ Kind.MoveString }
     requires cpl { (regs.old.cpl ≡ 0) ⊎ (regs.old.cpl ≡ 3) }
     requires frames { NamesFramesIn (length mem.old) tlb.now }
+    requires window { IsWindow (length mem.old) control.now regs.old.cpl tlb.now window.old }
+    ensures window { IsWindow (length mem.old) control.now regs.old.cpl tlb.now window.new }
     ensures made { result ≡ true → quietly regs.new mem.new tlb.now
         ≡ effect_made Form.MoveString quick.now regs.old control.now mem.old tlb.now }
     ensures left { result ≡ false → (regs.new ≡ regs.old) × (mem.new ≡ mem.old) }
@@ -123,11 +127,11 @@ pub(crate) fn move_string(
     }
     let bytes = quick.width / 8;
     let from = regs.general[usize::from(RSI)];
-    let Some(from_place) = kept_place(mem, tlb, Access::Read, control, regs.cpl, from, bytes) else {
+    let Some(from_place) = window.readable(mem, tlb, control, regs.cpl, from, bytes) else {
         return false;
     };
     let to = regs.general[usize::from(RDI)];
-    let Some(to_place) = kept_place(mem, tlb, Access::Write, control, regs.cpl, to, bytes) else {
+    let Some(to_place) = window.writable(mem, tlb, control, regs.cpl, to, bytes) else {
         return false;
     };
     let value = load(mem, from_place, from, bytes);
@@ -147,11 +151,14 @@ pub(crate) fn store_string(
     control: &Control,
     mem: &mut PhysMem,
     tlb: &Tlb,
+    window: &mut Window,
 ) -> bool
     requires ready { IsReady quick.now }
     requires kind { quick.now.kind ≡ Kind.StoreString }
     requires cpl { (regs.old.cpl ≡ 0) ⊎ (regs.old.cpl ≡ 3) }
     requires frames { NamesFramesIn (length mem.old) tlb.now }
+    requires window { IsWindow (length mem.old) control.now regs.old.cpl tlb.now window.old }
+    ensures window { IsWindow (length mem.old) control.now regs.old.cpl tlb.now window.new }
     ensures made { result ≡ true → quietly regs.new mem.new tlb.now
         ≡ effect_made Form.StoreString quick.now regs.old control.now mem.old tlb.now }
     ensures left { result ≡ false → (regs.new ≡ regs.old) × (mem.new ≡ mem.old) }
@@ -165,7 +172,7 @@ pub(crate) fn store_string(
     }
     let bytes = quick.width / 8;
     let to = regs.general[usize::from(RDI)];
-    let Some(place) = kept_place(mem, tlb, Access::Write, control, regs.cpl, to, bytes) else {
+    let Some(place) = window.writable(mem, tlb, control, regs.cpl, to, bytes) else {
         return false;
     };
     let value = held(&regs.general, &Place::Reg(RAX), quick.width);
@@ -184,11 +191,14 @@ pub(crate) fn load_string(
     control: &Control,
     mem: &mut PhysMem,
     tlb: &Tlb,
+    window: &mut Window,
 ) -> bool
     requires ready { IsReady quick.now }
     requires kind { quick.now.kind ≡ Kind.LoadString }
     requires cpl { (regs.old.cpl ≡ 0) ⊎ (regs.old.cpl ≡ 3) }
     requires frames { NamesFramesIn (length mem.old) tlb.now }
+    requires window { IsWindow (length mem.old) control.now regs.old.cpl tlb.now window.old }
+    ensures window { IsWindow (length mem.old) control.now regs.old.cpl tlb.now window.new }
     ensures made { result ≡ true → quietly regs.new mem.new tlb.now
         ≡ effect_made Form.LoadString quick.now regs.old control.now mem.old tlb.now }
     ensures left { result ≡ false → (regs.new ≡ regs.old) × (mem.new ≡ mem.old) }
@@ -202,7 +212,7 @@ pub(crate) fn load_string(
     }
     let bytes = quick.width / 8;
     let from = regs.general[usize::from(RSI)];
-    let Some(place) = kept_place(mem, tlb, Access::Read, control, regs.cpl, from, bytes) else {
+    let Some(place) = window.readable(mem, tlb, control, regs.cpl, from, bytes) else {
         return false;
     };
     let value = low(quick.width, load(mem, place, from, bytes));
@@ -221,11 +231,14 @@ pub(crate) fn compare_strings(
     control: &Control,
     mem: &mut PhysMem,
     tlb: &Tlb,
+    window: &mut Window,
 ) -> bool
     requires ready { IsReady quick.now }
     requires kind { quick.now.kind ≡ Kind.CompareStrings }
     requires cpl { (regs.old.cpl ≡ 0) ⊎ (regs.old.cpl ≡ 3) }
     requires frames { NamesFramesIn (length mem.old) tlb.now }
+    requires window { IsWindow (length mem.old) control.now regs.old.cpl tlb.now window.old }
+    ensures window { IsWindow (length mem.old) control.now regs.old.cpl tlb.now window.new }
     ensures made { result ≡ true → quietly regs.new mem.new tlb.now
         ≡ effect_made Form.CompareStrings quick.now regs.old control.now mem.old tlb.now }
     ensures left { result ≡ false → (regs.new ≡ regs.old) × (mem.new ≡ mem.old) }
@@ -239,11 +252,11 @@ pub(crate) fn compare_strings(
     }
     let bytes = quick.width / 8;
     let to = regs.general[usize::from(RSI)];
-    let Some(to_place) = kept_place(mem, tlb, Access::Read, control, regs.cpl, to, bytes) else {
+    let Some(to_place) = window.readable(mem, tlb, control, regs.cpl, to, bytes) else {
         return false;
     };
     let from = regs.general[usize::from(RDI)];
-    let Some(from_place) = kept_place(mem, tlb, Access::Read, control, regs.cpl, from, bytes) else {
+    let Some(from_place) = window.readable(mem, tlb, control, regs.cpl, from, bytes) else {
         return false;
     };
     let to = load(mem, to_place, to, bytes);
@@ -264,11 +277,14 @@ pub(crate) fn scan_string(
     control: &Control,
     mem: &mut PhysMem,
     tlb: &Tlb,
+    window: &mut Window,
 ) -> bool
     requires ready { IsReady quick.now }
     requires kind { quick.now.kind ≡ Kind.ScanString }
     requires cpl { (regs.old.cpl ≡ 0) ⊎ (regs.old.cpl ≡ 3) }
     requires frames { NamesFramesIn (length mem.old) tlb.now }
+    requires window { IsWindow (length mem.old) control.now regs.old.cpl tlb.now window.old }
+    ensures window { IsWindow (length mem.old) control.now regs.old.cpl tlb.now window.new }
     ensures made { result ≡ true → quietly regs.new mem.new tlb.now
         ≡ effect_made Form.ScanString quick.now regs.old control.now mem.old tlb.now }
     ensures left { result ≡ false → (regs.new ≡ regs.old) × (mem.new ≡ mem.old) }
@@ -282,7 +298,7 @@ pub(crate) fn scan_string(
     }
     let bytes = quick.width / 8;
     let from = regs.general[usize::from(RDI)];
-    let Some(place) = kept_place(mem, tlb, Access::Read, control, regs.cpl, from, bytes) else {
+    let Some(place) = window.readable(mem, tlb, control, regs.cpl, from, bytes) else {
         return false;
     };
     let from = load(mem, place, from, bytes);

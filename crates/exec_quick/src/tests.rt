@@ -4,6 +4,7 @@
 mod strings;
 
 ghost use Rattle.std.specs.Prelude.{◌≡◌, ◌<◌, true, IfOk, IfSome, length};
+ghost use Rattle.nk_bits.specs.Translations.{NamesFramesIn};
 ghost use Rattle.x86_decode.specs.WellFormed.{IsWellFormed};
 ghost use Rattle.exec_quick.specs.QuickForms.{IsReady, has_register_first};
 
@@ -13,7 +14,7 @@ mod rows;
 mod stack_loads;
 
 use crate::{Kind, Quick, make, quick_of};
-use mem_access::load;
+use mem_access::{Window, load};
 use nk_bits::Control;
 use phys_mem::{NoMemory, PhysMem};
 use std::alloc::Global;
@@ -224,6 +225,18 @@ fn form_of(instr: &Instr, size: u8) -> Option<Quick>
 /// The registers after a turn, and what address 40 holds.
 type After = (Regs, u64);
 
+/// Makes a quick form with a window of its own.
+fn make_alone(quick: &Quick, regs: &mut Regs, mem: &mut PhysMem, tlb: &Tlb) -> bool
+    requires ready { IsReady quick.now }
+    requires register { has_register_first quick.now.kind ≡ true → quick.now.to < 16 }
+    requires cpl { regs.old.cpl ≡ 3 }
+    requires frames { NamesFramesIn (length mem.old) tlb.now }
+    ensures length { length mem.new ≡ length mem.old }
+{
+    let mut window = Window::new();
+    make(quick, regs, &CONTROL, mem, tlb, &mut window)
+}
+
 /// What a turn leaves by the quick form of these bytes, or None where none is made.
 fn turn(alloc: Global, bytes: &[u8], before: &Regs) -> Result<Option<After>, Fail> {
     let mut mem = memory(alloc)?;
@@ -236,7 +249,7 @@ fn turn(alloc: Global, bytes: &[u8], before: &Regs) -> Result<Option<After>, Fai
     }
     let made = match decode(bytes) {
         Decoded::Whole(instr, size) => match form_of(&instr, size) {
-            Some(quick) => make(&quick, &mut regs, &CONTROL, &mut mem, &tlb),
+            Some(quick) => make_alone(&quick, &mut regs, &mut mem, &tlb),
             None => false,
         },
         _ => false,

@@ -2,6 +2,7 @@
 
 ghost use Rattle.std.specs.Prelude.{◌≡◌, ◌⊎◌, ◌<◌, true, false, length};
 ghost use Rattle.nk_bits.specs.Translations.{NamesFramesIn};
+ghost use Rattle.mem_access.specs.Windows.{IsWindow};
 ghost use Rattle.exec_quick.specs.QuickForms.{IsReady, effect_made, form_by, has_register_first, is_slow, quietly};
 
 use crate::branches::{branch, branch_load, count_down};
@@ -15,6 +16,7 @@ use crate::registers::{combine, compare, load_address, move_over};
 use crate::scans::{scan_bits, scan_bits_load};
 use crate::stack::{call, call_load, leave, pop, push, push_load, ret};
 use crate::strings::{compare_strings, load_string, move_string, scan_string, store_string};
+use mem_access::Window;
 use nk_bits::Control;
 use phys_mem::PhysMem;
 use tlb_model::Tlb;
@@ -23,11 +25,20 @@ use x86_regs::Regs;
 
 /// Makes the instruction of a quick form, with its write, where each page that it needs is kept and serves it and no fault is
 /// raised; else changes nothing, and says so.
-pub fn make(quick: &Quick, regs: &mut Regs, control: &Control, mem: &mut PhysMem, tlb: &Tlb) -> bool
+pub fn make(
+    quick: &Quick,
+    regs: &mut Regs,
+    control: &Control,
+    mem: &mut PhysMem,
+    tlb: &Tlb,
+    window: &mut Window,
+) -> bool
     requires ready { IsReady quick.now }
     requires register { has_register_first quick.now.kind ≡ true → quick.now.to < 16 }
     requires cpl { (regs.old.cpl ≡ 0) ⊎ (regs.old.cpl ≡ 3) }
     requires frames { NamesFramesIn (length mem.old) tlb.now }
+    requires window { IsWindow (length mem.old) control.now regs.old.cpl tlb.now window.old }
+    ensures window { IsWindow (length mem.old) control.now regs.old.cpl tlb.now window.new }
     ensures quick { result ≡ true → is_slow quick.now.kind ≡ false }
     ensures made { result ≡ true → quietly regs.new mem.new tlb.now
         ≡ effect_made (form_by quick.now.kind) quick.now regs.old control.now mem.old tlb.now }
@@ -57,11 +68,11 @@ pub fn make(quick: &Quick, regs: &mut Regs, control: &Control, mem: &mut PhysMem
         Kind::Test32 => compare(quick, Op::Test, 32, regs, control, mem, tlb),
         Kind::Mov64 => move_over(quick, Op::Mov, 64, regs, control, mem, tlb),
         Kind::Mov32 => move_over(quick, Op::Mov, 32, regs, control, mem, tlb),
-        Kind::Load64 => move_load(quick, Op::Mov, 64, regs, control, mem, tlb),
-        Kind::Load32 => move_load(quick, Op::Mov, 32, regs, control, mem, tlb),
-        Kind::LoadByte => move_load(quick, Op::Movzx8, 32, regs, control, mem, tlb),
-        Kind::Store64 => move_store(quick, Op::Mov, 64, regs, control, mem, tlb),
-        Kind::Store32 => move_store(quick, Op::Mov, 32, regs, control, mem, tlb),
+        Kind::Load64 => move_load(quick, Op::Mov, 64, regs, control, mem, tlb, window),
+        Kind::Load32 => move_load(quick, Op::Mov, 32, regs, control, mem, tlb, window),
+        Kind::LoadByte => move_load(quick, Op::Movzx8, 32, regs, control, mem, tlb, window),
+        Kind::Store64 => move_store(quick, Op::Mov, 64, regs, control, mem, tlb, window),
+        Kind::Store32 => move_store(quick, Op::Mov, 32, regs, control, mem, tlb, window),
         Kind::Loop => count_down(quick, Op::Loop, regs, control, mem, tlb),
         Kind::Jump => branch(quick, Op::Jmp, regs, control, mem, tlb),
         Kind::JumpZero => branch(quick, Op::J(4), regs, control, mem, tlb),
@@ -74,16 +85,16 @@ pub fn make(quick: &Quick, regs: &mut Regs, control: &Control, mem: &mut PhysMem
         Kind::JumpNotLess => branch(quick, Op::J(13), regs, control, mem, tlb),
         Kind::JumpNotGreater => branch(quick, Op::J(14), regs, control, mem, tlb),
         Kind::JumpGreater => branch(quick, Op::J(15), regs, control, mem, tlb),
-        Kind::CombineLoad => combine_load(quick, regs, control, mem, tlb),
-        Kind::CombineStore => combine_store(quick, regs, control, mem, tlb),
-        Kind::CompareLoad => compare_load(quick, regs, control, mem, tlb),
-        Kind::CompareStore => compare_store(quick, regs, control, mem, tlb),
+        Kind::CombineLoad => combine_load(quick, regs, control, mem, tlb, window),
+        Kind::CombineStore => combine_store(quick, regs, control, mem, tlb, window),
+        Kind::CompareLoad => compare_load(quick, regs, control, mem, tlb, window),
+        Kind::CompareStore => compare_store(quick, regs, control, mem, tlb, window),
         Kind::Address => load_address(quick, regs, control, mem, tlb),
-        Kind::Push => push(quick, regs, control, mem, tlb),
-        Kind::Pop => pop(quick, regs, control, mem, tlb),
-        Kind::Call => call(quick, regs, control, mem, tlb),
-        Kind::Return => ret(quick, regs, control, mem, tlb),
-        _ => make_rest(quick, regs, control, mem, tlb),
+        Kind::Push => push(quick, regs, control, mem, tlb, window),
+        Kind::Pop => pop(quick, regs, control, mem, tlb, window),
+        Kind::Call => call(quick, regs, control, mem, tlb, window),
+        Kind::Return => ret(quick, regs, control, mem, tlb, window),
+        _ => make_rest(quick, regs, control, mem, tlb, window),
     }
 }
 
@@ -95,11 +106,14 @@ fn make_rest(
     control: &Control,
     mem: &mut PhysMem,
     tlb: &Tlb,
+    window: &mut Window,
 ) -> bool
     requires ready { IsReady quick.now }
     requires register { has_register_first quick.now.kind ≡ true → quick.now.to < 16 }
     requires cpl { (regs.old.cpl ≡ 0) ⊎ (regs.old.cpl ≡ 3) }
     requires frames { NamesFramesIn (length mem.old) tlb.now }
+    requires window { IsWindow (length mem.old) control.now regs.old.cpl tlb.now window.old }
+    ensures window { IsWindow (length mem.old) control.now regs.old.cpl tlb.now window.new }
     ensures quick { result ≡ true → is_slow quick.now.kind ≡ false }
     ensures made { result ≡ true → quietly regs.new mem.new tlb.now
         ≡ effect_made (form_by quick.now.kind) quick.now regs.old control.now mem.old tlb.now }
@@ -111,29 +125,47 @@ fn make_rest(
         Kind::Combine => combine(quick, quick.op, quick.width, regs, control, mem, tlb),
         Kind::Compare => compare(quick, quick.op, quick.width, regs, control, mem, tlb),
         Kind::Move => move_over(quick, quick.op, quick.width, regs, control, mem, tlb),
-        Kind::MoveLoad => move_load(quick, quick.op, quick.width, regs, control, mem, tlb),
-        Kind::MoveStore => move_store(quick, quick.op, quick.width, regs, control, mem, tlb),
+        Kind::MoveLoad => move_load(
+            quick,
+            quick.op,
+            quick.width,
+            regs,
+            control,
+            mem,
+            tlb,
+            window,
+        ),
+        Kind::MoveStore => move_store(
+            quick,
+            quick.op,
+            quick.width,
+            regs,
+            control,
+            mem,
+            tlb,
+            window,
+        ),
         Kind::Branch => branch(quick, quick.op, regs, control, mem, tlb),
         Kind::CountDown => count_down(quick, quick.op, regs, control, mem, tlb),
-        Kind::PushLoad => push_load(quick, regs, control, mem, tlb),
-        Kind::Leave => leave(quick, regs, control, mem, tlb),
-        Kind::BranchLoad => branch_load(quick, regs, control, mem, tlb),
-        Kind::CallLoad => call_load(quick, regs, control, mem, tlb),
+        Kind::PushLoad => push_load(quick, regs, control, mem, tlb, window),
+        Kind::Leave => leave(quick, regs, control, mem, tlb, window),
+        Kind::BranchLoad => branch_load(quick, regs, control, mem, tlb, window),
+        Kind::CallLoad => call_load(quick, regs, control, mem, tlb, window),
         Kind::ScanBits => scan_bits(quick, regs, control, mem, tlb),
-        Kind::ScanBitsLoad => scan_bits_load(quick, regs, control, mem, tlb),
+        Kind::ScanBitsLoad => scan_bits_load(quick, regs, control, mem, tlb, window),
         Kind::Multiply => multiply(quick, regs, control, mem, tlb),
-        Kind::MultiplyLoad => multiply_load(quick, regs, control, mem, tlb),
+        Kind::MultiplyLoad => multiply_load(quick, regs, control, mem, tlb, window),
         Kind::Divide => divide(quick, regs, control, mem, tlb),
-        Kind::DivideLoad => divide_load(quick, regs, control, mem, tlb),
+        Kind::DivideLoad => divide_load(quick, regs, control, mem, tlb, window),
         Kind::Widen => widen(quick, regs, control, mem, tlb),
         Kind::Double => double(quick, regs, control, mem, tlb),
         Kind::ChangeFlag => change_flag(quick, regs, control, mem, tlb),
         Kind::Nothing => nothing(quick, regs, control, mem, tlb),
-        Kind::MoveString => move_string(quick, regs, control, mem, tlb),
-        Kind::StoreString => store_string(quick, regs, control, mem, tlb),
-        Kind::LoadString => load_string(quick, regs, control, mem, tlb),
-        Kind::CompareStrings => compare_strings(quick, regs, control, mem, tlb),
-        Kind::ScanString => scan_string(quick, regs, control, mem, tlb),
+        Kind::MoveString => move_string(quick, regs, control, mem, tlb, window),
+        Kind::StoreString => store_string(quick, regs, control, mem, tlb, window),
+        Kind::LoadString => load_string(quick, regs, control, mem, tlb, window),
+        Kind::CompareStrings => compare_strings(quick, regs, control, mem, tlb, window),
+        Kind::ScanString => scan_string(quick, regs, control, mem, tlb, window),
         _ => false,
     }
 }

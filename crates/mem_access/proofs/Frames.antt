@@ -1,5 +1,5 @@
 -- A page whose translation is kept and serves an access serves it at each of its addresses.
-use Rattle.std.proofs.Common.{◌≡◌, ℕ, ◌+◌, ◌-◌, ◌*◌, ◌/◌, ◌%◌, ◌^◌, ◌<◌, ◌≤◌, true, false, List, arith, sym, ap, subst, ◌∙◌}
+use Rattle.std.proofs.Common.{◌≡◌, ℕ, ◌+◌, ◌-◌, ◌/◌, ◌%◌, ◌^◌, ◌<◌, ◌≤◌, true, false, List, arith, sym, ap, subst, ◌∙◌}
 use Rattle.std.specs.Prelude.{◌||◌, ◌==◌, Some, IfOk}
 use Rattle.std.proofs.lemmas.Bool.{le-ltb}
 use Rattle.nk_bits.specs.declared.access.Access.{Access}
@@ -27,11 +27,11 @@ unfolding crosses
 one_byte va = le-ltb 4096 (va % 4096 + 1) (omega arith)
 
 module _ (facts : PageFacts) (m n : List ℕ) (access : Access) (control : Control) (cpl : ℕ) (tlb : Translations) (va place : ℕ) where
-  -- over another memory, and at another address of the page
-  pub serves_its_page : is_canonical va ≡ true → answered place tlb ≡ reached (view_of m control cpl) access tlb va →
-      (at base : ℕ) → base + va % 4096 ≡ place → at < 2 ^ 64 → at / 4096 ≡ va / 4096 →
-      answered (record { first = base + at % 4096; second = 0 }) tlb ≡ accessed (view_of n control cpl) access tlb at 1
-  serves_its_page canonical found at base start fits same =
+  -- over another memory, an access that lies on the page
+  pub serves_on_page : is_canonical va ≡ true → answered place tlb ≡ reached (view_of m control cpl) access tlb va →
+      (at width base : ℕ) → base + va % 4096 ≡ place → at < 2 ^ 64 → at / 4096 ≡ va / 4096 → 1 ≤ width → crosses at width ≡ false →
+      answered (record { first = base + at % 4096; second = 0 }) tlb ≡ accessed (view_of n control cpl) access tlb at width
+  serves_on_page canonical found at width base start fits same some one =
       let kept : IsKept (view_of m control cpl) access tlb va place =
       subst (λ (o : Outcome AccessFault ℕ). IfOk o.answer (IsKept (view_of m control cpl) access o.tlb va)) (sym found) (facts.found_again (view_of m control cpl) access tlb va) in
       let upper : at / 2 ^ 47 ≡ va / 2 ^ 47 = omega (arith, same) in
@@ -39,5 +39,11 @@ module _ (facts : PageFacts) (m n : List ℕ) (access : Access) (control : Contr
       let there : place_in kept.leaf at ≡ base + at % 4096 = omega (arith, start, kept.place_is) in
       let reaches : reached (view_of n control cpl) access tlb at ≡ answered (place_in kept.leaf at) tlb =
       facts.held (view_of n control cpl) access tlb at kept.leaf (ap (look tlb.pairs) same ∙ kept.kept) kept.may_access in
-      found_alone (view_of n control cpl) access tlb at 1 (one_byte at) (first_tells at 1 fits (omega arith) (one_byte at)) (base + at % 4096) on
+      found_alone (view_of n control cpl) access tlb at width one (first_tells at width fits (omega (arith, some)) one) (base + at % 4096) on
       (sym (reaches ∙ ap (λ x. answered {F = AccessFault} x tlb) there))
+
+  -- and its byte at another address
+  pub serves_its_page : is_canonical va ≡ true → answered place tlb ≡ reached (view_of m control cpl) access tlb va →
+      (at base : ℕ) → base + va % 4096 ≡ place → at < 2 ^ 64 → at / 4096 ≡ va / 4096 →
+      answered (record { first = base + at % 4096; second = 0 }) tlb ≡ accessed (view_of n control cpl) access tlb at 1
+  serves_its_page canonical found at base start fits same = serves_on_page canonical found at 1 base start fits same (omega arith) (one_byte at)

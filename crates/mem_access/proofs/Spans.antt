@@ -2,6 +2,7 @@
 use Rattle.std.proofs.Common.{◌≡◌, ℕ, ◌+◌, ◌-◌, ◌%◌, ◌<◌, ◌≤◌, true, false, arith, refl}
 use Rattle.std.proofs.Math.Nat.{min-le_right, min-eq_left}
 use borrow.Author.Tests.{ltb-true, ltb-false}
+use Rattle.std.proofs.lemmas.Bool.{le-ltb}
 use Rattle.std.proofs.lemmas.Bool.Decides.{nat_tests}
 use Rattle.nk_bits.specs.Accesses.{IsTarget, first_part, crosses}
 
@@ -43,6 +44,11 @@ pub part_less : (va width : ℕ) → crosses va width ≡ true → first_part va
 unfolding first_part crosses
 part_less va width two =
     let over : 4096 < va % 4096 + width = ltb-true 4096 (va % 4096 + width) two in omega (arith, over, min-le_right width (4096 - va % 4096))
+
+-- at most eight bytes lie on the first page where eight do
+pub few_bytes : (va width : ℕ) → va % 4096 ≤ 4088 → width ≤ 8 → crosses va width ≡ false
+unfolding crosses
+few_bytes va width inside few = le-ltb 4096 (va % 4096 + width) (omega (arith, inside, few))
 
 -- one byte lies on the first page
 pub one_byte : (va : ℕ) → crosses va 1 ≡ false

@@ -1,5 +1,5 @@
-//! Accesses on a page whose translation is kept and serves them: they change nothing, and their bytes stand one behind
-//! the other. A width is in bytes.
+//! Pages whose translation is kept and serves an access: it changes nothing, and its bytes stand one behind the other. A
+//! width is in bytes.
 
 ghost use Rattle.std.specs.Prelude.{◌≡◌, ℕ, List, ◌+◌, ◌-◌, ◌*◌, ◌/◌, ◌%◌, ◌^◌, ◌<◌, ◌≤◌, IfSome, false, length};
 ghost use Rattle.phys_mem.specs.Memory.{number_at, stores, stored};
@@ -12,42 +12,10 @@ ghost use Rattle.page_walk.specs.MemoryAccess.{stores_at, value_at, view_of};
 
 use crate::bytes::{number, put};
 use crate::rights::may;
-use crate::span::{crosses, page};
+use crate::span::page;
 use nk_bits::{Access, Control, Leaf, access_law, canonical, translation_law};
 use phys_mem::PhysMem;
 use tlb_model::Tlb;
-
-/// The place of the first byte of an access that changes nothing: its address is canonical, its bytes lie on one page,
-/// and that page's translation is kept and serves the access.
-#[inline(always)]
-pub fn kept_place(
-    mem: &PhysMem,
-    tlb: &Tlb,
-    access: Access,
-    control: &Control,
-    cpl: u8,
-    va: u64,
-    width: u8,
-) -> Option<u64>
-    requires width { (1 ≤ width) × (width ≤ 8) }
-    requires frames { NamesFramesIn (length mem.now) tlb.now }
-    ensures place { IfSome result (λ first. answered (record { first = first; second = 0 }) tlb.now
-        ≡ accessed (view_of mem.now control.now cpl) access tlb.now va width) }
-    ensures read { access ≡ Write → IfSome result (λ first. answered (record { first = first; second = 0 }) tlb.now
-        ≡ accessed (view_of mem.now control.now cpl) Read tlb.now va width) }
-    ensures target { IfSome result (λ first. IsTarget (length mem.now) va width (record { first = first; second = 0 })) }
-    ensures one { IfSome result (λ first. crosses va width ≡ false) }
-    ensures inside { IfSome result (λ first. first + (4096 - va % 4096) ≤ length mem.now) }
-    ensures fits { IfSome result (λ first. first + width ≤ length mem.now) }
-{
-    if crosses(va, width) || !canonical(va) {
-        return None;
-    }
-    match kept_page(mem, tlb, access, control, cpl, va) {
-        Some(first) => Some(first),
-        None => None,
-    }
-}
 
 /// The place of the first byte of the page of `va`, where that page's translation is kept and serves the access: then it
 /// serves one byte at each address of the page, over any memory, and changes nothing.

@@ -11,14 +11,13 @@ mod access;
 mod kept;
 mod pages;
 mod span;
+mod window;
 
 // The accesses of an instruction, in order.
 mod plan;
 
 // What a page grants, and the bytes of an access.
 mod bytes;
-#[cfg(test)]
-mod kept_place_tests;
 #[cfg(test)]
 mod kept_tests;
 #[cfg(test)]
@@ -28,10 +27,13 @@ mod rights;
 mod rights_tests;
 #[cfg(test)]
 mod tests;
+#[cfg(test)]
+mod window_tests;
 
 pub use access::{check_store, commit, fetch_byte, fetch_place, load, page_bytes, store};
-pub use kept::{kept_frame, kept_number, kept_place, one_page_law, put_kept};
+pub use kept::{kept_frame, kept_number, one_page_law, put_kept};
 pub use nk_bits::{AccessFault, Control, Target};
 pub use page_walk::{Gathered, Missing, Plan, Source, Span, SpanFault};
 pub use pages::{translate, walk_kept};
 pub use plan::{check_span, gather};
+pub use window::{KeptPage, Window};

@@ -2,12 +2,10 @@
 //! pages 0 and 1 in frames 8 and 9.
 
 ghost use Rattle.std.specs.Prelude.{◌≡◌, ◌*◌, ◌<◌, ◌⊎◌, IfOk, length};
-ghost use Rattle.nk_bits.specs.Accesses.{IsAccessSize};
+ghost use Rattle.nk_bits.specs.Accesses.{IsAccessSize, IsTarget};
 ghost use Rattle.nk_bits.specs.Translations.{NamesFramesIn};
 
-use super::{
-    AccessFault, Control, Target, check_store, commit, fetch_byte, load, page_bytes, store,
-};
+use super::{AccessFault, Control, Target, page_bytes};
 use phys_mem::{NoMemory, PhysMem};
 use std::alloc::Global;
 use std::test::Fail;
@@ -52,6 +50,85 @@ pub fn memory(alloc: Global, first: u64, second: u64) -> Result<PhysMem, NoMemor
     mem.store64(0x4000, 0x8000 + first);
     mem.store64(0x4008, 0x9000 + second);
     Ok(mem)
+}
+
+// The calls under test. Nothing is said of what they give, so that a test runs them and its proof stays short.
+
+pub fn load(
+    mem: &PhysMem,
+    tlb: &mut Tlb,
+    control: &Control,
+    cpl: u8,
+    va: u64,
+    width: u8,
+) -> Result<u64, AccessFault>
+    requires cpl { (cpl ≡ 0) ⊎ (cpl ≡ 3) }
+    requires width { IsAccessSize width }
+    requires root { 4096 * control.now.root < length mem.now }
+    requires frames { NamesFramesIn (length mem.now) tlb.old }
+    ensures frames { NamesFramesIn (length mem.now) tlb.new }
+{
+    crate::load(mem, tlb, control, cpl, va, width)
+}
+
+fn check_store(
+    mem: &PhysMem,
+    tlb: &mut Tlb,
+    control: &Control,
+    cpl: u8,
+    va: u64,
+    width: u8,
+) -> Result<Target, AccessFault>
+    requires cpl { (cpl ≡ 0) ⊎ (cpl ≡ 3) }
+    requires width { IsAccessSize width }
+    requires root { 4096 * control.now.root < length mem.now }
+    requires frames { NamesFramesIn (length mem.now) tlb.old }
+    ensures frames { NamesFramesIn (length mem.now) tlb.new }
+    ensures places { IfOk result (λ target. IsTarget (length mem.now) va width target) }
+{
+    crate::check_store(mem, tlb, control, cpl, va, width)
+}
+
+fn commit(mem: &mut PhysMem, target: &Target, va: u64, width: u8, value: u64)
+    requires width { IsAccessSize width }
+    requires target { IsTarget (length mem.old) va width target.now }
+    ensures length { length mem.new ≡ length mem.old }
+{
+    crate::commit(mem, target, va, width, value);
+}
+
+pub fn store(
+    mem: &mut PhysMem,
+    tlb: &mut Tlb,
+    control: &Control,
+    cpl: u8,
+    va: u64,
+    width: u8,
+    value: u64,
+) -> Result<(), AccessFault>
+    requires cpl { (cpl ≡ 0) ⊎ (cpl ≡ 3) }
+    requires width { IsAccessSize width }
+    requires root { 4096 * control.now.root < length mem.old }
+    requires frames { NamesFramesIn (length mem.old) tlb.old }
+    ensures length { length mem.new ≡ length mem.old }
+    ensures frames { NamesFramesIn (length mem.new) tlb.new }
+{
+    crate::store(mem, tlb, control, cpl, va, width, value)
+}
+
+pub fn fetch_byte(
+    mem: &PhysMem,
+    tlb: &mut Tlb,
+    control: &Control,
+    cpl: u8,
+    va: u64,
+) -> Result<u8, AccessFault>
+    requires cpl { (cpl ≡ 0) ⊎ (cpl ≡ 3) }
+    requires root { 4096 * control.now.root < length mem.now }
+    requires frames { NamesFramesIn (length mem.now) tlb.old }
+    ensures frames { NamesFramesIn (length mem.now) tlb.new }
+{
+    crate::fetch_byte(mem, tlb, control, cpl, va)
 }
 
 fn fault<T>(code: u64, address: u64) -> Result<T, AccessFault> {

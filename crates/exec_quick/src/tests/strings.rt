@@ -4,8 +4,7 @@
 ghost use Rattle.std.specs.Prelude.{◌≡◌, length};
 ghost use Rattle.nk_bits.specs.Translations.{NamesFramesIn};
 
-use super::{CONTROL, REGS, form_of, memory};
-use crate::make;
+use super::{CONTROL, REGS, form_of, make_alone, memory};
 use mem_access::load;
 use phys_mem::PhysMem;
 use std::alloc::Global;
@@ -93,7 +92,7 @@ fn is_made(mem: &mut PhysMem, tlb: &Tlb, bytes: &[u8], regs: &mut Regs) -> bool
     }
     match decode(bytes) {
         Decoded::Whole(instr, size) => match form_of(&instr, size) {
-            Some(quick) => make(&quick, regs, &CONTROL, mem, tlb),
+            Some(quick) => make_alone(&quick, regs, mem, tlb),
             None => false,
         },
         _ => false,

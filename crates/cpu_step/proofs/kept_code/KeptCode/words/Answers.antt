@@ -1,7 +1,6 @@
 use Rattle.std.proofs.Common.{◌≡◌, ℕ, ◌+◌, ◌/◌, ◌%◌, ◌<◌, ◌≤◌, ◌^◌, List, arith, ap, sym, ◌∙◌}
 use Rattle.nk_bits.specs.declared.leaf.Target.{Target}
 use Rattle.nk_bits.specs.declared.fault.AccessFault.{AccessFault}
-use Rattle.nk_bits.specs.Translations.{Translations}
 use Rattle.nk_bits.specs.Outcomes.{Outcome, and_then, answered, refused}
 use Rattle.nk_bits.specs.Accesses.{View}
 use Rattle.page_walk.specs.MemoryAccess.{view_of}

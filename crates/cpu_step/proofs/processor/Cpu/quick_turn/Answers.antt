@@ -1,4 +1,5 @@
 use Rattle.std.proofs.Common.{◌≡◌, ◌+◌, false, length, sym, ap, subst, ◌∙◌}
+use Rattle.mem_access.specs.Windows.{IsWindow}
 use Rattle.cpu_step.specs.KeptFetches.{IsKeptCode}
 use Rattle.cpu_step.specs.Processor.{Processor}
 use Rattle.cpu_step.specs.Turns.{ran, turned}
@@ -8,6 +9,14 @@ use Rattle.page_walk.specs.MemoryAccess.{view_of}
 use Rattle.exec_quick.specs.QuickForms.{instr_of, is_slow}
 use Rattle.cpu_step.specs.InstructionFetch.{instruction_at}
 use Rattle.cpu_step.proofs.processor.Cpu.quick_turn.Goals as goal
+
+pub make-requires-clause-window : goal.make-requires-clause-window
+make-requires-clause-window c =
+    subst (λ (x : Processor). IsWindow (length c.args.mem.now) x.control x.regs.cpl x.tlb c.args.window.now) (sym c.self.view_is) c.requires.window
+
+pub returns-in-Some-clause-window : goal.returns-in-Some-clause-window
+returns-in-Some-clause-window c =
+    subst (λ (x : Processor). IsWindow (length c.args.mem.now) x.control x.regs.cpl x.tlb c.make.new.window) c.self.view_is c.make.ensures.window
 
 pub returns-in-Some-clause-turned : goal.returns-in-Some-clause-turned
 returns-in-Some-clause-turned c = λ made.

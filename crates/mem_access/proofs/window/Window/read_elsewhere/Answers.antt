@@ -1,0 +1,13 @@
+use Rattle.std.proofs.Common.{◌+◌, ◌%◌, length, arith, sym, ◌∙◌}
+use Rattle.mem_access.proofs.Spans.{target_of_one, bytes_fit}
+use Rattle.mem_access.proofs.window.Window.read_elsewhere.Goals as goal
+
+pub returns-in-Some-clause-target : goal.returns-in-Some-clause-target
+returns-in-Some-clause-target c =
+    target_of_one (length c.args.mem.now) c.args.va c.args.width (c.in-Some.page.base + c.args.va % 4096)
+    (omega (arith, c.in-Some.ensures.kept.base)) (omega (arith, c.in-Some.ensures.kept.inside)) (sym c.crosses.ensures ∙ c.if-crosses.false)
+
+pub returns-in-Some-clause-fits : goal.returns-in-Some-clause-fits
+returns-in-Some-clause-fits c =
+    bytes_fit (length c.args.mem.now) c.args.va c.args.width (c.in-Some.page.base + c.args.va % 4096)
+    (omega (arith, c.in-Some.ensures.kept.inside)) (sym c.crosses.ensures ∙ c.if-crosses.false)
