@@ -127,6 +127,21 @@ pub table_ordered : (table : List ℕ) (n : ℕ) → AllPairs (λ s t. s.index <
 unfolding segments_in program_header_at
 table_ordered table n = index_rises (λ i. program_header_at table (phdr_size * i) i) (λ i. refl) 0 n
 
+-- no place is past the table's end
+index_below : (f : ℕ → ProgramHeader) → ((i : ℕ) → (f i).index ≡ i) → (a n m : ℕ) → a + n ≤ m → All (λ s. s.index < m) (filter is_segment (map f (range_with_len a n)))
+index_below f own a zero m fits = All-nil (λ s. s.index < m)
+index_below f own a (suc n) m fits =
+    let rest = index_below f own (a + 1) n m (omega arith) in
+    let here : (f a).index < m = omega (arith, own a) in
+    let P : List ProgramHeader → Type 0 = λ xs. All (λ s. s.index < m) xs in
+    cond_both (is_segment (f a)) _ _ P
+    (λ _. All-cons (λ s. s.index < m) (f a) _ here rest)
+    (λ _. rest)
+
+pub table_below : (table : List ℕ) (n : ℕ) → n ≤ 64 → All (λ s. s.index < 64) (segments_in table n)
+unfolding segments_in program_header_at
+table_below table n few = index_below (λ i. program_header_at table (phdr_size * i) i) (λ i. refl) 0 n 64 (omega arith)
+
 -- and so do those of a whole file
 file_counts : (b : List ℕ) → All (λ s. is_segment s ≡ true) (segments b)
 unfolding segments

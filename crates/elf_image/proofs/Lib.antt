@@ -2,6 +2,7 @@ pub mod FormLaws
 pub mod Pairs
 pub mod Ranges
 pub mod SegmentLaws
+pub mod TableOrder
 pub mod PageLaws
 pub mod PartLaws
 pub mod ImageLaws

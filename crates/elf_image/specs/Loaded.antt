@@ -1,6 +1,6 @@
 -- What the headers of an image keep.
-use Rattle.std.specs.Prelude.{◌≡◌, ℕ, ◌+◌, ◌*◌, ◌<◌, ◌≤◌, ◌-◌, ◌/◌, true, false, if◌then◌else◌, Option, Some, None, option_map, List, length}
-use Rattle.std.specs.List.{All, AllPairs}
+use Rattle.std.specs.Prelude.{◌≡◌, ℕ, ◌+◌, ◌*◌, ◌<◌, ◌≤◌, ◌-◌, ◌/◌, ◌==◌, true, false, if◌then◌else◌, Option, Some, None, option_map, List, filter_map, find, length}
+use Rattle.std.specs.List.{All, AllPairs, range_with_len}
 use Rattle.std.specs.List.Sorted.{IsNonDecreasingBy, IsPermutation}
 use Rattle.elf_image.specs.declared.program_header.ProgramHeader.{ProgramHeader}
 use Rattle.elf_image.specs.Elf.{e_phnum, e_phoff, is_segment, phdr_size}
@@ -26,6 +26,10 @@ pub record AreJudged (size entry : ℕ) (segs : List ProgramHeader) : Type 0 whe
   pub form : later_fault size entry segs ≡ None
   pub counting : All (λ s. is_segment s ≡ true) segs
   pub ordered : AllPairs (λ s t. s.index < t.index) segs
+
+-- segments with places below 64 in the program header table, in its order
+unfoldable pub in_table_order : List ProgramHeader → List ProgramHeader
+in_table_order segs = filter_map (λ i. find (λ s. s.index == i) segs) (range_with_len 0 64)
 
 -- and sorted are the same in the order of their addresses
 pub record AreLoaded (size entry : ℕ) (segs sorted : List ProgramHeader) : Type 0 where

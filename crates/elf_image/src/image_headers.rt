@@ -16,7 +16,7 @@ use crate::page_list::{
 };
 use crate::program_header::ProgramHeader;
 use crate::segment_rows::segment_fault;
-use crate::table::read_segments;
+use crate::table::{in_table_order, read_segments};
 use crate::whole_rows::{total_pages, whole_fault};
 use arrayvec::ArrayVec;
 use std::marker::Model;
@@ -41,21 +41,19 @@ pub struct Segment {
 pub struct Headers {
     size: u64,
     entry: u64,
-    // In table order.
-    table: ArrayVec<ProgramHeader, MOST_HEADERS>,
     // In the order of their addresses.
     sorted: ArrayVec<ProgramHeader, MOST_HEADERS>,
 }
 
 impl Model for Headers {
     ghost use Rattle.elf_image.specs.HeaderRows.{FileHeaders};
-    ghost use Rattle.elf_image.specs.Loaded.{AreLoaded};
+    ghost use Rattle.elf_image.specs.Loaded.{AreLoaded, in_table_order};
 
     ghost Value = { FileHeaders };
 
-    ghost view = { λ h. record { size = h.size; entry = h.entry; segments = h.table.items } };
+    ghost view = { λ h. record { size = h.size; entry = h.entry; segments = in_table_order h.sorted.items } };
 
-    ghost invariant = { λ h. AreLoaded h.size h.entry h.table.items h.sorted.items };
+    ghost invariant = { λ h. AreLoaded h.size h.entry (in_table_order h.sorted.items) h.sorted.items };
 }
 
 /// The first row on the segments that stands, for a file of this size with this entry.
@@ -85,17 +83,15 @@ impl Headers {
             × (later_fault size entry (segments_in table.now count) ≡ None))
             (λ fault. later_fault size entry (segments_in table.now count) ≡ Some fault) }
     {
-        let found = read_segments(table, count);
-        if let Some(fault) = later_fault(found.as_slice(), size, entry) {
+        let mut segments = read_segments(table, count);
+        if let Some(fault) = later_fault(segments.as_slice(), size, entry) {
             return Err(fault);
         }
-        let mut sorted = read_segments(table, count);
-        sort_by_address(&mut sorted);
+        sort_by_address(&mut segments);
         Ok(Headers {
             size,
             entry,
-            table: found,
-            sorted,
+            sorted: segments,
         })
     }
 
@@ -206,7 +202,7 @@ impl Headers {
         ensures some { 0 < result }
         ensures few { result ≤ 64 }
     {
-        self.table.as_slice().len()
+        self.sorted.as_slice().len()
     }
 
     /// Segment number `i`, from 0 on, in the order of the program header table.
@@ -214,7 +210,8 @@ impl Headers {
         requires { i < length self.now.segments }
         ensures { option_map segment_of (slice_get self.now.segments i) ≡ Some result }
     {
-        let header = self.table.as_slice()[i];
+        let table = in_table_order(self.sorted.as_slice());
+        let header = table.as_slice()[i];
         Segment {
             flags: header.flags,
             offset: header.offset,

@@ -11,7 +11,7 @@ use std::alloc::Global;
 use std::io::{Read, Write};
 
 // The most bytes of one read.
-const BLOCK: usize = 65_536;
+const BLOCK: usize = 8_192;
 
 /// All that the reader has, where that is at most `most` bytes. It reads at most one byte past them,
 /// and takes memory in proportion to what was read.

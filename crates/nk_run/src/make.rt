@@ -12,6 +12,7 @@ use nk_host::{Sink, put_all};
 use std::alloc::Global;
 
 /// Writes the image of a number, in pieces. The shelf isn't looked at.
+#[inline(never)]
 pub(crate) fn make<O: Sink>(alloc: Global, words: &[String], number: u64, sink: &mut O) -> u8
     requires asked { command_of (map string_bytes words.now) ≡ Some (Command.Make number) }
     requires bounds { IsBounded (Command.Make number) }

@@ -55,6 +55,7 @@ fn translate(alloc: Global, image: &Image, frames: u32, va: u64) -> Reply
 }
 
 /// Shows the translation of an address by the opening tables, in a memory of so many frames.
+#[inline(never)]
 pub(crate) fn map<S: Shelf>(
     alloc: Global,
     words: &[String],

@@ -132,6 +132,7 @@ fn make_replay<S: Shelf>(
 }
 
 /// Makes the calls of a journal, and writes the closing section.
+#[inline(never)]
 pub(crate) fn replay<S: Shelf, O: Sink>(
     alloc: Global,
     words: &[String],

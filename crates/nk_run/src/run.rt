@@ -97,6 +97,7 @@ fn make_ready<S: Shelf>(
 }
 
 /// Runs the image, and writes what the run shows while it is made.
+#[inline(never)]
 pub(crate) fn run<S: Shelf, O: Sink>(
     alloc: Global,
     words: &[String],

@@ -46,6 +46,7 @@ fn stopped(stop: Stop) -> Reply
 }
 
 /// Admits or refuses the image. Takes no memory but the shelf's.
+#[inline(never)]
 pub(crate) fn scan<S: Shelf>(alloc: Global, words: &[String], shelf: &mut S) -> Reply
     requires asked { command_of (map string_bytes words.now) ≡ Some Command.Scan }
     requires count { length words.now ≡ word_count Command.Scan }

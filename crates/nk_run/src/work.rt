@@ -59,6 +59,7 @@ fn quiet(alloc: Global) -> Option<Plan>
 }
 
 /// Runs the image of a number, and writes the counts. The shelf isn't looked at.
+#[inline(never)]
 pub(crate) fn work<O: Sink>(alloc: Global, words: &[String], number: u64, sink: &mut O) -> u8
     requires asked { command_of (map string_bytes words.now) ≡ Some (Command.Work number) }
     requires bounds { IsBounded (Command.Work number) }

@@ -2,6 +2,7 @@ use Rattle.std.proofs.Common.{◌≡◌, ◌+◌, ◌*◌, ◌<◌, ◌≤◌, �
 use Rattle.std.specs.List.{flat_map}
 use Rattle.elf_image.specs.HeaderRows.{FileHeaders}
 use Rattle.elf_image.specs.Home.{home_end, home_start, page_size}
+use Rattle.elf_image.specs.Loaded.{in_table_order}
 use Rattle.elf_image.specs.SegmentPages.{pages_in}
 use Rattle.elf_image.specs.Segments.{pages_of_segment, total_pages}
 use Rattle.elf_image.specs.declared.program_header.ProgramHeader.{ProgramHeader}
@@ -26,8 +27,8 @@ returns-clause-number c =
 
 pub returns-clause-above : goal.returns-clause-above
 returns-clause-above c =
-    let inside : c.args.i < length (pages_in c.self.inside.table.items) = omega (arith, c.requires, ap (λ (h : FileHeaders). length (pages_in h.segments)) c.self.view_is) in
-    let same : c.nth_page.result ≡ get_or (pages_in c.self.inside.table.items) c.args.i 0 =
+    let inside : c.args.i < length (pages_in (in_table_order c.self.inside.sorted.items)) = omega (arith, c.requires, ap (λ (h : FileHeaders). length (pages_in h.segments)) c.self.view_is) in
+    let same : c.nth_page.result ≡ get_or (pages_in (in_table_order c.self.inside.sorted.items)) c.args.i 0 =
     c.nth_page.ensures
     ∙ ap (λ (segs : List ProgramHeader). get_or (flat_map pages_of_segment segs) c.args.i 0) c.as_slice.ensures.value
     ∙ ap (λ (ps : List ℕ). get_or ps c.args.i 0) (sym (pages_are _ _ _ _ c.self.invariant)) in
@@ -36,8 +37,8 @@ returns-clause-above c =
 
 pub returns-clause-below : goal.returns-clause-below
 returns-clause-below c =
-    let inside : c.args.i < length (pages_in c.self.inside.table.items) = omega (arith, c.requires, ap (λ (h : FileHeaders). length (pages_in h.segments)) c.self.view_is) in
-    let same : c.nth_page.result ≡ get_or (pages_in c.self.inside.table.items) c.args.i 0 =
+    let inside : c.args.i < length (pages_in (in_table_order c.self.inside.sorted.items)) = omega (arith, c.requires, ap (λ (h : FileHeaders). length (pages_in h.segments)) c.self.view_is) in
+    let same : c.nth_page.result ≡ get_or (pages_in (in_table_order c.self.inside.sorted.items)) c.args.i 0 =
     c.nth_page.ensures
     ∙ ap (λ (segs : List ProgramHeader). get_or (flat_map pages_of_segment segs) c.args.i 0) c.as_slice.ensures.value
     ∙ ap (λ (ps : List ℕ). get_or ps c.args.i 0) (sym (pages_are _ _ _ _ c.self.invariant)) in
