@@ -1,13 +1,16 @@
 //! The machine's files.
-ghost use Rattle.std.specs.Prelude.{◌≡◌, ◌≢◌, ◌↔◌, ◌≤◌, IfOk};
+ghost use Rattle.std.specs.Prelude.{◌≡◌, ◌≢◌, ◌↔◌, ◌≤◌, IfOk, IfSome};
 ghost use Rattle.nk_host.specs.FaultCounts.{RoseTo, raised};
+ghost use Rattle.nk_host.specs.Streams.{StandsAt};
 
 use crate::counted::Counted;
 use crate::fill::fill_from;
+use crate::placed::Placed;
 use crate::whole::read_whole;
 use crate::{FetchFault, PieceFault, Shelf};
 use std::alloc::Global;
 use std::fs;
+use std::io::{Read, Seek};
 use std::marker::Model;
 use std::rt::Files;
 
@@ -24,9 +27,9 @@ pub struct FileShelf<'a, R: Files> {
 
 // A file that is open, under its name.
 #[derive(Drop)]
-struct OpenFile<F> {
+struct OpenFile<F: Read + Seek> {
     name: String,
-    file: F,
+    placed: Placed<F>,
 }
 
 impl<'a, R: Files> Model for FileShelf<'a, R> {
@@ -98,7 +101,10 @@ impl<'a, R: Files> FileShelf<'a, R> {
             return Err(PieceFault::Memory);
         };
         match open_file(self.rt, name.as_str()) {
-            Some(file) => Ok(OpenFile { name, file }),
+            Some(file) => Ok(OpenFile {
+                name,
+                placed: Placed::new(file, None),
+            }),
             None => {
                 self.count_fault();
                 Err(PieceFault::Failed)
@@ -123,13 +129,14 @@ impl<'a, R: Files> FileShelf<'a, R> {
     }
 
     // Keeps a file open, and takes over the count of faults.
-    fn keep(&mut self, name: String, reader: Counted<R::File>)
+    fn keep(&mut self, name: String, reader: Counted<R::File>, stands: Option<u64>)
+        requires { IfSome stands (StandsAt R.File.stream_position R.File.remaining reader.inner) }
         ensures { self.new ≡ record self.old { faults = reader.faults } }
     {
         self.faults = reader.faults();
         self.last = Some(OpenFile {
             name,
-            file: reader.into_inner(),
+            placed: Placed::new(reader.into_inner(), stands),
         });
     }
 
@@ -145,9 +152,9 @@ impl<'a, R: Files> FileShelf<'a, R> {
             Ok(opened) => opened,
             Err(fault) => return Err(fault),
         };
-        let mut reader = Counted::after(opened.file, self.faults);
+        let mut reader = Counted::after(opened.placed.file, self.faults);
         let size = reader.size();
-        self.keep(opened.name, reader);
+        self.keep(opened.name, reader, None);
         size
     }
 
@@ -169,9 +176,11 @@ impl<'a, R: Files> FileShelf<'a, R> {
             Ok(opened) => opened,
             Err(fault) => return Err(fault),
         };
-        let mut reader = Counted::after(opened.file, self.faults);
-        let filled = fill_from(&mut reader, at, into);
-        self.keep(opened.name, reader);
+        let Placed { file, stands } = opened.placed;
+        let mut stands = stands;
+        let mut reader = Counted::after(file, self.faults);
+        let filled = fill_from(&mut reader, &mut stands, at, into);
+        self.keep(opened.name, reader, stands);
         filled
     }
 }

@@ -1,29 +1,57 @@
 //! A block of memory that a reader fills.
-ghost use Rattle.std.specs.Prelude.{◌≡◌, ℕ, ◌+◌, ◌<◌, ◌≤◌, length, take, IfOk, OnOk, OnErr, IfErr};
+ghost use Rattle.std.specs.Prelude.{◌≡◌, ℕ, ◌+◌, ◌<◌, ◌≤◌, ◌^◌, length, take, Some, IfOk, IfSome, OnOk, OnErr, IfErr};
+ghost use Rattle.std.specs.Option.{SomeIff};
 ghost use Rattle.std.specs.Io.KnownBytes.{Consumes};
 ghost use Rattle.nk_host.specs.FaultCounts.{RoseTo};
-ghost use Rattle.nk_host.specs.Streams.{GivesAt, GivesMore};
+ghost use Rattle.nk_host.specs.Streams.{GivesAt, GivesMore, StandsAt};
 
 use crate::PieceFault;
 use crate::counted::Counted;
 use std::io::{Read, Seek};
 
-/// Fills the block with what the reader has from place `at` on.
+/// Fills the block with what the reader has from place `at` on. Where the reader stands, if that is
+/// known, is taken from `stands`, and kept there: it is moved only where it doesn't stand there already.
 pub(crate) fn fill_from<F: Read + Seek>(
     from: &mut Counted<F>,
+    stands: &mut Option<u64>,
     at: u64,
     block: &mut [u8],
 ) -> Result<(), PieceFault>
+    requires { IfSome stands.old (StandsAt F.stream_position F.remaining from.old.inner) }
     ensures given { OnOk result
-        (GivesAt F.stream_position F.remaining from.old.inner from.new.inner at block.new) }
+        (GivesAt F.stream_position F.remaining from.new.inner at block.new) }
+    ensures behind { OnOk result
+        (SomeIff stands.new (at + length block.new < 2 ^ 64) (at + length block.new)) }
+    ensures stands { IfSome stands.new (StandsAt F.stream_position F.remaining from.new.inner) }
     ensures never_falls { from.old.faults ≤ from.new.faults }
     ensures failed { OnErr result (RoseTo from.old.faults from.new.faults) }
     ensures kept { OnOk result (from.new.faults ≡ from.old.faults) }
     ensures only { IfErr result (λ fault. fault ≡ PieceFault.Failed) }
 {
-    match from.go_to(at) {
-        Ok(()) => fill(from, block),
-        Err(fault) => Err(fault),
+    let known = stands.take();
+    stand_at(from, known, at)?;
+    fill(from, block)?;
+    *stands = at.checked_add(block.len() as u64);
+    Ok(())
+}
+
+// Moves the reader to place `at`, if it isn't known to stand there.
+fn stand_at<F: Read + Seek>(
+    from: &mut Counted<F>,
+    known: Option<u64>,
+    at: u64,
+) -> Result<(), PieceFault>
+    requires { IfSome known (StandsAt F.stream_position F.remaining from.old.inner) }
+    ensures there { OnOk result (StandsAt F.stream_position F.remaining from.new.inner at) }
+    ensures unmoved { known ≡ Some at → from.new ≡ from.old }
+    ensures never_falls { from.old.faults ≤ from.new.faults }
+    ensures failed { OnErr result (RoseTo from.old.faults from.new.faults) }
+    ensures kept { OnOk result (from.new.faults ≡ from.old.faults) }
+    ensures only { IfErr result (λ fault. fault ≡ PieceFault.Failed) }
+{
+    match known {
+        Some(place) if place == at => Ok(()),
+        _ => from.go_to(at),
     }
 }
 

@@ -14,9 +14,10 @@ mod sink;
 // A text of any length, put in pieces; its bytes may come one by one.
 mod pieces;
 
-// Readers and writers, with their faults counted.
+// Readers and writers, with their faults counted; a reader may stand at a known place.
 mod counted;
 mod fill;
+mod placed;
 mod whole;
 
 // The machine's files and its standard output.

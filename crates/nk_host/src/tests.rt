@@ -5,6 +5,7 @@ ghost use Rattle.nk_host.specs.Told.{IfTold};
 
 use crate::counted::Counted;
 use crate::fill::{fill, fill_from};
+use crate::placed::Placed;
 use crate::whole::{read_whole, write_whole};
 use crate::{
     FetchFault, FileShelf, MemShelf, MemSink, PIECE, PieceFault, Pieces, Shelf, Sink, SinkFault,
@@ -392,18 +393,99 @@ fn a_block_is_filled_by_single_bytes(rt: HostRuntime) {
 #[test]
 fn a_block_is_filled_from_its_place(rt: HostRuntime) {
     let mut block = [0; 3];
+    let mut stands = None;
     let mut from = Counted::after(Cursor::new(b"abcdef".as_slice()), 5);
     assert_eq!(rt; from.size(), Ok(6));
-    assert_eq!(rt; fill_from(&mut from, 2, &mut block), Ok(()));
+    assert_eq!(rt; fill_from(&mut from, &mut stands, 2, &mut block), Ok(()));
     assert_eq!(rt; block.as_slice(), b"cde".as_slice());
-    assert_eq!(rt; fill_from(&mut from, 3, &mut block), Ok(()));
+    assert_eq!(rt; fill_from(&mut from, &mut stands, 3, &mut block), Ok(()));
     assert_eq!(rt; block.as_slice(), b"def".as_slice());
     assert_eq!(rt; from.faults(), 5);
     assert_eq!(rt;
-        fill_from(&mut from, 4, &mut block),
+        fill_from(&mut from, &mut stands, 4, &mut block),
         Err(PieceFault::Failed)
     );
     assert_eq!(rt; from.faults(), 6);
+}
+
+// A reader of twelve bytes, each of which is its place. It gives one at a read, counts its reads and
+// how often it is moved, and fails once, at the read of that number.
+#[derive(Drop)]
+struct Places {
+    at: u8,
+    reads: u64,
+    seeks: u64,
+    failing: u64,
+}
+
+impl Read for Places {
+    fn read(&mut self, block: &mut [u8]) -> IoResult<usize> {
+        self.reads = self.reads.saturating_add(1);
+        if self.reads == self.failing {
+            return Err(Error::from(ErrorKind::Other));
+        }
+        if block.is_empty() || self.at >= 12 {
+            return Ok(0);
+        }
+        block[0] = self.at;
+        self.at += 1;
+        Ok(1)
+    }
+}
+
+impl Seek for Places {
+    fn seek(&mut self, to: SeekFrom) -> IoResult<u64> {
+        match to {
+            SeekFrom::Start(at) if at <= 12 => {
+                self.seeks = self.seeks.saturating_add(1);
+                self.at = at as u8;
+                Ok(at)
+            }
+            _ => Err(Error::from(ErrorKind::NotSeekable)),
+        }
+    }
+}
+
+// The two bytes from a place on, if they can be read, and the reader after that.
+fn two_from(from: Placed<Places>, at: u64) -> (Placed<Places>, Option<[u8; 2]>) {
+    let Placed { file, stands } = from;
+    let mut stands = stands;
+    let mut reader = Counted::after(file, 0);
+    let mut block = [0; 2];
+    let filled = fill_from(&mut reader, &mut stands, at, &mut block).is_ok();
+    let after = Placed::new(reader.into_inner(), stands);
+    (after, if filled { Some(block) } else { None })
+}
+
+#[test]
+fn a_reader_is_moved_where_it_stands_elsewhere(rt: HostRuntime) {
+    let file = Places {
+        at: 7,
+        reads: 0,
+        seeks: 0,
+        failing: 8,
+    };
+    let (from, first) = two_from(Placed::new(file, None), 3);
+    assert_eq!(rt; first, Some([3, 4]));
+    assert_eq!(rt; from.file.seeks, 1);
+    let (from, behind) = two_from(from, 5);
+    assert_eq!(rt; behind, Some([5, 6]));
+    assert_eq!(rt; from.file.seeks, 1);
+    let (from, before) = two_from(from, 1);
+    assert_eq!(rt; before, Some([1, 2]));
+    assert_eq!(rt; from.file.seeks, 2);
+    let (from, failed) = two_from(from, 3);
+    assert_eq!(rt; failed, None);
+    assert_eq!(rt; from.file.seeks, 2);
+    let (from, again) = two_from(from, 3);
+    assert_eq!(rt; again, Some([3, 4]));
+    assert_eq!(rt; from.file.seeks, 3);
+    let (from, past) = two_from(from, 11);
+    assert_eq!(rt; past, None);
+    assert_eq!(rt; from.file.seeks, 4);
+    let (from, last) = two_from(from, 10);
+    assert_eq!(rt; last, Some([10, 11]));
+    assert_eq!(rt; from.file.seeks, 5);
 }
 
 #[test]
