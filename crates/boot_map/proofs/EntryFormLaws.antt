@@ -8,7 +8,7 @@ use Rattle.std.specs.List.{position}
 use Rattle.nk_bits.specs.EntryForms.{has_form, has_leaf_form, has_table_form}
 use Rattle.nk_bits.specs.Kinds.{kind_of, level_of}
 use Rattle.nk_bits.specs.Paging.{frame_of, is_present}
-use Rattle.nk_bits.specs.Paging.{is_writable as grants_writes}
+use Rattle.nk_bits.specs.Paging.{grants_writes}
 use Rattle.elf_image.specs.Pages.{is_executable, is_writable, pages_of}
 use Rattle.boot_map.specs.declared.part.Part.{Part}
 use Rattle.boot_map.specs.declared.part.Part.TheVariants.{Root, SlotTable, AreaDirectory, AreaTable, ImageDirectory, WriteLog, WrittenBits, RegionBook, Descriptors, RangeTable, ImagePage, MapRoot, MapDirectory, MapTable, Free}
@@ -17,7 +17,7 @@ use Rattle.boot_map.specs.Division.{Division, IsLayout, division_of, free_start,
 use Rattle.boot_map.specs.Parts.{part_at}
 use Rattle.boot_map.specs.OpeningKinds.{kind_of_part, kinds}
 use Rattle.boot_map.specs.OpeningEntries.{area_entry, entry_of_part, fetch_leaf, leaf, link, mapped_leaf, page_leaf, placed_leaf, range_link, read_leaf, table_level, write_leaf}
-use Rattle.boot_map.specs.KernelSlot.{HoldsSlot, HoldsTables, IsNamedIn, is_slot_table}
+use Rattle.boot_map.specs.KernelSlot.{HoldsSlot, HoldsOpeningTables, IsNamedIn, is_slot_table}
 use Rattle.boot_map.proofs.EntryBits.{none_present}
 use Rattle.boot_map.proofs.EntryKinds.{held_entry, image_level, kind_inside, table_inside}
 use Rattle.boot_map.proofs.SlotEntries.{held_image_entry}
@@ -161,7 +161,7 @@ kind_level b _ is = absurd (omega (arith, is))
 
 -- tables that hold the opening's, but for the kernel slot's own
 pub table_form : (b : List ℕ) (frames f i : ℕ) (t : ℕ → ℕ → ℕ) → IsLayout b (division_of b frames)
-    → HoldsTables b frames t → i < 512 → 1 ≤ level_of (kind_of (kinds b frames) f) → is_present (t f i) ≡ true
+    → HoldsOpeningTables b frames t → i < 512 → 1 ≤ level_of (kind_of (kinds b frames) f) → is_present (t f i) ≡ true
     → has_form (level_of (kind_of (kinds b frames) f)) (t f i) ≡ true
 table_form b frames f i t layout holds small least =
     let part : Part = part_at (division_of b frames) f in

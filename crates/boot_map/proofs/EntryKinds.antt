@@ -7,9 +7,9 @@ use Rattle.nk_bits.specs.declared.leaf.Rights.{Rights}
 use Rattle.nk_bits.specs.declared.kind.Kind.{Kind}
 use Rattle.nk_bits.specs.declared.kind.Kind.TheVariants.{Data, Code, Hidden}
 use Rattle.nk_bits.specs.Kinds.{allows, kind_of, level_of}
-use Rattle.nk_bits.specs.Paging.{is_executable as grants_fetches}
+use Rattle.nk_bits.specs.Paging.{grants_fetches}
 use Rattle.nk_bits.specs.Paging.{frame_of, is_present, is_slot_entry, is_user, rights_of, slot_value}
-use Rattle.nk_bits.specs.Paging.{is_writable as grants_writes}
+use Rattle.nk_bits.specs.Paging.{grants_writes}
 use Rattle.elf_image.specs.Pages.{IsPageList, is_executable, is_writable, pages_of}
 use Rattle.boot_map.specs.declared.part.Part.{Part}
 use Rattle.boot_map.specs.declared.part.Part.TheVariants.{Root, WriteLog, WrittenBits, RegionBook, Descriptors, ImagePage, MapRoot, MapDirectory, MapTable, Free}
@@ -17,7 +17,7 @@ use Rattle.boot_map.specs.Division.{Division, IsLayout, division_of, free_start,
 use Rattle.boot_map.specs.Parts.{part_at}
 use Rattle.boot_map.specs.OpeningKinds.{kind_of_part, kinds}
 use Rattle.boot_map.specs.OpeningEntries.{entry_of_part, link, map_entry, mapped_leaf, read_leaf, table_level, write_leaf}
-use Rattle.boot_map.specs.KernelSlot.{HoldsTables, readable, writable}
+use Rattle.boot_map.specs.KernelSlot.{HoldsOpeningTables, readable, writable}
 use Rattle.boot_map.proofs.EntryBits.{frame_of_leaf, link_grants, none_present, rights_of_read, rights_of_write}
 use Rattle.boot_map.proofs.OpeningLaws.{kind_at_part, kinds_each, kinds_length}
 use Rattle.boot_map.proofs.SlotTables.{slot_link}
@@ -64,7 +64,7 @@ kind_table b (MapTable k) is = omega arith
 kind_table b (ImagePage k) is = absurd (omega (arith, is, image_level (is_executable b (get_or (pages_of b) k 0))))
 kind_table b _ is = absurd (omega (arith, is))
 
-pub held_entry : (b : List ℕ) (frames f i : ℕ) (t : ℕ → ℕ → ℕ) → HoldsTables b frames t → i < 512 → f < frames →
+pub held_entry : (b : List ℕ) (frames f i : ℕ) (t : ℕ → ℕ → ℕ) → HoldsOpeningTables b frames t → i < 512 → f < frames →
     1 ≤ level_of (kind_of_part b (part_at (division_of b frames) f)) →
     t f i ≡ entry_of_part b (division_of b frames) (part_at (division_of b frames) f) i
 held_entry b frames f i t holds small inside table =
@@ -135,7 +135,7 @@ part_grants b frames i _ layout list is = absurd (omega (arith, is))
 
 pub leaf_allowed : (b : List ℕ) (frames f i : ℕ) (t : ℕ → ℕ → ℕ) → IsLayout b (division_of b frames) →
     IsPageList b (pages_of b) →
-    HoldsTables b frames t → i < 512 → level_of (kind_of (kinds b frames) f) ≡ 1 → is_present (t f i) ≡ true →
+    HoldsOpeningTables b frames t → i < 512 → level_of (kind_of (kinds b frames) f) ≡ 1 → is_present (t f i) ≡ true →
     allows (kind_of (kinds b frames) (frame_of (t f i))) (rights_of (t f i)) ≡ true
 leaf_allowed b frames f i t layout list holds small is =
     let inside : f < frames = table_inside b frames f (omega arith) in
@@ -196,7 +196,7 @@ part_links b frames i (ImagePage k) layout is other =
 part_links b frames i _ layout is other = absurd (omega (arith, is))
 
 pub link_named : (b : List ℕ) (frames f i : ℕ) (t : ℕ → ℕ → ℕ) → IsLayout b (division_of b frames) →
-    HoldsTables b frames t →
+    HoldsOpeningTables b frames t →
     i < 512 → 2 ≤ level_of (kind_of (kinds b frames) f) →
     is_slot_entry (level_of (kind_of (kinds b frames) f)) i ≡ false →
     is_present (t f i) ≡ true →
@@ -220,7 +220,7 @@ part_slot b d (ImagePage k) is = absurd (omega (arith, is, image_level (is_execu
 part_slot b d _ is = absurd (omega (arith, is))
 
 pub slot_entry_kept : (b : List ℕ) (frames f : ℕ) (t : ℕ → ℕ → ℕ) → IsLayout b (division_of b frames) →
-    HoldsTables b frames t →
+    HoldsOpeningTables b frames t →
     level_of (kind_of (kinds b frames) f) ≡ 4 → t f 511 ≡ slot_value
 slot_entry_kept b frames f t layout holds is =
     let part : Part = part_at (division_of b frames) f in

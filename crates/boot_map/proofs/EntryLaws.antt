@@ -12,7 +12,7 @@ use Rattle.boot_map.specs.declared.part.Part.TheVariants.{Root, SlotTable, AreaD
 use Rattle.boot_map.specs.Division.{Division, IsLayout, division_of, free_start, map_start, map_tables, pages_start, tables_start, page_in}
 use Rattle.boot_map.specs.Parts.{part_at}
 use Rattle.boot_map.specs.OpeningEntries.{area_entry, opening_entry, entry_of_part, leaf, link, map_directory_entry, map_entry, mapped_leaf, page_leaf, placed_leaf, range_link, read_leaf, write_leaf, fetch_leaf, table_level}
-use Rattle.boot_map.specs.Opening.{IsOpening, byte_in, byte_of_number, byte_of_part, entry_byte}
+use Rattle.boot_map.specs.Opening.{IsOpening, division_byte, byte_of_number, byte_of_part, entry_byte}
 use Rattle.boot_map.proofs.FillLaws.{byte_of_frame}
 
 -- a number is spelled by its bytes
@@ -137,6 +137,6 @@ entry_stands b m frames f i opening layout in_memory small table =
     let place : 4096 * f + 8 * i + k ≡ 4096 * f + (8 * i + k) = omega arith in
     let index : (8 * i + k) / 8 ≡ i = omega arith in
     let offset : (8 * i + k) % 8 ≡ k = omega arith in
-    opening.bytes (4096 * f + 8 * i + k) (omega arith) ∙ ap (byte_in b frames) place ∙ sym (byte_of_frame b d frames f (8 * i + k) refl (omega arith))
+    opening.bytes (4096 * f + 8 * i + k) (omega arith) ∙ ap (division_byte b frames) place ∙ sym (byte_of_frame b d frames f (8 * i + k) refl (omega arith))
     ∙ table_byte b d part (8 * i + k) table ∙ ap (λ j. byte_of_number (entry_of_part b d part j) ((8 * i + k) % 8)) index ∙ ap (byte_of_number v) offset in
     number_of_bytes m 8 (4096 * f + 8 * i) v each ∙ mod-eq_of_lt fits ∙ sym (cond-true (nat_lt i 512) v 0 (lt-ltb i 512 small))

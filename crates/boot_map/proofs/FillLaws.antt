@@ -10,7 +10,7 @@ use Rattle.phys_mem.specs.FrameLends.{with_frame}
 use Rattle.boot_map.specs.declared.part.Part.TheVariants.{Free}
 use Rattle.boot_map.specs.Division.{Division, division_of, free_start, map_start, pages_start, tables_start}
 use Rattle.boot_map.specs.Parts.{part_at}
-use Rattle.boot_map.specs.Opening.{IsFilled, IsOpening, byte_in, byte_of_number, byte_of_part, entry_byte}
+use Rattle.boot_map.specs.Opening.{IsFilled, IsOpening, division_byte, byte_of_number, byte_of_part, entry_byte}
 use Rattle.boot_map.proofs.Bytes.{byte_of_le_bytes}
 
 -- a part of a list that is replaced: below it, in it, and above it
@@ -49,7 +49,7 @@ entry_more entries i n v xs ys fits value bytes eight so_far o small = elim (cas
 -- the frames below f are as at the opening, and every other byte is 0
 pub record IsFilledBelow (b : List ℕ) (frames f : ℕ) (m : List ℕ) : Type 0 where
   pub length : length m ≡ 4096 * frames
-  pub below : (p : ℕ) → p < 4096 * f → byte_at m p ≡ byte_in b frames p
+  pub below : (p : ℕ) → p < 4096 * f → byte_at m p ≡ division_byte b frames p
   pub above : (p : ℕ) → 4096 * f ≤ p → byte_at m p ≡ 0
 
 -- the bytes of a frame in memory, put into it
@@ -61,8 +61,8 @@ with_frame_is m f bs fits =
     ∙ append_assoc (take p m) bs (drop (p + length bs) m)
 
 -- the byte at an offset of frame f
-pub byte_of_frame : (b : List ℕ) (d : Division) (frames f o : ℕ) → d ≡ division_of b frames → o < 4096 → byte_of_part b d (part_at d f) o ≡ byte_in b frames (4096 * f + o)
-unfolding byte_in
+pub byte_of_frame : (b : List ℕ) (d : Division) (frames f o : ℕ) → d ≡ division_of b frames → o < 4096 → byte_of_part b d (part_at d f) o ≡ division_byte b frames (4096 * f + o)
+unfolding division_byte
 byte_of_frame b d frames f o division small =
     let frame : f ≡ (4096 * f + o) / 4096 = omega arith in
     let offset : o ≡ (4096 * f + o) % 4096 = omega arith in
@@ -89,7 +89,7 @@ frame_more b m bs d frames f division small so_far filled =
             let place : p ≡ 4096 * f + o = omega arith in
             let within : o < 4096 = omega arith in
             ap (λ xs. get_or xs p 0) same ∙ ap (λ q. get_or (take (4096 * f) m ++ (bs ++ rest)) q 0) place
-            ∙ replaced_in (4096 * f) o m bs rest starts (omega arith) ∙ filled.each o within ∙ byte_of_frame b d frames f o division within ∙ ap (byte_in b frames) (sym place)
+            ∙ replaced_in (4096 * f) o m bs rest starts (omega arith) ∙ filled.each o within ∙ byte_of_frame b d frames f o division within ∙ ap (division_byte b frames) (sym place)
       ];
       above = λ p h.
           let k : ℕ = p - (4096 * f + length bs) in
@@ -107,8 +107,8 @@ free_from d f past =
     ∙ cond-false (f == map_start d) _ _ (ne_eqb f (map_start d) (λ e. absurd (omega (arith, e)))) ∙ cond-false (f == map_start d + 1) _ _ (ne_eqb f (map_start d + 1) (λ e. absurd (omega (arith, e))))
     ∙ cond-false (nat_lt f (free_start d)) _ _ (le-ltb f (free_start d) past)
 
-free_byte : (b : List ℕ) (d : Division) (frames p : ℕ) → d ≡ division_of b frames → free_start d ≤ p / 4096 → byte_in b frames p ≡ 0
-unfolding byte_in
+free_byte : (b : List ℕ) (d : Division) (frames p : ℕ) → d ≡ division_of b frames → free_start d ≤ p / 4096 → division_byte b frames p ≡ 0
+unfolding division_byte
 free_byte b d frames p division past =
     let same : free_start d ≡ free_start (division_of b frames) = ap free_start division in
     ap (λ part. byte_of_part b (division_of b frames) part (p % 4096)) (free_from (division_of b frames) (p / 4096) (omega arith))

@@ -10,7 +10,7 @@ use Rattle.std.proofs.lemmas.List.FromFn.{length-range_with_len, get_or-range_wi
 use Rattle.std.specs.List.{position, position_or_len, range_with_len}
 use Rattle.nk_bits.specs.declared.leaf.Rights.{Rights}
 use Rattle.nk_bits.specs.declared.leaf.Leaf.{Leaf}
-use Rattle.nk_bits.specs.Paging.{all_rights, common, frame_of, is_executable, is_large, is_missing, is_present, is_user, is_writable, page_index, rights_of, upper_from, walk, walk_from}
+use Rattle.nk_bits.specs.Paging.{all_rights, common, frame_of, grants_fetches, is_large, is_missing, is_present, is_user, grants_writes, page_index, rights_of, upper_from, walk, walk_from}
 use Rattle.elf_image.specs.Pages.{IsPageList, is_page, pages_of}
 use Rattle.boot_map.specs.Division.{Division, IsLayout, division_of, free_start, is_touched, page_in, pages_start, ranges_of, tables_start}
 use Rattle.boot_map.specs.Parts.{part_at}
@@ -30,7 +30,7 @@ link_there frames level g inside small =
     (and_right _ _ (ne_eqb _ _ large))
 
 rights_of_link : (g : ℕ) → g < 2 ^ 40 → rights_of (link g) ≡ all_rights
-unfolding is_writable is_user is_executable link
+unfolding grants_writes is_user grants_fetches link
 rights_of_link g small =
     let write : ((4096 * g + 39) / 2 % 2 == 1) ≡ true = eq-eqb _ _ (omega arith) in
     let user : ((4096 * g + 39) / 4 % 2 == 1) ≡ true = eq-eqb _ _ (omega arith) in
@@ -78,7 +78,7 @@ shows_leaf frames e g r present names inside rights t page f is =
     ∙ (λ j. Some (record { frame = names j; rights = common all_rights (rights j) }))
 
 pub shows_read : (frames g : ℕ) → g < frames → g < 2 ^ 40 → Shows frames (read_leaf g) (Some (readable g))
-unfolding leaf is_present frame_of is_writable is_user is_executable
+unfolding leaf is_present frame_of grants_writes is_user grants_fetches
 shows_read frames g inside small =
     let present : ((2 ^ 63 + 4096 * g + 33) % 2 == 1) ≡ true = eq-eqb _ _ (omega arith) in
     let names : (2 ^ 63 + 4096 * g + 33) / 4096 % 2 ^ 40 ≡ g = omega arith in
@@ -88,7 +88,7 @@ shows_read frames g inside small =
     shows_leaf frames (read_leaf g) g _ present names inside (λ j. record { can_write = write j; user = user j; exec = not (exec j) })
 
 pub shows_write : (frames g : ℕ) → g < frames → g < 2 ^ 40 → Shows frames (write_leaf g) (Some (writable g))
-unfolding leaf is_present frame_of is_writable is_user is_executable
+unfolding leaf is_present frame_of grants_writes is_user grants_fetches
 shows_write frames g inside small =
     let present : ((2 ^ 63 + 4096 * g + 99) % 2 == 1) ≡ true = eq-eqb _ _ (omega arith) in
     let names : (2 ^ 63 + 4096 * g + 99) / 4096 % 2 ^ 40 ≡ g = omega arith in
@@ -98,7 +98,7 @@ shows_write frames g inside small =
     shows_leaf frames (write_leaf g) g _ present names inside (λ j. record { can_write = write j; user = user j; exec = not (exec j) })
 
 shows_fetch : (frames g : ℕ) → g < frames → g < 2 ^ 40 → Shows frames (fetch_leaf g) (Some (fetchable g))
-unfolding leaf is_present frame_of is_writable is_user is_executable
+unfolding leaf is_present frame_of grants_writes is_user grants_fetches
 shows_fetch frames g inside small =
     let present : ((0 + 4096 * g + 33) % 2 == 1) ≡ true = eq-eqb _ _ (omega arith) in
     let names : (0 + 4096 * g + 33) / 4096 % 2 ^ 40 ≡ g = omega arith in

@@ -13,7 +13,7 @@ use Rattle.boot_map.specs.Parts.{part_at, sized_part}
 use Rattle.boot_map.specs.OpeningEntries.{opening_entry, entry_of_part, link, map_directory_entry, range_entry, range_link, table_level}
 use Rattle.boot_map.specs.Opening.{IsOpening}
 use Rattle.boot_map.specs.FixedFrames.{opening_root}
-use Rattle.boot_map.specs.KernelSlot.{HoldsSlot, HoldsTables, is_slot_table}
+use Rattle.boot_map.specs.KernelSlot.{HoldsSlot, HoldsOpeningTables, is_slot_table}
 use Rattle.boot_map.specs.OpeningKinds.{kind_at, kind_of_part}
 use Rattle.nk_bits.specs.Kinds.{is_storable}
 use Rattle.boot_map.proofs.EntryLaws.{entry_stands}
@@ -156,12 +156,12 @@ unfolding part_at
 root_at d = refl
 
 -- the opening memory holds the opening's tables
-pub opening_tables : (b m : List ℕ) (frames : ℕ) → IsOpening b frames m → IsLayout b (division_of b frames) → HoldsTables b frames (entry_in m)
+pub opening_tables : (b m : List ℕ) (frames : ℕ) → IsOpening b frames m → IsLayout b (division_of b frames) → HoldsOpeningTables b frames (entry_in m)
 opening_tables b m frames opening layout =
     record { entries = λ f i within small table. entry_stands b m frames f i opening layout within small table }
 
 -- the walk over tables that hold the opening's is that over the opening's entries
-pub held_walk : (b : List ℕ) (frames page : ℕ) (t : ℕ → ℕ → ℕ) → HoldsTables b frames t → IsLayout b (division_of b frames) → walk t frames opening_root page ≡ walk (opening_entry b frames) frames opening_root page
+pub held_walk : (b : List ℕ) (frames page : ℕ) (t : ℕ → ℕ → ℕ) → HoldsOpeningTables b frames t → IsLayout b (division_of b frames) → walk t frames opening_root page ≡ walk (opening_entry b frames) frames opening_root page
 held_walk b frames page t holds layout =
     let d : Division = division_of b frames in
     let least : 512 ≤ frames = layout.least in
@@ -186,11 +186,11 @@ slot_table_level ImageDirectory is = omega arith
 slot_table_level (RangeTable k) is = omega arith
 slot_table_level _ is = absurd (false≢true is)
 
-pub held_slot : (b : List ℕ) (frames : ℕ) (t : ℕ → ℕ → ℕ) → HoldsTables b frames t → HoldsSlot b frames t
+pub held_slot : (b : List ℕ) (frames : ℕ) (t : ℕ → ℕ → ℕ) → HoldsOpeningTables b frames t → HoldsSlot b frames t
 held_slot b frames t holds =
     record { entries = λ f i within small is. holds.entries f i within small (slot_table_level (part_at (division_of b frames) f) is) }
 
-pub held_root : (b : List ℕ) (frames : ℕ) (t : ℕ → ℕ → ℕ) → IsLayout b (division_of b frames) → HoldsTables b frames t → t opening_root 511 ≡ opening_entry b frames opening_root 511
+pub held_root : (b : List ℕ) (frames : ℕ) (t : ℕ → ℕ → ℕ) → IsLayout b (division_of b frames) → HoldsOpeningTables b frames t → t opening_root 511 ≡ opening_entry b frames opening_root 511
 held_root b frames t layout holds =
     let least : 512 ≤ frames = layout.least in
     holds.entries opening_root 511 (omega arith) (omega arith) (omega (arith, root_at (division_of b frames)))

@@ -5,7 +5,7 @@ use Rattle.std.specs.List.{position}
 use Rattle.nk_bits.specs.declared.leaf.Leaf.{Leaf}
 use Rattle.nk_bits.specs.declared.leaf.Upper.{Upper}
 use Rattle.nk_bits.specs.Paging.{frame_of, is_present, upper_walk}
-use Rattle.nk_bits.specs.Paging.{is_writable as grants_writes}
+use Rattle.nk_bits.specs.Paging.{grants_writes}
 use Rattle.elf_image.specs.Pages.{is_executable, is_writable, page_count, pages_of}
 use Rattle.boot_map.specs.declared.part.Part.{Part}
 use Rattle.boot_map.specs.declared.part.Part.TheVariants.{SlotTable, AreaDirectory, AreaTable, ImageDirectory, RangeTable}
@@ -72,7 +72,7 @@ pub record HoldsSlot (b : List ℕ) (frames : ℕ) (t : ℕ → ℕ → ℕ) : T
       → is_slot_table (part_at (division_of b frames) f) ≡ true → t f i ≡ opening_entry b frames f i
 
 -- these tables hold the opening's: each page table of the opening has its entries
-pub record HoldsTables (b : List ℕ) (frames : ℕ) (t : ℕ → ℕ → ℕ) : Type 0 where
+pub record HoldsOpeningTables (b : List ℕ) (frames : ℕ) (t : ℕ → ℕ → ℕ) : Type 0 where
   pub entries : (f i : ℕ) → f < frames → i < 512
       → 0 < table_level (part_at (division_of b frames) f) → t f i ≡ opening_entry b frames f i
 

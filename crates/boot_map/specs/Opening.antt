@@ -69,11 +69,11 @@ pub record IsFilled (byte : ℕ → ℕ) (bytes : List ℕ) : Type 0 where
   pub each : (o : ℕ) → o < 4096 → slice_index bytes o ≡ byte o
 
 -- the byte at place p of a memory of so many frames
-unfoldable pub byte_in : List ℕ → ℕ → ℕ → ℕ
-byte_in b frames p =
+unfoldable pub division_byte : List ℕ → ℕ → ℕ → ℕ
+division_byte b frames p =
     let d = division_of b frames in byte_of_part b d (part_at d (p / 4096)) (p % 4096)
 
 -- m is the memory of so many frames at the opening of the image b
 pub record IsOpening (b : List ℕ) (frames : ℕ) (m : List ℕ) : Type 0 where
   pub length : length m ≡ 4096 * frames
-  pub bytes : (p : ℕ) → p < 4096 * frames → byte_at m p ≡ byte_in b frames p
+  pub bytes : (p : ℕ) → p < 4096 * frames → byte_at m p ≡ division_byte b frames p

@@ -6,7 +6,7 @@ ghost use Rattle.boot_map.specs.OpeningEntries.{area_entry, opening_entry, entry
 ghost use Rattle.boot_map.specs.Parts.{IsPartOf};
 
 use crate::fixed_frames::{
-    AREA_DIRECTORY, AREA_TABLE, GATE_TEXT, HANDLER_SLOT, IDT_AND_TSS, IMAGE_DIRECTORY,
+    AREA_DIRECTORY, AREA_TABLE, GATE_TEXT, HANDLER_FRAME, IDT_AND_TSS, IMAGE_DIRECTORY,
     NESTED_STACK, SLOT_TABLE, TRAP_STACK,
 };
 use crate::image_pages::{page_in, place_of};
@@ -73,7 +73,7 @@ fn area_entry(index: usize) -> u64
     match index {
         0 => read_leaf(IDT_AND_TSS),
         1 => fetch_leaf(GATE_TEXT),
-        2 => read_leaf(HANDLER_SLOT),
+        2 => read_leaf(HANDLER_FRAME),
         3 => write_leaf(TRAP_STACK),
         4 => read_leaf(NESTED_STACK),
         16..=31 => read_leaf(10 + (index - 16) as u32),

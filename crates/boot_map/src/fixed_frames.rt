@@ -10,7 +10,7 @@ pub const IDT_AND_TSS: u32 = 0;
 pub const GATE_TEXT: u32 = 1;
 
 /// The address of the outer kernel's trap handler.
-pub const HANDLER_SLOT: u32 = 2;
+pub const HANDLER_FRAME: u32 = 2;
 
 /// The stack on which every delivery begins to push.
 pub const TRAP_STACK: u32 = 3;
@@ -37,7 +37,7 @@ pub const IMAGE_DIRECTORY: u32 = 9;
 pub fn fixed_frames_law()
     ensures idt_and_tss { IDT_AND_TSS ≡ idt_and_tss }
     ensures gate_text { GATE_TEXT ≡ gate_text }
-    ensures handler_slot { HANDLER_SLOT ≡ handler_slot }
+    ensures handler_slot { HANDLER_FRAME ≡ handler_slot }
     ensures trap_stack { TRAP_STACK ≡ trap_stack }
     ensures nested_stack { NESTED_STACK ≡ nested_stack }
     ensures opening_root { OPENING_ROOT ≡ opening_root }

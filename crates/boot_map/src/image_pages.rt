@@ -19,14 +19,14 @@ pub const RANGES: usize = 512;
 pub const RANGE_PAGES: u64 = 512;
 
 /// The number of bytes in a page.
-pub const PAGE_BYTES: u64 = 4096;
+pub const PAGE_SIZE: u64 = 4096;
 
 // The number of the image's page with this place.
 fn page_number(image: &Image, place: u32) -> u64
     requires { place < page_count image.now }
     ensures { result ≡ slice_index (pages_of image.now) place }
 {
-    image.page(place).va / PAGE_BYTES
+    image.page(place).va / PAGE_SIZE
 }
 
 // How many of the image's pages come before this one.

@@ -7,7 +7,7 @@ ghost use Rattle.nk_bits.specs.declared.kind.Kind.TheVariants.{Code, Fixed, Tabl
 ghost use Rattle.nk_bits.specs.declared.leaf.Upper.{Upper};
 ghost use Rattle.nk_bits.specs.EntryForms.{has_form, has_leaf_form, has_table_form};
 ghost use Rattle.nk_bits.specs.Kinds.{allows, is_storable, kind_of, level_of};
-ghost use Rattle.nk_bits.specs.Paging.{frame_of, is_canonical_page, is_executable, is_present, is_slot_entry, is_user, is_writable, rights_of, slot_value, upper_walk, walk, walk_below};
+ghost use Rattle.nk_bits.specs.Paging.{frame_of, is_canonical_page, grants_fetches, is_present, is_slot_entry, is_user, grants_writes, rights_of, slot_value, upper_walk, walk, walk_below};
 ghost use Rattle.gate_text.specs.Listing.{gate_byte};
 ghost use Rattle.elf_image.specs.Pages.{IsPageList, byte_of, page_count, pages_of};
 ghost use Rattle.boot_map.specs.FixedFrames.{area_directory, area_table, gate_text, handler_slot, idt_and_tss, image_directory, nested_stack, opening_root, slot_table, trap_stack};
@@ -16,7 +16,7 @@ ghost use Rattle.boot_map.specs.OpeningKinds.{kind_at, kinds};
 ghost use Rattle.boot_map.specs.OpeningEntries.{opening_entry, link, table_level};
 ghost use Rattle.boot_map.specs.Opening.{IsOpening};
 ghost use Rattle.boot_map.specs.Parts.{part_at};
-ghost use Rattle.boot_map.specs.KernelSlot.{HoldsSlot, HoldsTables, IsCodePage, IsNamedIn, IsWrittenInSlot, slot_leaf, slot_start, slot_upper};
+ghost use Rattle.boot_map.specs.KernelSlot.{HoldsSlot, HoldsOpeningTables, IsCodePage, IsNamedIn, IsWrittenInSlot, slot_leaf, slot_start, slot_upper};
 
 use nk_bits::upper_law;
 
@@ -71,11 +71,11 @@ pub fn slot_upper_law()
 /// may be stored to.
 pub fn held_law()
     ensures opening { (b m : List ℕ) (frames : ℕ) → IsOpening b frames m
-        → IsLayout b (division_of b frames) → HoldsTables b frames (entry_in m) }
-    ensures slot { (b : List ℕ) (frames : ℕ) (t : ℕ → ℕ → ℕ) → HoldsTables b frames t → HoldsSlot b frames t }
+        → IsLayout b (division_of b frames) → HoldsOpeningTables b frames (entry_in m) }
+    ensures slot { (b : List ℕ) (frames : ℕ) (t : ℕ → ℕ → ℕ) → HoldsOpeningTables b frames t → HoldsSlot b frames t }
     ensures root { (b : List ℕ) (frames : ℕ) (t : ℕ → ℕ → ℕ) → IsLayout b (division_of b frames)
-        → HoldsTables b frames t → t opening_root 511 ≡ slot_value }
-    ensures walk { (b : List ℕ) (frames page : ℕ) (t : ℕ → ℕ → ℕ) → HoldsTables b frames t
+        → HoldsOpeningTables b frames t → t opening_root 511 ≡ slot_value }
+    ensures walk { (b : List ℕ) (frames page : ℕ) (t : ℕ → ℕ → ℕ) → HoldsOpeningTables b frames t
         → IsLayout b (division_of b frames) → walk t frames opening_root page
         ≡ walk (opening_entry b frames) frames opening_root page }
     ensures kept { (b : List ℕ) (frames frame : ℕ)
@@ -141,16 +141,16 @@ pub fn opening_respects_law()
 pub fn opening_entries_law()
     ensures levels { (b : List ℕ) (frames f : ℕ) → level_of (kind_of (kinds b frames) f) ≤ 4 }
     ensures leaf { (b : List ℕ) (frames f i : ℕ) (t : ℕ → ℕ → ℕ) → IsLayout b (division_of b frames)
-        → IsPageList b (pages_of b) → HoldsTables b frames t → i < 512 → level_of (kind_of (kinds b frames) f) ≡ 1
+        → IsPageList b (pages_of b) → HoldsOpeningTables b frames t → i < 512 → level_of (kind_of (kinds b frames) f) ≡ 1
         → is_present (t f i) ≡ true
         → allows (kind_of (kinds b frames) (frame_of (t f i))) (rights_of (t f i)) ≡ true }
     ensures link { (b : List ℕ) (frames f i : ℕ) (t : ℕ → ℕ → ℕ) → IsLayout b (division_of b frames)
-        → HoldsTables b frames t → i < 512 → 2 ≤ level_of (kind_of (kinds b frames) f)
+        → HoldsOpeningTables b frames t → i < 512 → 2 ≤ level_of (kind_of (kinds b frames) f)
         → is_slot_entry (level_of (kind_of (kinds b frames) f)) i ≡ false → is_present (t f i) ≡ true
         → (level_of (kind_of (kinds b frames) (frame_of (t f i))) + 1 ≡ level_of (kind_of (kinds b frames) f))
-        × (is_writable (t f i) ≡ true) × (is_user (t f i) ≡ true) × (is_executable (t f i) ≡ true) }
+        × (grants_writes (t f i) ≡ true) × (is_user (t f i) ≡ true) × (grants_fetches (t f i) ≡ true) }
     ensures slot { (b : List ℕ) (frames f : ℕ) (t : ℕ → ℕ → ℕ) → IsLayout b (division_of b frames)
-        → HoldsTables b frames t → level_of (kind_of (kinds b frames) f) ≡ 4 → t f 511 ≡ slot_value }
+        → HoldsOpeningTables b frames t → level_of (kind_of (kinds b frames) f) ≡ 4 → t f 511 ≡ slot_value }
     ensures named { (b : List ℕ) (frames i : ℕ) (t : ℕ → ℕ → ℕ) → IsLayout b (division_of b frames)
         → HoldsSlot b frames t → i < 512 → is_present (t image_directory i) ≡ true
         → (kind_of (kinds b frames) (frame_of (t image_directory i)) ≡ Fixed)
@@ -165,7 +165,7 @@ pub fn opening_entries_law()
         → IsPageList b (pages_of b) → HoldsSlot b frames t → slot_start ≤ page → page < 2 ^ 52
         → IfSome (slot_leaf b frames page) (λ leaf. leaf.rights.can_write ≡ true → IsWrittenInSlot frames t leaf.frame) }
     ensures form { (b : List ℕ) (frames f i : ℕ) (t : ℕ → ℕ → ℕ) → IsLayout b (division_of b frames)
-        → HoldsTables b frames t → i < 512 → 1 ≤ level_of (kind_of (kinds b frames) f) → is_present (t f i) ≡ true
+        → HoldsOpeningTables b frames t → i < 512 → 1 ≤ level_of (kind_of (kinds b frames) f) → is_present (t f i) ≡ true
         → has_form (level_of (kind_of (kinds b frames) f)) (t f i) ≡ true }
     ensures slot_links { (b : List ℕ) (frames f i : ℕ) (t : ℕ → ℕ → ℕ) → IsLayout b (division_of b frames)
         → HoldsSlot b frames t → i < 512 → (f ≡ slot_table) ⊎ ((f ≡ area_directory) ⊎ (f ≡ image_directory))

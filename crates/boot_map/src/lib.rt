@@ -15,14 +15,14 @@ mod part;
 // What the parts hold.
 mod entries;
 mod kinds;
-mod traps;
+mod trap_frames;
 
 // The memory, and what follows for those who read it.
 mod laws;
 mod opening;
 
 pub use fixed_frames::{
-    AREA_DIRECTORY, AREA_TABLE, GATE_TEXT, HANDLER_SLOT, IDT_AND_TSS, IMAGE_DIRECTORY,
+    AREA_DIRECTORY, AREA_TABLE, GATE_TEXT, HANDLER_FRAME, IDT_AND_TSS, IMAGE_DIRECTORY,
     NESTED_STACK, OPENING_ROOT, SLOT_TABLE, TRAP_STACK, fixed_frames_law,
 };
 pub use laws::{

@@ -10,7 +10,7 @@ ghost use Rattle.boot_map.specs.Parts.{IsPartOf, part_at};
 use crate::entries::ENTRIES;
 use crate::layout::Layout;
 use crate::part::Part;
-use crate::traps::{handler_byte, idt_and_tss_byte};
+use crate::trap_frames::{handler_byte, idt_and_tss_byte};
 use elf_image::Image;
 use phys_mem::PhysMem;
 use std::alloc::Global;

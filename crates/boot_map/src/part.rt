@@ -4,7 +4,7 @@ ghost use Rattle.std.specs.Prelude.{◌≡◌, ◌<◌};
 ghost use Rattle.boot_map.specs.Parts.{common_part};
 
 use crate::fixed_frames::{
-    AREA_DIRECTORY, AREA_TABLE, GATE_TEXT, HANDLER_SLOT, IDT_AND_TSS, IMAGE_DIRECTORY,
+    AREA_DIRECTORY, AREA_TABLE, GATE_TEXT, HANDLER_FRAME, IDT_AND_TSS, IMAGE_DIRECTORY,
     NESTED_STACK, OPENING_ROOT, SLOT_TABLE, TRAP_STACK,
 };
 
@@ -52,7 +52,7 @@ pub fn common_part(frame: u32) -> Part
     match frame {
         IDT_AND_TSS => Part::IdtAndTss,
         GATE_TEXT => Part::GateText,
-        HANDLER_SLOT => Part::HandlerSlot,
+        HANDLER_FRAME => Part::HandlerSlot,
         TRAP_STACK => Part::TrapStack,
         NESTED_STACK => Part::NestedStack,
         OPENING_ROOT => Part::Root,

@@ -14,7 +14,7 @@ use Rattle.x86_decode.specs.declared.instruction.Decoded.{Decoded}
 use Rattle.x86_decode.specs.declared.instruction.Decoded.TheVariants.{Whole, Short, TooLong, Unknown}
 use Rattle.x86_regs.specs.declared.faults.Fault.{Fault}
 use Rattle.x86_regs.specs.EffectsKept.{IsSmallFault}
-use Rattle.x86_regs.specs.Effects.{raised}
+use Rattle.x86_regs.specs.Effects.{access_raised}
 use Rattle.x86_regs.specs.Operands.{wrapped}
 use Rattle.cpu_step.specs.declared.fetch.Fetched.{Fetched}
 use Rattle.cpu_step.specs.InstructionFetch.{byte_fetched, decided_by, fetched_from, instruction_at, raised_by_fetch}
@@ -36,7 +36,7 @@ decided_small Unknown tlb more later = tt
 
 module _ (accesses : (view : View) (access : Access) (tlb : Translations) (va width : ℕ) → va < 2 ^ 64
     → IfErr (accessed view access tlb va width).answer IsSmallAccessFault)
-    (raises : (stack : Bool) (it : AccessFault) → IsSmallAccessFault it → IsSmallFault (raised stack it)) where
+    (raises : (stack : Bool) (it : AccessFault) → IsSmallAccessFault it → IsSmallFault (access_raised stack it)) where
   raised_small : {A : Type 0} (answer : Result A AccessFault) → IfErr answer IsSmallAccessFault
       → IfErr (raised_by_fetch answer) IsSmallFault
   raised_small (Ok x) small = tt

@@ -19,7 +19,7 @@ use Rattle.x86_decode.specs.Reader.{decoded_of}
 use Rattle.x86_decode.specs.Spelling.{AreBytes}
 use Rattle.x86_regs.specs.declared.faults.Fault.{Fault}
 use Rattle.x86_regs.specs.declared.faults.Fault.TheVariants.{General}
-use Rattle.x86_regs.specs.Effects.{raised}
+use Rattle.x86_regs.specs.Effects.{access_raised}
 use Rattle.x86_regs.specs.Operands.{wrapped}
 use Rattle.cpu_step.specs.InstructionFetch.{byte_fetched, decided_by, fetched_from, in_fetch, instruction_at}
 use Rattle.cpu_step.specs.DecodingMemo.{place_found}
@@ -83,7 +83,7 @@ module _ (m : List ℕ) (view : View) (va : ℕ) (now after : Translations) wher
         at = ap (λ x. answered target.first x) (sym (ap (λ (o : Outcome Fault (List ℕ)). o.tlb) e));
         run = same_bytes lent (take (bytes_left va) (drop target.first m)) (Ok lent) (Ok (take (bytes_left va) (drop target.first m))) refl refl (ap (λ (o : Outcome Fault (List ℕ)). o.answer) e);
       }
-      go (Err fault) tlb e = absurd (not_both lent (raised false fault) (Ok lent) (Err (raised false fault)) refl refl (ap (λ (o : Outcome Fault (List ℕ)). o.answer) e))
+      go (Err fault) tlb e = absurd (not_both lent (access_raised false fault) (Ok lent) (Err (access_raised false fault)) refl refl (ap (λ (o : Outcome Fault (List ℕ)). o.answer) e))
 
   -- where a page isn't lent, its first byte can't be fetched
   pub refused_there : (fault : Fault) → refused fault after ≡ in_fetch (page_fetched m view now va) → byte_fetched m view va now ≡ refused fault after

@@ -14,7 +14,7 @@ use Rattle.nk_bits.specs.AccessRights.{may}
 use Rattle.nk_bits.specs.Paging.{page_of, is_canonical}
 use Rattle.nk_bits.specs.Translations.{Translations, look}
 use Rattle.nk_bits.specs.Outcomes.{Outcome, outcome_of, answered, refused, then_by, and_then}
-use Rattle.nk_bits.specs.Accesses.{View, IsKept, reached, completed, accessed, crosses, next_page, has_canonical_bytes, address_of, place_in}
+use Rattle.nk_bits.specs.Accesses.{View, IsKeptTranslation, reached, completed, accessed, crosses, next_page, has_canonical_bytes, address_of, place_in}
 use Rattle.phys_mem.specs.Memory.{IsBytes, byte_at}
 use Rattle.x86_decode.specs.Reader.{decoded_of}
 use Rattle.x86_decode.specs.Spelling.{AreBytes}
@@ -32,7 +32,7 @@ pub record PageFacts : Type 0 where
   pub held : (view : View) (access : Access) (tlb : Translations) (va : ℕ) (leaf : Leaf) → look tlb.pairs (page_of va) ≡ Some leaf →
       may access leaf.rights view.cpl view.wp view.smep ≡ true → reached view access tlb va ≡ answered (place_in leaf va) tlb
   pub found_again : (view : View) (access : Access) (tlb : Translations) (va : ℕ) →
-      IfOk (reached view access tlb va).answer (IsKept view access (reached view access tlb va).tlb va)
+      IfOk (reached view access tlb va).answer (IsKeptTranslation view access (reached view access tlb va).tlb va)
 
 -- the access of one byte
 both_true : (b : Bool) → (b && true) ≡ b
@@ -76,14 +76,14 @@ answer_apart answer place fault off on = cc
 -- the page of a place that was found is kept
 pub record IsOnPage (view : View) (after : Translations) (va place : ℕ) : Type 0 where
   pub canonical : is_canonical va ≡ true
-  pub kept : IsKept view Fetch after va place
+  pub kept : IsKeptTranslation view Fetch after va place
 
 module _ (facts : PageFacts) (view : View) where
   on_page : (tlb after : Translations) (va place : ℕ) → va < 2 ^ 64 → place_found view va tlb ≡ answered place after → IsOnPage view after va place
   on_page tlb after va place fits found = elim (cases_Bool (is_canonical va)) [
     | inl canonical ↦ record {
       canonical = canonical;
-      kept = subst (λ (o : Outcome AccessFault ℕ). IfOk o.answer (IsKept view Fetch o.tlb va)) (sym (found_there view va fits tlb canonical) ∙ found) (facts.found_again view Fetch tlb va);
+      kept = subst (λ (o : Outcome AccessFault ℕ). IfOk o.answer (IsKeptTranslation view Fetch o.tlb va)) (sym (found_there view va fits tlb canonical) ∙ found) (facts.found_again view Fetch tlb va);
     }
     | inr off ↦ absurd (answer_apart (place_found view va tlb).answer place NonCanonical
         (ap (λ (o : Outcome AccessFault ℕ). o.answer) (not_canonical view va fits tlb off)) (ap (λ (o : Outcome AccessFault ℕ). o.answer) found))

@@ -20,7 +20,7 @@ use Rattle.x86_regs.specs.OperandPlans.{instr_form}
 use Rattle.exec_quick.specs.declared.quick.Kind.{Kind}
 use Rattle.exec_quick.specs.declared.quick.Kind.TheVariants as kind
 use Rattle.exec_quick.specs.declared.quick.Quick.{Quick}
-use Rattle.exec_quick.specs.QuickForms.{Settled, effect_made, form_by, instr_of, quietly, settled, settled_by}
+use Rattle.exec_quick.specs.QuickForms.{Settled, effect_made, form_by, instruction_of, quiet_outcome, settled, settled_by}
 use Rattle.cpu_step.specs.declared.fetch.Fetched.{Fetched}
 use Rattle.cpu_step.specs.declared.kept_code.KeptCode.{KeptCode}
 use Rattle.cpu_step.specs.InstructionFetch.{instruction_at}
@@ -139,10 +139,10 @@ module _ (p : Processor) (m : List ℕ) (regs : Regs) (after : List ℕ) where
   abbrev whole : Settled
   whole = record { regs = regs; memory = after; act = Quiet }
 
-  by_settled : (o : Outcome Fault Effect) → quietly regs after p.tlb ≡ settled o m → turned_by o.answer p m o.tlb ≡ ran (record p { regs = regs }) after
+  by_settled : (o : Outcome Fault Effect) → quiet_outcome regs after p.tlb ≡ settled o m → turned_by o.answer p m o.tlb ≡ ran (record p { regs = regs }) after
   by_settled o is = go o.answer o.tlb is
     where
-      go : (answer : Result Effect Fault) (tlb : Translations) → quietly regs after p.tlb ≡ outcome_of (settled_by answer m) tlb →
+      go : (answer : Result Effect Fault) (tlb : Translations) → quiet_outcome regs after p.tlb ≡ outcome_of (settled_by answer m) tlb →
           turned_by answer p m tlb ≡ ran (record p { regs = regs }) after
       go (Ok effect) tlb is =
           let kept : tlb ≡ p.tlb = sym (ap (λ (o : Outcome Fault Settled). o.tlb) is) in
@@ -155,14 +155,14 @@ module _ (p : Processor) (m : List ℕ) (regs : Regs) (after : List ℕ) where
 
   -- the turn of a processor with a quick form at RIP
   pub quick_turned : (q : Quick) → p.pending ≡ 0 → p.shielded ≡ false → is_at_body p.regs ≡ false →
-      instr_form (instr_of q) ≡ form_by q.kind → refusal (instr_of q) p.regs.cpl ≡ None →
-      instruction_at m (view_of m p.control p.regs.cpl) p.regs.rip p.tlb ≡ answered (record { instr = instr_of q; size = q.size }) p.tlb →
-      quietly regs after p.tlb ≡ effect_made (form_by q.kind) q p.regs p.control m p.tlb → ran (record p { regs = regs }) after ≡ turned p m
+      instr_form (instruction_of q) ≡ form_by q.kind → refusal (instruction_of q) p.regs.cpl ≡ None →
+      instruction_at m (view_of m p.control p.regs.cpl) p.regs.rip p.tlb ≡ answered (record { instr = instruction_of q; size = q.size }) p.tlb →
+      quiet_outcome regs after p.tlb ≡ effect_made (form_by q.kind) q p.regs p.control m p.tlb → ran (record p { regs = regs }) after ≡ turned p m
   quick_turned q none clear elsewhere form lawful fetched made =
-      let fetches : instruction_made p m ≡ effect_of (instr_of q) q.size p.regs p.control m p.tlb =
+      let fetches : instruction_made p m ≡ effect_of (instruction_of q) q.size p.regs p.control m p.tlb =
       ap (λ (o : Outcome Fault Fetched). and_then o (λ it last. effect_of it.instr it.size p.regs p.control m last)) fetched in
-      let effect : instruction_made p m ≡ planned_effect (form_by q.kind) (instr_of q) q.size p.regs p.control m (view_of m p.control p.regs.cpl) p.tlb =
-      fetches ∙ effect_plain q.kind (instr_of q) q.size p.regs p.control m p.tlb form lawful in
+      let effect : instruction_made p m ≡ planned_effect (form_by q.kind) (instruction_of q) q.size p.regs p.control m (view_of m p.control p.regs.cpl) p.tlb =
+      fetches ∙ effect_plain q.kind (instruction_of q) q.size p.regs p.control m p.tlb form lawful in
       let unshielded : instructed (record p { shielded = false }) m ≡ instructed p m =
       ap (λ (b : Bool). instructed (record p { shielded = b }) m) (sym clear) in
       sym (turned_by_vector p m None (nothing_deliverable p none)

@@ -20,7 +20,7 @@ use Rattle.trap_unit.specs.TrapDelivery.{delivered, interrupt_allowed}
 use Rattle.trap_unit.specs.TrapReturn.{returned}
 use Rattle.cpu_step.specs.Processor.{Processor, deliverable}
 use Rattle.x86_regs.specs.Effects.{memory_after}
-use Rattle.cpu_step.specs.Turns.{acted, code_of, control_after, instructed, instruction_made, interrupted_by, is_at_body, raised, refused_body, returned_by, shown, trapped, turned, turned_by, turned_unless, vector_of, woken}
+use Rattle.cpu_step.specs.Turns.{acted, error_code_of, control_after, instructed, instruction_made, interrupted_by, is_at_body, fault_raised, refused_body, returned_by, console_shown, trapped, turned, turned_by, turned_unless, vector_of, woken}
 use Rattle.cpu_step.specs.TurnStores.{act_stores, body_stores, effect_stores, fault_stores, instruction_stores, interrupt_stores, return_stores, stores_unless, trap_stores, turn_stores, write_stores}
 
 -- stores behind others
@@ -41,7 +41,7 @@ write_stored : (write : Option Write) (m : List ℕ) → memory_after write m �
 write_stored None m = stored_none m
 write_stored (Some write) m = refl
 
-shown_stored : (byte : Option ℕ) (p : Processor) (m : List ℕ) → (shown byte p m).memory ≡ stored m []
+shown_stored : (byte : Option ℕ) (p : Processor) (m : List ℕ) → (console_shown byte p m).memory ≡ stored m []
 shown_stored None p m = stored_none m
 shown_stored (Some byte) p m = stored_none m
 
@@ -51,9 +51,9 @@ module _ (append : StoresAppend) (deliveries : DeliveryStores) where
   unfolding trapped
   trapped_stored vector code p m = deliveries p.regs p.control p.tables vector code m p.tlb
 
-  raised_stored : (it : Fault) (p : Processor) (m : List ℕ) → (raised it p m).memory ≡ stored m (fault_stores it p m)
+  raised_stored : (it : Fault) (p : Processor) (m : List ℕ) → (fault_raised it p m).memory ≡ stored m (fault_stores it p m)
   raised_stored it p m =
-      trapped_stored (vector_of it) (code_of it) (record p { control = control_after it p.control }) m
+      trapped_stored (vector_of it) (error_code_of it) (record p { control = control_after it p.control }) m
 
   interrupted_stored : (allowed : Result Bool Shut) (vector : ℕ) (before : Regs) (p : Processor) (m : List ℕ)
       → (interrupted_by allowed vector before p m).memory ≡ stored m (interrupt_stores allowed vector before p m)

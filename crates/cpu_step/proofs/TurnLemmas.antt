@@ -10,7 +10,7 @@ use Rattle.x86_regs.specs.declared.faults.Fault.{Fault}
 use Rattle.x86_regs.specs.declared.registers.Regs.{Regs}
 use Rattle.x86_regs.specs.Effects.{IfDelivered, LeavesToDelivery, effect_with, memory_after}
 use Rattle.cpu_step.specs.Processor.{IsSound, Processor, deliverable}
-use Rattle.cpu_step.specs.Turns.{acted, instructed, instruction_made, is_at_body, raised, refused_body, turned, turned_by, turned_unless}
+use Rattle.cpu_step.specs.Turns.{acted, instructed, instruction_made, is_at_body, fault_raised, refused_body, turned, turned_by, turned_unless}
 
 -- a processor that keeps other translations and entries, whose frames lie in memory too
 pub sound_with : (size : ℕ) (p q : Processor) (tlb : Translations) → p ≡ q → IsSound size q → NamesFramesIn size tlb
@@ -36,11 +36,11 @@ instructed_elsewhere p m at =
 -- the registers are those from before
 pub turned_by_fault : (p : Processor) (m : List ℕ) (it : Fault) (regs : Regs) (tlb : Translations)
     → is_at_body p.regs ≡ false → outcome_of (Err it) tlb ≡ instruction_made p m → regs ≡ p.regs
-    → instructed p m ≡ raised it (record p { regs = regs; tlb = tlb }) m
+    → instructed p m ≡ fault_raised it (record p { regs = regs; tlb = tlb }) m
 turned_by_fault p m it regs tlb at made same =
     instructed_elsewhere p m at
     ∙ ap (λ (o : Outcome Fault Effect). turned_by o.answer p m o.tlb) (sym made)
-    ∙ ap (λ (r : Regs). raised it (record p { regs = r; tlb = tlb }) m) (sym same)
+    ∙ ap (λ (r : Regs). fault_raised it (record p { regs = r; tlb = tlb }) m) (sym same)
 
 -- an interrupt or a return has changed RIP alone, which is set back
 set_back : (a : Act) (before regs : Regs) (W : Type 0) (q : Processor) (m : List ℕ)

@@ -13,7 +13,7 @@ use Rattle.x86_decode.specs.WellFormed.{IsWellFormed}
 use Rattle.x86_decode.specs.declared.instruction.Decoded.{Decoded}
 use Rattle.x86_regs.specs.declared.faults.Fault.{Fault}
 use Rattle.x86_regs.specs.declared.faults.Fault.TheVariants.{General}
-use Rattle.exec_quick.specs.QuickForms.{IsReady, StandsFor, has_register_first, is_slow}
+use Rattle.exec_quick.specs.QuickForms.{IsQuick, StandsFor, has_register_first, is_slow}
 use Rattle.cpu_step.specs.declared.fetch.Fetched.{Fetched}
 use Rattle.cpu_step.specs.declared.memo.KeptAnswer.{KeptAnswer}
 use Rattle.cpu_step.specs.declared.memo.KeptForm.{KeptForm}
@@ -34,7 +34,7 @@ IsRight entry = IsAnswerOf entry.low entry.high entry.answer
 
 -- an entry has a quick form that can be made, and that stands for what its own words decode to, unless there is none
 pub record IsRightForm (entry : KeptForm) : Type 0 where
-  pub ready : IsReady entry.quick
+  pub ready : IsQuick entry.quick
   pub register : has_register_first entry.quick.kind ≡ true → entry.quick.to < 16
   pub quick : is_slow entry.quick.kind ≡ false → StandsFor entry.quick (decoded_of (bytes_of_words entry.low entry.high))
 

@@ -12,13 +12,13 @@ use Rattle.x86_decode.specs.Reader.{decoded_of}
 use Rattle.x86_regs.specs.declared.faults.Fault.{Fault}
 use Rattle.x86_regs.specs.declared.faults.Fault.TheVariants.{General, Opcode}
 use Rattle.x86_regs.specs.Operands.{wrapped}
-use Rattle.x86_regs.specs.Effects.{raised}
+use Rattle.x86_regs.specs.Effects.{access_raised}
 use Rattle.cpu_step.specs.declared.fetch.Fetched.{Fetched}
 
 -- the fault of a fetch: a page fault, or #GP where the address isn't canonical
 abbrev pub raised_by_fetch : {A : Type 0} → Result A AccessFault → Result A Fault
 raised_by_fetch (Ok answer) = Ok answer
-raised_by_fetch (Err it) = Err (raised false it)
+raised_by_fetch (Err it) = Err (access_raised false it)
 
 abbrev pub in_fetch : {A : Type 0} → Outcome AccessFault A → Outcome Fault A
 in_fetch outcome = outcome_of (raised_by_fetch outcome.answer) outcome.tlb

@@ -17,7 +17,7 @@ use Rattle.trap_unit.specs.TrapDelivery.{interrupt_allowed}
 use Rattle.trap_unit.specs.TrapReturn.{returned}
 use Rattle.cpu_step.specs.Processor.{Processor, deliverable}
 use Rattle.x86_regs.specs.Effects.{memory_after}
-use Rattle.cpu_step.specs.Turns.{code_of, control_after, instruction_made, is_at_body, vector_of, woken}
+use Rattle.cpu_step.specs.Turns.{error_code_of, control_after, instruction_made, is_at_body, vector_of, woken}
 
 -- a vector is delivered, with an error code or without
 abbrev pub trap_stores : ℕ → Option ℕ → Processor → List ℕ → List (ℕ × ℕ)
@@ -25,7 +25,7 @@ trap_stores vector code p m = delivery_stores p.regs p.control p.tables vector c
 
 -- a fault is delivered
 abbrev pub fault_stores : Fault → Processor → List ℕ → List (ℕ × ℕ)
-fault_stores it p m = trap_stores (vector_of it) (code_of it) (record p { control = control_after it p.control }) m
+fault_stores it p m = trap_stores (vector_of it) (error_code_of it) (record p { control = control_after it p.control }) m
 
 -- the page fault at the body's place
 abbrev pub body_stores : Processor → List ℕ → List (ℕ × ℕ)

@@ -7,7 +7,7 @@ use Rattle.nk_bits.specs.Translations.{Translations, faulted, flushed, invalidat
 use Rattle.nk_bits.specs.Outcomes.{Outcome, and_then}
 use Rattle.nk_bits.specs.Accesses.{wp_of}
 use Rattle.page_walk.specs.MemoryAccess.{view_of}
-use Rattle.port_bus.specs.PortWords.{byte_from, console_byte, input_after}
+use Rattle.port_bus.specs.PortWords.{port_byte, console_byte, input_after}
 use Rattle.x86_alu.specs.Flags.{with_flag}
 use Rattle.x86_regs.specs.declared.effects.Act.{Act}
 use Rattle.x86_regs.specs.declared.effects.Act.TheVariants as act
@@ -45,12 +45,12 @@ vector_of fault.Stack = 12
 vector_of (fault.General code) = 13
 vector_of (fault.Page code address) = 14
 
-abbrev pub code_of : Fault → Option ℕ
-code_of fault.Divide = None
-code_of fault.Opcode = None
-code_of fault.Stack = Some 0
-code_of (fault.General code) = Some code
-code_of (fault.Page code address) = Some code
+abbrev pub error_code_of : Fault → Option ℕ
+error_code_of fault.Divide = None
+error_code_of fault.Opcode = None
+error_code_of fault.Stack = Some 0
+error_code_of (fault.General code) = Some code
+error_code_of (fault.Page code address) = Some code
 
 -- a page fault leaves its linear address in CR2
 abbrev pub control_after : Fault → Control → Control
@@ -66,19 +66,19 @@ delivery_of vector code p = record {
   cr2 = if vector == 14 then Some p.control.cr2 else None;
 }
 
-abbrev pub shown_by : Result Unit Shut → Delivery → Stepped
-shown_by (Ok done) it = stepped.Delivered it
-shown_by (Err shut) it = stepped.Shutdown
+abbrev pub stepped_by : Result Unit Shut → Delivery → Stepped
+stepped_by (Ok done) it = stepped.Delivered it
+stepped_by (Err shut) it = stepped.Shutdown
 
 -- a vector is delivered, with an error code or without
 unfoldable pub trapped : ℕ → Option ℕ → Processor → List ℕ → Turned
 trapped vector code p m =
     let it : Delivered = delivered p.regs p.control p.tables vector code m p.tlb in
-    turned_to (record p { regs = it.regs; tlb = it.tlb }) it.memory (shown_by it.answer (delivery_of vector code p))
+    turned_to (record p { regs = it.regs; tlb = it.tlb }) it.memory (stepped_by it.answer (delivery_of vector code p))
 
 -- a fault is delivered
-abbrev pub raised : Fault → Processor → List ℕ → Turned
-raised it p m = trapped (vector_of it) (code_of it) (record p { control = control_after it p.control }) m
+abbrev pub fault_raised : Fault → Processor → List ℕ → Turned
+fault_raised it p m = trapped (vector_of it) (error_code_of it) (record p { control = control_after it p.control }) m
 
 -- the vector that is delivered waits no longer, and the processor is awake
 abbrev pub woken : ℕ → Processor → Processor
@@ -93,7 +93,7 @@ abbrev pub enters_body : Processor → Bool
 enters_body p = is_at_body p.regs && not (wp_of p.control.cr0)
 
 abbrev pub refused_body : Processor → List ℕ → Turned
-refused_body p m = raised (fault.Page 3 0xFFFFFF8000004FF8) (record p { tlb = faulted p.tlb 0xFFFFFF8000004 }) m
+refused_body p m = fault_raised (fault.Page 3 0xFFFFFF8000004FF8) (record p { tlb = faulted p.tlb 0xFFFFFF8000004 }) m
 
 -- CR0 keeps PE (0), WP (16), NW (29), CD (30) and PG (31); other bits are lost
 abbrev pub kept_in_cr0 : ℕ → ℕ
@@ -104,15 +104,15 @@ abbrev pub with_al : Regs → ℕ → Regs
 with_al regs byte = record regs { general = written regs.general (Reg 0) 8 byte }
 
 -- a byte goes to the console, or is lost
-abbrev pub shown : Option ℕ → Processor → List ℕ → Turned
-shown None p m = ran p m
-shown (Some byte) p m = turned_to p m (stepped.Console byte)
+abbrev pub console_shown : Option ℕ → Processor → List ℕ → Turned
+console_shown None p m = ran p m
+console_shown (Some byte) p m = turned_to p m (stepped.Console byte)
 
 -- INT n and INT3, where their gate allows it, are delivered with RIP at the next instruction; else #GP(8n + 2) is, with
 -- the registers from before
 abbrev pub interrupted_by : Result Bool Shut → ℕ → Regs → Processor → List ℕ → Turned
 interrupted_by (Ok true) vector before p m = trapped vector None p m
-interrupted_by (Ok false) vector before p m = raised (fault.General (8 * vector + 2)) (record p { regs = before }) m
+interrupted_by (Ok false) vector before p m = fault_raised (fault.General (8 * vector + 2)) (record p { regs = before }) m
 interrupted_by (Err shut) vector before p m = turned_to (record p { regs = before }) m stepped.Shutdown
 
 abbrev pub interrupted : ℕ → Regs → Processor → List ℕ → Turned
@@ -123,15 +123,15 @@ interrupted vector before p m =
 -- IRETQ returns, or its fault is delivered with the registers from before
 abbrev pub returned_by : Result Regs Fault → Regs → Processor → List ℕ → Turned
 returned_by (Ok regs) before p m = ran (record p { regs = regs }) m
-returned_by (Err it) before p m = raised it (record p { regs = before }) m
+returned_by (Err it) before p m = fault_raised it (record p { regs = before }) m
 
 -- what an instruction asks of the processor, whose registers were `before`, with its registers written and memory after
 -- its write
 abbrev pub acted : Act → Regs → Processor → List ℕ → Turned
 acted act.Quiet before p m = ran p m
-acted (act.Out byte port) before p m = shown (console_byte port byte) p m
+acted (act.Out byte port) before p m = console_shown (console_byte port byte) p m
 acted (act.In port) before p m =
-    ran (record p { regs = with_al p.regs (byte_from p.input port); input = input_after p.input port }) m
+    ran (record p { regs = with_al p.regs (port_byte p.input port); input = input_after p.input port }) m
 acted act.Halt before p m = ran (record p { halted = true }) m
 acted act.Enable before p m = ran (record p { shielded = true }) m
 acted (act.Interrupt vector) before p m = interrupted vector before p m
@@ -147,7 +147,7 @@ acted (act.DropPage page) before p m = ran (record p { tlb = invalidated p.tlb p
 
 -- a fault leaves registers and memory, and is delivered
 abbrev pub turned_by : Result Effect Fault → Processor → List ℕ → Translations → Turned
-turned_by (Err it) p m tlb = raised it (record p { tlb = tlb }) m
+turned_by (Err it) p m tlb = fault_raised it (record p { tlb = tlb }) m
 turned_by (Ok effect) p m tlb =
     acted effect.act p.regs (record p { regs = effect.regs; tlb = tlb }) (memory_after effect.write m)
 

@@ -11,7 +11,7 @@ ghost use Rattle.x86_decode.specs.WellFormed.{IsWellFormed};
 ghost use Rattle.x86_regs.specs.declared.faults.Fault.TheVariants.{General};
 ghost use Rattle.x86_regs.specs.Effects.{refusal};
 ghost use Rattle.x86_regs.specs.OperandPlans.{instr_form};
-ghost use Rattle.exec_quick.specs.QuickForms.{IsReady, form_by, has_register_first, instr_of, is_slow};
+ghost use Rattle.exec_quick.specs.QuickForms.{IsQuick, form_by, has_register_first, instruction_of, is_slow};
 ghost use Rattle.cpu_step.specs.InstructionFetch.{decided_by, fetched_from, in_fetch, instruction_at};
 ghost use Rattle.cpu_step.specs.DecodingMemo.{IsFetched};
 ghost use Rattle.cpu_step.specs.KeptFetches.{IsKeptCode};
@@ -123,17 +123,17 @@ pub(crate) fn quick_code<'a>(
     requires ahead { ahead ≤ code.now.last }
     requires inside { code.now.base + code.now.last + 16 ≤ length mem.now }
     requires slots { code.now.slot + code.now.last < 16384 }
-    ensures ready { IfSome result (λ quick. IsReady quick.now) }
+    ensures ready { IfSome result (λ quick. IsQuick quick.now) }
     ensures register { IfSome result (λ quick. has_register_first quick.now.kind ≡ true → quick.now.to < 16) }
     ensures form { IfSome result (λ quick. is_slow quick.now.kind ≡ false
-        → instr_form (instr_of quick.now) ≡ form_by quick.now.kind) }
+        → instr_form (instruction_of quick.now) ≡ form_by quick.now.kind) }
     ensures lawful { IfSome result (λ quick. is_slow quick.now.kind ≡ false
-        → (cpl : ℕ) → refusal (instr_of quick.now) cpl ≡ None) }
+        → (cpl : ℕ) → refusal (instruction_of quick.now) cpl ≡ None) }
     ensures fetched { IfSome result (λ quick. is_slow quick.now.kind ≡ false
         → (control : Control) (cpl : ℕ) (tlb : Translations)
         → IsKeptCode (length mem.now) control cpl tlb code.now
         → instruction_at mem.now (view_of mem.now control cpl) (code.now.start + ahead) tlb
-        ≡ answered (record { instr = instr_of quick.now; size = quick.now.size }) tlb) }
+        ≡ answered (record { instr = instruction_of quick.now; size = quick.now.size }) tlb) }
 {
     let (low, high) = code.words(mem, ahead);
     match memo.quick(code.slot_of(ahead), low, high) {

@@ -14,8 +14,8 @@ mod stepped;
 
 // What an instruction does, and what it asks; deliveries.
 mod acts;
+mod delivered;
 mod execution;
-mod traps;
 
 // The events of a plan.
 mod events;

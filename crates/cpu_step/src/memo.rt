@@ -2,7 +2,7 @@
 
 ghost use Rattle.std.specs.Prelude.{◌≡◌, ◌+◌, ◌%◌, ◌<◌, ◌≤◌, true, false, All, IfOk, IfSome, drop, length, slice_index_or, take};
 ghost use Rattle.std.specs.Int.{from_le_bytes, w64};
-ghost use Rattle.exec_quick.specs.QuickForms.{IsReady, StandsFor, has_register_first, is_slow};
+ghost use Rattle.exec_quick.specs.QuickForms.{IsQuick, StandsFor, has_register_first, is_slow};
 ghost use Rattle.x86_decode.specs.declared.instruction.Decoded.TheVariants.{Whole};
 ghost use Rattle.x86_decode.specs.Decoding.{IfWhole};
 ghost use Rattle.x86_decode.specs.Reader.{decoded_of};
@@ -88,7 +88,7 @@ impl Memo {
     #[inline(always)]
     pub(crate) fn quick(&self, slot: usize, low: u64, high: u64) -> Option<&Quick>
         requires slot { slot < 16384 }
-        ensures ready { IfSome result (λ quick. IsReady quick.now) }
+        ensures ready { IfSome result (λ quick. IsQuick quick.now) }
         ensures register { IfSome result (λ quick. has_register_first quick.now.kind ≡ true → quick.now.to < 16) }
         ensures stands { IfSome result (λ quick. is_slow quick.now.kind ≡ false
             → StandsFor quick.now (decoded_of (bytes_of_words low high))) }
@@ -214,7 +214,7 @@ fn form_of(low: u64, high: u64, answer: &Decoded) -> KeptForm
 /// The quick form of what code decodes to.
 fn quick_by(answer: &Decoded) -> Quick
     requires formed { IfWhole answer.now (λ instr size. IsWellFormed instr) }
-    ensures ready { IsReady result }
+    ensures ready { IsQuick result }
     ensures register { has_register_first result.kind ≡ true → result.to < 16 }
     ensures stands { is_slow result.kind ≡ false → StandsFor result answer.now }
 {
@@ -227,7 +227,7 @@ fn quick_by(answer: &Decoded) -> Quick
 /// The quick form of an instruction of so many bytes.
 fn whole_quick(instr: &Instr, size: u8) -> Quick
     requires formed { IsWellFormed instr.now }
-    ensures ready { IsReady result }
+    ensures ready { IsQuick result }
     ensures register { has_register_first result.kind ≡ true → result.to < 16 }
     ensures stands { is_slow result.kind ≡ false → StandsFor result (Whole instr.now size) }
 {

@@ -12,9 +12,9 @@ use Rattle.elf_image.specs.Segments.{loads}
 use Rattle.elf_image.specs.Rows.{file_fault, first_fault, or_later}
 use Rattle.elf_image.specs.HeaderRows.{FileHeaders, FileShape, head_fault, headers_of, shape_of, table_fault, table_of}
 use Rattle.elf_image.specs.Pages.{IsBytesOfPage, IsPageList, byte_of, entry_of, executable_page_count, is_executable, is_in_memory, is_page, is_writable, page_count, pages_of}
-use Rattle.elf_image.specs.SegmentPages.{byte_in, is_executable_of, is_writable_of, pages_in, place_in, place_of}
+use Rattle.elf_image.specs.SegmentPages.{byte_in, is_executable_of, is_writable_of, pages_in, file_place, loaded_place}
 use Rattle.elf_image.specs.FileParts.{ArePages, AreTrueOf, IsImage, IsPart, IsShapeOf, page_with}
-use Rattle.elf_image.specs.Loaded.{IsPartOf, Supplies}
+use Rattle.elf_image.specs.Loaded.{IsFilePart, Supplies}
 use Rattle.elf_image.proofs.FormLaws.{judged_file}
 use Rattle.elf_image.proofs.PageLaws.{page_list}
 use Rattle.elf_image.proofs.PartLaws.{bytes_same, executable_same, pages_same, read_in_parts, writable_same}
@@ -114,8 +114,8 @@ module _ (b : List ℕ) (h : FileHeaders) (image : IsImage b h) where
       ap length (filter_agree (λ n. is_executable_of h.segments n) (is_executable b) image_executable (pages_in h.segments)
       ∙ ap (λ (pages : List ℕ). filter (is_executable b) pages) image_pages)
 
-  pub image_byte : (va : ℕ) → byte_in b (place_of h.segments va) ≡ byte_of b va
-  image_byte va = ap (λ (segs : List ProgramHeader). byte_in b (place_of segs va)) image.listed ∙ sym (bytes_same b va)
+  pub image_byte : (va : ℕ) → byte_in b (loaded_place h.segments va) ≡ byte_of b va
+  image_byte va = ap (λ (segs : List ProgramHeader). byte_in b (loaded_place segs va)) image.listed ∙ sym (bytes_same b va)
 
   pub image_list : IsPageList b (pages_of b)
   image_list = file_pages b image.form
@@ -126,7 +126,7 @@ module _ (b : List ℕ) (h : FileHeaders) (image : IsImage b h) where
 
   -- a page whose part of the file is laid into zeros
   laid_byte : (n at skip len k : ℕ) → IsPart h.size h.segments (page_size * n) at skip len → k < page_size
-      → get_or (blanks skip ++ (take len (drop at b) ++ blanks (page_size - (skip + len)))) k 0 ≡ byte_in b (place_of h.segments (page_size * n + k))
+      → get_or (blanks skip ++ (take len (drop at b) ++ blanks (page_size - (skip + len)))) k 0 ≡ byte_in b (loaded_place h.segments (page_size * n + k))
   laid_byte n at skip len k part inside =
       let whole : length (take len (drop at b)) ≡ len = length-take-le len (drop at b) (omega (arith, length-drop at b, part.inside, image.size)) in
       let blank = zeros skip in
@@ -176,12 +176,12 @@ told_by b h image = record {
 
 -- the part of a page of which a segment loads bytes, and of one of which none does
 module _ (size : ℕ) (segs : List ProgramHeader) (n : ℕ) where
-  pub part_from : (s : ProgramHeader) (at skip len : ℕ) → Supplies size segs n (Some s) → IsPartOf size s (page_size * n) at skip len → IsPart size segs (page_size * n) at skip len
+  pub part_from : (s : ProgramHeader) (at skip len : ℕ) → Supplies size segs n (Some s) → IsFilePart size s (page_size * n) at skip len → IsPart size segs (page_size * n) at skip len
   part_from s at skip len supplied part =
-      let here : (k : ℕ) → k < page_size → place_of segs (page_size * n + k) ≡ option_map (λ t. place_in (page_size * n + k) t) (cond (loads s (page_size * n + k)) (Some s) None) =
+      let here : (k : ℕ) → k < page_size → loaded_place segs (page_size * n + k) ≡ option_map (λ t. file_place (page_size * n + k) t) (cond (loads s (page_size * n + k)) (Some s) None) =
       λ k below. supplied.1 (page_size * n + k) (omega arith) in
-      let gone : (k : ℕ) → k < page_size → loads s (page_size * n + k) ≡ false → place_of segs (page_size * n + k) ≡ None =
-      λ k below none. here k below ∙ ap (λ (o : Option ProgramHeader). option_map (λ t. place_in (page_size * n + k) t) o) (cond-false (loads s (page_size * n + k)) (Some s) None none) in
+      let gone : (k : ℕ) → k < page_size → loads s (page_size * n + k) ≡ false → loaded_place segs (page_size * n + k) ≡ None =
+      λ k below none. here k below ∙ ap (λ (o : Option ProgramHeader). option_map (λ t. file_place (page_size * n + k) t) o) (cond-false (loads s (page_size * n + k)) (Some s) None none) in
       record {
         fits = part.fits;
         inside = part.inside;
@@ -189,7 +189,7 @@ module _ (size : ℕ) (segs : List ProgramHeader) (n : ℕ) where
         within = λ k low high.
             let both = part.within k low high in
             here k (omega (arith, high, part.fits))
-            ∙ ap (λ (o : Option ProgramHeader). option_map (λ t. place_in (page_size * n + k) t) o) (cond-true (loads s (page_size * n + k)) (Some s) None both.0)
+            ∙ ap (λ (o : Option ProgramHeader). option_map (λ t. file_place (page_size * n + k) t) o) (cond-true (loads s (page_size * n + k)) (Some s) None both.0)
             ∙ ap (λ (m : ℕ). Some m) both.1;
         before = λ k low. gone k (omega (arith, low, part.fits)) (part.before k low);
         after = λ k low high. gone k high (part.after k low high);

@@ -15,7 +15,7 @@ use Rattle.elf_image.specs.Segments.{covers, first_page, is_code_at, last_page, 
 use Rattle.elf_image.specs.Loaded.{AreJudged, AreLoaded, IsPlaced, Supplies}
 use Rattle.elf_image.specs.Pages.{home_pages, numbers_from}
 use Rattle.elf_image.specs.FileParts.{ArePages}
-use Rattle.elf_image.specs.SegmentPages.{is_executable_of, is_in_memory_of, is_page_of, is_writable_of, pages_in, place_in, place_of}
+use Rattle.elf_image.specs.SegmentPages.{is_executable_of, is_in_memory_of, is_page_of, is_writable_of, pages_in, file_place, loaded_place}
 use Rattle.elf_image.proofs.FormLaws.{all_placed, lawful, segments_apart, some_segment}
 use Rattle.elf_image.proofs.Pairs.{AtMostOne, EachPair, EachPair-permutation, found_alone, found_at, found_is}
 use Rattle.elf_image.proofs.Ranges.{kept_all, kept_ascending, kept_within}
@@ -216,12 +216,12 @@ module _ (size entry : ℕ) (table segs : List ProgramHeader) (loaded : AreLoade
 
   -- what the segment that touches a page says of the places of its bytes
   pub supplies : (n : ℕ) (o : Option ProgramHeader) → find (λ s. touches s n) segs ≡ o → Supplies size table n o
-  unfolding place_of
-  supplies n None h = λ va at. ap (λ (o : Option ProgramHeader). option_map (λ t. place_in va t) o) (blank va (ap (λ (m : ℕ). find (λ s. touches s m) segs) at ∙ h))
+  unfolding loaded_place
+  supplies n None h = λ va at. ap (λ (o : Option ProgramHeader). option_map (λ t. file_place va t) o) (blank va (ap (λ (m : ℕ). find (λ s. touches s m) segs) at ∙ h))
   supplies n (Some s) h =
       let f = found_is (λ t. touches t n) segs s h in (
         All-contains (IsPlaced size) segs s placed f.0,
-        λ va at. ap (λ (o : Option ProgramHeader). option_map (λ t. place_in va t) o) (loaded_by s f.0 va (ap (λ (m : ℕ). touches s m) at ∙ f.1)),
+        λ va at. ap (λ (o : Option ProgramHeader). option_map (λ t. file_place va t) o) (loaded_by s f.0 va (ap (λ (m : ℕ). touches s m) at ∙ f.1)),
       )
 
   pub are_pages : ArePages table (pages_in table)

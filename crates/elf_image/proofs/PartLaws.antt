@@ -12,7 +12,7 @@ use Rattle.elf_image.specs.Rows.{file_fault, first_fault, has_magic, or_later, w
 use Rattle.elf_image.specs.Segments.{loads}
 use Rattle.elf_image.specs.HeaderRows.{head_fault, later_fault, segments_in, shape_of, table_fault, table_of, wrong_table_of}
 use Rattle.elf_image.specs.Pages.{byte_from, byte_of, home_pages, is_executable, is_page, is_writable, pages_of}
-use Rattle.elf_image.specs.SegmentPages.{byte_in, is_executable_of, is_page_of, is_writable_of, pages_in, place_in, place_of}
+use Rattle.elf_image.specs.SegmentPages.{byte_in, is_executable_of, is_page_of, is_writable_of, pages_in, file_place, loaded_place}
 use Rattle.elf_image.specs.FileParts.{IsReadInParts}
 
 -- a field that lies in the first m bytes
@@ -105,12 +105,12 @@ pub pages_same : (b : List ℕ) → pages_of b ≡ pages_in (segments b)
 unfolding pages_of pages_in
 pages_same b = filter_agree (is_page b) (λ n. is_page_of (segments b) n) (page_same b) home_pages
 
-byte_by : (b : List ℕ) (va : ℕ) (o : Option ProgramHeader) → byte_from b va o ≡ byte_in b (option_map (λ s. place_in va s) o)
+byte_by : (b : List ℕ) (va : ℕ) (o : Option ProgramHeader) → byte_from b va o ≡ byte_in b (option_map (λ s. file_place va s) o)
 byte_by b va (Some s) = refl
 byte_by b va None = refl
 
-pub bytes_same : (b : List ℕ) (va : ℕ) → byte_of b va ≡ byte_in b (place_of (segments b) va)
-unfolding byte_of place_of
+pub bytes_same : (b : List ℕ) (va : ℕ) → byte_of b va ≡ byte_in b (loaded_place (segments b) va)
+unfolding byte_of loaded_place
 bytes_same b va = byte_by b va (find (λ s. loads s va) (segments b))
 
 pub read_in_parts : (b : List ℕ) → IsReadInParts b

@@ -7,7 +7,7 @@ use Rattle.elf_image.specs.Home.{home_end, home_start, page_size}
 use Rattle.elf_image.specs.Rows.{IsForm, file_fault, first_fault, or_later}
 use Rattle.elf_image.specs.Pages.{IsBytesOfPage, byte_of, entry_of, executable_page_count, is_executable, is_writable, pages_of}
 use Rattle.elf_image.specs.HeaderRows.{FileHeaders, FileShape, head_fault, segments_in, shape_of, table_fault, table_of}
-use Rattle.elf_image.specs.SegmentPages.{byte_in, is_executable_of, is_in_memory_of, is_page_of, is_writable_of, pages_in, place_of}
+use Rattle.elf_image.specs.SegmentPages.{byte_in, is_executable_of, is_in_memory_of, is_page_of, is_writable_of, pages_in, loaded_place}
 
 -- what holds of the pages of segments in form: they ascend, lie in the home, and are all pages that a segment touches,
 -- which are those that hold an address of its memory. One that may be executed is one of them, and may not be written.
@@ -28,9 +28,9 @@ pub record IsPart (size : ℕ) (segs : List ProgramHeader) (va at skip len : ℕ
   pub fits : skip + len ≤ page_size
   pub inside : at + len ≤ size
   pub blank : len ≡ 0 → (at ≡ 0) × (skip ≡ 0)
-  pub within : (k : ℕ) → skip ≤ k → k < skip + len → place_of segs (va + k) ≡ Some (at + (k - skip))
-  pub before : (k : ℕ) → k < skip → place_of segs (va + k) ≡ None
-  pub after : (k : ℕ) → skip + len ≤ k → k < page_size → place_of segs (va + k) ≡ None
+  pub within : (k : ℕ) → skip ≤ k → k < skip + len → loaded_place segs (va + k) ≡ Some (at + (k - skip))
+  pub before : (k : ℕ) → k < skip → loaded_place segs (va + k) ≡ None
+  pub after : (k : ℕ) → skip + len ≤ k → k < page_size → loaded_place segs (va + k) ≡ None
 
 -- a segment as callers see it
 abbrev pub segment_of : ProgramHeader → Segment
@@ -45,7 +45,7 @@ pub record IsReadInParts (b : List ℕ) : Type 0 where
   pub pages : pages_of b ≡ pages_in (segments b)
   pub executable : (n : ℕ) → is_executable b n ≡ is_executable_of (segments b) n
   pub writable : (n : ℕ) → is_writable b n ≡ is_writable_of (segments b) n
-  pub bytes : (va : ℕ) → byte_of b va ≡ byte_in b (place_of (segments b) va)
+  pub bytes : (va : ℕ) → byte_of b va ≡ byte_in b (loaded_place (segments b) va)
 
 -- no row on the file header of the file b stands, and this is its shape
 pub record IsShapeOf (b : List ℕ) (shape : FileShape) : Type 0 where

@@ -4,20 +4,20 @@ use Rattle.elf_image.specs.declared.fault.FaultKind.{FaultKind}
 use Rattle.elf_image.specs.declared.fault.FaultKind.TheVariants.{Short, Magic, Class, FileType, Machine, Table, SegmentRange, Align, OutsideHome, SharedPage, WritableCode, BadEntry, TooLarge}
 
 -- the number of a kind of fault
-abbrev pub number_of : FaultKind → ℕ
-number_of Short = 1
-number_of Magic = 2
-number_of Class = 3
-number_of FileType = 4
-number_of Machine = 5
-number_of Table = 6
-number_of SegmentRange = 7
-number_of Align = 8
-number_of OutsideHome = 9
-number_of SharedPage = 10
-number_of WritableCode = 11
-number_of BadEntry = 12
-number_of TooLarge = 13
+abbrev pub fault_number : FaultKind → ℕ
+fault_number Short = 1
+fault_number Magic = 2
+fault_number Class = 3
+fault_number FileType = 4
+fault_number Machine = 5
+fault_number Table = 6
+fault_number SegmentRange = 7
+fault_number Align = 8
+fault_number OutsideHome = 9
+fault_number SharedPage = 10
+fault_number WritableCode = 11
+fault_number BadEntry = 12
+fault_number TooLarge = 13
 
 -- its name in ASCII
 abbrev pub name_of : FaultKind → List ℕ

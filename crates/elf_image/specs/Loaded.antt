@@ -7,7 +7,7 @@ use Rattle.elf_image.specs.Elf.{e_phnum, e_phoff, is_segment, phdr_size}
 use Rattle.elf_image.specs.Home.{home_end, home_start, page_size}
 use Rattle.elf_image.specs.Segments.{loads}
 use Rattle.elf_image.specs.HeaderRows.{FileShape, later_fault}
-use Rattle.elf_image.specs.SegmentPages.{place_in, place_of}
+use Rattle.elf_image.specs.SegmentPages.{file_place, loaded_place}
 
 -- the program header table lies in a file of this size that begins with the bytes head, and has 1 to 64 entries
 pub record HasTableIn (size : ℕ) (head : List ℕ) : Type 0 where
@@ -48,17 +48,17 @@ pub record IsPlaced (size : ℕ) (s : ProgramHeader) : Type 0 where
 
 -- what the segment that touches page n, or that there is none, says of the places of the bytes of that page
 abbrev pub Supplies : ℕ → List ProgramHeader → ℕ → Option ProgramHeader → Type 0
-Supplies size segs n None = (va : ℕ) → va / page_size ≡ n → place_of segs va ≡ None
+Supplies size segs n None = (va : ℕ) → va / page_size ≡ n → loaded_place segs va ≡ None
 Supplies size segs n (Some s) =
     IsPlaced size s
-    × ((va : ℕ) → va / page_size ≡ n → place_of segs va ≡ option_map (λ t. place_in va t) (if loads s va then Some s else None))
+    × ((va : ℕ) → va / page_size ≡ n → loaded_place segs va ≡ option_map (λ t. file_place va t) (if loads s va then Some s else None))
 
 -- of the page at address va the segment loads len bytes of a file of this size, from the file's place at on, to the page's
 -- byte skip and those behind it, and no others
-pub record IsPartOf (size : ℕ) (s : ProgramHeader) (va at skip len : ℕ) : Type 0 where
+pub record IsFilePart (size : ℕ) (s : ProgramHeader) (va at skip len : ℕ) : Type 0 where
   pub fits : skip + len ≤ page_size
   pub inside : at + len ≤ size
   pub blank : len ≡ 0 → (at ≡ 0) × (skip ≡ 0)
-  pub within : (k : ℕ) → skip ≤ k → k < skip + len → (loads s (va + k) ≡ true) × (place_in (va + k) s ≡ at + (k - skip))
+  pub within : (k : ℕ) → skip ≤ k → k < skip + len → (loads s (va + k) ≡ true) × (file_place (va + k) s ≡ at + (k - skip))
   pub before : (k : ℕ) → k < skip → loads s (va + k) ≡ false
   pub after : (k : ℕ) → skip + len ≤ k → k < page_size → loads s (va + k) ≡ false

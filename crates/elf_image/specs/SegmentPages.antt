@@ -28,12 +28,12 @@ unfoldable pub pages_in : List ProgramHeader → List ℕ
 pages_in segs = filter (λ n. is_page_of segs n) home_pages
 
 -- the place in the file of the byte that the segment loads to address va
-abbrev pub place_in : ℕ → ProgramHeader → ℕ
-place_in va s = s.offset + (va - s.address)
+abbrev pub file_place : ℕ → ProgramHeader → ℕ
+file_place va s = s.offset + (va - s.address)
 
 -- the place in the file of the byte that is loaded to address va, where a segment loads one
-unfoldable pub place_of : List ProgramHeader → ℕ → Option ℕ
-place_of segs va = option_map (λ s. place_in va s) (find (λ s. loads s va) segs)
+unfoldable pub loaded_place : List ProgramHeader → ℕ → Option ℕ
+loaded_place segs va = option_map (λ s. file_place va s) (find (λ s. loads s va) segs)
 
 -- the byte at a place of the file b, and 0 where there is no place
 abbrev pub byte_in : List ℕ → Option ℕ → ℕ

@@ -1,7 +1,7 @@
 //! The faults of an image.
 
 ghost use Rattle.std.specs.Prelude.{◌≡◌};
-ghost use Rattle.elf_image.specs.ImageFaults.{name_of, number_of};
+ghost use Rattle.elf_image.specs.ImageFaults.{name_of, fault_number};
 
 /// The rows by which the form of an image is judged, in order, and the value of each. Fields are named as in the ELF-64
 /// object file format.
@@ -39,7 +39,7 @@ pub enum FaultKind {
 impl FaultKind {
     /// The number of the kind, 1 to 13, as it is printed.
     pub fn number(self) -> u8
-        ensures { result ≡ number_of self }
+        ensures { result ≡ fault_number self }
     {
         match self {
             FaultKind::Short => 1,

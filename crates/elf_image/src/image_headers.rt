@@ -6,7 +6,7 @@ ghost use Rattle.elf_image.specs.FileParts.{ArePages, IsPart, segment_of};
 ghost use Rattle.elf_image.specs.HeaderRows.{later_fault, segments_in};
 ghost use Rattle.elf_image.specs.Home.{home_end, home_start, page_size};
 ghost use Rattle.elf_image.specs.Loaded.{Supplies};
-ghost use Rattle.elf_image.specs.SegmentPages.{is_executable_of, is_writable_of, pages_in, place_of};
+ghost use Rattle.elf_image.specs.SegmentPages.{is_executable_of, is_writable_of, pages_in, loaded_place};
 
 use crate::elf::{MOST_HEADERS, PAGE_SIZE};
 use crate::fault::ImageFault;
@@ -169,7 +169,7 @@ impl Headers {
 
     /// The place in the file of the byte at linear address `va`, where a segment loads one.
     pub(crate) fn place(&self, va: u64) -> Option<u64>
-        ensures place { result ≡ place_of self.now.segments va }
+        ensures place { result ≡ loaded_place self.now.segments va }
         ensures inside { IfSome result (λ at. at < self.now.size) }
     {
         let _size = self.size();

@@ -2,7 +2,7 @@
 
 ghost use Rattle.std.specs.Prelude.{◌+◌, ◌≤◌};
 ghost use Rattle.elf_image.specs.Home.{home_end, page_size};
-ghost use Rattle.elf_image.specs.Loaded.{IsPartOf, IsPlaced};
+ghost use Rattle.elf_image.specs.Loaded.{IsFilePart, IsPlaced};
 
 use crate::elf::PAGE_SIZE;
 use crate::program_header::ProgramHeader;
@@ -33,7 +33,7 @@ pub struct Part {
 pub fn part_of(size: u64, va: u64, segment: &ProgramHeader) -> Part
     requires placed { IsPlaced size segment.now }
     requires home { va + page_size ≤ home_end }
-    ensures { IsPartOf size segment.now va result.at result.skip result.len }
+    ensures { IsFilePart size segment.now va result.at result.skip result.len }
 {
     let start = va.max(segment.address);
     let end = (va + PAGE_SIZE).min(segment.address + segment.file_size);

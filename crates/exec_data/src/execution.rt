@@ -14,7 +14,7 @@ use crate::outcomes::outcome_by;
 use crate::plans::plan_by;
 use mem_access::{check_span, gather};
 use nk_bits::Control;
-use page_walk::{Gathered, Plan};
+use page_walk::{AccessPlan, Gathered};
 use phys_mem::PhysMem;
 use tlb_model::Tlb;
 use x86_decode::Instr;
@@ -170,7 +170,7 @@ fn conclude(
     tlb: &mut Tlb,
     control: &Control,
     cpl: u8,
-    plan: &Plan,
+    plan: &AccessPlan,
     found: &Gathered,
     outcome: Result<Change, Fault>,
 ) -> Result<Effect, Fault>

@@ -2,8 +2,8 @@
 
 ghost use Rattle.std.specs.Prelude.{◌≡◌, IsTrue, None, Some, slice_index};
 ghost use Rattle.decode_fields.specs.Widths.{IsWidth};
-ghost use Rattle.page_walk.specs.declared.plan.Source.TheVariants.{Is, At};
-ghost use Rattle.page_walk.specs.AccessPlans.{IsPlan, IsSized, IsSource};
+ghost use Rattle.page_walk.specs.declared.plan.Origin.TheVariants.{Is, At};
+ghost use Rattle.page_walk.specs.AccessPlans.{IsAccessPlan, IsSized, IsSource};
 ghost use Rattle.nk_bits.specs.Accesses.{IsAccessSize};
 ghost use Rattle.x86_decode.specs.WellFormed.{IsWellFormed};
 ghost use Rattle.x86_regs.specs.Combinations.{source_width};
@@ -12,7 +12,7 @@ ghost use Rattle.x86_regs.specs.OperandPlans.{from_address, from_source, is_idle
 ghost use Rattle.exec_data.specs.DataForms.{is_data_form};
 
 use crate::strings::is_idle;
-use page_walk::{Plan, Source, Span};
+use page_walk::{AccessPlan, Origin, Span};
 use x86_decode::Instr;
 use x86_regs::{
     Form, RBP, RDI, RSI, Regs, from_address, from_source, next_of, place_span, pop_source,
@@ -45,13 +45,13 @@ fn rdi_span(instr: &Instr, regs: &Regs) -> Span
 }
 
 /// Reads alone.
-fn reads(to: Source, from: Source) -> Plan
+fn reads(to: Origin, from: Origin) -> AccessPlan
     requires to { IsSource to }
     requires from { IsSource from }
     ensures plan { result ≡ plan None to from None }
-    ensures sized { IsPlan result }
+    ensures sized { IsAccessPlan result }
 {
-    Plan {
+    AccessPlan {
         both: None,
         to,
         from,
@@ -59,22 +59,22 @@ fn reads(to: Source, from: Source) -> Plan
     }
 }
 
-fn no_access() -> Plan
+fn no_access() -> AccessPlan
     ensures plan { result ≡ no_access }
-    ensures sized { IsPlan result }
+    ensures sized { IsAccessPlan result }
 {
-    reads(Source::Is(0), Source::Is(0))
+    reads(Origin::Is(0), Origin::Is(0))
 }
 
 /// The first operand is read and written, the second is read at this width in bits.
-fn read_and_written(instr: &Instr, size: u8, regs: &Regs, width: u8) -> Plan
+fn read_and_written(instr: &Instr, size: u8, regs: &Regs, width: u8) -> AccessPlan
     requires formed { IsWellFormed instr.now }
     requires width { IsWidth width }
     ensures plan { result ≡ plan (to_span instr.now size regs.now)
         (to_source instr.now size regs.now instr.now.width) (from_source instr.now size regs.now width) None }
-    ensures sized { IsPlan result }
+    ensures sized { IsAccessPlan result }
 {
-    Plan {
+    AccessPlan {
         both: to_span(instr, size, regs),
         to: to_source(instr, size, regs, instr.width),
         from: from_source(instr, size, regs, width),
@@ -82,72 +82,72 @@ fn read_and_written(instr: &Instr, size: u8, regs: &Regs, width: u8) -> Plan
     }
 }
 
-fn read_to_write(from: Source, last: Option<Span>) -> Plan
+fn read_to_write(from: Origin, last: Option<Span>) -> AccessPlan
     requires from { IsSource from }
     requires last { IsSized last }
     ensures plan { result ≡ plan None (Is 0) from last }
-    ensures sized { IsPlan result }
+    ensures sized { IsAccessPlan result }
 {
-    Plan {
+    AccessPlan {
         both: None,
-        to: Source::Is(0),
+        to: Origin::Is(0),
         from,
         last,
     }
 }
 
-fn compare_plan(instr: &Instr, size: u8, regs: &Regs) -> Plan
+fn compare_plan(instr: &Instr, size: u8, regs: &Regs) -> AccessPlan
     requires { IsWellFormed instr.now }
     ensures plan { result ≡ plan None (to_source instr.now size regs.now instr.now.width)
         (from_source instr.now size regs.now instr.now.width) None }
-    ensures sized { IsPlan result }
+    ensures sized { IsAccessPlan result }
 {
     let to = to_source(instr, size, regs, instr.width);
     let from = from_source(instr, size, regs, instr.width);
     reads(to, from)
 }
 
-fn move_plan(instr: &Instr, size: u8, regs: &Regs) -> Plan
+fn move_plan(instr: &Instr, size: u8, regs: &Regs) -> AccessPlan
     requires { IsWellFormed instr.now }
     ensures plan { result ≡ plan None (Is 0)
         (from_source instr.now size regs.now (source_width instr.now.op instr.now.width))
         (to_span instr.now size regs.now) }
-    ensures sized { IsPlan result }
+    ensures sized { IsAccessPlan result }
 {
     let from = from_source(instr, size, regs, source_width(instr.op, instr.width));
     read_to_write(from, to_span(instr, size, regs))
 }
 
-fn address_plan(instr: &Instr, size: u8, regs: &Regs) -> Plan
+fn address_plan(instr: &Instr, size: u8, regs: &Regs) -> AccessPlan
     requires { IsWellFormed instr.now }
     ensures plan { result ≡ plan None (Is 0) (Is (from_address instr.now size regs.now)) None }
-    ensures sized { IsPlan result }
+    ensures sized { IsAccessPlan result }
 {
     let address = from_address(instr, size, regs);
-    reads(Source::Is(0), Source::Is(address))
+    reads(Origin::Is(0), Origin::Is(address))
 }
 
-fn push_plan(instr: &Instr, size: u8, regs: &Regs) -> Plan
+fn push_plan(instr: &Instr, size: u8, regs: &Regs) -> AccessPlan
     requires { IsWellFormed instr.now }
     ensures plan { result ≡ plan None (Is 0) (from_source instr.now size regs.now instr.now.width)
         (Some (push_span regs.now instr.now.width)) }
-    ensures sized { IsPlan result }
+    ensures sized { IsAccessPlan result }
 {
     let from = from_source(instr, size, regs, instr.width);
     read_to_write(from, Some(push_span(regs, instr.width)))
 }
 
 /// The address of the first operand is computed after RSP rose.
-fn pop_plan(instr: &Instr, size: u8, regs: &Regs) -> Plan
+fn pop_plan(instr: &Instr, size: u8, regs: &Regs) -> AccessPlan
     requires { IsWellFormed instr.now }
     ensures plan { result ≡ plan None (pop_source regs.now instr.now.width) (Is 0)
         (place_span (risen regs.now instr.now.width) (next_of regs.now size) instr.now.width instr.now.to) }
-    ensures sized { IsPlan result }
+    ensures sized { IsAccessPlan result }
 {
-    Plan {
+    AccessPlan {
         both: None,
         to: pop_source(regs, instr.width),
-        from: Source::Is(0),
+        from: Origin::Is(0),
         last: place_span(
             &risen(regs, instr.width),
             next_of(regs, size),
@@ -157,21 +157,21 @@ fn pop_plan(instr: &Instr, size: u8, regs: &Regs) -> Plan
     }
 }
 
-fn leave_plan(regs: &Regs) -> Plan
+fn leave_plan(regs: &Regs) -> AccessPlan
     ensures plan { result ≡ plan None (At (stack_span (slice_index regs.now.general 5) 64)) (Is 0) None }
-    ensures sized { IsPlan result }
+    ensures sized { IsAccessPlan result }
 {
     reads(
-        Source::At(stack_span(regs.general[RBP as usize], 64)),
-        Source::Is(0),
+        Origin::At(stack_span(regs.general[RBP as usize], 64)),
+        Origin::Is(0),
     )
 }
 
 /// The accesses of a string instruction, unless its count is 0.
-fn unless_idle(instr: &Instr, regs: &Regs, accesses: Plan) -> Plan
-    requires { IsPlan accesses }
+fn unless_idle(instr: &Instr, regs: &Regs, accesses: AccessPlan) -> AccessPlan
+    requires { IsAccessPlan accesses }
     ensures plan { result ≡ unless_idle instr.now regs.now accesses }
-    ensures sized { IsPlan result }
+    ensures sized { IsAccessPlan result }
 {
     if is_idle(instr, regs) {
         no_access()
@@ -180,68 +180,68 @@ fn unless_idle(instr: &Instr, regs: &Regs, accesses: Plan) -> Plan
     }
 }
 
-fn move_string_plan(instr: &Instr, regs: &Regs) -> Plan
+fn move_string_plan(instr: &Instr, regs: &Regs) -> AccessPlan
     requires { IsWellFormed instr.now }
     ensures plan { result ≡ unless_idle instr.now regs.now
         (plan None (Is 0) (At (rsi_span instr.now regs.now)) (Some (rdi_span instr.now regs.now))) }
-    ensures sized { IsPlan result }
+    ensures sized { IsAccessPlan result }
 {
     let accesses = read_to_write(
-        Source::At(rsi_span(instr, regs)),
+        Origin::At(rsi_span(instr, regs)),
         Some(rdi_span(instr, regs)),
     );
     unless_idle(instr, regs, accesses)
 }
 
-fn store_string_plan(instr: &Instr, regs: &Regs) -> Plan
+fn store_string_plan(instr: &Instr, regs: &Regs) -> AccessPlan
     requires { IsWellFormed instr.now }
     ensures plan { result ≡ unless_idle instr.now regs.now
         (plan None (Is 0) (Is 0) (Some (rdi_span instr.now regs.now))) }
-    ensures sized { IsPlan result }
+    ensures sized { IsAccessPlan result }
 {
-    let accesses = read_to_write(Source::Is(0), Some(rdi_span(instr, regs)));
+    let accesses = read_to_write(Origin::Is(0), Some(rdi_span(instr, regs)));
     unless_idle(instr, regs, accesses)
 }
 
-fn load_string_plan(instr: &Instr, regs: &Regs) -> Plan
+fn load_string_plan(instr: &Instr, regs: &Regs) -> AccessPlan
     requires { IsWellFormed instr.now }
     ensures plan { result ≡ unless_idle instr.now regs.now
         (plan None (Is 0) (At (rsi_span instr.now regs.now)) None) }
-    ensures sized { IsPlan result }
+    ensures sized { IsAccessPlan result }
 {
-    let accesses = reads(Source::Is(0), Source::At(rsi_span(instr, regs)));
+    let accesses = reads(Origin::Is(0), Origin::At(rsi_span(instr, regs)));
     unless_idle(instr, regs, accesses)
 }
 
-fn compare_strings_plan(instr: &Instr, regs: &Regs) -> Plan
+fn compare_strings_plan(instr: &Instr, regs: &Regs) -> AccessPlan
     requires { IsWellFormed instr.now }
     ensures plan { result ≡ unless_idle instr.now regs.now
         (plan None (At (rsi_span instr.now regs.now)) (At (rdi_span instr.now regs.now)) None) }
-    ensures sized { IsPlan result }
+    ensures sized { IsAccessPlan result }
 {
     let accesses = reads(
-        Source::At(rsi_span(instr, regs)),
-        Source::At(rdi_span(instr, regs)),
+        Origin::At(rsi_span(instr, regs)),
+        Origin::At(rdi_span(instr, regs)),
     );
     unless_idle(instr, regs, accesses)
 }
 
-fn scan_string_plan(instr: &Instr, regs: &Regs) -> Plan
+fn scan_string_plan(instr: &Instr, regs: &Regs) -> AccessPlan
     requires { IsWellFormed instr.now }
     ensures plan { result ≡ unless_idle instr.now regs.now
         (plan None (Is 0) (At (rdi_span instr.now regs.now)) None) }
-    ensures sized { IsPlan result }
+    ensures sized { IsAccessPlan result }
 {
-    let accesses = reads(Source::Is(0), Source::At(rdi_span(instr, regs)));
+    let accesses = reads(Origin::Is(0), Origin::At(rdi_span(instr, regs)));
     unless_idle(instr, regs, accesses)
 }
 
 /// The accesses of an instruction of `size` bytes.
-pub(crate) fn plan_by(form: Form, instr: &Instr, size: u8, regs: &Regs) -> Plan
+pub(crate) fn plan_by(form: Form, instr: &Instr, size: u8, regs: &Regs) -> AccessPlan
     requires formed { IsWellFormed instr.now }
     requires row { IsTrue (is_data_form form) }
     ensures plan { result ≡ plan_by form instr.now size regs.now }
-    ensures sized { IsPlan result }
+    ensures sized { IsAccessPlan result }
 {
     match form {
         Form::Combine => read_and_written(instr, size, regs, source_width(instr.op, instr.width)),
@@ -251,10 +251,10 @@ pub(crate) fn plan_by(form: Form, instr: &Instr, size: u8, regs: &Regs) -> Plan
         Form::Compare => compare_plan(instr, size, regs),
         Form::Move => move_plan(instr, size, regs),
         Form::Address => address_plan(instr, size, regs),
-        Form::ScanBits => reads(Source::Is(0), from_source(instr, size, regs, instr.width)),
+        Form::ScanBits => reads(Origin::Is(0), from_source(instr, size, regs, instr.width)),
         Form::Multiply | Form::Divide => reads(
             to_source(instr, size, regs, instr.width),
-            Source::Is(0),
+            Origin::Is(0),
         ),
         Form::Push => push_plan(instr, size, regs),
         Form::Pop => pop_plan(instr, size, regs),

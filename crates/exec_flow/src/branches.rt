@@ -4,7 +4,7 @@ ghost use Rattle.std.specs.Prelude.{◌≡◌, ◌+◌, true, Ok, slice_index};
 ghost use Rattle.x86_alu.specs.SignedNumbers.{bit, cut};
 ghost use Rattle.x86_alu.specs.Flags.{zero_flag};
 ghost use Rattle.x86_regs.specs.Operands.{rcx, rsp, wrapped, with_register};
-ghost use Rattle.x86_regs.specs.OperandOutcomes.{branched, change, count_after, count_taken, fallen, going_on, is_taken, target_by};
+ghost use Rattle.x86_regs.specs.OperandOutcomes.{branched, change, count_after, is_taken_by_count, fallen, going_on, is_taken, target_by};
 
 use decode_fields::Place;
 use nk_bits::canonical;
@@ -81,7 +81,7 @@ pub(crate) fn ret(more: u64, next: u64, regs: &Regs, popped: u64) -> Result<Chan
 /// Fails with #GP where the target of a branch that is taken isn't canonical.
 pub(crate) fn count_down(op: Op, displacement: u64, next: u64, regs: &Regs) -> Result<Change, Fault>
     ensures { result ≡ branched regs.now next (count_after op regs.now.general)
-        (count_taken op (slice_index (count_after op regs.now.general) rcx) (bit regs.now.flags zero_flag))
+        (is_taken_by_count op (slice_index (count_after op regs.now.general) rcx) (bit regs.now.flags zero_flag))
         (wrapped (next + displacement)) 0 }
 {
     let count = count_by(op, &regs.general);

@@ -3,19 +3,19 @@
 ghost use Rattle.std.specs.Prelude.{◌≡◌, ◌⊎◌, ◌*◌, ◌<◌, IsTrue, IfOk, OnErr, length, Ok};
 ghost use Rattle.nk_bits.specs.Translations.{NamesFramesIn};
 ghost use Rattle.nk_bits.specs.Outcomes.{outcome_of};
-ghost use Rattle.page_walk.specs.AccessPlans.{IsChecked, IsPlan};
+ghost use Rattle.page_walk.specs.AccessPlans.{IsChecked, IsAccessPlan};
 ghost use Rattle.page_walk.specs.MemoryAccess.{view_of};
 ghost use Rattle.x86_decode.specs.WellFormed.{IsWellFormed};
 ghost use Rattle.x86_regs.specs.OperandPlans.{instr_form};
 ghost use Rattle.x86_regs.specs.Effects.{FitsIn, HasAccessSize, asked_nothing, concluded, effect_by, effect_of, effect_with, planned_effect};
 ghost use Rattle.exec_flow.specs.FlowForms.{is_flow_form};
 
+use crate::interrupt_returns::return_effect;
 use crate::outcomes::outcome_by;
 use crate::plans::plan_by;
-use crate::traps::return_effect;
 use mem_access::{check_span, gather};
 use nk_bits::Control;
-use page_walk::{Gathered, Plan};
+use page_walk::{AccessPlan, Gathered};
 use phys_mem::PhysMem;
 use tlb_model::Tlb;
 use x86_decode::Instr;
@@ -198,12 +198,12 @@ fn conclude(
     tlb: &mut Tlb,
     control: &Control,
     cpl: u8,
-    plan: &Plan,
+    plan: &AccessPlan,
     found: &Gathered,
     change: Result<Change, Fault>,
 ) -> Result<Effect, Fault>
     requires cpl { (cpl ≡ 0) ⊎ (cpl ≡ 3) }
-    requires plan { IsPlan plan.now }
+    requires plan { IsAccessPlan plan.now }
     requires both { IsChecked (length mem.now) plan.now.both found.now.both }
     requires root { 4096 * control.now.root < length mem.now }
     requires frames { NamesFramesIn (length mem.now) tlb.old }

@@ -13,8 +13,8 @@ mod plans;
 // What each form makes of the values that it reads.
 mod branches;
 mod flags;
+mod interrupt_returns;
 mod system;
-mod traps;
 
 pub use execution::{effect, execute, is_flow_form};
 

@@ -7,8 +7,8 @@ ghost use Rattle.exec_flow.specs.FlowForms.{is_flow_form};
 
 use crate::branches::{branch, call, count_down, ret};
 use crate::flags::{pop_flags, push_flags};
+use crate::interrupt_returns::trap;
 use crate::system::{acting, drop_page, from_control, input, load_table, output, to_control};
-use crate::traps::trap;
 use nk_bits::Control;
 use page_walk::Gathered;
 use x86_decode::Instr;

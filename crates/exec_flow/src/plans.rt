@@ -2,30 +2,30 @@
 
 ghost use Rattle.std.specs.Prelude.{◌≡◌, IsTrue, None, Some};
 ghost use Rattle.nk_bits.specs.Accesses.{IsAccessSize};
-ghost use Rattle.page_walk.specs.declared.plan.Source.TheVariants.{Is};
-ghost use Rattle.page_walk.specs.AccessPlans.{IsPlan, IsSized, IsSource};
+ghost use Rattle.page_walk.specs.declared.plan.Origin.TheVariants.{Is};
+ghost use Rattle.page_walk.specs.AccessPlans.{IsAccessPlan, IsSized, IsSource};
 ghost use Rattle.x86_decode.specs.WellFormed.{IsWellFormed};
 ghost use Rattle.x86_regs.specs.OperandPlans.{base_span, from_address, from_source, plan, plan_by, table_plan, to_source};
 ghost use Rattle.exec_flow.specs.FlowForms.{is_flow_form};
 
-use page_walk::{Plan, Source, Span};
+use page_walk::{AccessPlan, Origin, Span};
 use x86_decode::Instr;
 use x86_regs::{
     Form, Regs, from_address, from_source, next_of, place_span, pop_source, push_span, to_source,
 };
 
 /// The accesses of an instruction of this form, which has this length in bytes.
-pub(crate) fn plan_by(form: Form, instr: &Instr, size: u8, regs: &Regs) -> Plan
+pub(crate) fn plan_by(form: Form, instr: &Instr, size: u8, regs: &Regs) -> AccessPlan
     requires formed { IsWellFormed instr.now }
     requires row { IsTrue (is_flow_form form) }
     ensures plan { result ≡ plan_by form instr.now size regs.now }
-    ensures sized { IsPlan result }
+    ensures sized { IsAccessPlan result }
 {
     match form {
         Form::Branch | Form::ToControl => reading(from_source(instr, size, regs, 64)),
         Form::Call => calling(from_source(instr, size, regs, 64), push_span(regs, 64)),
         Form::Return => popping(pop_source(regs, 64)),
-        Form::PushFlags => calling(Source::Is(0), push_span(regs, instr.width)),
+        Form::PushFlags => calling(Origin::Is(0), push_span(regs, instr.width)),
         Form::PopFlags => popping(pop_source(regs, instr.width)),
         Form::Input => reading(from_source(instr, size, regs, 16)),
         Form::Output => reading_both(
@@ -38,45 +38,45 @@ pub(crate) fn plan_by(form: Form, instr: &Instr, size: u8, regs: &Regs) -> Plan
             16,
             &instr.from,
         )),
-        Form::DropPage => reading(Source::Is(from_address(instr, size, regs))),
+        Form::DropPage => reading(Origin::Is(from_address(instr, size, regs))),
         Form::CountDown | Form::Trap | Form::TrapReturn | Form::ChangeFlag => no_access(),
         Form::Halt | Form::FromControl | Form::Nothing => no_access(),
         _ => unreachable!(),
     }
 }
 
-fn no_access() -> Plan
+fn no_access() -> AccessPlan
     ensures plan { result ≡ plan None (Is 0) (Is 0) None }
-    ensures sized { IsPlan result }
+    ensures sized { IsAccessPlan result }
 {
-    reading(Source::Is(0))
+    reading(Origin::Is(0))
 }
 
 /// The second operand is read.
-fn reading(from: Source) -> Plan
+fn reading(from: Origin) -> AccessPlan
     requires { IsSource from }
     ensures plan { result ≡ plan None (Is 0) from None }
-    ensures sized { IsPlan result }
+    ensures sized { IsAccessPlan result }
 {
-    reading_both(Source::Is(0), from)
+    reading_both(Origin::Is(0), from)
 }
 
 /// The stack is read.
-fn popping(to: Source) -> Plan
+fn popping(to: Origin) -> AccessPlan
     requires { IsSource to }
     ensures plan { result ≡ plan None to (Is 0) None }
-    ensures sized { IsPlan result }
+    ensures sized { IsAccessPlan result }
 {
-    reading_both(to, Source::Is(0))
+    reading_both(to, Origin::Is(0))
 }
 
-fn reading_both(to: Source, from: Source) -> Plan
+fn reading_both(to: Origin, from: Origin) -> AccessPlan
     requires to { IsSource to }
     requires from { IsSource from }
     ensures plan { result ≡ plan None to from None }
-    ensures sized { IsPlan result }
+    ensures sized { IsAccessPlan result }
 {
-    Plan {
+    AccessPlan {
         both: None,
         to,
         from,
@@ -85,15 +85,15 @@ fn reading_both(to: Source, from: Source) -> Plan
 }
 
 /// The second operand is read, and the stack is written.
-fn calling(from: Source, span: Span) -> Plan
+fn calling(from: Origin, span: Span) -> AccessPlan
     requires from { IsSource from }
     requires span { IsAccessSize span.width }
     ensures plan { result ≡ plan None (Is 0) from (Some span) }
-    ensures sized { IsPlan result }
+    ensures sized { IsAccessPlan result }
 {
-    Plan {
+    AccessPlan {
         both: None,
-        to: Source::Is(0),
+        to: Origin::Is(0),
         from,
         last: Some(span),
     }
@@ -112,13 +112,13 @@ fn base_span(limit: Span) -> Span
 }
 
 /// The limit of a table is read, then its base.
-fn table_plan(limit: Option<Span>) -> Plan
+fn table_plan(limit: Option<Span>) -> AccessPlan
     requires { IsSized limit }
     ensures plan { result ≡ table_plan limit }
-    ensures sized { IsPlan result }
+    ensures sized { IsAccessPlan result }
 {
     match limit {
         None => no_access(),
-        Some(limit) => reading_both(Source::At(limit), Source::At(base_span(limit))),
+        Some(limit) => reading_both(Origin::At(limit), Origin::At(base_span(limit))),
     }
 }

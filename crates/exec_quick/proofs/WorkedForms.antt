@@ -8,7 +8,7 @@ use Rattle.x86_decode.specs.declared.instruction.Decoded.TheVariants.{Whole}
 use Rattle.x86_decode.specs.declared.operation.Op.TheVariants as op
 use Rattle.exec_quick.specs.declared.quick.Kind.TheVariants as kind
 use Rattle.exec_quick.specs.declared.quick.Quick.{Quick}
-use Rattle.exec_quick.specs.QuickForms.{StandsFor, instr_of}
+use Rattle.exec_quick.specs.QuickForms.{StandsFor, instruction_of}
 
 abbrev add_of_memory : Quick
 add_of_memory = record {
@@ -28,7 +28,7 @@ add_of_memory = record {
 }
 
 -- it means that instruction
-means : instr_of add_of_memory ≡ record {
+means : instruction_of add_of_memory ≡ record {
   op = op.Add;
   width = 64;
   to = Reg 0;
@@ -40,7 +40,7 @@ means : instr_of add_of_memory ≡ record {
 means = refl
 
 -- without a base and an index, from the next instruction on
-means_by_rip : instr_of (record add_of_memory { base = 16; index = 16; scale = 1; follows_rip = true }) ≡ record {
+means_by_rip : instruction_of (record add_of_memory { base = 16; index = 16; scale = 1; follows_rip = true }) ≡ record {
   op = op.Add;
   width = 64;
   to = Reg 0;
@@ -56,6 +56,6 @@ abbrev length_of : Decoded → ℕ
 length_of (Whole instr size) = size
 length_of _ = 0
 
-not_of_another_length : StandsFor add_of_memory (Whole (instr_of add_of_memory) 4) → ⊥
+not_of_another_length : StandsFor add_of_memory (Whole (instruction_of add_of_memory) 4) → ⊥
 not_of_another_length it =
     let same : 4 ≡ 5 = ap length_of it.means in absurd (omega (arith, same))

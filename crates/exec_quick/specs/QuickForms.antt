@@ -212,18 +212,18 @@ register_of n = if n == 16 then None else Some n
 abbrev pub operand_of : ℕ → Place
 operand_of n = if n == 16 then Value else if n == 17 then Nothing else if nat_le 18 n then High (n - 18) else Reg n
 
-abbrev pub address_of : Quick → Address
-address_of q = record { base = register_of q.base; index = register_of q.index; scale = q.scale; disp = q.displacement; rip = q.follows_rip }
+abbrev pub quick_address : Quick → Address
+quick_address q = record { base = register_of q.base; index = register_of q.index; scale = q.scale; disp = q.displacement; rip = q.follows_rip }
 
 abbrev pub to_of : Quick → Place
-to_of q = if has_memory_first q.kind then Mem (address_of q) else operand_of q.to
+to_of q = if has_memory_first q.kind then Mem (quick_address q) else operand_of q.to
 
 abbrev pub from_of : Quick → Place
-from_of q = if has_memory_second q.kind then Mem (address_of q) else operand_of q.from
+from_of q = if has_memory_second q.kind then Mem (quick_address q) else operand_of q.from
 
 -- the instruction that a quick form means
-abbrev pub instr_of : Quick → Instr
-instr_of q = record { op = op_by q.kind q.op; width = width_by q.kind q.width; to = to_of q; from = from_of q; value = q.value; rep = q.rep; lock = false }
+abbrev pub instruction_of : Quick → Instr
+instruction_of q = record { op = op_by q.kind q.op; width = width_by q.kind q.width; to = to_of q; from = from_of q; value = q.value; rep = q.rep; lock = false }
 
 -- the value of an operand that isn't in memory, at a width
 abbrev pub operand_value : ℕ → ℕ → List ℕ → ℕ → ℕ
@@ -231,7 +231,7 @@ operand_value n value general w =
     if n == 16 then value else if n == 17 then 0 else if nat_le 18 n then held general (High (n - 18)) w else held general (Reg n) w
 
 -- numbers of registers are among the sixteen, or say that there is none; the width is one of four
-pub record IsReady (q : Quick) : Type 0 where
+pub record IsQuick (q : Quick) : Type 0 where
   pub width : IsWidth q.width
   pub to : q.to < 22
   pub from : q.from < 22
@@ -277,11 +277,11 @@ has_register_first _ = false
 
 -- a quick form stands for what code decoded to: that is its instruction, which no condition refuses
 pub record StandsFor (q : Quick) (answer : Decoded) : Type 0 where
-  pub means : answer ≡ Whole (instr_of q) q.size
-  pub ready : IsReady q
+  pub means : answer ≡ Whole (instruction_of q) q.size
+  pub ready : IsQuick q
   pub register : has_register_first q.kind ≡ true → q.to < 16
-  pub form : instr_form (instr_of q) ≡ form_by q.kind
-  pub lawful : (cpl : ℕ) → refusal (instr_of q) cpl ≡ None
+  pub form : instr_form (instruction_of q) ≡ form_by q.kind
+  pub lawful : (cpl : ℕ) → refusal (instruction_of q) cpl ≡ None
 
 -- an effect whose write is made
 pub record Settled : Type 0 where
@@ -297,10 +297,10 @@ abbrev pub settled : Outcome Fault Effect → List ℕ → Outcome Fault Settled
 settled outcome m = outcome_of (settled_by outcome.answer m) outcome.tlb
 
 -- registers and memory after an instruction that asks nothing, with all that is kept of walks as before
-abbrev pub quietly : Regs → List ℕ → Translations → Outcome Fault Settled
-quietly regs m tlb = answered (record { regs = regs; memory = m; act = Quiet }) tlb
+abbrev pub quiet_outcome : Regs → List ℕ → Translations → Outcome Fault Settled
+quiet_outcome regs m tlb = answered (record { regs = regs; memory = m; act = Quiet }) tlb
 
 -- the effect of a quick form's instruction, by this form
 abbrev pub effect_made : Form → Quick → Regs → Control → List ℕ → Translations → Outcome Fault Settled
 effect_made form q regs control m tlb =
-    settled (planned_effect form (instr_of q) q.size regs control m (view_of m control regs.cpl) tlb) m
+    settled (planned_effect form (instruction_of q) q.size regs control m (view_of m control regs.cpl) tlb) m

@@ -4,13 +4,13 @@ use Rattle.x86_decode.specs.declared.operation.Op.{Op}
 use Rattle.exec_quick.specs.declared.quick.Kind.{Kind}
 use Rattle.x86_decode.specs.declared.instruction.Instr.{Instr}
 use Rattle.exec_quick.specs.declared.quick.Quick.{Quick}
-use Rattle.exec_quick.specs.QuickForms.{IsReady, form_by, has_memory_first, has_memory_second, has_register_first, instr_of, is_slow, op_by, width_by}
+use Rattle.exec_quick.specs.QuickForms.{IsQuick, form_by, has_memory_first, has_memory_second, has_register_first, instruction_of, is_slow, op_by, width_by}
 
 -- the parts of this instruction, which has so many bytes
 pub record HasParts (q : Quick) (instr : Instr) (size : ℕ) : Type 0 where
-  pub means : instr_of q ≡ instr
+  pub means : instruction_of q ≡ instr
   pub sized : q.size ≡ size
-  pub ready : IsReady q
+  pub ready : IsQuick q
   pub register : has_register_first q.kind ≡ true → q.to < 16
 
 -- a kind says the same of an instruction with this operation and width as another kind

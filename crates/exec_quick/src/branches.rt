@@ -4,11 +4,11 @@ ghost use Rattle.std.specs.Prelude.{◌≡◌, ◌⊎◌, ◌<◌, true, false, 
 ghost use Rattle.nk_bits.specs.Translations.{NamesFramesIn};
 ghost use Rattle.x86_regs.specs.declared.form.Form.TheVariants as Form;
 ghost use Rattle.exec_quick.specs.declared.quick.Kind.TheVariants as Kind;
-ghost use Rattle.page_walk.specs.declared.plan.Source.TheVariants.{Is};
+ghost use Rattle.page_walk.specs.declared.plan.Origin.TheVariants.{Is};
 ghost use Rattle.x86_regs.specs.OperandOutcomes.{target_by};
 ghost use Rattle.x86_regs.specs.Operands.{source_by};
 ghost use Rattle.mem_access.specs.Windows.{IsWindow};
-ghost use Rattle.exec_quick.specs.QuickForms.{IsReady, effect_made, operand_of, operand_value, quietly};
+ghost use Rattle.exec_quick.specs.QuickForms.{IsQuick, effect_made, operand_of, operand_value, quiet_outcome};
 
 use crate::kept::load;
 use crate::operands::address;
@@ -24,7 +24,7 @@ use x86_regs::{Regs, bit, count_by, count_taken, is_taken, next_of, set_count};
 /// A branch's target: a displacement from the next instruction, or what a register holds.
 #[inline(always)]
 pub(crate) fn target(quick: &Quick, next: u64, general: &[u64; 16]) -> u64
-    requires ready { IsReady quick.now }
+    requires ready { IsQuick quick.now }
     ensures source { source_by general.now next 64 quick.now.value (operand_of quick.now.from)
         ≡ Is (operand_value quick.now.from quick.now.value general.now 64) }
     ensures target { result ≡ target_by (operand_of quick.now.from) next
@@ -52,10 +52,10 @@ pub(crate) fn branch(
     mem: &mut PhysMem,
     tlb: &Tlb,
 ) -> bool
-    requires ready { IsReady quick.now }
+    requires ready { IsQuick quick.now }
     requires cpl { (regs.old.cpl ≡ 0) ⊎ (regs.old.cpl ≡ 3) }
     requires frames { NamesFramesIn (length mem.old) tlb.now }
-    ensures made { result ≡ true → quietly regs.new mem.new tlb.now
+    ensures made { result ≡ true → quiet_outcome regs.new mem.new tlb.now
         ≡ effect_made Form.Branch (record quick.now { kind = Kind.Branch; op = op }) regs.old
         control.now mem.old tlb.now }
     ensures left { result ≡ false → (regs.new ≡ regs.old) × (mem.new ≡ mem.old) }
@@ -86,13 +86,13 @@ pub(crate) fn branch_load(
     tlb: &Tlb,
     window: &mut Window,
 ) -> bool
-    requires ready { IsReady quick.now }
+    requires ready { IsQuick quick.now }
     requires kind { quick.now.kind ≡ Kind.BranchLoad }
     requires cpl { (regs.old.cpl ≡ 0) ⊎ (regs.old.cpl ≡ 3) }
     requires frames { NamesFramesIn (length mem.old) tlb.now }
     requires window { IsWindow (length mem.old) control.now regs.old.cpl tlb.now window.old }
     ensures window { IsWindow (length mem.old) control.now regs.old.cpl tlb.now window.new }
-    ensures made { result ≡ true → quietly regs.new mem.new tlb.now
+    ensures made { result ≡ true → quiet_outcome regs.new mem.new tlb.now
         ≡ effect_made Form.Branch quick.now regs.old control.now mem.old tlb.now }
     ensures left { result ≡ false → (regs.new ≡ regs.old) × (mem.new ≡ mem.old) }
     ensures length { length mem.new ≡ length mem.old }
@@ -125,10 +125,10 @@ pub(crate) fn count_down(
     mem: &mut PhysMem,
     tlb: &Tlb,
 ) -> bool
-    requires ready { IsReady quick.now }
+    requires ready { IsQuick quick.now }
     requires cpl { (regs.old.cpl ≡ 0) ⊎ (regs.old.cpl ≡ 3) }
     requires frames { NamesFramesIn (length mem.old) tlb.now }
-    ensures made { result ≡ true → quietly regs.new mem.new tlb.now
+    ensures made { result ≡ true → quiet_outcome regs.new mem.new tlb.now
         ≡ effect_made Form.CountDown (record quick.now { kind = Kind.CountDown; op = op }) regs.old
         control.now mem.old tlb.now }
     ensures left { result ≡ false → (regs.new ≡ regs.old) × (mem.new ≡ mem.old) }

@@ -3,10 +3,10 @@
 ghost use Rattle.std.specs.Prelude.{◌≡◌, ◌<◌, ◌≤◌, ◌*◌, ◌^◌, ℕ, None};
 ghost use Rattle.decode_fields.specs.Widths.{IsWidth};
 ghost use Rattle.x86_alu.specs.SignedNumbers.{cut};
-ghost use Rattle.page_walk.specs.declared.plan.Source.TheVariants.{Is};
+ghost use Rattle.page_walk.specs.declared.plan.Origin.TheVariants.{Is};
 ghost use Rattle.x86_regs.specs.Operands.{added, address_by, next_of, place_span, source_by};
 ghost use Rattle.x86_regs.specs.Registers.{written};
-ghost use Rattle.exec_quick.specs.QuickForms.{IsReady, address_of, operand_of, operand_value, register_of};
+ghost use Rattle.exec_quick.specs.QuickForms.{IsQuick, quick_address, operand_of, operand_value, register_of};
 
 use crate::quick::Quick;
 use decode_fields::Place;
@@ -33,7 +33,7 @@ pub(crate) fn operand(number: u8, value: u64, general: &[u64; 16]) -> u64
 /// The value of the first operand, which isn't in memory, of which so many low bits count.
 #[inline(always)]
 pub(crate) fn first(quick: &Quick, width: u8, regs: &Regs) -> u64
-    requires ready { IsReady quick.now }
+    requires ready { IsQuick quick.now }
     requires width { IsWidth width }
     ensures source { source_by regs.now.general (next_of regs.now quick.now.size) width quick.now.value
         (operand_of quick.now.to) ≡ Is (operand_value quick.now.to quick.now.value regs.now.general width) }
@@ -75,7 +75,7 @@ pub(crate) fn put_result(quick: &Quick, width: u8, it: Out, next: u64, regs: &mu
 /// The value of the second operand, which isn't in memory, of which so many low bits count.
 #[inline(always)]
 pub(crate) fn source(quick: &Quick, width: u8, regs: &Regs) -> u64
-    requires ready { IsReady quick.now }
+    requires ready { IsQuick quick.now }
     requires width { IsWidth width }
     ensures source { source_by regs.now.general (next_of regs.now quick.now.size) width quick.now.value
         (operand_of quick.now.from) ≡ Is (operand_value quick.now.from quick.now.value regs.now.general width) }
@@ -88,8 +88,8 @@ pub(crate) fn source(quick: &Quick, width: u8, regs: &Regs) -> u64
 /// The linear address of the operand in memory.
 #[inline(always)]
 pub(crate) fn address(quick: &Quick, general: &[u64; 16], next: u64) -> u64
-    requires ready { IsReady quick.now }
-    ensures { result ≡ address_by general.now next (address_of quick.now) }
+    requires ready { IsQuick quick.now }
+    ensures { result ≡ address_by general.now next (quick_address quick.now) }
 {
     let base = register(quick.base, general);
     let index = scaled(register(quick.index, general), quick.scale);

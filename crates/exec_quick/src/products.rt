@@ -6,10 +6,10 @@ ghost use Rattle.nk_bits.specs.Translations.{NamesFramesIn};
 ghost use Rattle.x86_alu.specs.SignedNumbers.{cut};
 ghost use Rattle.x86_regs.specs.declared.form.Form.TheVariants as Form;
 ghost use Rattle.x86_regs.specs.Registers.{written};
-ghost use Rattle.x86_regs.specs.OperandOutcomes.{divided, halves_written, is_signed, multiplied_wide, quietly as changing, upper_half, upper_place};
+ghost use Rattle.x86_regs.specs.OperandOutcomes.{divided, halves_written, is_signed, multiplied_wide, quietly, upper_half, upper_place};
 ghost use Rattle.exec_quick.specs.declared.quick.Kind.TheVariants as Kind;
 ghost use Rattle.mem_access.specs.Windows.{IsWindow};
-ghost use Rattle.exec_quick.specs.QuickForms.{IsReady, effect_made, instr_of, quietly, width_by};
+ghost use Rattle.exec_quick.specs.QuickForms.{IsQuick, effect_made, instruction_of, quiet_outcome, width_by};
 
 use crate::kept::load;
 use crate::operands::{address, first};
@@ -69,9 +69,9 @@ fn set_halves(general: &mut [u64; 16], width: u8, low: u64, high: u64)
 /// The accumulator times a number, into both halves, with CF and OF; and on to the next instruction.
 #[inline(always)]
 fn multiply_by(quick: &Quick, next: u64, regs: &mut Regs, by: u64)
-    requires ready { IsReady quick.now }
+    requires ready { IsQuick quick.now }
     requires width { width_by quick.now.kind quick.now.width ≡ quick.now.width }
-    ensures product { changing regs.new ≡ multiplied_wide (instr_of quick.now) regs.old next
+    ensures product { quietly regs.new ≡ multiplied_wide (instruction_of quick.now) regs.old next
         (is_signed quick.now.op) (cut quick.now.width by) }
     ensures privilege { regs.new.cpl ≡ regs.old.cpl }
 {
@@ -88,9 +88,9 @@ fn multiply_by(quick: &Quick, next: u64, regs: &mut Regs, by: u64)
 /// quotient doesn't fit, nothing.
 #[inline(always)]
 fn divide_by(quick: &Quick, next: u64, regs: &mut Regs, by: u64) -> bool
-    requires ready { IsReady quick.now }
+    requires ready { IsQuick quick.now }
     requires width { width_by quick.now.kind quick.now.width ≡ quick.now.width }
-    ensures quotient { result ≡ true → changing regs.new ≡ divided (instr_of quick.now) regs.old next
+    ensures quotient { result ≡ true → quietly regs.new ≡ divided (instruction_of quick.now) regs.old next
         (is_signed quick.now.op) (cut quick.now.width by) }
     ensures left { result ≡ false → regs.new ≡ regs.old }
     ensures privilege { regs.new.cpl ≡ regs.old.cpl }
@@ -116,11 +116,11 @@ pub(crate) fn multiply(
     mem: &mut PhysMem,
     tlb: &Tlb,
 ) -> bool
-    requires ready { IsReady quick.now }
+    requires ready { IsQuick quick.now }
     requires kind { quick.now.kind ≡ Kind.Multiply }
     requires cpl { (regs.old.cpl ≡ 0) ⊎ (regs.old.cpl ≡ 3) }
     requires frames { NamesFramesIn (length mem.old) tlb.now }
-    ensures made { result ≡ true → quietly regs.new mem.new tlb.now
+    ensures made { result ≡ true → quiet_outcome regs.new mem.new tlb.now
         ≡ effect_made Form.Multiply quick.now regs.old control.now mem.old tlb.now }
     ensures left { result ≡ false → (regs.new ≡ regs.old) × (mem.new ≡ mem.old) }
     ensures length { length mem.new ≡ length mem.old }
@@ -143,13 +143,13 @@ pub(crate) fn multiply_load(
     tlb: &Tlb,
     window: &mut Window,
 ) -> bool
-    requires ready { IsReady quick.now }
+    requires ready { IsQuick quick.now }
     requires kind { quick.now.kind ≡ Kind.MultiplyLoad }
     requires cpl { (regs.old.cpl ≡ 0) ⊎ (regs.old.cpl ≡ 3) }
     requires frames { NamesFramesIn (length mem.old) tlb.now }
     requires window { IsWindow (length mem.old) control.now regs.old.cpl tlb.now window.old }
     ensures window { IsWindow (length mem.old) control.now regs.old.cpl tlb.now window.new }
-    ensures made { result ≡ true → quietly regs.new mem.new tlb.now
+    ensures made { result ≡ true → quiet_outcome regs.new mem.new tlb.now
         ≡ effect_made Form.Multiply quick.now regs.old control.now mem.old tlb.now }
     ensures left { result ≡ false → (regs.new ≡ regs.old) × (mem.new ≡ mem.old) }
     ensures length { length mem.new ≡ length mem.old }
@@ -176,11 +176,11 @@ pub(crate) fn divide(
     mem: &mut PhysMem,
     tlb: &Tlb,
 ) -> bool
-    requires ready { IsReady quick.now }
+    requires ready { IsQuick quick.now }
     requires kind { quick.now.kind ≡ Kind.Divide }
     requires cpl { (regs.old.cpl ≡ 0) ⊎ (regs.old.cpl ≡ 3) }
     requires frames { NamesFramesIn (length mem.old) tlb.now }
-    ensures made { result ≡ true → quietly regs.new mem.new tlb.now
+    ensures made { result ≡ true → quiet_outcome regs.new mem.new tlb.now
         ≡ effect_made Form.Divide quick.now regs.old control.now mem.old tlb.now }
     ensures left { result ≡ false → (regs.new ≡ regs.old) × (mem.new ≡ mem.old) }
     ensures length { length mem.new ≡ length mem.old }
@@ -202,13 +202,13 @@ pub(crate) fn divide_load(
     tlb: &Tlb,
     window: &mut Window,
 ) -> bool
-    requires ready { IsReady quick.now }
+    requires ready { IsQuick quick.now }
     requires kind { quick.now.kind ≡ Kind.DivideLoad }
     requires cpl { (regs.old.cpl ≡ 0) ⊎ (regs.old.cpl ≡ 3) }
     requires frames { NamesFramesIn (length mem.old) tlb.now }
     requires window { IsWindow (length mem.old) control.now regs.old.cpl tlb.now window.old }
     ensures window { IsWindow (length mem.old) control.now regs.old.cpl tlb.now window.new }
-    ensures made { result ≡ true → quietly regs.new mem.new tlb.now
+    ensures made { result ≡ true → quiet_outcome regs.new mem.new tlb.now
         ≡ effect_made Form.Divide quick.now regs.old control.now mem.old tlb.now }
     ensures left { result ≡ false → (regs.new ≡ regs.old) × (mem.new ≡ mem.old) }
     ensures length { length mem.new ≡ length mem.old }

@@ -5,7 +5,7 @@ ghost use Rattle.decode_fields.specs.Widths.{IsWidth};
 ghost use Rattle.nk_bits.specs.Translations.{NamesFramesIn};
 ghost use Rattle.x86_regs.specs.declared.form.Form.TheVariants as Form;
 ghost use Rattle.exec_quick.specs.declared.quick.Kind.TheVariants as Kind;
-ghost use Rattle.exec_quick.specs.QuickForms.{IsReady, effect_made, quietly};
+ghost use Rattle.exec_quick.specs.QuickForms.{IsQuick, effect_made, quiet_outcome};
 
 use crate::operands::{address, first_register, put_result, source};
 use crate::quick::Quick;
@@ -31,12 +31,12 @@ pub(crate) fn combine(
     mem: &mut PhysMem,
     tlb: &Tlb,
 ) -> bool
-    requires ready { IsReady quick.now }
+    requires ready { IsQuick quick.now }
     requires width { IsWidth width }
     requires register { quick.now.to < 16 }
     requires cpl { (regs.old.cpl ≡ 0) ⊎ (regs.old.cpl ≡ 3) }
     requires frames { NamesFramesIn (length mem.old) tlb.now }
-    ensures made { result ≡ true → quietly regs.new mem.new tlb.now
+    ensures made { result ≡ true → quiet_outcome regs.new mem.new tlb.now
         ≡ effect_made Form.Combine (record quick.now { kind = Kind.Combine; op = op; width = width }) regs.old
         control.now mem.old tlb.now }
     ensures left { result ≡ false → (regs.new ≡ regs.old) × (mem.new ≡ mem.old) }
@@ -64,12 +64,12 @@ pub(crate) fn compare(
     mem: &mut PhysMem,
     tlb: &Tlb,
 ) -> bool
-    requires ready { IsReady quick.now }
+    requires ready { IsQuick quick.now }
     requires width { IsWidth width }
     requires register { quick.now.to < 16 }
     requires cpl { (regs.old.cpl ≡ 0) ⊎ (regs.old.cpl ≡ 3) }
     requires frames { NamesFramesIn (length mem.old) tlb.now }
-    ensures made { result ≡ true → quietly regs.new mem.new tlb.now
+    ensures made { result ≡ true → quiet_outcome regs.new mem.new tlb.now
         ≡ effect_made Form.Compare (record quick.now { kind = Kind.Compare; op = op; width = width }) regs.old
         control.now mem.old tlb.now }
     ensures left { result ≡ false → (regs.new ≡ regs.old) × (mem.new ≡ mem.old) }
@@ -96,12 +96,12 @@ pub(crate) fn move_over(
     mem: &mut PhysMem,
     tlb: &Tlb,
 ) -> bool
-    requires ready { IsReady quick.now }
+    requires ready { IsQuick quick.now }
     requires width { IsWidth width }
     requires register { quick.now.to < 16 }
     requires cpl { (regs.old.cpl ≡ 0) ⊎ (regs.old.cpl ≡ 3) }
     requires frames { NamesFramesIn (length mem.old) tlb.now }
-    ensures made { result ≡ true → quietly regs.new mem.new tlb.now
+    ensures made { result ≡ true → quiet_outcome regs.new mem.new tlb.now
         ≡ effect_made Form.Move (record quick.now { kind = Kind.Move; op = op; width = width }) regs.old
         control.now mem.old tlb.now }
     ensures left { result ≡ false → (regs.new ≡ regs.old) × (mem.new ≡ mem.old) }
@@ -127,12 +127,12 @@ pub(crate) fn load_address(
     mem: &mut PhysMem,
     tlb: &Tlb,
 ) -> bool
-    requires ready { IsReady quick.now }
+    requires ready { IsQuick quick.now }
     requires kind { quick.now.kind ≡ Kind.Address }
     requires register { quick.now.to < 16 }
     requires cpl { (regs.old.cpl ≡ 0) ⊎ (regs.old.cpl ≡ 3) }
     requires frames { NamesFramesIn (length mem.old) tlb.now }
-    ensures made { result ≡ true → quietly regs.new mem.new tlb.now
+    ensures made { result ≡ true → quiet_outcome regs.new mem.new tlb.now
         ≡ effect_made Form.Address quick.now regs.old control.now mem.old tlb.now }
     ensures left { result ≡ false → (regs.new ≡ regs.old) × (mem.new ≡ mem.old) }
     ensures length { length mem.new ≡ length mem.old }

@@ -4,10 +4,10 @@ ghost use Rattle.std.specs.Prelude.{◌≡◌, ◌⊎◌, ◌<◌, true, false, 
 ghost use Rattle.nk_bits.specs.Translations.{NamesFramesIn};
 ghost use Rattle.x86_alu.specs.SignedNumbers.{cut};
 ghost use Rattle.x86_regs.specs.declared.form.Form.TheVariants as Form;
-ghost use Rattle.x86_regs.specs.OperandOutcomes.{bits_scanned, is_forward, quietly as changing};
+ghost use Rattle.x86_regs.specs.OperandOutcomes.{bits_scanned, is_forward, quietly};
 ghost use Rattle.exec_quick.specs.declared.quick.Kind.TheVariants as Kind;
 ghost use Rattle.mem_access.specs.Windows.{IsWindow};
-ghost use Rattle.exec_quick.specs.QuickForms.{IsReady, effect_made, has_memory_first, instr_of, quietly, width_by};
+ghost use Rattle.exec_quick.specs.QuickForms.{IsQuick, effect_made, has_memory_first, instruction_of, quiet_outcome, width_by};
 
 use crate::kept::load;
 use crate::operands::{address, source};
@@ -32,11 +32,11 @@ fn is_forward(op: Op) -> bool
 /// bit is set the register keeps its whole value.
 #[inline(always)]
 fn scan(quick: &Quick, next: u64, regs: &mut Regs, from: u64)
-    requires ready { IsReady quick.now }
+    requires ready { IsQuick quick.now }
     requires width { width_by quick.now.kind quick.now.width ≡ quick.now.width }
     requires first { has_memory_first quick.now.kind ≡ false }
     requires register { quick.now.to < 16 }
-    ensures scanned { changing regs.new ≡ bits_scanned (instr_of quick.now) regs.old next
+    ensures scanned { quietly regs.new ≡ bits_scanned (instruction_of quick.now) regs.old next
         (is_forward quick.now.op) (cut quick.now.width from) }
     ensures privilege { regs.new.cpl ≡ regs.old.cpl }
 {
@@ -63,12 +63,12 @@ pub(crate) fn scan_bits(
     mem: &mut PhysMem,
     tlb: &Tlb,
 ) -> bool
-    requires ready { IsReady quick.now }
+    requires ready { IsQuick quick.now }
     requires kind { quick.now.kind ≡ Kind.ScanBits }
     requires register { quick.now.to < 16 }
     requires cpl { (regs.old.cpl ≡ 0) ⊎ (regs.old.cpl ≡ 3) }
     requires frames { NamesFramesIn (length mem.old) tlb.now }
-    ensures made { result ≡ true → quietly regs.new mem.new tlb.now
+    ensures made { result ≡ true → quiet_outcome regs.new mem.new tlb.now
         ≡ effect_made Form.ScanBits quick.now regs.old control.now mem.old tlb.now }
     ensures left { result ≡ false → (regs.new ≡ regs.old) × (mem.new ≡ mem.old) }
     ensures length { length mem.new ≡ length mem.old }
@@ -91,14 +91,14 @@ pub(crate) fn scan_bits_load(
     tlb: &Tlb,
     window: &mut Window,
 ) -> bool
-    requires ready { IsReady quick.now }
+    requires ready { IsQuick quick.now }
     requires kind { quick.now.kind ≡ Kind.ScanBitsLoad }
     requires register { quick.now.to < 16 }
     requires cpl { (regs.old.cpl ≡ 0) ⊎ (regs.old.cpl ≡ 3) }
     requires frames { NamesFramesIn (length mem.old) tlb.now }
     requires window { IsWindow (length mem.old) control.now regs.old.cpl tlb.now window.old }
     ensures window { IsWindow (length mem.old) control.now regs.old.cpl tlb.now window.new }
-    ensures made { result ≡ true → quietly regs.new mem.new tlb.now
+    ensures made { result ≡ true → quiet_outcome regs.new mem.new tlb.now
         ≡ effect_made Form.ScanBits quick.now regs.old control.now mem.old tlb.now }
     ensures left { result ≡ false → (regs.new ≡ regs.old) × (mem.new ≡ mem.old) }
     ensures length { length mem.new ≡ length mem.old }

@@ -5,11 +5,11 @@ ghost use Rattle.std.specs.Prelude.{◌≡◌, ◌⊎◌, ◌<◌, true, false, 
 ghost use Rattle.nk_bits.specs.Translations.{NamesFramesIn};
 ghost use Rattle.x86_regs.specs.declared.form.Form.TheVariants as Form;
 ghost use Rattle.exec_quick.specs.declared.quick.Kind.TheVariants as Kind;
-ghost use Rattle.page_walk.specs.declared.plan.Source.TheVariants.{Is};
+ghost use Rattle.page_walk.specs.declared.plan.Origin.TheVariants.{Is};
 ghost use Rattle.x86_alu.specs.SignedNumbers.{cut};
 ghost use Rattle.x86_regs.specs.Operands.{next_of, source_by};
 ghost use Rattle.mem_access.specs.Windows.{IsWindow};
-ghost use Rattle.exec_quick.specs.QuickForms.{IsReady, effect_made, operand_of, operand_value, quietly};
+ghost use Rattle.exec_quick.specs.QuickForms.{IsQuick, effect_made, operand_of, operand_value, quiet_outcome};
 
 use crate::branches::target;
 use crate::kept::{load, store};
@@ -25,7 +25,7 @@ use x86_regs::{RBP, RSP, Regs, low, lowered, next_of, set_place, set_register};
 /// The number that a push puts on the stack.
 #[inline(always)]
 fn pushed(quick: &Quick, regs: &Regs) -> u64
-    requires ready { IsReady quick.now }
+    requires ready { IsQuick quick.now }
     ensures source { source_by regs.now.general (next_of regs.now quick.now.size) quick.now.width quick.now.value
         (operand_of quick.now.from)
         ≡ Is (operand_value quick.now.from quick.now.value regs.now.general quick.now.width) }
@@ -46,13 +46,13 @@ pub(crate) fn push(
     tlb: &Tlb,
     window: &mut Window,
 ) -> bool
-    requires ready { IsReady quick.now }
+    requires ready { IsQuick quick.now }
     requires kind { quick.now.kind ≡ Kind.Push }
     requires cpl { (regs.old.cpl ≡ 0) ⊎ (regs.old.cpl ≡ 3) }
     requires frames { NamesFramesIn (length mem.old) tlb.now }
     requires window { IsWindow (length mem.old) control.now regs.old.cpl tlb.now window.old }
     ensures window { IsWindow (length mem.old) control.now regs.old.cpl tlb.now window.new }
-    ensures made { result ≡ true → quietly regs.new mem.new tlb.now
+    ensures made { result ≡ true → quiet_outcome regs.new mem.new tlb.now
         ≡ effect_made Form.Push quick.now regs.old control.now mem.old tlb.now }
     ensures left { result ≡ false → (regs.new ≡ regs.old) × (mem.new ≡ mem.old) }
     ensures length { length mem.new ≡ length mem.old }
@@ -82,13 +82,13 @@ pub(crate) fn push_load(
     tlb: &Tlb,
     window: &mut Window,
 ) -> bool
-    requires ready { IsReady quick.now }
+    requires ready { IsQuick quick.now }
     requires kind { quick.now.kind ≡ Kind.PushLoad }
     requires cpl { (regs.old.cpl ≡ 0) ⊎ (regs.old.cpl ≡ 3) }
     requires frames { NamesFramesIn (length mem.old) tlb.now }
     requires window { IsWindow (length mem.old) control.now regs.old.cpl tlb.now window.old }
     ensures window { IsWindow (length mem.old) control.now regs.old.cpl tlb.now window.new }
-    ensures made { result ≡ true → quietly regs.new mem.new tlb.now
+    ensures made { result ≡ true → quiet_outcome regs.new mem.new tlb.now
         ≡ effect_made Form.Push quick.now regs.old control.now mem.old tlb.now }
     ensures left { result ≡ false → (regs.new ≡ regs.old) × (mem.new ≡ mem.old) }
     ensures length { length mem.new ≡ length mem.old }
@@ -122,14 +122,14 @@ pub(crate) fn pop(
     tlb: &Tlb,
     window: &mut Window,
 ) -> bool
-    requires ready { IsReady quick.now }
+    requires ready { IsQuick quick.now }
     requires kind { quick.now.kind ≡ Kind.Pop }
     requires register { quick.now.to < 16 }
     requires cpl { (regs.old.cpl ≡ 0) ⊎ (regs.old.cpl ≡ 3) }
     requires frames { NamesFramesIn (length mem.old) tlb.now }
     requires window { IsWindow (length mem.old) control.now regs.old.cpl tlb.now window.old }
     ensures window { IsWindow (length mem.old) control.now regs.old.cpl tlb.now window.new }
-    ensures made { result ≡ true → quietly regs.new mem.new tlb.now
+    ensures made { result ≡ true → quiet_outcome regs.new mem.new tlb.now
         ≡ effect_made Form.Pop quick.now regs.old control.now mem.old tlb.now }
     ensures left { result ≡ false → (regs.new ≡ regs.old) × (mem.new ≡ mem.old) }
     ensures length { length mem.new ≡ length mem.old }
@@ -164,13 +164,13 @@ pub(crate) fn call(
     tlb: &Tlb,
     window: &mut Window,
 ) -> bool
-    requires ready { IsReady quick.now }
+    requires ready { IsQuick quick.now }
     requires kind { quick.now.kind ≡ Kind.Call }
     requires cpl { (regs.old.cpl ≡ 0) ⊎ (regs.old.cpl ≡ 3) }
     requires frames { NamesFramesIn (length mem.old) tlb.now }
     requires window { IsWindow (length mem.old) control.now regs.old.cpl tlb.now window.old }
     ensures window { IsWindow (length mem.old) control.now regs.old.cpl tlb.now window.new }
-    ensures made { result ≡ true → quietly regs.new mem.new tlb.now
+    ensures made { result ≡ true → quiet_outcome regs.new mem.new tlb.now
         ≡ effect_made Form.Call quick.now regs.old control.now mem.old tlb.now }
     ensures left { result ≡ false → (regs.new ≡ regs.old) × (mem.new ≡ mem.old) }
     ensures length { length mem.new ≡ length mem.old }
@@ -202,13 +202,13 @@ pub(crate) fn call_load(
     tlb: &Tlb,
     window: &mut Window,
 ) -> bool
-    requires ready { IsReady quick.now }
+    requires ready { IsQuick quick.now }
     requires kind { quick.now.kind ≡ Kind.CallLoad }
     requires cpl { (regs.old.cpl ≡ 0) ⊎ (regs.old.cpl ≡ 3) }
     requires frames { NamesFramesIn (length mem.old) tlb.now }
     requires window { IsWindow (length mem.old) control.now regs.old.cpl tlb.now window.old }
     ensures window { IsWindow (length mem.old) control.now regs.old.cpl tlb.now window.new }
-    ensures made { result ≡ true → quietly regs.new mem.new tlb.now
+    ensures made { result ≡ true → quiet_outcome regs.new mem.new tlb.now
         ≡ effect_made Form.Call quick.now regs.old control.now mem.old tlb.now }
     ensures left { result ≡ false → (regs.new ≡ regs.old) × (mem.new ≡ mem.old) }
     ensures length { length mem.new ≡ length mem.old }
@@ -244,13 +244,13 @@ pub(crate) fn ret(
     tlb: &Tlb,
     window: &mut Window,
 ) -> bool
-    requires ready { IsReady quick.now }
+    requires ready { IsQuick quick.now }
     requires kind { quick.now.kind ≡ Kind.Return }
     requires cpl { (regs.old.cpl ≡ 0) ⊎ (regs.old.cpl ≡ 3) }
     requires frames { NamesFramesIn (length mem.old) tlb.now }
     requires window { IsWindow (length mem.old) control.now regs.old.cpl tlb.now window.old }
     ensures window { IsWindow (length mem.old) control.now regs.old.cpl tlb.now window.new }
-    ensures made { result ≡ true → quietly regs.new mem.new tlb.now
+    ensures made { result ≡ true → quiet_outcome regs.new mem.new tlb.now
         ≡ effect_made Form.Return quick.now regs.old control.now mem.old tlb.now }
     ensures left { result ≡ false → (regs.new ≡ regs.old) × (mem.new ≡ mem.old) }
     ensures length { length mem.new ≡ length mem.old }
@@ -281,13 +281,13 @@ pub(crate) fn leave(
     tlb: &Tlb,
     window: &mut Window,
 ) -> bool
-    requires ready { IsReady quick.now }
+    requires ready { IsQuick quick.now }
     requires kind { quick.now.kind ≡ Kind.Leave }
     requires cpl { (regs.old.cpl ≡ 0) ⊎ (regs.old.cpl ≡ 3) }
     requires frames { NamesFramesIn (length mem.old) tlb.now }
     requires window { IsWindow (length mem.old) control.now regs.old.cpl tlb.now window.old }
     ensures window { IsWindow (length mem.old) control.now regs.old.cpl tlb.now window.new }
-    ensures made { result ≡ true → quietly regs.new mem.new tlb.now
+    ensures made { result ≡ true → quiet_outcome regs.new mem.new tlb.now
         ≡ effect_made Form.Leave quick.now regs.old control.now mem.old tlb.now }
     ensures left { result ≡ false → (regs.new ≡ regs.old) × (mem.new ≡ mem.old) }
     ensures length { length mem.new ≡ length mem.old }

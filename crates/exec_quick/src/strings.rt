@@ -9,7 +9,7 @@ ghost use Rattle.x86_regs.specs.OperandPlans.{is_idle, is_repeated};
 ghost use Rattle.x86_regs.specs.OperandOutcomes.{counted, is_again, is_asked, pointer_moved};
 ghost use Rattle.exec_quick.specs.declared.quick.Kind.TheVariants as Kind;
 ghost use Rattle.mem_access.specs.Windows.{IsWindow};
-ghost use Rattle.exec_quick.specs.QuickForms.{IsReady, effect_made, instr_of, quietly};
+ghost use Rattle.exec_quick.specs.QuickForms.{IsQuick, effect_made, instruction_of, quiet_outcome};
 
 use crate::kept::{load, store};
 use crate::quick::Quick;
@@ -37,7 +37,7 @@ fn is_repeated(rep: Rep) -> bool
 /// A repeated instruction whose count is 0 does nothing.
 #[inline(always)]
 fn is_idle(quick: &Quick, regs: &Regs) -> bool
-    ensures { result ≡ is_idle (instr_of quick.now) regs.now }
+    ensures { result ≡ is_idle (instruction_of quick.now) regs.now }
 {
     is_repeated(quick.rep) & (regs.general[usize::from(RCX)] == 0)
 }
@@ -62,7 +62,7 @@ fn move_pointer(regs: &mut Regs, width: u8, number: u8)
 /// Counts a repeated instruction.
 #[inline(always)]
 fn count(quick: &Quick, regs: &mut Regs)
-    ensures { regs.new ≡ record regs.old { general = counted (instr_of quick.now) regs.old.general } }
+    ensures { regs.new ≡ record regs.old { general = counted (instruction_of quick.now) regs.old.general } }
 {
     if is_repeated(quick.rep) {
         let left = lowered(regs.general[usize::from(RCX)], 1);
@@ -73,10 +73,10 @@ fn count(quick: &Quick, regs: &mut Regs)
 /// Counts a repeated instruction and goes on: at itself where it is made again, else at the next one.
 #[inline(always)]
 fn go_on(quick: &Quick, regs: &mut Regs, next: u64, asked: bool)
-    ensures { let after = counted (instr_of quick.now) regs.old.general in
+    ensures { let after = counted (instruction_of quick.now) regs.old.general in
         regs.new ≡ record regs.old {
           general = after;
-          rip = if is_again (instr_of quick.now) after asked then regs.old.rip else next;
+          rip = if is_again (instruction_of quick.now) after asked then regs.old.rip else next;
         } }
 {
     count(quick, regs);
@@ -108,13 +108,13 @@ pub(crate) fn move_string(
     tlb: &Tlb,
     window: &mut Window,
 ) -> bool
-    requires ready { IsReady quick.now }
+    requires ready { IsQuick quick.now }
     requires kind { quick.now.kind ≡ Kind.MoveString }
     requires cpl { (regs.old.cpl ≡ 0) ⊎ (regs.old.cpl ≡ 3) }
     requires frames { NamesFramesIn (length mem.old) tlb.now }
     requires window { IsWindow (length mem.old) control.now regs.old.cpl tlb.now window.old }
     ensures window { IsWindow (length mem.old) control.now regs.old.cpl tlb.now window.new }
-    ensures made { result ≡ true → quietly regs.new mem.new tlb.now
+    ensures made { result ≡ true → quiet_outcome regs.new mem.new tlb.now
         ≡ effect_made Form.MoveString quick.now regs.old control.now mem.old tlb.now }
     ensures left { result ≡ false → (regs.new ≡ regs.old) × (mem.new ≡ mem.old) }
     ensures length { length mem.new ≡ length mem.old }
@@ -153,13 +153,13 @@ pub(crate) fn store_string(
     tlb: &Tlb,
     window: &mut Window,
 ) -> bool
-    requires ready { IsReady quick.now }
+    requires ready { IsQuick quick.now }
     requires kind { quick.now.kind ≡ Kind.StoreString }
     requires cpl { (regs.old.cpl ≡ 0) ⊎ (regs.old.cpl ≡ 3) }
     requires frames { NamesFramesIn (length mem.old) tlb.now }
     requires window { IsWindow (length mem.old) control.now regs.old.cpl tlb.now window.old }
     ensures window { IsWindow (length mem.old) control.now regs.old.cpl tlb.now window.new }
-    ensures made { result ≡ true → quietly regs.new mem.new tlb.now
+    ensures made { result ≡ true → quiet_outcome regs.new mem.new tlb.now
         ≡ effect_made Form.StoreString quick.now regs.old control.now mem.old tlb.now }
     ensures left { result ≡ false → (regs.new ≡ regs.old) × (mem.new ≡ mem.old) }
     ensures length { length mem.new ≡ length mem.old }
@@ -193,13 +193,13 @@ pub(crate) fn load_string(
     tlb: &Tlb,
     window: &mut Window,
 ) -> bool
-    requires ready { IsReady quick.now }
+    requires ready { IsQuick quick.now }
     requires kind { quick.now.kind ≡ Kind.LoadString }
     requires cpl { (regs.old.cpl ≡ 0) ⊎ (regs.old.cpl ≡ 3) }
     requires frames { NamesFramesIn (length mem.old) tlb.now }
     requires window { IsWindow (length mem.old) control.now regs.old.cpl tlb.now window.old }
     ensures window { IsWindow (length mem.old) control.now regs.old.cpl tlb.now window.new }
-    ensures made { result ≡ true → quietly regs.new mem.new tlb.now
+    ensures made { result ≡ true → quiet_outcome regs.new mem.new tlb.now
         ≡ effect_made Form.LoadString quick.now regs.old control.now mem.old tlb.now }
     ensures left { result ≡ false → (regs.new ≡ regs.old) × (mem.new ≡ mem.old) }
     ensures length { length mem.new ≡ length mem.old }
@@ -233,13 +233,13 @@ pub(crate) fn compare_strings(
     tlb: &Tlb,
     window: &mut Window,
 ) -> bool
-    requires ready { IsReady quick.now }
+    requires ready { IsQuick quick.now }
     requires kind { quick.now.kind ≡ Kind.CompareStrings }
     requires cpl { (regs.old.cpl ≡ 0) ⊎ (regs.old.cpl ≡ 3) }
     requires frames { NamesFramesIn (length mem.old) tlb.now }
     requires window { IsWindow (length mem.old) control.now regs.old.cpl tlb.now window.old }
     ensures window { IsWindow (length mem.old) control.now regs.old.cpl tlb.now window.new }
-    ensures made { result ≡ true → quietly regs.new mem.new tlb.now
+    ensures made { result ≡ true → quiet_outcome regs.new mem.new tlb.now
         ≡ effect_made Form.CompareStrings quick.now regs.old control.now mem.old tlb.now }
     ensures left { result ≡ false → (regs.new ≡ regs.old) × (mem.new ≡ mem.old) }
     ensures length { length mem.new ≡ length mem.old }
@@ -279,13 +279,13 @@ pub(crate) fn scan_string(
     tlb: &Tlb,
     window: &mut Window,
 ) -> bool
-    requires ready { IsReady quick.now }
+    requires ready { IsQuick quick.now }
     requires kind { quick.now.kind ≡ Kind.ScanString }
     requires cpl { (regs.old.cpl ≡ 0) ⊎ (regs.old.cpl ≡ 3) }
     requires frames { NamesFramesIn (length mem.old) tlb.now }
     requires window { IsWindow (length mem.old) control.now regs.old.cpl tlb.now window.old }
     ensures window { IsWindow (length mem.old) control.now regs.old.cpl tlb.now window.new }
-    ensures made { result ≡ true → quietly regs.new mem.new tlb.now
+    ensures made { result ≡ true → quiet_outcome regs.new mem.new tlb.now
         ≡ effect_made Form.ScanString quick.now regs.old control.now mem.old tlb.now }
     ensures left { result ≡ false → (regs.new ≡ regs.old) × (mem.new ≡ mem.old) }
     ensures length { length mem.new ≡ length mem.old }

@@ -6,7 +6,7 @@ mod strings;
 ghost use Rattle.std.specs.Prelude.{◌≡◌, ◌<◌, true, IfOk, IfSome, length};
 ghost use Rattle.nk_bits.specs.Translations.{NamesFramesIn};
 ghost use Rattle.x86_decode.specs.WellFormed.{IsWellFormed};
-ghost use Rattle.exec_quick.specs.QuickForms.{IsReady, has_register_first};
+ghost use Rattle.exec_quick.specs.QuickForms.{IsQuick, has_register_first};
 
 mod plain;
 mod products;
@@ -212,7 +212,7 @@ fn another_kind_is_found(rt: HostRuntime) {
 /// The quick form of an instruction, where it has one.
 fn form_of(instr: &Instr, size: u8) -> Option<Quick>
     requires formed { IsWellFormed instr.now }
-    ensures ready { IfSome result IsReady }
+    ensures ready { IfSome result IsQuick }
     ensures register { IfSome result (λ q. has_register_first q.kind ≡ true → q.to < 16) }
 {
     let quick = quick_of(instr, size);
@@ -227,7 +227,7 @@ type After = (Regs, u64);
 
 /// Makes a quick form with a window of its own.
 fn make_alone(quick: &Quick, regs: &mut Regs, mem: &mut PhysMem, tlb: &Tlb) -> bool
-    requires ready { IsReady quick.now }
+    requires ready { IsQuick quick.now }
     requires register { has_register_first quick.now.kind ≡ true → quick.now.to < 16 }
     requires cpl { regs.old.cpl ≡ 3 }
     requires frames { NamesFramesIn (length mem.old) tlb.now }

@@ -13,7 +13,7 @@ use Rattle.nk_bits.specs.Outcomes.{Outcome}
 use Rattle.nk_bits.specs.Paging.{is_canonical}
 use Rattle.nk_bits.specs.Translations.{Translations, invalidated}
 use Rattle.nk_bits.specs.UpperEntries.{KeptEntry}
-use Rattle.port_bus.specs.PortWords.{byte_from, console_byte, input_after}
+use Rattle.port_bus.specs.PortWords.{port_byte, console_byte, input_after}
 use Rattle.x86_regs.specs.declared.delivery.Frame.{Frame}
 use Rattle.x86_regs.specs.declared.effects.Act.{Act}
 use Rattle.x86_regs.specs.declared.effects.Act.TheVariants as act
@@ -26,7 +26,7 @@ use Rattle.trap_unit.specs.TrapDelivery.{interrupt_allowed}
 use Rattle.trap_unit.specs.TrapReturn.{at_return, may_return, returned, selector}
 use Rattle.cpu_step.specs.Processor.{Processor}
 use Rattle.cpu_step.specs.TurnStores.{act_stores, interrupt_stores, return_stores}
-use Rattle.cpu_step.specs.Turns.{acted, interrupted_by, ran, returned_by, shown, with_al}
+use Rattle.cpu_step.specs.Turns.{acted, interrupted_by, ran, returned_by, console_shown, with_al}
 use Rattle.gate_state.specs.MachineStates.{Opening}
 use Rattle.gate_state.specs.RespectedKinds.{leads, respecting, respects}
 use Rattle.gate_state.proofs.Delivery.{IsAsked}
@@ -88,7 +88,7 @@ chosen false x y z e = inr (refl, e)
 module _ (o : Opening) (ks : List Kind) (facts : TurnFacts o ks) (storable : is_storable (kind_of ks 3) ≡ true) where
   -- a byte that goes to the console, or is lost
   shown_kept : (wp : Bool) (byte : Option ℕ) (p : Processor) (m : List ℕ) → IfSome byte (λ b. b < 256)
-      → IsReady o ks p m → wp_of p.control.cr0 ≡ true → Kept o ks wp p.control.root m (shown byte p m) []
+      → IsReady o ks p m → wp_of p.control.cr0 ≡ true → Kept o ks wp p.control.root m (console_shown byte p m) []
   shown_kept wp None p m small ready set =
       ran_kept o ks wp p m ready (set_never o ks facts storable (wp_of p.control.cr0) set)
   shown_kept wp (Some byte) p m small ready set =
@@ -156,8 +156,8 @@ module _ (o : Opening) (ks : List Kind) (facts : TurnFacts o ks) (storable : is_
   act_kept wp (act.Out byte port) before p m calm small ready old set =
       shown_kept wp (console_byte port byte) p m (console_small port byte small) ready set
   act_kept wp (act.In port) before p m calm small ready old set =
-      let q : Processor = record p { regs = with_al p.regs (byte_from p.input port); input = input_after p.input port } in
-      let now : IsReady o ks (record p { regs = with_al p.regs (byte_from p.input port) }) m = with_registers o ks p m (with_al p.regs (byte_from p.input port)) ready (al_registers p.regs (byte_from p.input port) ready.control.registers) ready.control.cpl in
+      let q : Processor = record p { regs = with_al p.regs (port_byte p.input port); input = input_after p.input port } in
+      let now : IsReady o ks (record p { regs = with_al p.regs (port_byte p.input port) }) m = with_registers o ks p m (with_al p.regs (port_byte p.input port)) ready (al_registers p.regs (port_byte p.input port) ready.control.registers) ready.control.cpl in
       ran_kept o ks wp q m
       (record {
         control = record {

@@ -17,7 +17,7 @@ use Rattle.boot_map.specs.Division.{division_of}
 use Rattle.boot_map.specs.KernelSlot.{IsWrittenInSlot, is_slot_table, slot_leaf}
 use Rattle.boot_map.specs.OpeningKinds.{kinds}
 use Rattle.boot_map.specs.Parts.{part_at}
-use Rattle.page_desc.specs.PageTables.{is_kept}
+use Rattle.page_desc.specs.PageTables.{is_unchanging}
 use Rattle.nk_body.specs.CallLeft.{IsCalled, memory_left}
 use Rattle.nk_body.specs.CallRules.{Sourced}
 use Rattle.nk_body.specs.KindsKept.{is_reserved, is_settled}
@@ -27,7 +27,7 @@ use Rattle.x86_regs.specs.EffectsKept.{AreRegisters}
 use Rattle.x86_regs.specs.Operands.{rdx, with_register}
 use Rattle.cpu_step.specs.Processor.{Processor}
 use Rattle.cpu_step.specs.Turns.{enters_body, is_at_body}
-use Rattle.gate_state.specs.GuardedStates.{AreKinds, IsAdmitted, IsGuarded, IsHeld}
+use Rattle.gate_state.specs.GuardedStates.{AreKinds, IsAdmitted, IsGuarded, KeepsOpeningBytes}
 use Rattle.gate_state.specs.MachineStates.{MachineState, Opening, nested_of}
 use Rattle.gate_state.specs.MachineSteps.{after_reading, answer_in, answered_with, call_in, nested_after, served, source_of, wanted, with_place}
 use Rattle.gate_state.specs.RespectedKinds.{respecting}
@@ -50,17 +50,17 @@ body_stands p enters =
     clear false is = refl
 
 -- a frame whose bytes never change is of a kind that no call gives, and that no call changes
-kept_reserved : (kind : Kind) → is_kept kind ≡ true → is_reserved kind ≡ true
+kept_reserved : (kind : Kind) → is_unchanging kind ≡ true → is_reserved kind ≡ true
 kept_reserved Code kept = refl
 kept_reserved Fixed kept = refl
 kept_reserved kind kept = absurd (false≢true kept)
 
-kept_settled : (kind : Kind) → is_kept kind ≡ true → is_settled kind ≡ true
+kept_settled : (kind : Kind) → is_unchanging kind ≡ true → is_settled kind ≡ true
 kept_settled Code kept = refl
 kept_settled Fixed kept = refl
 kept_settled kind kept = absurd (false≢true kept)
 
-kept_unguarded : (kind : Kind) → is_kept kind ≡ true → is_guarded kind ≡ false
+kept_unguarded : (kind : Kind) → is_unchanging kind ≡ true → is_guarded kind ≡ false
 kept_unguarded Guarded kept = absurd (false≢true kept)
 kept_unguarded kind kept = refl
 
@@ -124,7 +124,7 @@ module _ (laws : LowerLaws) (o : Opening) (admitted : IsAdmitted o) (s : Machine
   }
 
   -- bytes that never change, and the slot's tables
-  memory_kept : IsHeld o after.tables.kinds (memory_left s.kinds root s.ledger s.memory call source)
+  memory_kept : KeepsOpeningBytes o after.tables.kinds (memory_left s.kinds root s.ledger s.memory call source)
   memory_kept = record {
     size = laws.call.length_is s.kinds root s.ledger s.memory call source called ∙ guarded.memory.size;
     are_bytes =
@@ -134,7 +134,7 @@ module _ (laws : LowerLaws) (o : Opening) (admitted : IsAdmitted o) (s : Machine
         let same : kind_of after.tables.kinds (place / 4096) ≡ kind_of s.kinds (place / 4096) =
         laws.call.reserved s.kinds root (place / 4096) s.ledger s.memory call source called
         (kept_reserved (kind_of after.tables.kinds (place / 4096)) kept) in
-        let here : is_kept (kind_of s.kinds (place / 4096)) ≡ true = ap is_kept (sym same) ∙ kept in
+        let here : is_unchanging (kind_of s.kinds (place / 4096)) ≡ true = ap is_unchanging (sym same) ∙ kept in
         laws.call.bytes s.kinds root place s.ledger s.memory call source called
         (kept_settled (kind_of s.kinds (place / 4096)) here) (kept_unguarded (kind_of s.kinds (place / 4096)) here) beside
         ∙ guarded.memory.bytes place here beside;

@@ -7,7 +7,7 @@ use Rattle.nk_bits.specs.declared.kind.Kind.{Kind}
 use Rattle.irq_plan.specs.declared.event.Event.{Event}
 use Rattle.irq_plan.specs.PlannedEvents.{IsPlan}
 use Rattle.cpu_step.specs.Turns.{enters_body}
-use Rattle.gate_state.specs.GateCalls.{IsCalledThrough, IsAnswered, IsCalling, IsServed}
+use Rattle.gate_state.specs.GateCalls.{IsCalledThrough, IsCallAnswered, IsCalling, IsServed}
 use Rattle.gate_state.specs.GuardedStates.{AreKinds, IsAdmitted, IsGuarded}
 use Rattle.gate_state.specs.MachineStates.{MachineState, Opening, nested_of}
 use Rattle.gate_state.specs.MachineSteps.{after_event, after_turn, next, served, state}
@@ -83,7 +83,7 @@ at_six o s t _ before at six = absurd (omega (arith, at.turns, six))
 
 -- and eight more back
 at_fourteen : (o : Opening) (s u t : MachineState) (stage : Stage) → is_behind stage ≡ true → IsAt o Serving s u
-    → IsAt o stage u t → u.ledger.book.next < 2 ^ 63 → t.turns ≡ s.turns + 14 → IsAnswered s u t
+    → IsAt o stage u t → u.ledger.book.next < 2 ^ 63 → t.turns ≡ s.turns + 14 → IsCallAnswered s u t
 at_fourteen o s u t Returning behind ran at few done = record {
   rip = at.stands.rip;
   kept = at.holds.2;

@@ -19,8 +19,8 @@ use Rattle.trap_unit.specs.declared.delivery.Entry.{Entry}
 use Rattle.trap_unit.specs.declared.gate.Gate.{Gate}
 use Rattle.trap_unit.specs.declared.shutdown.Shut.{Shut}
 use Rattle.trap_unit.specs.DeliveryStores.{delivery_stores, frame_stores, pushes_stores}
-use Rattle.trap_unit.specs.TrapDelivery.{Delivered, Pushed, arrived, at_handler, codes_of, delivered, entered, entry_found, frame_values, gate_address, gate_found, gate_level, gate_offset, gate_read, if_good, interrupt_allowed, is_good, passes_limit, pushes, read_at, shut}
-use Rattle.page_desc.specs.PageTables.{is_kept}
+use Rattle.trap_unit.specs.TrapDelivery.{Delivered, Pushed, arrived, at_handler, codes_of, delivered, entered, entry_found, frame_values, descriptor_address, gate_found, gate_level, gate_offset, gate_read, if_good, interrupt_allowed, is_good, passes_limit, pushes, read_at, shut}
+use Rattle.page_desc.specs.PageTables.{is_unchanging}
 use Rattle.gate_state.specs.MachineOpening.{opening_tables}
 use Rattle.gate_state.specs.MachineStates.{Opening}
 use Rattle.gate_state.specs.RespectedKinds.{respecting}
@@ -79,10 +79,10 @@ arrived_gives o ks m regs handler top vector code last ws leads ends done =
 
 module _ (laws : LowerLaws) (o : Opening) (ks : List Kind) (scenes : SceneLaws o ks) where
   -- the first frame is fixed
-  first_kept : (m : List ℕ) (control : Control) → IsScene o ks m control → is_kept (kind_of ks 0) ≡ true
+  first_kept : (m : List ℕ) (control : Control) → IsScene o ks m control → is_unchanging (kind_of ks 0) ≡ true
   first_kept m control scene =
       let least : 512 ≤ o.frames = scene.admitted.layout.least in
-      ap is_kept (kind_is laws o ks scene.admitted scene.kinds_are 0 Fixed (omega arith)
+      ap is_unchanging (kind_is laws o ks scene.admitted scene.kinds_are 0 Fixed (omega arith)
       (laws.opening.fixed o.image o.frames).0 refl)
 
   module _ (m : List ℕ) (control : Control) (scene : IsScene o ks m control) where
@@ -99,7 +99,7 @@ module _ (laws : LowerLaws) (o : Opening) (ks : List Kind) (scenes : SceneLaws o
         → Gives (respecting o ks) Shut Gate (gate_read control opening_tables vector m tlb) (laid_gate vector)
     unfolding gate_read
     gate_gives vector tlb few pass =
-        let va : ℕ = gate_address opening_tables vector in
+        let va : ℕ = descriptor_address opening_tables vector in
         let here : va ≡ 0xFFFFFF8000000000 + 16 * vector = omega (arith, few) in
         then_gives (respecting o ks) Shut ℕ Gate (read_at control va m tlb)
         (number_from idt_and_tss_byte 8 (16 * vector)) _ (laid_gate vector)
@@ -176,14 +176,14 @@ module _ (laws : LowerLaws) (o : Opening) (ks : List Kind) (scenes : SceneLaws o
     unfolding interrupt_allowed
     asks_here cpl vector tlb pass =
         let found : Outcome Shut Bool =
-        and_then (read_at control (gate_address opening_tables vector) m tlb)
+        and_then (read_at control (descriptor_address opening_tables vector) m tlb)
         (λ low after. answered (nat_le cpl (gate_level low)) after) in
         elim (cases_lt vector 48) [
           | inl few ↦
               let low : ℕ = number_from idt_and_tss_byte 8 (16 * vector) in
               let gives : Gives (respecting o ks) Shut Bool found (nat_le cpl (gate_level low)) =
-              then_gives (respecting o ks) Shut ℕ Bool (read_at control (gate_address opening_tables vector) m tlb) low _ _
-              (read_opening (gate_address opening_tables vector) (16 * vector) tlb (omega (arith, few))
+              then_gives (respecting o ks) Shut ℕ Bool (read_at control (descriptor_address opening_tables vector) m tlb) low _ _
+              (read_opening (descriptor_address opening_tables vector) (16 * vector) tlb (omega (arith, few))
               (omega (arith, few)) pass)
               (λ after kept. record { answers = refl; pass = kept }) in
               subst (λ (out : Outcome Shut Bool). IsAsked o ks vector out)

@@ -5,12 +5,12 @@ use Rattle.nk_bits.specs.declared.kind.Kind.{Kind}
 use Rattle.nk_bits.specs.Kinds.{kind_of}
 use Rattle.phys_mem.specs.Memory.{byte_at, number_at}
 use Rattle.boot_map.specs.Division.{Division, division_of}
-use Rattle.boot_map.specs.Opening.{byte_in, byte_of_number, byte_of_part, gate_of, idt_and_tss_byte}
+use Rattle.boot_map.specs.Opening.{division_byte, byte_of_number, byte_of_part, gate_of, idt_and_tss_byte}
 use Rattle.boot_map.specs.Parts.{part_at}
 use Rattle.trap_unit.specs.declared.gate.Gate.{Gate}
 use Rattle.trap_unit.specs.TrapDelivery.{gate_offset, is_good}
-use Rattle.page_desc.specs.PageTables.{is_kept}
-use Rattle.gate_state.specs.GuardedStates.{IsHeld}
+use Rattle.page_desc.specs.PageTables.{is_unchanging}
+use Rattle.gate_state.specs.GuardedStates.{KeepsOpeningBytes}
 use Rattle.gate_state.specs.MachineStates.{Opening}
 
 -- the number that n bytes from place p on spell, by a function from places to bytes
@@ -60,8 +60,8 @@ first_frame : (b : List ℕ) (d : Division) (p : ℕ) → byte_of_part b d (part
 unfolding part_at
 first_frame b d p = refl
 
-byte_is : (b : List ℕ) (frames p : ℕ) → p < 4096 → byte_in b frames p ≡ idt_and_tss_byte p
-unfolding byte_in
+byte_is : (b : List ℕ) (frames p : ℕ) → p < 4096 → division_byte b frames p ≡ idt_and_tss_byte p
+unfolding division_byte
 byte_is b frames p small =
     let d : Division = division_of b frames in
     let frame : p / 4096 ≡ 0 = omega arith in
@@ -69,11 +69,11 @@ byte_is b frames p small =
     ap (λ (x : ℕ × ℕ). byte_of_part b d (part_at d x.0) x.1) (λ j. (frame j, place j)) ∙ first_frame b d p
 
 -- memory that holds what is guarded has them
-pub number_held : (o : Opening) (ks : List Kind) (m : List ℕ) → IsHeld o ks m → is_kept (kind_of ks 0) ≡ true
+pub number_held : (o : Opening) (ks : List Kind) (m : List ℕ) → KeepsOpeningBytes o ks m → is_unchanging (kind_of ks 0) ≡ true
     → (n p : ℕ) → p + n ≤ 4096
     → number_at m n p ≡ number_from idt_and_tss_byte n p
 number_held o ks m held kept n p within =
     number_is m idt_and_tss_byte n p (λ q low high.
     let small : q < 4096 = omega arith in
     let frame : q / 4096 ≡ 0 = omega arith in
-    held.bytes q (ap (λ f. is_kept (kind_of ks f)) frame ∙ kept) (inl (omega arith)) ∙ byte_is o.image o.frames q small)
+    held.bytes q (ap (λ f. is_unchanging (kind_of ks f)) frame ∙ kept) (inl (omega arith)) ∙ byte_is o.image o.frames q small)

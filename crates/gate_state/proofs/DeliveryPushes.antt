@@ -15,7 +15,7 @@ use Rattle.nk_bits.specs.Translations.{Translations}
 use Rattle.phys_mem.specs.Memory.{stored, stores}
 use Rattle.boot_map.specs.FixedFrames.{trap_stack}
 use Rattle.boot_map.specs.KernelSlot.{slot_leaf, slot_start, writable}
-use Rattle.page_walk.specs.MemoryAccess.{stores_at, view_of, written}
+use Rattle.page_walk.specs.MemoryAccess.{stores_at, view_of, bytes_written}
 use Rattle.x86_regs.specs.Operands.{lowered}
 use Rattle.trap_unit.specs.declared.shutdown.Shut.{Shut}
 use Rattle.trap_unit.specs.DeliveryStores.{push_stores, pushes_stores, stores_found, stores_on}
@@ -90,7 +90,7 @@ module _ (laws : LowerLaws) (o : Opening) (ks : List Kind) (scenes : SceneLaws o
       subst (λ (ws : List (ℕ × ℕ)). IsPushed o ks m va (pushed control value top m tlb) ws) (sym (ap (stores_found at 8 value) found))
       (record {
         answers = ap (made_at at) found ∙ ap Ok is;
-        memory_is = ap (written m at 8 value) found;
+        memory_is = ap (bytes_written m at 8 value) found;
         places = one_part (λ w. w.0 / 4096 ≡ 3) at 8 place value short
             (laws.store.within_frame 8 place value 3 (omega arith) (omega (arith, short)));
         bytes = one_part (λ w. w.1 < 256) at 8 place value short (laws.store.values 8 place value);

@@ -25,9 +25,9 @@ use Rattle.nk_bits.specs.AccessRights.{may}
 use Rattle.nk_bits.specs.Accesses.{IsWalked, Serves, View, accessed, crosses, next_page}
 use Rattle.nk_bits.specs.Claims.{AllPass, Claim}
 use Rattle.nk_bits.specs.Kinds.{allows, is_guarded, is_storable, kind_of, level_of}
-use Rattle.nk_bits.specs.Paging.{frame_of, has_all, is_canonical, is_canonical_page, is_present, is_slot_page, is_user, is_writable, page_of, slot_value, upper_walk, walk, walk_below}
+use Rattle.nk_bits.specs.Paging.{frame_of, has_all, is_canonical, is_canonical_page, is_present, is_slot_page, is_user, grants_writes, page_of, slot_value, upper_walk, walk, walk_below}
 use Rattle.nk_bits.specs.Translations.{NamesFramesIn, Translations, entry_forgotten, entry_kept, faulted, flushed, forgotten, tlb_after, with_leaf}
-use Rattle.nk_bits.specs.UpperEntries.{KeptEntry, covers, first_page, kept_for, span_of, walk_by}
+use Rattle.nk_bits.specs.UpperEntries.{KeptEntry, serves_page, first_of_span, kept_for, span_of, walk_by}
 use Rattle.phys_mem.specs.Memory.{IsBytes, byte_at, entry_in, stored, stores}
 use Rattle.elf_image.specs.Pages.{IsPageList, byte_of, page_count, pages_of}
 use Rattle.gate_text.specs.GatePoints.{instruction_bytes, is_point}
@@ -43,7 +43,7 @@ use Rattle.page_desc.specs.SoundTables.{AreTables}
 use Rattle.nk_body.specs.CallLeft.{IsCalled, left_in, memory_left}
 use Rattle.nk_body.specs.CallRules.{Sourced, answer_to, bytes_read}
 use Rattle.nk_body.specs.KindsKept.{is_reserved, is_settled}
-use Rattle.nk_body.specs.NestedRecord.{AreBooks, Books, IsKept, Ledger, Nested, nested_in}
+use Rattle.nk_body.specs.NestedRecord.{AreBooks, Books, IsLedgerKept, Ledger, Nested, nested_in}
 use Rattle.nk_body.specs.SourceWords.{opening_ledger}
 use Rattle.page_walk.specs.MemoryAccess.{view_of}
 use Rattle.x86_regs.specs.declared.registers.Regs.{Regs}
@@ -81,13 +81,13 @@ pub record KeptLaws : Type 0 where
 
 -- upper entries, and the pages that share one
 pub record UpperLaws : Type 0 where
-  pub covers : (page : ℕ) (entry : KeptEntry) → covers page entry ≡ true
+  pub covers : (page : ℕ) (entry : KeptEntry) → serves_page page entry ≡ true
       → (2 ≤ entry.0) × (entry.0 ≤ 4) × (entry.1 ≡ span_of entry.0 page)
   pub same_span : (t : ℕ → ℕ → ℕ) (frames root page other level : ℕ) → 1 ≤ level → level ≤ 4
       → span_of level page ≡ span_of level other → upper_walk t frames root page level ≡ upper_walk t frames root other level
   pub same_slot : (page other level : ℕ) → 1 ≤ level → level ≤ 4 → span_of level page ≡ span_of level other
       → is_slot_page page ≡ is_slot_page other
-  pub first_page : (level bits : ℕ) → span_of level (first_page level bits) ≡ bits
+  pub first_page : (level bits : ℕ) → span_of level (first_of_span level bits) ≡ bits
 
 -- kinds of frames
 pub record KindLaws : Type 0 where
@@ -144,7 +144,7 @@ pub record OpeningLaws : Type 0 where
   pub held : (b m : List ℕ) (frames : ℕ) → IsOpening b frames m → IsLayout b (division_of b frames) → HoldsSlot b frames (entry_in m)
   pub sound : (b m : List ℕ) (frames : ℕ) → IsLayout b (division_of b frames) → IsPageList b (pages_of b) → IsOpening b frames m
       → HoldsSoundTables (kinds b frames) 5 m
-  pub kept : (b : List ℕ) (frames : ℕ) → IsLayout b (division_of b frames) → IsKept (kinds b frames) opening_ledger
+  pub kept : (b : List ℕ) (frames : ℕ) → IsLayout b (division_of b frames) → IsLedgerKept (kinds b frames) opening_ledger
 
 -- sound page tables: walks, entries and counts; and that stores in frames that may be stored to leave them
 pub record TableLaws : Type 0 where
@@ -161,7 +161,7 @@ pub record TableLaws : Type 0 where
   pub slot : (kinds : List Kind) (t : ℕ → ℕ → ℕ) (f : ℕ) → AreTables kinds t → level_of (kind_of kinds f) ≡ 4 → t f 511 ≡ slot_value
   pub no_loose_leaf : (kinds : List Kind) (t : ℕ → ℕ → ℕ) (frame f i : ℕ) → loose_in kinds t frame ≡ 0
       → f < length kinds → i < 512 → holds_leaves kinds t f ≡ true → is_present (t f i) ≡ true → frame_of (t f i) ≡ frame
-      → (is_writable (t f i) ≡ false) × (is_user (t f i) ≡ false)
+      → (grants_writes (t f i) ≡ false) × (is_user (t f i) ≡ false)
   pub nested_stays : (kinds : List Kind) (root : ℕ) (ledger : Ledger) (m : List ℕ) (ws : List (ℕ × ℕ)) → kind_of kinds 2 ≡ Fixed
       → All (λ w. is_storable (kind_of kinds (w.0 / 4096)) ≡ true) ws
       → nested_in kinds root ledger (stored m ws) ≡ nested_in kinds root ledger m
@@ -180,7 +180,7 @@ pub record CallLaws : Type 0 where
       HoldsSoundTables after.tables.kinds after.tables.root (memory_left kinds root ledger m call source)
   pub keeps : (kinds : List Kind) (root : ℕ) (ledger : Ledger) (m : List ℕ) (call : CallWords) (source : Sourced)
       → IsCalled kinds root ledger m call source → let after : Nested = left_in kinds root ledger m call source in
-      IsKept after.tables.kinds after.ledger
+      IsLedgerKept after.tables.kinds after.ledger
   pub count : (kinds : List Kind) (root : ℕ) (ledger : Ledger) (m : List ℕ) (call : CallWords) (source : Sourced)
       → length (left_in kinds root ledger m call source).tables.kinds ≡ length kinds
   pub settled : (kinds : List Kind) (root f : ℕ) (ledger : Ledger) (m : List ℕ) (call : CallWords) (source : Sourced)

@@ -8,7 +8,7 @@ use Rattle.nk_bits.specs.Claims.{AllPass, Claim}
 use Rattle.nk_bits.specs.Kinds.{kind_of, level_of}
 use Rattle.nk_bits.specs.Paging.{all_rights, frame_of, is_canonical, is_present, is_slot_entry, page_of, walk, walk_below, walk_from}
 use Rattle.nk_bits.specs.Translations.{Translations, translation}
-use Rattle.nk_bits.specs.UpperEntries.{KeptEntry, covers, walk_by}
+use Rattle.nk_bits.specs.UpperEntries.{KeptEntry, serves_page, walk_by}
 use Rattle.phys_mem.specs.MaskedMemory.{masked}
 use Rattle.phys_mem.specs.Memory.{byte_at, entry_in, stored}
 use Rattle.page_desc.specs.SoundTables.{AreTables, grants_all}
@@ -41,7 +41,7 @@ pub record WalkLaws : Type 0 where
   pub by_level : (t : ℕ → ℕ → ℕ) (frames root page : ℕ)
       → walk t frames root page ≡ walk_from t frames page 4 root all_rights
   pub by_same : (t u : ℕ → ℕ → ℕ) (frames root other page : ℕ) (test : Claim) (tlb : Translations) → AllPass test tlb
-      → ((entry : KeptEntry) → test.upper entry ≡ true → covers page entry ≡ true
+      → ((entry : KeptEntry) → test.upper entry ≡ true → serves_page page entry ≡ true
       → walk_below t frames page entry.0 entry.2 ≡ walk_below u frames page entry.0 entry.2)
       → walk t frames root page ≡ walk u frames other page
       → walk_by t frames root tlb.upper page ≡ walk_by u frames other tlb.upper page

@@ -12,7 +12,7 @@ use Rattle.nk_bits.specs.Outcomes.{Outcome}
 use Rattle.nk_bits.specs.Translations.{Translations}
 use Rattle.phys_mem.specs.Memory.{stored}
 use Rattle.boot_map.specs.Opening.{idt_and_tss_byte}
-use Rattle.page_walk.specs.MemoryAccess.{view_of, written}
+use Rattle.page_walk.specs.MemoryAccess.{view_of, bytes_written}
 use Rattle.x86_regs.specs.declared.delivery.Tables.{Tables}
 use Rattle.x86_regs.specs.declared.registers.Regs.{Regs}
 use Rattle.x86_regs.specs.Operands.{lowered}
@@ -46,7 +46,7 @@ brought it ws = (it.regs, it.tlb, it.answer, ws)
 
 -- a write is the stores of its number
 written_stores : (m : List ℕ) (va value : ℕ) (answer : Result Target AccessFault)
-    → written m va 8 value answer ≡ stored m (stores_found va 8 value answer)
+    → bytes_written m va 8 value answer ≡ stored m (stores_found va 8 value answer)
 unfolding stored
 written_stores m va value (Ok target) = refl
 written_stores m va value (Err fault) = refl

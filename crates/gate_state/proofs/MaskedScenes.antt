@@ -6,7 +6,7 @@ use Rattle.nk_bits.specs.declared.control.Control.{Control}
 use Rattle.nk_bits.specs.declared.kind.Kind.{Kind}
 use Rattle.nk_bits.specs.Kinds.{is_storable, kind_of}
 use Rattle.nk_bits.specs.Paging.{all_rights, walk, walk_below}
-use Rattle.nk_bits.specs.UpperEntries.{KeptEntry, covers}
+use Rattle.nk_bits.specs.UpperEntries.{KeptEntry, serves_page}
 use Rattle.phys_mem.specs.MaskedMemory.{is_book_frame, masked}
 use Rattle.phys_mem.specs.Memory.{byte_at, entry_in, stored}
 use Rattle.x86_regs.specs.AlikeMemories.{AreAlike}
@@ -53,7 +53,7 @@ module _ (laws : LowerLaws) (masks : MaskLaws) (o : Opening) (ks : List Kind) (m
       (root_table laws masks o ks seen.scene.admitted seen.scene.kinds_are n control.root seen.scene.tables)
       ∙ sym (masks.walk.by_level (entry_in m) frames control.root page)
 
-  pub below_same : (entry : KeptEntry) (page : ℕ) → leads o ks entry ≡ true → covers page entry ≡ true
+  pub below_same : (entry : KeptEntry) (page : ℕ) → leads o ks entry ≡ true → serves_page page entry ≡ true
       → walk_below (entry_in n) (length n / 4096) page entry.0 entry.2
       ≡ walk_below (entry_in m) (length n / 4096) page entry.0 entry.2
   below_same entry page is covered =

@@ -18,7 +18,7 @@ use Rattle.cpu_step.specs.EventsTaken.{event_taken}
 use Rattle.cpu_step.specs.Processor.{Processor}
 use Rattle.gate_state.specs.MachineStates.{Opening}
 use Rattle.gate_state.specs.RespectedKinds.{respecting, respects}
-use Rattle.gate_state.specs.SourceBytes.{SourceRead, byte_by, is_readable, kept_by, read_on, source_byte, source_read, source_tlb}
+use Rattle.gate_state.specs.SourceBytes.{SourceRead, byte_through, is_readable, kept_by, read_on, source_byte, source_read, source_tlb}
 use Rattle.gate_state.proofs.BookFrames.{respected_apart}
 use Rattle.gate_state.proofs.LowerLaws.{LowerLaws}
 use Rattle.gate_state.proofs.MaskLaws.{MaskLaws}
@@ -53,7 +53,7 @@ module _ (laws : LowerLaws) (masks : MaskLaws) (o : Opening) (ks : List Kind) (s
 
   -- one byte of a source, and what is kept
   byte_found : (va : ℕ) (found : Option Leaf) → IfSome found (λ leaf. respects o ks (page_of va, leaf) ≡ true)
-      → byte_by n va found ≡ byte_by m va found
+      → byte_through n va found ≡ byte_through m va found
   byte_found va None passes = refl
   byte_found va (Some leaf) passes =
       ap Some (byte_same laws masks o ks m n control seen leaf.frame (va % 4096) (omega arith)
@@ -74,7 +74,7 @@ module _ (laws : LowerLaws) (masks : MaskLaws) (o : Opening) (ks : List Kind) (s
       byte_found va (translation (entry_in n) (length n / 4096) control.root tlb (page_of va))
       (masks.walk.translated (view_of n control 0) (respecting o ks) tlb va (scenes.walked n control 0 seen.scene) pass
       (canonical_from va readable))
-      ∙ ap (λ (found : Result Leaf ℕ). byte_by m va (or_walked (look tlb.pairs (page_of va)) found))
+      ∙ ap (λ (found : Result Leaf ℕ). byte_through m va (or_walked (look tlb.pairs (page_of va)) found))
       (found_same tlb (page_of va) pass))
 
   source_tlb_same : (tlb : Translations) (va : ℕ) → AllPass (respecting o ks) tlb

@@ -9,11 +9,11 @@ use Rattle.nk_bits.specs.declared.leaf.Rights.{Rights}
 use Rattle.nk_bits.specs.declared.leaf.Upper.{Upper}
 use Rattle.nk_bits.specs.Kinds.{kind_of, level_of}
 use Rattle.nk_bits.specs.Paging.{all_rights, common, frame_of, is_large, is_missing, is_present, is_slot_entry, is_slot_page, page_index, rights_of, slot_value, upper_from, upper_walk, walk_from}
-use Rattle.nk_bits.specs.UpperEntries.{KeptEntry, covers, first_page}
+use Rattle.nk_bits.specs.UpperEntries.{KeptEntry, serves_page, first_of_span}
 use Rattle.phys_mem.specs.Memory.{entry_in}
 use Rattle.boot_map.specs.KernelSlot.{IsNamedIn, slot_upper}
 use Rattle.page_desc.specs.PageTables.{HoldsSoundTables}
-use Rattle.gate_state.specs.GuardedStates.{AreKinds, IsAdmitted, IsHeld}
+use Rattle.gate_state.specs.GuardedStates.{AreKinds, IsAdmitted, KeepsOpeningBytes}
 use Rattle.gate_state.specs.MachineStates.{Opening}
 use Rattle.gate_state.specs.RespectedKinds.{leads}
 use Rattle.gate_state.proofs.BookFrames.{fixed_apart, is_book, table_apart}
@@ -190,14 +190,14 @@ module _ (laws : LowerLaws) (masks : MaskLaws) (o : Opening) (ks : List Kind) (a
   root_table = inr (inl tables.root_level)
 
   -- an upper entry that leads names one
-  pub led_table : (held : IsHeld o ks n) (entry : KeptEntry) (page : ℕ) → leads o ks entry ≡ true
-      → covers page entry ≡ true
+  pub led_table : (held : KeepsOpeningBytes o ks n) (entry : KeptEntry) (page : ℕ) → leads o ks entry ≡ true
+      → serves_page page entry ≡ true
       → IsTable (entry.0 - 1) entry.2.frame
   led_table held entry page is covered =
       let level : ℕ = entry.0 in
       let lead : Leading o ks entry = leading o ks entry is in
       let under = (laws.upper.covers page entry covered).2 in
-      let side : is_slot_page (first_page level entry.1) ≡ is_slot_page page =
+      let side : is_slot_page (first_of_span level entry.1) ≡ is_slot_page page =
       same_side laws o ks admitted kinds_are level entry.1 page lead.least lead.most under in
       elim (cases_Bool (is_slot_page page)) [
         | inl on ↦

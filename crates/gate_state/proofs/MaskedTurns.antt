@@ -1,4 +1,4 @@
--- A turn over a memory of which a guarded state's is seen: processor and what is shown are as over the state's memory,
+-- A turn over a memory of which a guarded state's is seen: processor and what is console_shown are as over the state's memory,
 -- and so are the stores.
 use Rattle.std.proofs.Common.{◌≡◌, ◌⊎◌, ℕ, ◌+◌, ◌*◌, ◌/◌, ◌^◌, ◌<◌, Bool, true, false, List, [], ◌∷◌, ◌++◌, All, refl, sym, ap, subst, ◌∙◌, arith, inl, inr}
 use Rattle.std.specs.Prelude.{Option, None, Some, Result, Ok, Err, if◌then◌else◌}
@@ -27,7 +27,7 @@ use Rattle.cpu_step.specs.declared.stepped.Stepped.{Stepped}
 use Rattle.cpu_step.specs.InstructionFetch.{instruction_at}
 use Rattle.cpu_step.specs.Processor.{Processor, deliverable}
 use Rattle.cpu_step.specs.TurnStores.{act_stores, body_stores, effect_stores, fault_stores, instruction_stores, interrupt_stores, return_stores, stores_unless, trap_stores, turn_stores, write_stores}
-use Rattle.cpu_step.specs.Turns.{Turned, acted, delivery_of, instructed, instruction_made, interrupted_by, is_at_body, raised, refused_body, returned_by, shown, shown_by, trapped, turned, turned_by, turned_unless, woken}
+use Rattle.cpu_step.specs.Turns.{Turned, acted, delivery_of, instructed, instruction_made, interrupted_by, is_at_body, fault_raised, refused_body, returned_by, console_shown, stepped_by, trapped, turned, turned_by, turned_unless, woken}
 use Rattle.gate_state.specs.MachineOpening.{opening_tables}
 use Rattle.gate_state.specs.MachineStates.{Opening}
 use Rattle.gate_state.specs.RespectedKinds.{respecting}
@@ -72,7 +72,7 @@ module _ (laws : LowerLaws) (masks : MaskLaws) (o : Opening) (ks : List Kind) (s
       ≡ left_by (trapped vector code p m) (trap_stores vector code p m)
   unfolding trapped
   trap_same vector code p m n over few =
-      ap (λ (x : Deliveries). (record p { regs = x.0; tlb = x.1 }, shown_by x.2 (delivery_of vector code p), x.3))
+      ap (λ (x : Deliveries). (record p { regs = x.0; tlb = x.1 }, stepped_by x.2 (delivery_of vector code p), x.3))
       (delivered_same laws masks o ks scenes p.regs p.control p.tables vector code m n p.tlb over.seen over.tables
       over.pass few)
 
@@ -94,7 +94,7 @@ module _ (laws : LowerLaws) (masks : MaskLaws) (o : Opening) (ks : List Kind) (s
   }
 
   raise_same : (it : Fault) (p : Processor) (m n : List ℕ) → IsOver o ks p m n
-      → left_by (raised it p n) (fault_stores it p n) ≡ left_by (raised it p m) (fault_stores it p m)
+      → left_by (fault_raised it p n) (fault_stores it p n) ≡ left_by (fault_raised it p m) (fault_stores it p m)
   raise_same fault.Divide p m n over = trap_same 0 None p m n over (omega arith)
   raise_same fault.Opcode p m n over = trap_same 6 None p m n over (omega arith)
   raise_same fault.Stack p m n over = trap_same 12 (Some 0) p m n over (omega arith)
@@ -116,7 +116,7 @@ module _ (laws : LowerLaws) (masks : MaskLaws) (o : Opening) (ks : List Kind) (s
 
   -- what an instruction asks of the processor
   shown_same : (byte : Option ℕ) (p : Processor) (m n : List ℕ)
-      → left_by (shown byte p n) [] ≡ left_by (shown byte p m) []
+      → left_by (console_shown byte p n) [] ≡ left_by (console_shown byte p m) []
   shown_same None p m n = refl
   shown_same (Some byte) p m n = refl
 

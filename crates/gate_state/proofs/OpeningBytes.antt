@@ -9,7 +9,7 @@ use Rattle.elf_image.specs.Segments.{loads}
 use Rattle.boot_map.specs.declared.part.Part.{Part}
 use Rattle.boot_map.specs.declared.part.Part.TheVariants.{IdtAndTss, GateText, HandlerSlot, ImagePage}
 use Rattle.boot_map.specs.Division.{Division, division_of}
-use Rattle.boot_map.specs.Opening.{byte_in, byte_of_number, byte_of_part, entry_byte, gate_of, gate_target, gate_type, halt_loop, handler_byte, idt_and_tss_byte, trap_stack_top}
+use Rattle.boot_map.specs.Opening.{division_byte, byte_of_number, byte_of_part, entry_byte, gate_of, gate_target, gate_type, halt_loop, handler_byte, idt_and_tss_byte, trap_stack_top}
 use Rattle.boot_map.specs.OpeningEntries.{entry_of_part, table_level}
 use Rattle.boot_map.specs.Parts.{part_at}
 use Rattle.gate_state.proofs.LowerLaws.{CodeLaws}
@@ -104,6 +104,6 @@ part_small laws b d HandlerSlot o bytes within = handler_small o
 part_small laws b d (ImagePage k) o bytes within = image_small b (4096 * slice_index (pages_of b) k + o) bytes
 part_small laws b d part o bytes within = table_small b d part o
 
-pub byte_small : (laws : CodeLaws) (b : List ℕ) (frames place : ℕ) → ((i : ℕ) → slice_index b i < 256) → byte_in b frames place < 256
-unfolding byte_in
+pub byte_small : (laws : CodeLaws) (b : List ℕ) (frames place : ℕ) → ((i : ℕ) → slice_index b i < 256) → division_byte b frames place < 256
+unfolding division_byte
 byte_small laws b frames place bytes = part_small laws b (division_of b frames) (part_at (division_of b frames) (place / 4096)) (place % 4096) bytes (mod_below place 4096 (omega arith))

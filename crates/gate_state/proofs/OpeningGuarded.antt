@@ -13,8 +13,8 @@ use Rattle.boot_map.specs.Division.{need}
 use Rattle.boot_map.specs.KernelSlot.{slot_leaf}
 use Rattle.boot_map.specs.OpeningKinds.{kind_at, kinds}
 use Rattle.x86_regs.specs.EffectsKept.{AreRegisters}
-use Rattle.page_desc.specs.PageTables.{is_kept}
-use Rattle.gate_state.specs.GuardedStates.{AreKinds, IsAdmitted, IsGuarded, IsHeld}
+use Rattle.page_desc.specs.PageTables.{is_unchanging}
+use Rattle.gate_state.specs.GuardedStates.{AreKinds, IsAdmitted, IsGuarded, KeepsOpeningBytes}
 use Rattle.gate_state.specs.MachineOpening.{opening_memory, opening_regs, opening_state}
 use Rattle.gate_state.specs.MachineStates.{Opening}
 use Rattle.gate_state.specs.RespectedKinds.{respecting}
@@ -51,13 +51,13 @@ module _ (laws : LowerLaws) (o : Opening) (admitted : IsAdmitted o) (entry : ent
     | inr past ↦ let P : ℕ → Type 0 = λ n. n < 256 in subst P (sym (get_or_past (opening_memory o) p 0 (omega (arith, (opening_is o).length, past)))) (omega arith)
   ]
 
-  held : IsHeld o (kinds o.image o.frames) (opening_memory o)
+  held : KeepsOpeningBytes o (kinds o.image o.frames) (opening_memory o)
   held = record {
     size = (opening_is o).length;
     are_bytes = memory_bytes;
     bytes = λ place kept beside. elim (cases_lt place (4096 * o.frames)) [
       | inl within ↦ (opening_is o).bytes place within
-      | inr past ↦ absurd (false≢true (sym (ap is_kept (hidden_past (place / 4096) (omega (arith, past)))) ∙ kept))
+      | inr past ↦ absurd (false≢true (sym (ap is_unchanging (hidden_past (place / 4096) (omega (arith, past)))) ∙ kept))
     ];
     slot = laws.opening.held o.image (opening_memory o) o.frames (opening_is o) admitted.layout;
   }

@@ -3,7 +3,7 @@ use Rattle.std.proofs.Common.{◌≡◌, ℕ, ◌*◌, ◌<◌, true, List, refl
 use Rattle.std.proofs.lemmas.List.{ext_get_or}
 use Rattle.std.proofs.lemmas.List.FromFn.{get_or-map-range_with_len, length-map-range_with_len}
 use Rattle.nk_bits.specs.Accesses.{wp_of}
-use Rattle.boot_map.specs.Opening.{IsOpening, byte_in}
+use Rattle.boot_map.specs.Opening.{IsOpening, division_byte}
 use Rattle.boot_map.specs.OpeningKinds.{kinds}
 use Rattle.phys_mem.specs.MaskedMemory.{seen}
 use Rattle.page_desc.specs.DescriptorBytes.{kinds_in}
@@ -20,9 +20,9 @@ use Rattle.gate_state.proofs.WholeLemmas.{state_by}
 opening_list : (o : Opening) (m : List ℕ) → IsOpening o.image o.frames m → m ≡ opening_memory o
 unfolding opening_memory
 opening_list o m opening =
-    ext_get_or 0 m _ (opening.length ∙ sym (length-map-range_with_len (byte_in o.image o.frames) 0 (4096 * o.frames)))
+    ext_get_or 0 m _ (opening.length ∙ sym (length-map-range_with_len (division_byte o.image o.frames) 0 (4096 * o.frames)))
     (λ i below. let inside : i < 4096 * o.frames = omega (arith, below, opening.length) in
-    opening.bytes i inside ∙ sym (get_or-map-range_with_len (byte_in o.image o.frames) 0 (4096 * o.frames) i i 0 inside (omega arith)))
+    opening.bytes i inside ∙ sym (get_or-map-range_with_len (division_byte o.image o.frames) 0 (4096 * o.frames) i i 0 inside (omega arith)))
 
 module _ (o : Opening) (input : List ℕ) (p : Processor) where
   abbrev Starts : Type 0

@@ -5,20 +5,20 @@ use Rattle.std.proofs.lemmas.Bool.{cond-true}
 use Rattle.nk_bits.specs.declared.kind.Kind.{Kind}
 use Rattle.nk_bits.specs.Kinds.{is_guarded, kind_of}
 use Rattle.phys_mem.specs.Memory.{byte_at, entry_in}
-use Rattle.page_desc.specs.PageTables.{is_handler_byte, is_kept, is_table, kept_bytes, table_entries}
+use Rattle.page_desc.specs.PageTables.{is_handler_byte, is_unchanging, is_table, unchanging_bytes, table_entries}
 use Rattle.nk_body.specs.NestedRecord.{Ledger, Nested, held_bytes, nested_in}
 
 -- another byte of code or of a fixed frame, but in the handler slot
 kept_byte : (kinds : List Kind) (root : ℕ) (ledger : Ledger) (m n : List ℕ) (f offset : ℕ)
-    → (is_kept (kind_of kinds f) && nat_lt offset 4096 && not (is_handler_byte f offset)) ≡ true
+    → (is_unchanging (kind_of kinds f) && nat_lt offset 4096 && not (is_handler_byte f offset)) ≡ true
     → byte_at m (4096 * f + offset) ≢ byte_at n (4096 * f + offset)
     → nested_in kinds root ledger m ≡ nested_in kinds root ledger n → ⊥
-unfolding kept_bytes
+unfolding unchanging_bytes
 kept_byte kinds root ledger m n f offset is other same =
-    other (sym (cond-true (is_kept (kind_of kinds f) && nat_lt offset 4096 && not (is_handler_byte f offset))
+    other (sym (cond-true (is_unchanging (kind_of kinds f) && nat_lt offset 4096 && not (is_handler_byte f offset))
     (byte_at m (4096 * f + offset)) 0 is)
     ∙ ap (λ (nk : Nested). nk.tables.fixed f offset) same
-    ∙ cond-true (is_kept (kind_of kinds f) && nat_lt offset 4096 && not (is_handler_byte f offset))
+    ∙ cond-true (is_unchanging (kind_of kinds f) && nat_lt offset 4096 && not (is_handler_byte f offset))
     (byte_at n (4096 * f + offset)) 0 is)
 
 -- another byte of a guarded frame

@@ -6,7 +6,7 @@ use Rattle.gate_state.specs.declared.moves.Move.{Move}
 use Rattle.gate_state.specs.declared.moves.Move.TheVariants as move
 use Rattle.gate_state.specs.MachineStates.{MachineState}
 use Rattle.gate_state.specs.MachineSteps.{move_of, next, state}
-use Rattle.gate_state.specs.StepsTaken.{Counts, TakesOneTurn}
+use Rattle.gate_state.specs.StepsTaken.{CountsSteps, TakesOneTurn}
 use Rattle.gate_state.specs.WindowLeft.{IsShortWindow}
 use Rattle.gate_state.proofs.RunsSafe.{step_counts}
 use Rattle.gate_state.proofs.RunsShort.{state_sum}
@@ -14,7 +14,7 @@ use Rattle.gate_state.proofs.RunsShort.{state_sum}
 -- steps that are turns are counted
 turn_counts : (plan : List Event) (s : MachineState) → move_of plan s ≡ move.Turn → (next plan s).turns ≡ s.turns + 1
 turn_counts plan s turns =
-    let counts : TakesOneTurn s (next plan s) = subst (λ (m : Move). Counts plan m s (next plan s)) turns (step_counts plan s) in
+    let counts : TakesOneTurn s (next plan s) = subst (λ (m : Move). CountsSteps plan m s (next plan s)) turns (step_counts plan s) in
     counts.turns
 
 turns_count : (plan : List Event) (n : ℕ) (s : MachineState)

@@ -11,7 +11,7 @@ use Rattle.nk_bits.specs.declared.leaf.Upper.{Upper}
 use Rattle.nk_bits.specs.Accesses.{accessed, completed, crosses, first_part, has_canonical_bytes, reached, smep_of, wp_of}
 use Rattle.nk_bits.specs.Kinds.{kind_of, level_of}
 use Rattle.nk_bits.specs.Paging.{has_all, is_slot_page}
-use Rattle.nk_bits.specs.UpperEntries.{first_page}
+use Rattle.nk_bits.specs.UpperEntries.{first_of_span}
 use Rattle.phys_mem.specs.Memory.{number_at, stored, stores}
 use Rattle.trap_unit.specs.DeliveryStores.{delivery_stores, push_stores}
 use Rattle.trap_unit.specs.TrapDelivery.{delivered, entry_found, gate_read, pushed}
@@ -110,7 +110,7 @@ equal_bytes o kinds ledger turns taken safe =
 -- grant all rights, and where it is of level 1
 module _ (o : Opening) (s : MachineState) (place level bits : ℕ) (it : Upper)
     (kept : slice_get s.processor.tlb.upper place ≡ Some (level, bits, it))
-    (outside : is_slot_page (first_page level bits) ≡ false) where
+    (outside : is_slot_page (first_of_span level bits) ≡ false) where
   leads_so : IsGuarded o s → Leading o s.kinds (level, bits, it)
   leads_so guarded =
       leading o s.kinds (level, bits, it)

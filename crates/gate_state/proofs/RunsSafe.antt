@@ -19,7 +19,7 @@ use Rattle.gate_state.specs.GuardedStates.{IsGuarded}
 use Rattle.gate_state.specs.MachineStates.{MachineState, Opening, nested_of}
 use Rattle.gate_state.specs.MachineSteps.{Made, after_event, after_turn, called_by, calls, made_by_all, made_in, move_by, move_of, nested_after, next, next_by, served, state, verdict_in, waits, with_call}
 use Rattle.gate_state.specs.SafeStates.{TakesTurn}
-use Rattle.gate_state.specs.StepsTaken.{Counts}
+use Rattle.gate_state.specs.StepsTaken.{CountsSteps}
 
 -- what is known of the move from a state
 pub data IsMove (plan : List Event) (s : MachineState) : Move → Type 0 where
@@ -57,14 +57,14 @@ has_some plan n event is = elim (cases_lt n (length plan)) [
 ]
 
 -- what a step counts
-pub count_by : (plan : List Event) (s : MachineState) (m : Move) → IsMove plan s m → Counts plan m s (next_by m s)
+pub count_by : (plan : List Event) (s : MachineState) (m : Move) → IsMove plan s m → CountsSteps plan m s (next_by m s)
 unfolding served after_turn
 count_by plan s move.Serve (serving at) = record { turns = refl; taken = refl }
 count_by plan s (move.Take what) (taking event outside is) = record { turns = refl; taken = refl; left = has_some plan s.taken event is }
 count_by plan s move.Turn (turning takes) = record { turns = refl; taken = refl }
 count_by plan s move.Rest (resting outside waits_so) = refl
 
-pub step_counts : (plan : List Event) (s : MachineState) → Counts plan (move_of plan s) s (next plan s)
+pub step_counts : (plan : List Event) (s : MachineState) → CountsSteps plan (move_of plan s) s (next plan s)
 unfolding next
 step_counts plan s = count_by plan s (move_of plan s) (move_is plan s)
 

@@ -11,7 +11,7 @@ use Rattle.gate_state.specs.GuardedStates.{IsGuarded}
 use Rattle.gate_state.specs.MachineStates.{MachineState, Opening}
 use Rattle.gate_state.specs.MachineSteps.{after_turn, move_of, next, next_by, served, state}
 use Rattle.gate_state.specs.SafeStates.{TakesTurn}
-use Rattle.gate_state.specs.StepsTaken.{Counts, TakesOneEvent, TakesOneTurn}
+use Rattle.gate_state.specs.StepsTaken.{CountsSteps, TakesOneEvent, TakesOneTurn}
 use Rattle.gate_state.specs.WindowLeft.{ComesNearer, IsNearer, IsShortWindow, left}
 use Rattle.gate_state.proofs.RunsSafe.{IsMove, StepsKept, count_by, move_is, next_guarded, resting, serving, state_guarded, taking, turning}
 use Rattle.gate_state.proofs.TurnNearer.{event_left}
@@ -62,7 +62,7 @@ module _ (o : Opening) (nearer : StepsNearer o) (plan : List Event) where
   next_nearer s guarded clear = step_nearer s (move_of plan s) (move_is plan s) guarded clear
 
   -- a step after which WP is still clear
-  step_falls : (s after : MachineState) (m : Move) → Counts plan m s after
+  step_falls : (s after : MachineState) (m : Move) → CountsSteps plan m s after
       → ComesNearer m s.processor after.processor → wp_of after.processor.control.cr0 ≡ false
       → together after ≤ together s
   step_falls s after move.Serve counts fewer clear = one_turn s after counts fewer

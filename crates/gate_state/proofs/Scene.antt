@@ -18,7 +18,7 @@ use Rattle.phys_mem.specs.Memory.{entry_in, stored}
 use Rattle.boot_map.specs.KernelSlot.{slot_leaf, slot_start}
 use Rattle.page_desc.specs.PageTables.{HoldsSoundTables}
 use Rattle.page_walk.specs.MemoryAccess.{view_of}
-use Rattle.gate_state.specs.GuardedStates.{AreKinds, IsAdmitted, IsHeld}
+use Rattle.gate_state.specs.GuardedStates.{AreKinds, IsAdmitted, KeepsOpeningBytes}
 use Rattle.gate_state.specs.MachineStates.{Opening}
 use Rattle.gate_state.specs.RespectedKinds.{leads, respecting, respects}
 
@@ -26,7 +26,7 @@ use Rattle.gate_state.specs.RespectedKinds.{leads, respecting, respects}
 pub record IsScene (o : Opening) (ks : List Kind) (m : List ℕ) (control : Control) : Type 0 where
   pub admitted : IsAdmitted o
   pub kinds_are : AreKinds o ks
-  pub memory : IsHeld o ks m
+  pub memory : KeepsOpeningBytes o ks m
   pub tables : HoldsSoundTables ks control.root m
   pub smep : smep_of control.cr4 ≡ true
 
@@ -67,8 +67,8 @@ pub record SceneLaws (o : Opening) (ks : List Kind) : Type 0 where
       → IsScene o ks m control → AllPass (respecting o ks) tlb → va < 2 ^ 64 → 1 ≤ width
       → AllPass (respecting o ks) (accessed (view_of m control cpl) access tlb va width).tlb
   -- stores in frames that may be stored to leave what is guarded, and sound tables
-  pub held_stored : (m : List ℕ) (ws : List (ℕ × ℕ)) → IsAdmitted o → AreKinds o ks → IsHeld o ks m
-      → AreStores ks ws → IsHeld o ks (stored m ws)
+  pub held_stored : (m : List ℕ) (ws : List (ℕ × ℕ)) → IsAdmitted o → AreKinds o ks → KeepsOpeningBytes o ks m
+      → AreStores ks ws → KeepsOpeningBytes o ks (stored m ws)
   pub tables_stored : (root : ℕ) (m : List ℕ) (ws : List (ℕ × ℕ)) → HoldsSoundTables ks root m
       → AreStores ks ws → HoldsSoundTables ks root (stored m ws)
 

@@ -12,15 +12,15 @@ use Rattle.boot_map.specs.Division.{division_of}
 use Rattle.boot_map.specs.KernelSlot.{is_slot_table}
 use Rattle.boot_map.specs.OpeningKinds.{kind_at, kind_of_part}
 use Rattle.boot_map.specs.Parts.{part_at}
-use Rattle.page_desc.specs.PageTables.{is_kept}
-use Rattle.gate_state.specs.GuardedStates.{AreKinds, IsAdmitted, IsHeld}
+use Rattle.page_desc.specs.PageTables.{is_unchanging}
+use Rattle.gate_state.specs.GuardedStates.{AreKinds, IsAdmitted, KeepsOpeningBytes}
 use Rattle.gate_state.specs.MachineStates.{Opening}
 use Rattle.gate_state.proofs.LowerLaws.{LowerLaws}
 use Rattle.gate_state.proofs.Scene.{AreStores}
 use Rattle.gate_state.proofs.SceneProofsWalks.{kind_is}
 
 -- what is kept may not be stored to
-kept_apart : (kind : Kind) → is_kept kind ≡ true → is_storable kind ≡ true → ⊥
+kept_apart : (kind : Kind) → is_unchanging kind ≡ true → is_storable kind ≡ true → ⊥
 kept_apart Data kept storable = false≢true kept
 kept_apart Code kept storable = false≢true storable
 kept_apart (Table level) kept storable = false≢true kept
@@ -62,7 +62,7 @@ slot_fixed laws o ks admitted kinds_are frame inside table =
     kind_is laws o ks admitted kinds_are frame Fixed inside (opened_fixed o.image o.frames frame table) refl
 
 pub stores_hold : LowerLaws → (o : Opening) (ks : List Kind) (m : List ℕ) (ws : List (ℕ × ℕ)) → IsAdmitted o
-    → AreKinds o ks → IsHeld o ks m → AreStores ks ws → IsHeld o ks (stored m ws)
+    → AreKinds o ks → KeepsOpeningBytes o ks m → AreStores ks ws → KeepsOpeningBytes o ks (stored m ws)
 stores_hold laws o ks m ws admitted kinds_are held are = record {
   size = laws.store.length m ws ∙ held.size;
   are_bytes = laws.store.bytes m ws are.bytes held.are_bytes;

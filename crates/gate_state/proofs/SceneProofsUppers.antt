@@ -13,13 +13,13 @@ use Rattle.nk_bits.specs.Claims.{AllPass, Claim}
 use Rattle.nk_bits.specs.Kinds.{allows, kind_of, level_of}
 use Rattle.nk_bits.specs.Paging.{has_all, is_canonical, is_slot_page, page_of, upper_walk, walk_below}
 use Rattle.nk_bits.specs.Translations.{Translations}
-use Rattle.nk_bits.specs.UpperEntries.{KeptEntry, first_page, span_of}
+use Rattle.nk_bits.specs.UpperEntries.{KeptEntry, first_of_span, span_of}
 use Rattle.phys_mem.specs.Memory.{entry_in}
 use Rattle.boot_map.specs.FixedFrames.{opening_root}
 use Rattle.boot_map.specs.KernelSlot.{slot_leaf, slot_upper}
 use Rattle.boot_map.specs.OpeningEntries.{opening_entry}
 use Rattle.page_desc.specs.PageTables.{HoldsSoundTables}
-use Rattle.gate_state.specs.GuardedStates.{AreKinds, IsAdmitted, IsHeld}
+use Rattle.gate_state.specs.GuardedStates.{AreKinds, IsAdmitted, KeepsOpeningBytes}
 use Rattle.gate_state.specs.MachineStates.{Opening}
 use Rattle.gate_state.specs.RespectedKinds.{is_alike, is_upper, leads}
 use Rattle.gate_state.proofs.LowerLaws.{LowerLaws}
@@ -58,15 +58,15 @@ is_upper_itself it =
 pub record Leading (o : Opening) (ks : List Kind) (entry : KeptEntry) : Type 0 where
   pub least : 2 ≤ entry.0
   pub most : entry.0 ≤ 4
-  pub within : is_slot_page (first_page entry.0 entry.1) ≡ true
-      → slot_upper o.image o.frames (first_page entry.0 entry.1) entry.0 ≡ Some entry.2
-  pub outside : is_slot_page (first_page entry.0 entry.1) ≡ false
+  pub within : is_slot_page (first_of_span entry.0 entry.1) ≡ true
+      → slot_upper o.image o.frames (first_of_span entry.0 entry.1) entry.0 ≡ Some entry.2
+  pub outside : is_slot_page (first_of_span entry.0 entry.1) ≡ false
       → (level_of (kind_of ks entry.2.frame) + 1 ≡ entry.0) × (has_all entry.2.rights ≡ true)
 
 pub leading : (o : Opening) (ks : List Kind) (entry : KeptEntry) → leads o ks entry ≡ true → Leading o ks entry
 unfolding leads
 leading o ks entry is =
-    let page : ℕ = first_page entry.0 entry.1 in
+    let page : ℕ = first_of_span entry.0 entry.1 in
     let both = and_parts (nat_le 2 entry.0 && nat_le entry.0 4) _ is in
     let bounds = and_parts (nat_le 2 entry.0) (nat_le entry.0 4) both.0 in
     record {
@@ -84,38 +84,38 @@ module _ (o : Opening) (ks : List Kind) (level bits : ℕ) (it : Upper) (least :
   bounded : (nat_le 2 level && nat_le level 4) ≡ true
   bounded = and_from (nat_le 2 level) (nat_le level 4) (le-leb 2 level least) (le-leb level 4 most)
 
-  leads_within : is_slot_page (first_page level bits) ≡ true
-      → slot_upper o.image o.frames (first_page level bits) level ≡ Some it → leads o ks (level, bits, it) ≡ true
+  leads_within : is_slot_page (first_of_span level bits) ≡ true
+      → slot_upper o.image o.frames (first_of_span level bits) level ≡ Some it → leads o ks (level, bits, it) ≡ true
   unfolding leads
   leads_within on laid =
       and_from (nat_le 2 level && nat_le level 4) _ bounded
-      (cond-true (is_slot_page (first_page level bits)) _ _ on
+      (cond-true (is_slot_page (first_of_span level bits)) _ _ on
       ∙ (ap (λ found. is_upper found it) laid ∙ is_upper_itself it))
 
-  leads_outside : is_slot_page (first_page level bits) ≡ false → level_of (kind_of ks it.frame) + 1 ≡ level
+  leads_outside : is_slot_page (first_of_span level bits) ≡ false → level_of (kind_of ks it.frame) + 1 ≡ level
       → has_all it.rights ≡ true → leads o ks (level, bits, it) ≡ true
   unfolding leads
   leads_outside off below all =
       and_from (nat_le 2 level && nat_le level 4) _ bounded
-      (cond-false (is_slot_page (first_page level bits)) _ _ off
+      (cond-false (is_slot_page (first_of_span level bits)) _ _ off
       ∙ and_from (level_of (kind_of ks it.frame) + 1 == level) (has_all it.rights) (eq-eqb _ _ below) all)
 
 module _ (laws : LowerLaws) (o : Opening) (ks : List Kind) (admitted : IsAdmitted o) (kinds_are : AreKinds o ks) where
   -- the pages under an entry are the slot's or not as its first page is, and the layout has one entry for them
   module _ (level bits page : ℕ) (least : 2 ≤ level) (most : level ≤ 4) (under : bits ≡ span_of level page) where
-    same_pages : span_of level (first_page level bits) ≡ span_of level page
+    same_pages : span_of level (first_of_span level bits) ≡ span_of level page
     same_pages = laws.upper.first_page level bits ∙ under
 
-    pub same_side : is_slot_page (first_page level bits) ≡ is_slot_page page
-    same_side = laws.upper.same_slot (first_page level bits) page level (omega (arith, least)) most same_pages
+    pub same_side : is_slot_page (first_of_span level bits) ≡ is_slot_page page
+    same_side = laws.upper.same_slot (first_of_span level bits) page level (omega (arith, least)) most same_pages
 
-    pub same_laid : slot_upper o.image o.frames (first_page level bits) level ≡ slot_upper o.image o.frames page level
+    pub same_laid : slot_upper o.image o.frames (first_of_span level bits) level ≡ slot_upper o.image o.frames page level
     unfolding slot_upper
     same_laid =
-        laws.upper.same_span (opening_entry o.image o.frames) o.frames opening_root (first_page level bits) page level
+        laws.upper.same_span (opening_entry o.image o.frames) o.frames opening_root (first_of_span level bits) page level
         (omega (arith, least)) most same_pages
 
-  module _ (m : List ℕ) (held : IsHeld o ks m) where
+  module _ (m : List ℕ) (held : KeepsOpeningBytes o ks m) where
     pub frames_are : length m / 4096 ≡ o.frames
     frames_are = omega (arith, held.size)
 
@@ -137,7 +137,7 @@ module _ (laws : LowerLaws) (o : Opening) (ks : List Kind) (admitted : IsAdmitte
     pub upper_within : (entry : KeptEntry) → leads o ks entry ≡ true → 4096 * entry.2.frame < length m
     upper_within entry is =
         let lead : Leading o ks entry = leading o ks entry is in
-        let page : ℕ = first_page entry.0 entry.1 in
+        let page : ℕ = first_of_span entry.0 entry.1 in
         elim (cases_Bool (is_slot_page page)) [
           | inl on ↦
               let Is : Option Upper → Type 0 = λ found. IfSome found (λ it. it.frame < o.frames) in

@@ -13,7 +13,7 @@ use Rattle.nk_bits.specs.Claims.{AllPass}
 use Rattle.nk_bits.specs.Kinds.{is_storable, kind_of}
 use Rattle.nk_bits.specs.Paging.{is_canonical, is_slot_page, page_of, walk, walk_below}
 use Rattle.nk_bits.specs.Translations.{NamesFramesIn, Translations}
-use Rattle.nk_bits.specs.UpperEntries.{KeptEntry, covers, span_of}
+use Rattle.nk_bits.specs.UpperEntries.{KeptEntry, serves_page, span_of}
 use Rattle.phys_mem.specs.Memory.{entry_in}
 use Rattle.boot_map.specs.FixedFrames.{gate_text}
 use Rattle.boot_map.specs.KernelSlot.{IsCodePage, slot_leaf, slot_start}
@@ -21,7 +21,7 @@ use Rattle.boot_map.specs.OpeningKinds.{kind_at, kinds}
 use Rattle.page_desc.specs.PageTables.{HoldsSoundTables}
 use Rattle.page_walk.specs.MemoryAccess.{view_of}
 use Rattle.nk_body.specs.KindsKept.{is_settled}
-use Rattle.gate_state.specs.GuardedStates.{AreKinds, IsAdmitted, IsHeld}
+use Rattle.gate_state.specs.GuardedStates.{AreKinds, IsAdmitted, KeepsOpeningBytes}
 use Rattle.gate_state.specs.MachineStates.{Opening}
 use Rattle.gate_state.specs.RespectedKinds.{fits_kind, is_code, leads, respecting, respects}
 use Rattle.gate_state.proofs.LowerLaws.{LowerLaws}
@@ -69,7 +69,7 @@ module _ (laws : LowerLaws) (o : Opening) (ks : List Kind) (admitted : IsAdmitte
       (λ code. ap is_code (kind_is leaf.frame Code (laid_in_memory page leaf laid)
       (laws.opening.code o.image o.frames page leaf.frame code) refl)))
 
-  module _ (m : List ℕ) (held : IsHeld o ks m) where
+  module _ (m : List ℕ) (held : KeepsOpeningBytes o ks m) where
     -- the walk over memory, in the slot and outside it
     module _ (root : ℕ) (tables : HoldsSoundTables ks root m) where
       pub laid_by_walk : (page : ℕ) → slot_start ≤ page → page < 2 ^ 52
@@ -96,7 +96,7 @@ module _ (laws : LowerLaws) (o : Opening) (ks : List Kind) (admitted : IsAdmitte
 
       -- and the rest of it below an entry that leads
       below_respects : (entry : KeptEntry) (va : ℕ) (leaf : Leaf) → leads o ks entry ≡ true
-          → covers (page_of va) entry ≡ true
+          → serves_page (page_of va) entry ≡ true
           → walk_below (entry_in m) (length m / 4096) (page_of va) entry.0 entry.2 ≡ Ok leaf
           → respects o ks (page_of va, leaf) ≡ true
       below_respects entry va leaf is covered found =

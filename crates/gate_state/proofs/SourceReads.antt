@@ -13,7 +13,7 @@ use Rattle.nk_bits.specs.Translations.{Translations, tlb_after, translation}
 use Rattle.phys_mem.specs.Memory.{IsBytes, entry_in}
 use Rattle.page_walk.specs.MemoryAccess.{view_of}
 use Rattle.nk_body.specs.CallRules.{IsSourceOf, bytes_read}
-use Rattle.gate_state.specs.SourceBytes.{SourceRead, byte_by, in_front, is_readable, kept_by, read_on, source_byte, source_by, source_read, source_tlb, source_with, tlb_by}
+use Rattle.gate_state.specs.SourceBytes.{SourceRead, byte_through, in_front, is_readable, kept_by, read_on, source_byte, source_through, source_read, source_tlb, source_with, tlb_by}
 use Rattle.gate_state.proofs.LowerLaws.{KeptLaws}
 
 -- so many bytes
@@ -21,7 +21,7 @@ abbrev AreSo : ℕ → List ℕ → Type 0
 AreSo n bytes = (length bytes ≡ n) × All (λ b. b < 256) bytes
 
 -- one byte, where it was read
-one_byte : (m : List ℕ) (va : ℕ) (found : Option Leaf) → IsBytes m → IfSome (byte_by m va found) (λ b. b < 256)
+one_byte : (m : List ℕ) (va : ℕ) (found : Option Leaf) → IsBytes m → IfSome (byte_through m va found) (λ b. b < 256)
 one_byte m va None are = tt
 one_byte m va (Some leaf) are = are _
 
@@ -29,7 +29,7 @@ byte_small : (m : List ℕ) (root : ℕ) (tlb : Translations) (va : ℕ) → IsB
     → IfSome (source_byte m root tlb va) (λ b. b < 256)
 byte_small m root tlb va are = choice (is_readable va)
   where
-    choice : (b : Bool) → IfSome (if b then byte_by m va (translation (entry_in m) (length m / 4096) root tlb (page_of va)) else None) (λ b. b < 256)
+    choice : (b : Bool) → IfSome (if b then byte_through m va (translation (entry_in m) (length m / 4096) root tlb (page_of va)) else None) (λ b. b < 256)
     choice true = one_byte m va (translation (entry_in m) (length m / 4096) root tlb (page_of va)) are
     choice false = tt
 
@@ -54,7 +54,7 @@ read_so m root tlb va (suc n) are =
 
 module _ (m : List ℕ) (root : ℕ) (are : IsBytes m) where
   -- what is read is what the call takes
-  pub source_is : (tlb : Translations) (va : ℕ) (wanted : Option ℕ) → IsSourceOf wanted (source_by m root tlb va wanted)
+  pub source_is : (tlb : Translations) (va : ℕ) (wanted : Option ℕ) → IsSourceOf wanted (source_through m root tlb va wanted)
   source_is tlb va None = refl
   source_is tlb va (Some count) = by_found (source_read m root tlb va count).bytes (read_so m root tlb va count are)
     where
@@ -64,7 +64,7 @@ module _ (m : List ℕ) (root : ℕ) (are : IsBytes m) where
 
   -- of bytes
   pub source_bytes : (tlb : Translations) (va : ℕ) (wanted : Option ℕ)
-      → All (λ b. b < 256) (bytes_read (source_by m root tlb va wanted))
+      → All (λ b. b < 256) (bytes_read (source_through m root tlb va wanted))
   source_bytes tlb va None = All-nil (λ b. b < 256)
   source_bytes tlb va (Some count) = by_found (source_read m root tlb va count).bytes (read_so m root tlb va count are)
     where

@@ -11,7 +11,7 @@ use Rattle.nk_bits.specs.Claims.{AllPass, Claim}
 use Rattle.nk_bits.specs.Kinds.{is_storable, kind_of}
 use Rattle.nk_bits.specs.Paging.{is_canonical, page_of, upper_walk, walk, walk_below}
 use Rattle.nk_bits.specs.Translations.{IsLive, Translations, fill_walked}
-use Rattle.nk_bits.specs.UpperEntries.{covers, span_of, walk_by}
+use Rattle.nk_bits.specs.UpperEntries.{serves_page, span_of, walk_by}
 use Rattle.phys_mem.specs.Memory.{entry_in, stored}
 use Rattle.page_walk.specs.MemoryAccess.{view_of}
 use Rattle.irq_plan.specs.declared.event.What.{What}
@@ -25,7 +25,7 @@ use Rattle.cpu_step.specs.TurnStores.{turn_stores}
 use Rattle.cpu_step.specs.Turns.{enters_body, is_at_body, turned}
 use Rattle.gate_state.specs.AnyVector.{DeliversAny}
 use Rattle.gate_state.specs.GateWindow.{IsGatePoint}
-use Rattle.gate_state.specs.GuardedStates.{AreKinds, IsAdmitted, IsGuarded, IsHeld}
+use Rattle.gate_state.specs.GuardedStates.{AreKinds, IsAdmitted, IsGuarded, KeepsOpeningBytes}
 use Rattle.gate_state.specs.MachineStates.{MachineState, Opening, nested_of}
 use Rattle.gate_state.specs.MachineSteps.{after_event, after_reading, after_turn, call_in, shown_by_turn, turn_of, wanted}
 use Rattle.gate_state.specs.RespectedKinds.{leads, respecting, respects}
@@ -97,7 +97,7 @@ module _ (laws : LowerLaws) (o : Opening) (admitted : IsAdmitted o) where
       tables =
           let after : ((turn_of s).processor.control.root, (turn_of s).memory) ≡ (s.processor.control.root, stored s.memory made) = λ i. (kept.same_root i, kept.memory_is i) in
           subst (λ (x : ℕ × List ℕ). HoldsSoundTables s.kinds x.0 x.1) (sym after) (laws.table.sound_stays s.kinds s.processor.control.root s.memory made guarded.tables kept.are.places);
-      memory = subst (IsHeld o s.kinds) (sym kept.memory_is) ((scenes_of s.kinds guarded.kinds).held_stored s.memory made admitted guarded.kinds guarded.memory kept.are);
+      memory = subst (KeepsOpeningBytes o s.kinds) (sym kept.memory_is) ((scenes_of s.kinds guarded.kinds).held_stored s.memory made admitted guarded.kinds guarded.memory kept.are);
       ledger = guarded.ledger;
       next = omega (arith, guarded.next);
       translations = kept.pass;
@@ -205,7 +205,7 @@ module _ (laws : LowerLaws) (o : Opening) (admitted : IsAdmitted o) where
             (ap (walk (entry_in s.memory) (length s.memory / 4096) s.processor.control.root) same ∙ found)
         | inr below ↦
             walked.below below.entry (4096 * page) leaf (entry_passes (respecting o s.kinds) s.processor.tlb below.place below.entry below.kept guarded.translations) given.0
-            (ap (λ (n : ℕ). covers n below.entry) same ∙ below.for_page)
+            (ap (λ (n : ℕ). serves_page n below.entry) same ∙ below.for_page)
             (ap (λ (n : ℕ). walk_below (entry_in s.memory) (length s.memory / 4096) n below.entry.0 below.entry.2) same ∙ below.found)
       ] in
       ap (λ n. respects o s.kinds (n, leaf)) (sym same) ∙ at

@@ -16,7 +16,7 @@ use Rattle.trap_unit.specs.TrapDelivery.{Delivered, at_handler, codes_of, delive
 use Rattle.cpu_step.specs.declared.stepped.Stepped.TheVariants as stepped
 use Rattle.cpu_step.specs.Processor.{Processor}
 use Rattle.cpu_step.specs.TurnStores.{fault_stores, trap_stores}
-use Rattle.cpu_step.specs.Turns.{delivery_of, raised, shown_by, trapped}
+use Rattle.cpu_step.specs.Turns.{delivery_of, fault_raised, stepped_by, trapped}
 use Rattle.gate_state.specs.GateWindow.{IsGatePoint}
 use Rattle.gate_state.specs.GuardedStates.{IsControlled}
 use Rattle.gate_state.specs.MachineStates.{Opening}
@@ -48,9 +48,9 @@ module _ (o : Opening) (ks : List Kind) (facts : TurnFacts o ks) (storable : is_
     bytes = bytes;
   }
 
-  shown_made : (answer : Result Unit Shut) (d : Delivery) → answer ≡ Ok tt → shown_by answer d ≡ stepped.Shutdown → ⊥
+  shown_made : (answer : Result Unit Shut) (d : Delivery) → answer ≡ Ok tt → stepped_by answer d ≡ stepped.Shutdown → ⊥
   shown_made answer d made shut =
-      let e : stepped.Delivered d ≡ stepped.Shutdown = sym (ap (λ (a : Result Unit Shut). shown_by a d) made) ∙ shut in absurd (cc)
+      let e : stepped.Delivered d ≡ stepped.Shutdown = sym (ap (λ (a : Result Unit Shut). stepped_by a d) made) ∙ shut in absurd (cc)
 
   -- what a delivery shows
   delivery_shown : (p : Processor) (vector : ℕ) (code : Option ℕ) → IsControlled p → vector < 48
@@ -87,7 +87,7 @@ module _ (o : Opening) (ks : List Kind) (facts : TurnFacts o ks) (storable : is_
         window = λ clear. moved_point p (record p { regs = made.regs; tlb = made.tlb }) _ (point clear) it.regs_are refl refl;
         runs = λ e. shown_made made.answer (delivery_of vector code p) it.made e;
         shows =
-            subst (λ (a : Result Unit Shut). IsShown (shown_by_turn (shown_by a (delivery_of vector code p))))
+            subst (λ (a : Result Unit Shut). IsShown (shown_by_turn (stepped_by a (delivery_of vector code p))))
             (sym it.made) (delivery_shown p vector code ready.control few small);
         memory_is = it.memory_is;
         are = on_trap_stack (trap_stores vector code p m) it.places it.bytes;
@@ -123,7 +123,7 @@ module _ (o : Opening) (ks : List Kind) (facts : TurnFacts o ks) (storable : is_
 
   -- a fault with WP set
   pub raise_kept : (wp : Bool) (p : Processor) (m : List ℕ) (it : Fault) → IsSmallFault it → IsReady o ks p m
-      → wp_of p.control.cr0 ≡ true → Kept o ks wp p.control.root m (raised it p m) (fault_stores it p m)
+      → wp_of p.control.cr0 ≡ true → Kept o ks wp p.control.root m (fault_raised it p m) (fault_stores it p m)
   raise_kept wp p m fault.Divide small ready set =
       trap_kept wp p m 0 None ready (omega arith) tt (set_never (wp_of p.control.cr0) set)
   raise_kept wp p m fault.Opcode small ready set =

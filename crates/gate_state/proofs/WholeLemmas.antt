@@ -22,7 +22,7 @@ use Rattle.gate_state.specs.GuardedStates.{IsGuarded}
 use Rattle.gate_state.specs.MachineStates.{MachineState, Opening, nested_of}
 use Rattle.gate_state.specs.MachineSteps.{after_event, after_reading, after_turn, answer_in, answered_with, call_in, move_of, nested_after, next, next_by, served, source_of, turn_of}
 use Rattle.gate_state.specs.MachineSteps.{wanted as wanted_in}
-use Rattle.gate_state.specs.SourceBytes.{SourceRead, source_by, source_read, source_with, tlb_by}
+use Rattle.gate_state.specs.SourceBytes.{SourceRead, source_through, source_read, source_with, tlb_by}
 use Rattle.gate_state.specs.WholeMachine.{IsWhole}
 
 -- the step by the move
@@ -71,8 +71,8 @@ module _ (keep : KeepLength) (o : Opening) (s : MachineState) (own : OwnState) (
       → source_read m s.processor.control.root s.processor.tlb va count
       ≡ source_read s.memory s.processor.control.root s.processor.tlb va count) where
     pub source_seen : (va : ℕ) (wanted : Option ℕ)
-        → source_by m s.processor.control.root s.processor.tlb va wanted
-        ≡ source_by s.memory s.processor.control.root s.processor.tlb va wanted
+        → source_through m s.processor.control.root s.processor.tlb va wanted
+        ≡ source_through s.memory s.processor.control.root s.processor.tlb va wanted
     source_seen va None = refl
     source_seen va (Some count) = ap (λ (it : SourceRead). source_with it.bytes) (read m va count masked_is)
 
@@ -171,7 +171,7 @@ module _ (s : MachineState) (books after : Books) (m : List ℕ) (call : CallWor
     (read p : Processor)
     (kinds_are : books.frames.kinds ≡ s.kinds) (root_is : books.root ≡ s.processor.control.root) (ledger_is : books.ledger ≡ s.ledger)
     (call_is : call ≡ call_in s.processor.regs) (wanted_is : wanted ≡ wants books.ledger.book call)
-    (source_is : source ≡ source_by s.memory s.processor.control.root s.processor.tlb call.c wanted)
+    (source_is : source ≡ source_through s.memory s.processor.control.root s.processor.tlb call.c wanted)
     (read_is : read ≡ record s.processor { tlb = tlb_by s.memory s.processor.control.root s.processor.tlb call.c wanted })
     (answer_is : answer ≡ answer_to (nested_by books s.memory) call source)
     (record_is : nested_by after m ≡ after_call (nested_by books s.memory) call source (stand_of (nested_by books s.memory) call s.memory))
@@ -184,7 +184,7 @@ module _ (s : MachineState) (books after : Books) (m : List ℕ) (call : CallWor
   wanted_now = wanted_is ∙ (λ i. wants (ledger_is i).book (call_is i))
 
   pub source_now : source ≡ source_of s
-  source_now = source_is ∙ (λ i. source_by s.memory s.processor.control.root s.processor.tlb (call_is i).c (wanted_now i))
+  source_now = source_is ∙ (λ i. source_through s.memory s.processor.control.root s.processor.tlb (call_is i).c (wanted_now i))
 
   read_now : read ≡ (after_reading s).processor
   read_now =

@@ -5,7 +5,7 @@ use Rattle.x86_alu.specs.SignedNumbers.{bit}
 use Rattle.x86_regs.specs.Combinations.{interrupt_flag}
 use Rattle.cpu_step.specs.Processor.{Processor}
 use Rattle.gate_text.specs.Listing.{gate_address}
-use Rattle.gate_state.specs.WindowLeft.{left, left_at, left_by}
+use Rattle.gate_state.specs.WindowLeft.{left, left_at, left_with}
 use Rattle.gate_state.proofs.WindowRows.{Below, from_32}
 
 -- with IF as it was; and with IF clear from then on
@@ -108,7 +108,7 @@ closer_cleared p offset next flags rip clear closer =
 abbrev pub Within : ℕ → Type 0
 Within n = (1 ≤ n) × (n ≤ 11)
 
-row_within : (clear set : ℕ) → Within clear → Within set → (interrupts : Bool) → Within (left_by clear set interrupts)
+row_within : (clear set : ℕ) → Within clear → Within set → (interrupts : Bool) → Within (left_with clear set interrupts)
 row_within clear set first second false = first
 row_within clear set first second true = second
 

@@ -23,7 +23,7 @@ pub record IsCalling (p : Processor) : Type 0 where
 -- the supervisor stands before the exit gate's POPFQ, at offset 53, with WP set: RSP is what it was at the beginning, RAX has
 -- the answer of the body, which was to the call that the registers held at the beginning, over the record that was guarded
 -- then, and RDX the place of a region, where one was allocated
-pub record IsAnswered (before body after : MachineState) : Type 0 where
+pub record IsCallAnswered (before body after : MachineState) : Type 0 where
   pub rip : after.processor.regs.rip ≡ gate_address + 53
   pub kept : wp_of after.processor.control.cr0 ≡ true
   pub stack : slice_index after.processor.regs.general rsp ≡ slice_index before.processor.regs.general rsp
@@ -38,7 +38,7 @@ pub record IsServed (plan : List Event) (s : MachineState) (k : ℕ) : Type 0 wh
   pub before : at < k
   pub turns : (state plan s at).turns ≡ s.turns + 6
   pub enters : enters_body (state plan s at).processor ≡ true
-  pub answered : IsAnswered s (state plan s at) (state plan s k)
+  pub answered : IsCallAnswered s (state plan s at) (state plan s k)
 
 -- k steps later, whatever events of the plan stand between: after six turns the body is to run, after fourteen the call is
 -- answered, and until then the machine doesn't rest. The answer is that of turns which a machine takes, below 2 ^ 32: each

@@ -10,11 +10,11 @@ use Rattle.byte_scanner.specs.ImageCode.{code_at}
 use Rattle.byte_scanner.specs.LeastPlace.{IsNowhere}
 use Rattle.boot_map.specs.Division.{IsLayout, division_of}
 use Rattle.boot_map.specs.KernelSlot.{HoldsSlot, slot_leaf, slot_start}
-use Rattle.boot_map.specs.Opening.{byte_in}
+use Rattle.boot_map.specs.Opening.{division_byte}
 use Rattle.boot_map.specs.OpeningKinds.{kinds}
-use Rattle.page_desc.specs.PageTables.{HoldsSoundTables, is_kept}
+use Rattle.page_desc.specs.PageTables.{HoldsSoundTables, is_unchanging}
 use Rattle.nk_body.specs.KindsKept.{is_settled}
-use Rattle.nk_body.specs.NestedRecord.{IsKept}
+use Rattle.nk_body.specs.NestedRecord.{IsLedgerKept}
 use Rattle.cpu_step.specs.Processor.{Processor}
 use Rattle.x86_regs.specs.EffectsKept.{AreRegisters}
 use Rattle.gate_state.specs.GateWindow.{IsGatePoint}
@@ -59,19 +59,19 @@ pub record AreKinds (o : Opening) (ks : List Kind) : Type 0 where
 
 -- memory keeps the opening's bytes in frames that are fixed or code, but for the eight bytes of the handler slot, and with
 -- them the kernel slot's own tables
-pub record IsHeld (o : Opening) (ks : List Kind) (m : List ℕ) : Type 0 where
+pub record KeepsOpeningBytes (o : Opening) (ks : List Kind) (m : List ℕ) : Type 0 where
   pub size : length m ≡ 4096 * o.frames
   pub are_bytes : IsBytes m
-  pub bytes : (place : ℕ) → is_kept (kind_of ks (place / 4096)) ≡ true → (place < 0x2000) ⊎ (0x2008 ≤ place)
-      → byte_at m place ≡ byte_in o.image o.frames place
+  pub bytes : (place : ℕ) → is_unchanging (kind_of ks (place / 4096)) ≡ true → (place < 0x2000) ⊎ (0x2008 ≤ place)
+      → byte_at m place ≡ division_byte o.image o.frames place
   pub slot : HoldsSlot o.image o.frames (entry_in m)
 
 pub record IsGuarded (o : Opening) (s : MachineState) : Type 0 where
   pub control : IsControlled s.processor
   pub kinds : AreKinds o s.kinds
   pub tables : HoldsSoundTables s.kinds s.processor.control.root s.memory
-  pub memory : IsHeld o s.kinds s.memory
-  pub ledger : IsKept s.kinds s.ledger
+  pub memory : KeepsOpeningBytes o s.kinds s.memory
+  pub ledger : IsLedgerKept s.kinds s.ledger
   pub next : s.ledger.book.next ≤ 256 + s.turns
   pub translations : AllPass (respecting o s.kinds) s.processor.tlb
   pub window : wp_of s.processor.control.cr0 ≡ false → IsGatePoint s.processor

@@ -6,7 +6,7 @@ use Rattle.x86_regs.specs.declared.delivery.Tables.{Tables}
 use Rattle.x86_regs.specs.declared.registers.Regs.{Regs}
 use Rattle.elf_image.specs.Pages.{entry_of}
 use Rattle.boot_map.specs.Division.{need}
-use Rattle.boot_map.specs.Opening.{byte_in}
+use Rattle.boot_map.specs.Opening.{division_byte}
 use Rattle.boot_map.specs.OpeningKinds.{kinds}
 use Rattle.cpu_step.specs.Processor.{started}
 use Rattle.nk_body.specs.SourceWords.{opening_ledger}
@@ -14,7 +14,7 @@ use Rattle.gate_state.specs.MachineStates.{MachineState, Opening}
 
 -- the opening's memory as a list
 unfoldable pub opening_memory : Opening → List ℕ
-opening_memory o = map (byte_in o.image o.frames) (range_with_len 0 (4096 * o.frames))
+opening_memory o = map (division_byte o.image o.frames) (range_with_len 0 (4096 * o.frames))
 
 -- RSP is the top of the trap stack, RDI the number of the first free frame, RSI the number of frames
 abbrev pub opening_regs : Opening → Regs

@@ -23,7 +23,7 @@ use Rattle.gate_state.specs.declared.seen.Called.{Called}
 use Rattle.gate_state.specs.declared.seen.Took.{Took}
 use Rattle.gate_state.specs.declared.seen.Took.TheVariants as took
 use Rattle.gate_state.specs.MachineStates.{MachineState, nested_of}
-use Rattle.gate_state.specs.SourceBytes.{source_by, tlb_by}
+use Rattle.gate_state.specs.SourceBytes.{source_through, tlb_by}
 
 -- the processor is halted, and no pending vector wakes it
 abbrev pub waits : Processor → Bool
@@ -70,7 +70,7 @@ abbrev pub wanted : MachineState → Option ℕ
 wanted s = wants s.ledger.book (call_in s.processor.regs)
 
 abbrev pub source_of : MachineState → Sourced
-source_of s = source_by s.memory s.processor.control.root s.processor.tlb (call_in s.processor.regs).c (wanted s)
+source_of s = source_through s.memory s.processor.control.root s.processor.tlb (call_in s.processor.regs).c (wanted s)
 
 abbrev pub after_reading : MachineState → MachineState
 after_reading s = record s {

@@ -8,7 +8,7 @@ use Rattle.nk_bits.specs.declared.leaf.Upper.{Upper}
 use Rattle.nk_bits.specs.Claims.{Claim}
 use Rattle.nk_bits.specs.Kinds.{allows, is_storable, kind_of, level_of}
 use Rattle.nk_bits.specs.Paging.{has_all, is_slot_page}
-use Rattle.nk_bits.specs.UpperEntries.{KeptEntry, first_page}
+use Rattle.nk_bits.specs.UpperEntries.{KeptEntry, first_of_span}
 use Rattle.boot_map.specs.KernelSlot.{slot_leaf, slot_upper}
 use Rattle.gate_state.specs.MachineStates.{Opening}
 
@@ -63,8 +63,8 @@ is_upper (Some laid) it =
 unfoldable pub leads : Opening → List Kind → KeptEntry → Bool
 leads o kinds entry =
     nat_le 2 entry.0 && nat_le entry.0 4
-    && (if is_slot_page (first_page entry.0 entry.1)
-    then is_upper (slot_upper o.image o.frames (first_page entry.0 entry.1) entry.0) entry.2
+    && (if is_slot_page (first_of_span entry.0 entry.1)
+    then is_upper (slot_upper o.image o.frames (first_of_span entry.0 entry.1) entry.0) entry.2
     else level_of (kind_of kinds entry.2.frame) + 1 == entry.0
     && has_all entry.2.rights)
 

@@ -19,13 +19,13 @@ abbrev pub is_readable : ℕ → Bool
 is_readable va = nat_lt va (2 ^ 64) && is_canonical va
 
 -- the byte at an address by its translation; the supervisor may read by each
-abbrev pub byte_by : List ℕ → ℕ → Option Leaf → Option ℕ
-byte_by m va None = None
-byte_by m va (Some leaf) = Some (byte_at m (place_in leaf va))
+abbrev pub byte_through : List ℕ → ℕ → Option Leaf → Option ℕ
+byte_through m va None = None
+byte_through m va (Some leaf) = Some (byte_at m (place_in leaf va))
 
 abbrev pub source_byte : List ℕ → ℕ → Translations → ℕ → Option ℕ
 source_byte m root tlb va =
-    if is_readable va then byte_by m va (translation (entry_in m) (length m / 4096) root tlb (page_of va)) else None
+    if is_readable va then byte_through m va (translation (entry_in m) (length m / 4096) root tlb (page_of va)) else None
 
 -- what is kept once a page's translation was looked for: where there was none, what a page fault leaves
 abbrev pub kept_by : Option Leaf → Translations → ℕ → Translations
@@ -61,9 +61,9 @@ abbrev pub source_with : Option (List ℕ) → Sourced
 source_with None = Unreadable
 source_with (Some bytes) = Bytes bytes
 
-abbrev pub source_by : List ℕ → ℕ → Translations → ℕ → Option ℕ → Sourced
-source_by m root tlb va None = NotTaken
-source_by m root tlb va (Some count) = source_with (source_read m root tlb va count).bytes
+abbrev pub source_through : List ℕ → ℕ → Translations → ℕ → Option ℕ → Sourced
+source_through m root tlb va None = NotTaken
+source_through m root tlb va (Some count) = source_with (source_read m root tlb va count).bytes
 
 abbrev pub tlb_by : List ℕ → ℕ → Translations → ℕ → Option ℕ → Translations
 tlb_by m root tlb va None = tlb

@@ -17,8 +17,8 @@ pub record TakesOneEvent (plan : List Event) (s after : MachineState) : Type 0 w
   pub left : s.taken < length plan
 
 -- by the kind of the step
-abbrev pub Counts : List Event → Move → MachineState → MachineState → Type 0
-Counts plan move.Serve s after = TakesOneTurn s after
-Counts plan (move.Take what) s after = TakesOneEvent plan s after
-Counts plan move.Turn s after = TakesOneTurn s after
-Counts plan move.Rest s after = after ≡ s
+abbrev pub CountsSteps : List Event → Move → MachineState → MachineState → Type 0
+CountsSteps plan move.Serve s after = TakesOneTurn s after
+CountsSteps plan (move.Take what) s after = TakesOneEvent plan s after
+CountsSteps plan move.Turn s after = TakesOneTurn s after
+CountsSteps plan move.Rest s after = after ≡ s

@@ -13,24 +13,24 @@ use Rattle.gate_state.specs.MachineStates.{MachineState}
 use Rattle.gate_state.specs.MachineSteps.{state}
 
 -- a row of the table: so many with IF clear, and so many with IF set
-abbrev pub left_by : ℕ → ℕ → Bool → ℕ
-left_by clear set interrupts = if interrupts then set else clear
+abbrev pub left_with : ℕ → ℕ → Bool → ℕ
+left_with clear set interrupts = if interrupts then set else clear
 
 -- how many turns at most go by from this offset of the gates' text with WP clear until WP is set, the one that sets it
 -- counted in. At the last four rows' points IF is clear; these are 17; 27 and 448; a stub's PUSH, 64 + 8v; and its JMP,
 -- 66 + 8v, for the vectors v from 32 to 47
 unfoldable pub left_at : ℕ → Bool → ℕ
 left_at offset =
-    if offset == 37 || offset == 457 then left_by 1 7
-    else if offset == 32 || offset == 452 then left_by 2 8
-    else if offset == 29 || offset == 449 then left_by 3 9
-    else if offset == 45 || offset == 465 then left_by 4 10
-    else if offset == 40 || offset == 460 then left_by 5 11
-    else if offset == 16 then left_by 6 7
-    else if offset == 17 then left_by 5 5
-    else if offset == 27 || offset == 448 then left_by 4 4
-    else if offset % 8 == 0 then left_by 6 6
-    else left_by 5 5
+    if offset == 37 || offset == 457 then left_with 1 7
+    else if offset == 32 || offset == 452 then left_with 2 8
+    else if offset == 29 || offset == 449 then left_with 3 9
+    else if offset == 45 || offset == 465 then left_with 4 10
+    else if offset == 40 || offset == 460 then left_with 5 11
+    else if offset == 16 then left_with 6 7
+    else if offset == 17 then left_with 5 5
+    else if offset == 27 || offset == 448 then left_with 4 4
+    else if offset % 8 == 0 then left_with 6 6
+    else left_with 5 5
 
 abbrev pub left : Processor → ℕ
 left p = left_at (p.regs.rip - gate_address) (bit p.regs.flags interrupt_flag)

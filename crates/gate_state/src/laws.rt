@@ -25,7 +25,7 @@ ghost use Rattle.gate_state.specs.MachineSteps.{after_event, after_turn, calls, 
 ghost use Rattle.gate_state.specs.SafeStates.{IsSafe, TakesTurn};
 ghost use Rattle.gate_state.specs.ShownSteps.{IsShown, IsShownCall};
 ghost use Rattle.gate_state.specs.SourceBytes.{source_read};
-ghost use Rattle.gate_state.specs.StepsTaken.{Counts};
+ghost use Rattle.gate_state.specs.StepsTaken.{CountsSteps};
 ghost use Rattle.gate_state.specs.WindowLeft.{ComesNearer, IsNearer, IsShortWindow, left};
 
 use boot_map::{
@@ -212,7 +212,7 @@ pub fn masked_law()
 
 /// A step takes one turn or one event of the plan; a machine that rests stays as it is.
 pub fn moves_law()
-    ensures { (plan : List Event) (s : MachineState) → Counts plan (move_of plan s) s (next plan s) }
+    ensures { (plan : List Event) (s : MachineState) → CountsSteps plan (move_of plan s) s (next plan s) }
 {}
 
 /// In a guarded state, as every state of every run of an admitted image is, each present entry of a page table has the

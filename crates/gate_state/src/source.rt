@@ -9,7 +9,7 @@ ghost use Rattle.cpu_step.specs.Processor.{IsSound};
 ghost use Rattle.nk_body.specs.CallRules.{Sourced, bytes_read};
 ghost use Rattle.nk_body.specs.SourceWords.{sourced_of};
 ghost use Rattle.gate_state.specs.MachineSteps.{took_by};
-ghost use Rattle.gate_state.specs.SourceBytes.{byte_by, kept_by, source_by, source_byte, source_read, source_tlb, tlb_by};
+ghost use Rattle.gate_state.specs.SourceBytes.{byte_through, kept_by, source_through, source_byte, source_read, source_tlb, tlb_by};
 
 use crate::seen::Took;
 use cpu_step::Cpu;
@@ -29,8 +29,8 @@ pub(crate) fn take_source(
 ) -> Took
     requires sound { IsSound (length mem.now) cpu.old }
     requires room { IfSome wanted (λ count. count ≤ vec_capacity into.old) }
-    ensures took { result ≡ took_by (source_by mem.now cpu.old.control.root cpu.old.tlb va wanted) }
-    ensures bytes { into.new.items ≡ bytes_read (source_by mem.now cpu.old.control.root cpu.old.tlb va wanted) }
+    ensures took { result ≡ took_by (source_through mem.now cpu.old.control.root cpu.old.tlb va wanted) }
+    ensures bytes { into.new.items ≡ bytes_read (source_through mem.now cpu.old.control.root cpu.old.tlb va wanted) }
     ensures cpu { cpu.new ≡ record cpu.old { tlb = tlb_by mem.now cpu.old.control.root cpu.old.tlb va wanted } }
     ensures room { vec_capacity into.old ≤ vec_capacity into.new }
 {
@@ -101,7 +101,7 @@ fn read_byte(tlb: &mut Tlb, mem: &PhysMem, root: u32, va: u64, offset: u64) -> O
 /// The byte at an address by its page's translation.
 fn byte_by(mem: &PhysMem, va: u64, leaf: Option<Leaf>) -> Option<u8>
     requires frame { IfSome leaf (λ leaf. 4096 * leaf.frame < length mem.now) }
-    ensures { result ≡ byte_by mem.now va leaf }
+    ensures { result ≡ byte_through mem.now va leaf }
 {
     // memory has whole frames
     let _frames = mem.frames();

@@ -4,7 +4,7 @@ ghost use Rattle.std.specs.Prelude.{◌≡◌, ◌-◌};
 ghost use Rattle.x86_alu.specs.SignedNumbers.{bit};
 ghost use Rattle.x86_regs.specs.Combinations.{interrupt_flag};
 ghost use Rattle.gate_text.specs.Listing.{gate_address};
-ghost use Rattle.gate_state.specs.WindowLeft.{left_at, left_by};
+ghost use Rattle.gate_state.specs.WindowLeft.{left_at, left_with};
 
 use x86_regs::{Regs, bit};
 
@@ -51,7 +51,7 @@ fn left_at(offset: u64, interrupts: bool) -> u8
 
 /// So many turns with IF clear, and so many with IF set.
 fn left_by(clear: u8, set: u8, interrupts: bool) -> u8
-    ensures { result ≡ left_by clear set interrupts }
+    ensures { result ≡ left_with clear set interrupts }
 {
     if interrupts { set } else { clear }
 }

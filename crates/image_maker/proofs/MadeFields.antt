@@ -8,7 +8,7 @@ use Rattle.std.proofs.lemmas.List.{get_or-drop}
 use Rattle.std.proofs.lemmas.List.FromFn.{get_or-map-range_with_len, length-map-range_with_len}
 use Rattle.byteorder.specs.Endian.{little_from}
 use Rattle.elf_image.specs.Elf.{field_at}
-use Rattle.image_maker.specs.MadeImage.{byte_of, image_byte, image_len, image_of_number}
+use Rattle.image_maker.specs.MadeImage.{number_byte, image_byte, image_len, image_of_number}
 
 -- how many bytes there are, and each of them
 pub made_length : (n : ℕ) → length (image_of_number n) ≡ image_len n
@@ -24,13 +24,13 @@ positive zero = omega arith
 positive (suc k) = omega (arith, pow-succ' 256 k, positive k)
 
 -- the bytes of a number, least first, make that number
-number_from : (xs : List ℕ) (k i x : ℕ) → ((j : ℕ) → j < k → slice_index xs (i + j) ≡ byte_of x j)
+number_from : (xs : List ℕ) (k i x : ℕ) → ((j : ℕ) → j < k → slice_index xs (i + j) ≡ number_byte x j)
     → little_from i k xs ≡ x % 256 ^ k
 number_from xs zero i x bytes = omega arith
 number_from xs (suc k) i x bytes =
     let here : i + 0 ≡ i = omega arith in
     let first : slice_index xs i ≡ x / 256 ^ 0 % 256 = ap (λ (p : ℕ). slice_index xs p) (sym here) ∙ bytes 0 (omega arith) in
-    let later : (j : ℕ) → j < k → slice_index xs (suc i + j) ≡ byte_of (x / 256) j =
+    let later : (j : ℕ) → j < k → slice_index xs (suc i + j) ≡ number_byte (x / 256) j =
     λ j below.
     let place : suc i + j ≡ i + suc j = omega arith in
     let power : 256 ^ suc j ≡ 256 * 256 ^ j = pow-succ' 256 j in
@@ -54,7 +54,7 @@ made_headers n = record { long = made_length n; bytes = λ at below. made_byte n
 module _ (n : ℕ) (b : List ℕ) (it : HasHeaders n b) where
   -- the field at a place of the headers, where the bytes are those of a number
   pub field_is : (k place x : ℕ) → place + k ≤ 176 → x < 256 ^ k
-      → ((j : ℕ) → j < k → image_byte n (place + j) ≡ byte_of x j) → field_at b k place ≡ x
+      → ((j : ℕ) → j < k → image_byte n (place + j) ≡ number_byte x j) → field_at b k place ≡ x
   unfolding field_at
   field_is k place x within fits bytes =
       number_from (drop place b) k 0 x
@@ -66,8 +66,8 @@ module _ (n : ℕ) (b : List ℕ) (it : HasHeaders n b) where
 
   -- the same where the bytes are literals
   pub literal_field : (k place x : ℕ) → place + k ≤ 176 → x < 256 ^ k
-      → agree_below (λ j. nat_eq (image_byte n (place + j)) (byte_of x j)) (λ _. true) k ≡ true
+      → agree_below (λ j. nat_eq (image_byte n (place + j)) (number_byte x j)) (λ _. true) k ≡ true
       → field_at b k place ≡ x
   literal_field k place x within fits same =
       field_is k place x within fits (λ j below. eqb-true _ _
-      (agree_below_at (λ i. nat_eq (image_byte n (place + i)) (byte_of x i)) (λ _. true) k j same below))
+      (agree_below_at (λ i. nat_eq (image_byte n (place + i)) (number_byte x i)) (λ _. true) k j same below))

@@ -7,7 +7,7 @@ use Rattle.elf_image.specs.declared.fault.ImageFault.{ImageFault}
 use Rattle.elf_image.specs.declared.program_header.ProgramHeader.{ProgramHeader}
 use Rattle.elf_image.specs.Elf.{e_entry, e_machine, e_phentsize, e_phnum, e_phoff, e_type, field_at, is_segment, program_header_at, segments}
 use Rattle.elf_image.specs.Rows.{file_fault, first_fault, has_magic, or_later, segment_fault, whole_fault, wrong_class, wrong_table}
-use Rattle.image_maker.specs.MadeImage.{byte_of, data_len, image_byte, script_pages}
+use Rattle.image_maker.specs.MadeImage.{number_byte, data_len, image_byte, script_pages}
 use Rattle.image_maker.proofs.MadeFields.{HasHeaders, field_is, literal_field}
 
 -- the segments of the image, whose script has so many pages
@@ -40,17 +40,17 @@ pub few_pages : (n : ℕ) → n ≤ 100 → script_pages n < 19
 few_pages n most = omega arith
 
 -- the bytes of the two sizes of the second segment
-file_size_bytes : (n j : ℕ) → j < 8 → image_byte n (152 + j) ≡ byte_of (data_len n) j
+file_size_bytes : (n j : ℕ) → j < 8 → image_byte n (152 + j) ≡ number_byte (data_len n) j
 unfolding image_byte
 file_size_bytes n =
-    let P : ℕ → Type 0 = λ j. image_byte n (152 + j) ≡ byte_of (data_len n) j in
+    let P : ℕ → Type 0 = λ j. image_byte n (152 + j) ≡ number_byte (data_len n) j in
     below_more P 7 (below_more P 6 (below_more P 5 (below_more P 4 (below_more P 3 (below_more P 2 (below_more P 1
     (below_more P 0 (below_none P) refl) refl) refl) refl) refl) refl) refl) refl
 
-memory_size_bytes : (n j : ℕ) → j < 8 → image_byte n (160 + j) ≡ byte_of (data_len n) j
+memory_size_bytes : (n j : ℕ) → j < 8 → image_byte n (160 + j) ≡ number_byte (data_len n) j
 unfolding image_byte
 memory_size_bytes n =
-    let P : ℕ → Type 0 = λ j. image_byte n (160 + j) ≡ byte_of (data_len n) j in
+    let P : ℕ → Type 0 = λ j. image_byte n (160 + j) ≡ number_byte (data_len n) j in
     below_more P 7 (below_more P 6 (below_more P 5 (below_more P 4 (below_more P 3 (below_more P 2 (below_more P 1
     (below_more P 0 (below_none P) refl) refl) refl) refl) refl) refl) refl) refl
 

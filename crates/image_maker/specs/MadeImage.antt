@@ -14,14 +14,14 @@ abbrev pub field : ℕ → ℕ → ℕ → Field
 field place count number = record { place = place; count = count; number = number }
 
 -- byte k of a number
-abbrev pub byte_of : ℕ → ℕ → ℕ
-byte_of number k = number / 256 ^ k % 256
+abbrev pub number_byte : ℕ → ℕ → ℕ
+number_byte number k = number / 256 ^ k % 256
 
 -- the byte at a place by the field that holds it; 0 where none does
 abbrev pub byte_in_fields : List Field → ℕ → ℕ
 byte_in_fields [] at = 0
 byte_in_fields (f ∷ later) at =
-    if nat_le f.place at && nat_lt at (f.place + f.count) then byte_of f.number (at - f.place)
+    if nat_le f.place at && nat_lt at (f.place + f.count) then number_byte f.number (at - f.place)
     else byte_in_fields later at
 
 -- the records of the script: one, 18 a process, and one of zeros; and the pages that they fill
@@ -86,8 +86,8 @@ pub record ScriptRecord : Type 0 where
   pub rcx : ℕ
   pub r8 : ℕ
 
-abbrev pub words : ℕ → ℕ → ℕ → ℕ → ℕ → ScriptRecord
-words rdi rsi rdx rcx r8 = record { rdi = rdi; rsi = rsi; rdx = rdx; rcx = rcx; r8 = r8 }
+abbrev pub script_words : ℕ → ℕ → ℕ → ℕ → ℕ → ScriptRecord
+script_words rdi rsi rdx rcx r8 = record { rdi = rdi; rsi = rsi; rdx = rdx; rcx = rcx; r8 = r8 }
 
 -- where the opening's layout has the user's code, the direct map's table of level 3, the table of level 1 of a frame,
 -- and the first free frame; and the first of the five frames of a process
@@ -103,12 +103,12 @@ leaf_table processes frame = 85 + script_pages processes + frame / 512
 abbrev pub first_frame : ℕ → ℕ → ℕ
 first_frame processes p = 93 + script_pages processes + 5 * p
 
--- the values of entries: a frame that may only be read and not executed; a link; a user's code; a user's data
+-- the values of entries: a frame that may only be read and not executed; a made_link; a user's code; a user's data
 abbrev pub read_only : ℕ → ℕ
 read_only frame = 2 ^ 63 + 4096 * frame + 0x21
 
-abbrev pub link : ℕ → ℕ
-link frame = 4096 * frame + 0x27
+abbrev pub made_link : ℕ → ℕ
+made_link frame = 4096 * frame + 0x27
 
 abbrev pub code_leaf : ℕ → ℕ
 code_leaf frame = 4096 * frame + 0x25
@@ -119,10 +119,10 @@ data_leaf frame = 2 ^ 63 + 4096 * frame + 0x67
 -- the two calls that make a frame a page table of a level: write_entry takes its writable leaf from the direct map, and
 -- declare_table declares it
 abbrev pub protect : ℕ → ℕ → ScriptRecord
-protect processes frame = words 3 (leaf_table processes frame) (frame % 512) (read_only frame) 0
+protect processes frame = script_words 3 (leaf_table processes frame) (frame % 512) (read_only frame) 0
 
 abbrev pub declare : ℕ → ℕ → ScriptRecord
-declare level frame = words 2 level frame 0 0
+declare level frame = script_words 2 level frame 0 0
 
 -- record k of the 18 of a process whose first frame is b
 unfoldable pub process_record : ℕ → ℕ → ℕ → ℕ → ScriptRecord
@@ -135,24 +135,24 @@ process_record processes p b k =
     else if k == 5 then declare 2 (b + 2)
     else if k == 6 then protect processes (b + 3)
     else if k == 7 then declare 1 (b + 3)
-    else if k == 8 then words 3 b 0 (link (b + 1)) 0
-    else if k == 9 then words 3 (b + 1) 0 (link (b + 2)) 0
-    else if k == 10 then words 3 (b + 2) 0 (link (b + 3)) 0
-    else if k == 11 then words 3 b 256 (link (direct_table processes)) 0
-    else if k == 12 then words 3 (b + 3) 1 (code_leaf (user_frame processes)) 0
-    else if k == 13 then words 3 (b + 3) 2 (data_leaf (b + 4)) 0
-    else if k == 14 then words 5 b 0 0 0
-    else if k == 15 then words (2 ^ 63) 0 0 0 0
-    else if k == 16 then words 7 32 4 0 0
-    else words 9 (256 + p) 0 0xFFFFFFFF80001000 32
+    else if k == 8 then script_words 3 b 0 (made_link (b + 1)) 0
+    else if k == 9 then script_words 3 (b + 1) 0 (made_link (b + 2)) 0
+    else if k == 10 then script_words 3 (b + 2) 0 (made_link (b + 3)) 0
+    else if k == 11 then script_words 3 b 256 (made_link (direct_table processes)) 0
+    else if k == 12 then script_words 3 (b + 3) 1 (code_leaf (user_frame processes)) 0
+    else if k == 13 then script_words 3 (b + 3) 2 (data_leaf (b + 4)) 0
+    else if k == 14 then script_words 5 b 0 0 0
+    else if k == 15 then script_words (2 ^ 63) 0 0 0 0
+    else if k == 16 then script_words 7 32 4 0 0
+    else script_words 9 (256 + p) 0 0xFFFFFFFF80001000 32
 
 -- record n of the script: first set_trap with the step to the next record; then 18 of each process; else zeros
 unfoldable pub script_record : ℕ → ℕ → ScriptRecord
 script_record processes n =
-    if n == 0 then words 1 0xFFFFFFFF8000002D 0 0 0
+    if n == 0 then script_words 1 0xFFFFFFFF8000002D 0 0 0
     else if nat_le n (18 * processes)
     then process_record processes ((n - 1) / 18) (first_frame processes ((n - 1) / 18)) ((n - 1) % 18)
-    else words 0 0 0 0 0
+    else script_words 0 0 0 0 0
 
 abbrev pub number_in : ScriptRecord → ℕ → ℕ
 number_in it k =
@@ -160,7 +160,7 @@ number_in it k =
 
 -- the byte at a place of the script
 abbrev pub script_byte : ℕ → ℕ → ℕ
-script_byte processes at = byte_of (number_in (script_record processes (at / 40)) (at % 40 / 8)) (at % 8)
+script_byte processes at = number_byte (number_in (script_record processes (at / 40)) (at % 40 / 8)) (at % 8)
 
 -- the byte at a place of the file; those that nothing names are 0
 unfoldable pub image_byte : ℕ → ℕ → ℕ

@@ -1,7 +1,7 @@
 //! Fields of a file, and the bytes of their numbers.
 
 ghost use Rattle.std.specs.Prelude.{◌≡◌, map};
-ghost use Rattle.image_maker.specs.MadeImage.{byte_in_fields, byte_of};
+ghost use Rattle.image_maker.specs.MadeImage.{byte_in_fields, number_byte};
 ghost use Rattle.image_maker.specs.MadeWords.{as_field};
 
 /// A field of a file: the place of its first byte, how many bytes it has, and its number, stored least byte first.
@@ -15,7 +15,7 @@ pub struct Field {
 /// The byte of a number at a place, least first; 0 past its eight bytes.
 #[tactic(auto, using(crate::proofs::FieldBytes::no_byte_past))]
 pub fn byte_of(number: u64, place: u64) -> u8
-    ensures { result ≡ byte_of number place }
+    ensures { result ≡ number_byte number place }
 {
     if place < 8 {
         number.to_le_bytes()[place as usize]

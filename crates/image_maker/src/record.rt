@@ -2,7 +2,7 @@
 //! where its first number is negative; or the end, where that is 0.
 
 ghost use Rattle.std.specs.Prelude.{◌≡◌, ◌<◌, ◌≤◌};
-ghost use Rattle.image_maker.specs.MadeImage.{code_leaf, data_leaf, declare, link, number_in, protect, read_only, words};
+ghost use Rattle.image_maker.specs.MadeImage.{code_leaf, data_leaf, declare, made_link, number_in, protect, read_only, script_words};
 ghost use Rattle.image_maker.specs.MadeWords.{as_script};
 
 use crate::layout::{ENTRIES, PAGE_SIZE, leaf_table};
@@ -62,7 +62,7 @@ impl ScriptRecord {
 
 /// The record of these numbers.
 pub fn words(rdi: u64, rsi: u64, rdx: u64, rcx: u64, r8: u64) -> ScriptRecord
-    ensures { as_script result ≡ words rdi rsi rdx rcx r8 }
+    ensures { as_script result ≡ script_words rdi rsi rdx rcx r8 }
 {
     ScriptRecord {
         rdi,
@@ -84,7 +84,7 @@ fn read_only(frame: u64) -> u64
 /// The entry that names the table in a frame.
 pub fn link(frame: u64) -> u64
     requires { frame < 4096 }
-    ensures { result ≡ link frame }
+    ensures { result ≡ made_link frame }
 {
     PAGE_SIZE * frame + LINK
 }
@@ -107,7 +107,7 @@ pub fn data_leaf(frame: u64) -> u64
 
 /// The call that writes a value into an entry of a table.
 pub fn write_entry(table: u64, index: u64, value: u64) -> ScriptRecord
-    ensures { as_script result ≡ words 3 table index value 0 }
+    ensures { as_script result ≡ script_words 3 table index value 0 }
 {
     words(WRITE_ENTRY, table, index, value, 0)
 }

@@ -6,7 +6,7 @@ use Rattle.std.specs.Str.{bytes_eq}
 use Rattle.irq_plan.specs.declared.event.Event.{Event}
 use Rattle.irq_plan.specs.declared.event.What.{What}
 use Rattle.irq_plan.specs.declared.event.What.TheVariants.{Irq, Drop, Fill, Keep, Forget}
-use Rattle.irq_plan.specs.PlanFile.{due_of, entry_of, entry_with, event_of, event_with, is_within, level_of, page_address_of, passed, vector_of, what_of}
+use Rattle.irq_plan.specs.PlanFile.{due_of, event_word, entry_with, event_of, event_with, is_within, level_word, page_address_of, passed, vector_word, what_of}
 use Rattle.irq_plan.specs.PlannedEvents.{is_page_address, IsEvent, IsPlannable}
 use Rattle.text_lines.specs.Numerals.{numeral}
 
@@ -32,7 +32,7 @@ mapped kind (Some n) what each h =
     let same : kind n ≡ what = cc in
     subst IsPlannable same (each n refl)
 
-in_range : (word : List ℕ) (n : ℕ) → vector_of word ≡ Some n → IsPlannable (Irq n)
+in_range : (word : List ℕ) (n : ℕ) → vector_word word ≡ Some n → IsPlannable (Irq n)
 in_range word n is = within 32 47 n (passes _ (numeral 10 2 word) n is)
 
 at_page : (word : List ℕ) (n : ℕ) → page_address_of word ≡ Some n → is_page_address n ≡ true
@@ -41,7 +41,7 @@ at_page word n is = passes _ (numeral 16 16 word) n is
 plannable : (verb number : List ℕ) (what : What) → what_of verb number ≡ Some what → IsPlannable what
 plannable verb number what h =
     elim (cases_Bool (bytes_eq verb (codes "irq"))) [
-      | inl is_irq ↦ mapped Irq (vector_of number) what (in_range number) (sym (cond-true _ _ _ is_irq) ∙ h)
+      | inl is_irq ↦ mapped Irq (vector_word number) what (in_range number) (sym (cond-true _ _ _ is_irq) ∙ h)
       | inr not_irq ↦
           let h2 = sym (cond-false _ _ _ not_irq) ∙ h in
           elim (cases_Bool (bytes_eq verb (codes "drop"))) [
@@ -62,30 +62,30 @@ paired : (kind : ℕ → ℕ → What) (level page : Option ℕ) (what : What)
 paired kind None page what each h = absurd (cc)
 paired kind (Some l) page what each h = mapped (kind l) page what (λ p is. each l p refl is) h
 
-at_level : (word : List ℕ) (n : ℕ) → level_of word ≡ Some n → (2 ≤ n) × (n ≤ 4)
+at_level : (word : List ℕ) (n : ℕ) → level_word word ≡ Some n → (2 ≤ n) × (n ≤ 4)
 at_level word n is = within 2 4 n (passes _ (numeral 10 1 word) n is)
 
-kept_form : (number address : List ℕ) (l p : ℕ) → level_of number ≡ Some l → page_address_of address ≡ Some p
+kept_form : (number address : List ℕ) (l p : ℕ) → level_word number ≡ Some l → page_address_of address ≡ Some p
     → IsPlannable (Keep l p)
 kept_form number address l p level page =
     let bounds = at_level number l level in (bounds.0, bounds.1, at_page address p page)
 
-forgotten_form : (number address : List ℕ) (l p : ℕ) → level_of number ≡ Some l → page_address_of address ≡ Some p
+forgotten_form : (number address : List ℕ) (l p : ℕ) → level_word number ≡ Some l → page_address_of address ≡ Some p
     → IsPlannable (Forget l p)
 forgotten_form number address l p level page =
     let bounds = at_level number l level in (bounds.0, bounds.1, at_page address p page)
 
-entry_form : (verb number address : List ℕ) (what : What) → entry_of verb number address ≡ Some what → IsPlannable what
+entry_form : (verb number address : List ℕ) (what : What) → event_word verb number address ≡ Some what → IsPlannable what
 entry_form verb number address what h =
     elim (cases_Bool (bytes_eq verb (codes "keep"))) [
       | inl is_keep ↦
-          paired Keep (level_of number) (page_address_of address) what (kept_form number address)
+          paired Keep (level_word number) (page_address_of address) what (kept_form number address)
           (sym (cond-true _ _ _ is_keep) ∙ h)
       | inr not_keep ↦
           let h2 = sym (cond-false _ _ _ not_keep) ∙ h in
           elim (cases_Bool (bytes_eq verb (codes "forget"))) [
             | inl is_forget ↦
-                paired Forget (level_of number) (page_address_of address) what (forgotten_form number address)
+                paired Forget (level_word number) (page_address_of address) what (forgotten_form number address)
                 (sym (cond-true _ _ _ is_forget) ∙ h2)
             | inr not_forget ↦ absurd (let none = sym (cond-false _ _ _ not_forget) ∙ h2 in cc)
           ]
@@ -106,7 +106,7 @@ line_form least (due ∷ verb ∷ number ∷ []) event h =
     let bounds = within least 4294967296 event.due (passes _ (numeral 10 10 due) event.due parts.0) in
     (record { due = bounds.1; what = plannable verb number event.what parts.1 }, bounds.0)
 line_form least (due ∷ verb ∷ number ∷ address ∷ []) event h =
-    let parts = with_parts (due_of least due) (entry_of verb number address) event h in
+    let parts = with_parts (due_of least due) (event_word verb number address) event h in
     let bounds = within least 4294967296 event.due (passes _ (numeral 10 10 due) event.due parts.0) in
     (record { due = bounds.1; what = entry_form verb number address event.what parts.1 }, bounds.0)
 line_form least _ event h = absurd (cc)

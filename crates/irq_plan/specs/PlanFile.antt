@@ -25,8 +25,8 @@ abbrev pub due_of : ℕ → List ℕ → Option ℕ
 due_of least word = passed (is_within least 4294967296) (numeral 10 10 word)
 
 -- V: 32 to 47 in two decimal digits
-abbrev pub vector_of : List ℕ → Option ℕ
-vector_of word = passed (is_within 32 47) (numeral 10 2 word)
+abbrev pub vector_word : List ℕ → Option ℕ
+vector_word word = passed (is_within 32 47) (numeral 10 2 word)
 
 -- PAGE: 1 to 16 hexadecimal digits of either case, the canonical address of a page's first byte
 abbrev pub page_address_of : List ℕ → Option ℕ
@@ -35,14 +35,14 @@ page_address_of word = passed is_page_address (numeral 16 16 word)
 -- what the second and the third word say
 abbrev pub what_of : List ℕ → List ℕ → Option What
 what_of verb number =
-    if bytes_eq verb (codes "irq") then option_map Irq (vector_of number)
+    if bytes_eq verb (codes "irq") then option_map Irq (vector_word number)
     else if bytes_eq verb (codes "drop") then option_map Drop (page_address_of number)
     else if bytes_eq verb (codes "fill") then option_map Fill (page_address_of number)
     else None
 
 -- L: 2, 3 or 4, one digit
-abbrev pub level_of : List ℕ → Option ℕ
-level_of word = passed (is_within 2 4) (numeral 10 1 word)
+abbrev pub level_word : List ℕ → Option ℕ
+level_word word = passed (is_within 2 4) (numeral 10 1 word)
 
 -- what is done with the entry of a level and a page, where both are given
 abbrev pub entry_with : (ℕ → ℕ → What) → Option ℕ → Option ℕ → Option What
@@ -50,10 +50,10 @@ entry_with what None page = None
 entry_with what (Some level) page = option_map (what level) page
 
 -- what the second, the third and the fourth word say
-abbrev pub entry_of : List ℕ → List ℕ → List ℕ → Option What
-entry_of verb level page =
-    if bytes_eq verb (codes "keep") then entry_with Keep (level_of level) (page_address_of page)
-    else if bytes_eq verb (codes "forget") then entry_with Forget (level_of level) (page_address_of page)
+abbrev pub event_word : List ℕ → List ℕ → List ℕ → Option What
+event_word verb level page =
+    if bytes_eq verb (codes "keep") then entry_with Keep (level_word level) (page_address_of page)
+    else if bytes_eq verb (codes "forget") then entry_with Forget (level_word level) (page_address_of page)
     else None
 
 abbrev pub event_with : Option ℕ → Option What → Option Event
@@ -64,7 +64,7 @@ event_with None what = None
 -- the event of a line by its words, where none before it is due later than `least`
 abbrev pub event_of : ℕ → List (List ℕ) → Option Event
 event_of least (due ∷ verb ∷ number ∷ []) = event_with (due_of least due) (what_of verb number)
-event_of least (due ∷ verb ∷ level ∷ page ∷ []) = event_with (due_of least due) (entry_of verb level page)
+event_of least (due ∷ verb ∷ level ∷ page ∷ []) = event_with (due_of least due) (event_word verb level page)
 event_of least _ = None
 
 -- an event before those of the later lines
@@ -88,6 +88,6 @@ unfoldable pub plan_of : List ℕ → Result (List Event) ℕ
 plan_of bytes = read_from 1 0 (lines bytes)
 
 -- a reading of the file may fail so: want of memory is free
-abbrev pub IsFaultOf : List ℕ → PlanFault → Type 0
-IsFaultOf bytes (Line number) = plan_of bytes ≡ Err number
-IsFaultOf bytes Memory = ⊤
+abbrev pub IsPlanFault : List ℕ → PlanFault → Type 0
+IsPlanFault bytes (Line number) = plan_of bytes ≡ Err number
+IsPlanFault bytes Memory = ⊤

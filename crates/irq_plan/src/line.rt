@@ -2,7 +2,7 @@
 
 ghost use Rattle.std.specs.Prelude.{◌≡◌};
 ghost use Rattle.std.specs.Str.{bytes_eq};
-ghost use Rattle.irq_plan.specs.PlanFile.{due_of, entry_of, entry_with, event_of, event_with, level_of, page_address_of, vector_of, what_of};
+ghost use Rattle.irq_plan.specs.PlanFile.{due_of, event_word, entry_with, event_of, event_with, level_word, page_address_of, vector_word, what_of};
 ghost use Rattle.irq_plan.specs.declared.event.What.TheVariants.{Forget, Keep};
 ghost use Rattle.text_lines.specs.TextLines.{words};
 
@@ -41,7 +41,7 @@ fn due(word: &[u8], least: u64) -> Option<u64>
 
 /// The vector of an interrupt.
 fn vector(word: &[u8]) -> Option<u8>
-    ensures { result ≡ vector_of word.now }
+    ensures { result ≡ vector_word word.now }
 {
     match decimal(word, 2) {
         Some(vector) if FIRST_VECTOR <= vector && vector <= LAST_VECTOR => Some(vector as u8),
@@ -51,7 +51,7 @@ fn vector(word: &[u8]) -> Option<u8>
 
 /// The level of an entry that may be kept.
 fn level(word: &[u8]) -> Option<u8>
-    ensures { result ≡ level_of word.now }
+    ensures { result ≡ level_word word.now }
 {
     match decimal(word, 1) {
         Some(level) if FIRST_LEVEL <= level && level <= LAST_LEVEL => Some(level as u8),
@@ -85,7 +85,7 @@ fn what(verb: &[u8], number: &[u8]) -> Option<What>
 
 /// The entry of a page that is kept.
 fn keep(number: &[u8], address: &[u8]) -> Option<What>
-    ensures { result ≡ entry_with Keep (level_of number.now) (page_address_of address.now) }
+    ensures { result ≡ entry_with Keep (level_word number.now) (page_address_of address.now) }
 {
     let Some(level) = level(number) else {
         return None;
@@ -98,7 +98,7 @@ fn keep(number: &[u8], address: &[u8]) -> Option<What>
 
 /// The entry of a page that is dropped.
 fn forget(number: &[u8], address: &[u8]) -> Option<What>
-    ensures { result ≡ entry_with Forget (level_of number.now) (page_address_of address.now) }
+    ensures { result ≡ entry_with Forget (level_word number.now) (page_address_of address.now) }
 {
     let Some(level) = level(number) else {
         return None;
@@ -110,7 +110,7 @@ fn forget(number: &[u8], address: &[u8]) -> Option<What>
 }
 
 fn entry(verb: &[u8], number: &[u8], address: &[u8]) -> Option<What>
-    ensures { result ≡ entry_of verb.now number.now address.now }
+    ensures { result ≡ event_word verb.now number.now address.now }
 {
     if is_text(verb, b"keep") {
         keep(number, address)
@@ -136,7 +136,7 @@ fn event(word: &[u8], verb: &[u8], number: &[u8], least: u64) -> Option<Event>
 
 /// The event of a line of four words.
 fn entry_event(word: &[u8], verb: &[u8], number: &[u8], address: &[u8], least: u64) -> Option<Event>
-    ensures { result ≡ event_with (due_of least word.now) (entry_of verb.now number.now address.now) }
+    ensures { result ≡ event_with (due_of least word.now) (event_word verb.now number.now address.now) }
 {
     let Some(due) = due(word, least) else {
         return None;

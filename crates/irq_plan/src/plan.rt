@@ -1,7 +1,7 @@
 //! The events of a plan file.
 
 ghost use Rattle.std.specs.Prelude.{◌≡◌, ◌<◌, Ok, Some, IfErr, IfOk, length, slice_get};
-ghost use Rattle.irq_plan.specs.PlanFile.{plan_of, IsFaultOf};
+ghost use Rattle.irq_plan.specs.PlanFile.{plan_of, IsPlanFault};
 ghost use Rattle.irq_plan.specs.PlannedEvents.{IsEvent, IsPlan};
 
 use crate::event::Event;
@@ -34,7 +34,7 @@ impl Plan {
     /// `Memory` may come in the place of either. It takes memory for the events alone, and time linear in the bytes.
     pub fn read(alloc: Global, bytes: &[u8]) -> Result<Plan, PlanFault>
         ensures plan { IfOk result (λ plan. plan_of bytes.now ≡ Ok plan) }
-        ensures fault { IfErr result (IsFaultOf bytes.now) }
+        ensures fault { IfErr result (IsPlanFault bytes.now) }
         ensures form { IfOk result IsPlan }
     {
         match read_events(alloc, bytes) {
@@ -65,7 +65,7 @@ impl Plan {
 fn read_events(alloc: Global, bytes: &[u8]) -> Result<Vec<Event>, PlanFault>
     ensures plan { IfOk result (λ events. plan_of bytes.now ≡ Ok events.items) }
     ensures form { IfOk result (λ events. IsPlan events.items) }
-    ensures fault { IfErr result (IsFaultOf bytes.now) }
+    ensures fault { IfErr result (IsPlanFault bytes.now) }
 {
     let mut events = Vec::new(alloc);
     let mut rest = bytes;

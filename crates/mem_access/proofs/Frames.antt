@@ -10,7 +10,7 @@ use Rattle.nk_bits.specs.AccessRights.{may}
 use Rattle.nk_bits.specs.Paging.{page_of, is_canonical}
 use Rattle.nk_bits.specs.Translations.{Translations, look}
 use Rattle.nk_bits.specs.Outcomes.{Outcome, answered}
-use Rattle.nk_bits.specs.Accesses.{View, IsKept, reached, accessed, crosses, place_in}
+use Rattle.nk_bits.specs.Accesses.{View, IsKeptTranslation, reached, accessed, crosses, place_in}
 use Rattle.page_walk.specs.MemoryAccess.{view_of}
 use Rattle.mem_access.proofs.Canonical.{first_tells}
 use Rattle.mem_access.proofs.Steps.{found_alone}
@@ -20,7 +20,7 @@ pub record PageFacts : Type 0 where
   pub held : (view : View) (access : Access) (tlb : Translations) (va : ℕ) (leaf : Leaf) → look tlb.pairs (page_of va) ≡ Some leaf →
       may access leaf.rights view.cpl view.wp view.smep ≡ true → reached view access tlb va ≡ answered (place_in leaf va) tlb
   pub found_again : (view : View) (access : Access) (tlb : Translations) (va : ℕ) →
-      IfOk (reached view access tlb va).answer (IsKept view access (reached view access tlb va).tlb va)
+      IfOk (reached view access tlb va).answer (IsKeptTranslation view access (reached view access tlb va).tlb va)
 
 one_byte : (va : ℕ) → crosses va 1 ≡ false
 unfolding crosses
@@ -32,8 +32,8 @@ module _ (facts : PageFacts) (m n : List ℕ) (access : Access) (control : Contr
       (at width base : ℕ) → base + va % 4096 ≡ place → at < 2 ^ 64 → at / 4096 ≡ va / 4096 → 1 ≤ width → crosses at width ≡ false →
       answered (record { first = base + at % 4096; second = 0 }) tlb ≡ accessed (view_of n control cpl) access tlb at width
   serves_on_page canonical found at width base start fits same some one =
-      let kept : IsKept (view_of m control cpl) access tlb va place =
-      subst (λ (o : Outcome AccessFault ℕ). IfOk o.answer (IsKept (view_of m control cpl) access o.tlb va)) (sym found) (facts.found_again (view_of m control cpl) access tlb va) in
+      let kept : IsKeptTranslation (view_of m control cpl) access tlb va place =
+      subst (λ (o : Outcome AccessFault ℕ). IfOk o.answer (IsKeptTranslation (view_of m control cpl) access o.tlb va)) (sym found) (facts.found_again (view_of m control cpl) access tlb va) in
       let upper : at / 2 ^ 47 ≡ va / 2 ^ 47 = omega (arith, same) in
       let on : is_canonical at ≡ true = ap (λ x. (x == 0) || (x == 2 ^ 17 - 1)) upper ∙ canonical in
       let there : place_in kept.leaf at ≡ base + at % 4096 = omega (arith, start, kept.place_is) in

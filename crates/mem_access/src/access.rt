@@ -8,7 +8,7 @@ ghost use Rattle.nk_bits.specs.Paging.{is_canonical};
 ghost use Rattle.nk_bits.specs.Translations.{NamesFramesIn};
 ghost use Rattle.nk_bits.specs.Outcomes.{answered, refused, and_then, outcome_of};
 ghost use Rattle.nk_bits.specs.Accesses.{IsAccessSize, IsTarget, accessed, completed, crosses, has_canonical_bytes, reached};
-ghost use Rattle.page_walk.specs.MemoryAccess.{bytes_left, fetched, loaded, page_fetched, saved, stores_at, view_of, written};
+ghost use Rattle.page_walk.specs.MemoryAccess.{bytes_left, fetched, loaded, page_fetched, saved, stores_at, view_of, bytes_written};
 
 use crate::bytes::{lend, read, write};
 use crate::pages::reach;
@@ -92,7 +92,7 @@ pub fn store(
     requires root { 4096 * control.now.root < length mem.old }
     requires frames { NamesFramesIn (length mem.old) tlb.old }
     ensures outcome { outcome_of result tlb.new ≡ saved (view_of mem.old control.now cpl) tlb.old va width }
-    ensures memory { mem.new ≡ written mem.old va width value
+    ensures memory { mem.new ≡ bytes_written mem.old va width value
         (accessed (view_of mem.old control.now cpl) Write tlb.old va width).answer }
     ensures refused { OnErr result (mem.new ≡ mem.old) }
     ensures length { length mem.new ≡ length mem.old }

@@ -13,7 +13,7 @@ use phys_mem::{PhysMem, memory_law};
 const LONGEST: usize = 15;
 
 /// The bytes of a page.
-const PAGE_BYTES: usize = 4096;
+const PAGE_SIZE: usize = 4096;
 
 /// Lends the bytes from the place of the byte at `va` to the end of its page, fifteen at most.
 #[inline(always)]
@@ -27,7 +27,7 @@ pub fn lend(mem: &PhysMem, va: u64, place: u64) -> &[u8]
     prove!(place < 4096 * u64::from(mem.frames()));
     let page = mem.frame((place / 4096) as u32);
     let start = (place % 4096) as usize;
-    let count = LONGEST.min(PAGE_BYTES - start);
+    let count = LONGEST.min(PAGE_SIZE - start);
     &page[start..start + count]
 }
 

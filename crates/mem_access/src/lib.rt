@@ -18,22 +18,14 @@ mod plan;
 
 // What a page grants, and the bytes of an access.
 mod bytes;
-#[cfg(test)]
-mod kept_tests;
-#[cfg(test)]
-mod plan_tests;
 mod rights;
 #[cfg(test)]
-mod rights_tests;
-#[cfg(test)]
 mod tests;
-#[cfg(test)]
-mod window_tests;
 
 pub use access::{check_store, commit, fetch_byte, fetch_place, load, page_bytes, store};
 pub use kept::{kept_frame, kept_number, one_page_law, put_kept};
 pub use nk_bits::{AccessFault, Control, Target};
-pub use page_walk::{Gathered, Missing, Plan, Source, Span, SpanFault};
+pub use page_walk::{AccessPlan, Gathered, Missing, Origin, Span, SpanFault};
 pub use pages::{translate, walk_kept};
 pub use plan::{check_span, gather};
 pub use window::{KeptPage, Window};

@@ -4,11 +4,11 @@ ghost use Rattle.std.specs.Prelude.{◌≡◌, ◌*◌, ◌<◌, ◌⊎◌, IfOk
 ghost use Rattle.nk_bits.specs.Translations.{NamesFramesIn};
 ghost use Rattle.nk_bits.specs.Outcomes.{outcome_of};
 ghost use Rattle.page_walk.specs.MemoryAccess.{view_of};
-ghost use Rattle.page_walk.specs.AccessPlans.{IsSized, IsSource, IsPlan, IsChecked, FitsSource, checked, taken, gathered};
+ghost use Rattle.page_walk.specs.AccessPlans.{IsSized, IsSource, IsAccessPlan, IsChecked, FitsSource, checked, taken, gathered};
 
 use crate::access::{check_store, load};
 use nk_bits::{AccessFault, Control, Target};
-use page_walk::{Gathered, Plan, Source, Span, SpanFault};
+use page_walk::{AccessPlan, Gathered, Origin, Span, SpanFault};
 use phys_mem::PhysMem;
 use tlb_model::Tlb;
 
@@ -49,10 +49,10 @@ pub fn gather(
     tlb: &mut Tlb,
     control: &Control,
     cpl: u8,
-    plan: &Plan,
+    plan: &AccessPlan,
 ) -> Result<Gathered, SpanFault>
     requires cpl { (cpl ≡ 0) ⊎ (cpl ≡ 3) }
-    requires plan { IsPlan plan.now }
+    requires plan { IsAccessPlan plan.now }
     requires root { 4096 * control.now.root < length mem.now }
     requires frames { NamesFramesIn (length mem.now) tlb.old }
     ensures outcome { outcome_of result tlb.new
@@ -83,7 +83,7 @@ fn take(
     tlb: &mut Tlb,
     control: &Control,
     cpl: u8,
-    source: &Source,
+    source: &Origin,
 ) -> Result<u64, SpanFault>
     requires cpl { (cpl ≡ 0) ⊎ (cpl ≡ 3) }
     requires width { IsSource source.now }
@@ -95,8 +95,8 @@ fn take(
     ensures value { IfOk result (λ value. FitsSource source.now value) }
 {
     match source {
-        Source::Is(value) => Ok(*value),
-        Source::At(span) => match load(mem, tlb, control, cpl, span.va, span.width) {
+        Origin::Is(value) => Ok(*value),
+        Origin::At(span) => match load(mem, tlb, control, cpl, span.va, span.width) {
             Ok(value) => Ok(value),
             Err(fault) => Err(marked(span, fault)),
         },

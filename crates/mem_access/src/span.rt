@@ -6,7 +6,7 @@ ghost use Rattle.nk_bits.specs.Accesses.{has_canonical_bytes, crosses, first_par
 
 use nk_bits::canonical;
 
-const PAGE_BYTES: u64 = 4096;
+const PAGE_SIZE: u64 = 4096;
 
 /// Whether each byte's address is canonical; addresses wrap at 2^64. The first byte and the last tell: the addresses
 /// that aren't canonical are one run, far longer than any access.
@@ -21,7 +21,7 @@ pub fn has_canonical_bytes(va: u64, width: u8) -> bool
 pub fn crosses(va: u64, width: u8) -> bool
     ensures { result ≡ crosses va width }
 {
-    va % PAGE_BYTES + u64::from(width) > PAGE_BYTES
+    va % PAGE_SIZE + u64::from(width) > PAGE_SIZE
 }
 
 /// How many of the bytes lie on the first page.
@@ -31,7 +31,7 @@ pub fn first_part(va: u64, width: u8) -> u8
     ensures bound { result ≤ width }
     ensures room { result ≤ 4096 - va % 4096 }
 {
-    let room = PAGE_BYTES - va % PAGE_BYTES;
+    let room = PAGE_SIZE - va % PAGE_SIZE;
     u64::from(width).min(room) as u8
 }
 
@@ -41,7 +41,7 @@ pub fn next_page(va: u64) -> u64
     ensures page { result ≡ next_page va }
     ensures start { result % 4096 ≡ 0 }
 {
-    (va / PAGE_BYTES * PAGE_BYTES).wrapping_add(PAGE_BYTES)
+    (va / PAGE_SIZE * PAGE_SIZE).wrapping_add(PAGE_SIZE)
 }
 
 /// The number of the page of this address.
@@ -49,5 +49,5 @@ pub fn next_page(va: u64) -> u64
 pub fn page(va: u64) -> u64
     ensures { result ≡ page_of va }
 {
-    va / PAGE_BYTES
+    va / PAGE_SIZE
 }

@@ -1,11 +1,15 @@
 //! Accesses over small memories, by the rules of SDM volume 3, 4.6 to 4.10: the tables stand in frames 1 to 4, and
 //! pages 0 and 1 in frames 8 and 9.
+mod kept;
+mod plan;
+mod rights;
+mod window;
 
 ghost use Rattle.std.specs.Prelude.{◌≡◌, ◌*◌, ◌<◌, ◌⊎◌, IfOk, length};
 ghost use Rattle.nk_bits.specs.Accesses.{IsAccessSize, IsTarget};
 ghost use Rattle.nk_bits.specs.Translations.{NamesFramesIn};
 
-use super::{AccessFault, Control, Target, page_bytes};
+use crate::{AccessFault, Control, Target, page_bytes};
 use phys_mem::{NoMemory, PhysMem};
 use std::alloc::Global;
 use std::test::Fail;

@@ -13,7 +13,7 @@ use Rattle.nk_bits.specs.UpperEntries.{KeptEntry, walk_by}
 use Rattle.nk_bits.specs.Translations.{Translations, NamesFramesIn, look, with_leaf, translation, tlb_after, or_walked, fill_walked}
 use Rattle.nk_bits.specs.Claims.{Claim, AllPass}
 use Rattle.nk_bits.specs.Outcomes.{Outcome, answered, then_by, then_on}
-use Rattle.nk_bits.specs.Accesses.{View, IsWalked, Serves, IsKept, reached, judged, kept_after, completed, accessed, crosses, next_page, has_canonical_bytes, place_in, fault_code}
+use Rattle.nk_bits.specs.Accesses.{View, IsWalked, Serves, IsKeptTranslation, reached, judged, kept_after, completed, accessed, crosses, next_page, has_canonical_bytes, place_in, fault_code}
 use Rattle.nk_bits.proofs.KeptLaws.{Holding, faulted_holds, after_holds, passing_holds, holding_passes, walked_passes, translation_passes, names_hold, holding_names, walk_by_within}
 use Rattle.nk_bits.proofs.TranslationLaws.{look_filled}
 use Rattle.nk_bits.proofs.SpanLaws.{canonical_first, canonical_next}
@@ -137,19 +137,19 @@ page_held view access tlb va leaf kept serves =
     record { answer = judgement; tlb = kept_after judgement tlb va }) serves
 
 -- After a page was reached, its translation is kept, and it serves the access.
-pub reached_kept : (view : View) (access : Access) (tlb : Translations) (va : ℕ) → IfOk (reached view access tlb va).answer (IsKept view access (reached view access tlb va).tlb va)
+pub reached_kept : (view : View) (access : Access) (tlb : Translations) (va : ℕ) → IfOk (reached view access tlb va).answer (IsKeptTranslation view access (reached view access tlb va).tlb va)
 unfolding reached
 reached_kept view access tlb va = go (look tlb.pairs (page_of va)) refl (walk_by view.entries view.frames view.root tlb.upper (page_of va))
   where
     by_leaf : (leaf : Leaf) (after : Translations) (b : Bool) → look after.pairs (page_of va) ≡ Some leaf → may access leaf.rights view.cpl view.wp view.smep ≡ b →
         let judgement = if b then Ok (place_in leaf va) else Err (Page (fault_code access view.cpl true) va) in
-        IfOk judgement (IsKept view access (kept_after judgement after va) va)
+        IfOk judgement (IsKeptTranslation view access (kept_after judgement after va) va)
     by_leaf leaf after true kept is = record { leaf = leaf; kept = kept; may_access = is; place_is = refl }
     by_leaf leaf after false kept is = tt
 
     go : (found : Option Leaf) → look tlb.pairs (page_of va) ≡ found → (walked : Result Leaf ℕ) →
         let judgement = judged view access va (or_walked found walked) in
-        IfOk judgement (IsKept view access (kept_after judgement (fill_walked tlb (page_of va) found walked) va) va)
+        IfOk judgement (IsKeptTranslation view access (kept_after judgement (fill_walked tlb (page_of va) found walked) va) va)
     go (Some leaf) is walked = by_leaf leaf tlb (may access leaf.rights view.cpl view.wp view.smep) is refl
     go None is (Ok leaf) = by_leaf leaf (with_leaf tlb (page_of va) leaf) (may access leaf.rights view.cpl view.wp view.smep) (look_filled tlb.pairs (page_of va) leaf) refl
     go None is (Err level) = tt

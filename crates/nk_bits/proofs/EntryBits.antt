@@ -4,7 +4,7 @@ use Rattle.std.proofs.lemmas.Grind.{common_steps}
 use Rattle.std.proofs.lemmas.Nat.{and_block, and_mask, pow_pos, pow-add}
 use Rattle.std.proofs.Math.Nat.{div-one, div-div-eq-div-mul, pow-succ'}
 use Rattle.std.proofs.lemmas.Nat.Bits.{and_pow}
-use Rattle.nk_bits.specs.Paging.{is_present, is_large, named_bits, is_writable, is_user, is_executable, page_index, page_of}
+use Rattle.nk_bits.specs.Paging.{is_present, is_large, named_bits, grants_writes, is_user, grants_fetches, page_index, page_of}
 
 -- the mask of the named bits
 pub named_by_mask : (e : ℕ) → bit_and e 9223372036854776319 ≡ named_bits e
@@ -25,8 +25,8 @@ flag_by_mask : (n k : ℕ) → (bit_and n (2 ^ k) == 2 ^ k) ≡ (n / 2 ^ k % 2 =
 flag_by_mask n k = ap (λ x. x == 2 ^ k) (and_pow n k) ∙ scaled (n / 2 ^ k % 2) (2 ^ k) (pow_pos k) (omega arith)
 
 -- the three tests that the rights are made of
-pub writable_by_flag : (e : ℕ) → (bit_and (named_bits e) 2 == 2) ≡ is_writable e
-unfolding named_bits is_writable
+pub writable_by_flag : (e : ℕ) → (bit_and (named_bits e) 2 == 2) ≡ grants_writes e
+unfolding named_bits grants_writes
 writable_by_flag e =
     let same : named_bits e / 2 % 2 ≡ e / 2 % 2 = omega arith in
     flag_by_mask (named_bits e) 1 ∙ ap (λ x. x == 1) same
@@ -37,8 +37,8 @@ user_by_flag e =
     let same : named_bits e / 4 % 2 ≡ e / 4 % 2 = omega arith in
     flag_by_mask (named_bits e) 2 ∙ ap (λ x. x == 1) same
 
-pub exec_by_flag : (e : ℕ) → not (bit_and (named_bits e) 9223372036854775808 == 9223372036854775808) ≡ is_executable e
-unfolding named_bits is_executable
+pub exec_by_flag : (e : ℕ) → not (bit_and (named_bits e) 9223372036854775808 == 9223372036854775808) ≡ grants_fetches e
+unfolding named_bits grants_fetches
 exec_by_flag e =
     let same : named_bits e / 2 ^ 63 % 2 ≡ e / 2 ^ 63 % 2 = omega arith in
     ap not (flag_by_mask (named_bits e) 63 ∙ ap (λ x. x == 1) same)

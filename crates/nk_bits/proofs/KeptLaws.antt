@@ -8,7 +8,7 @@ use Rattle.std.proofs.lemmas.Option.{IfSome_then}
 use Rattle.nk_bits.specs.declared.leaf.Leaf.{Leaf}
 use Rattle.nk_bits.specs.declared.leaf.Upper.{Upper}
 use Rattle.nk_bits.specs.Paging.{page_of, is_canonical, walk, walk_below}
-use Rattle.nk_bits.specs.UpperEntries.{KeptEntry, span_of, is_for, covers, kept_for, without, with_entry, begun, walk_by}
+use Rattle.nk_bits.specs.UpperEntries.{KeptEntry, span_of, is_for, serves_page, kept_for, without, with_entry, begun, walk_by}
 use Rattle.nk_bits.specs.Translations.{Translations, NamesFramesIn, look, flushed, faulted, invalidated, forgotten, with_leaf, entry_forgotten, entry_kept, or_walked, fill_walked, translation, tlb_after}
 use Rattle.nk_bits.specs.Claims.{Claim, AllPass, lies_in}
 use Rattle.nk_bits.specs.Accesses.{View, IsWalked}
@@ -25,13 +25,13 @@ pub record Holding (P : ℕ × Leaf → Type 0) (K : KeptEntry → Type 0) (tlb 
 same_number : (a : ℕ) → (a == a) ≡ true
 same_number a = eq-eqb a a refl
 
-covers_second : (page : ℕ) (it : Upper) → covers page (2, span_of 2 page, it) ≡ true
+covers_second : (page : ℕ) (it : Upper) → serves_page page (2, span_of 2 page, it) ≡ true
 covers_second page it = ap (λ b. b || false || false) (same_number (span_of 2 page))
 
-covers_third : (page : ℕ) (it : Upper) → covers page (3, span_of 3 page, it) ≡ true
+covers_third : (page : ℕ) (it : Upper) → serves_page page (3, span_of 3 page, it) ≡ true
 covers_third page it = ap (λ b. b || false) (same_number (span_of 3 page))
 
-covers_fourth : (page : ℕ) (it : Upper) → covers page (4, span_of 4 page, it) ≡ true
+covers_fourth : (page : ℕ) (it : Upper) → serves_page page (4, span_of 4 page, it) ≡ true
 covers_fourth page it = same_number (span_of 4 page)
 
 -- a walk that begins at an entry that is found, or else is done in another way
@@ -62,7 +62,7 @@ module _ (K : KeptEntry → Type 0) where
 
   -- where all that begin at such an entry do so, the processor's walk has what a walk from the root has
   pub walk_by_has : (Q : Leaf → Type 0) (t : ℕ → ℕ → ℕ) (frames root page : ℕ) (upper : List KeptEntry) → All K upper →
-      ((entry : KeptEntry) → K entry → covers page entry ≡ true → IfOk (walk_below t frames page entry.0 entry.2) Q) →
+      ((entry : KeptEntry) → K entry → serves_page page entry ≡ true → IfOk (walk_below t frames page entry.0 entry.2) Q) →
       IfOk (walk t frames root page) Q → IfOk (walk_by t frames root upper page) Q
   unfolding walk_by
   walk_by_has Q t frames root page upper all below begins =
@@ -75,7 +75,7 @@ module _ (K : KeptEntry → Type 0) where
 
   -- and where they do the same in other tables, so does the processor's walk
   pub walk_by_same : (t u : ℕ → ℕ → ℕ) (frames root other page : ℕ) (upper : List KeptEntry) → All K upper →
-      ((entry : KeptEntry) → K entry → covers page entry ≡ true → walk_below t frames page entry.0 entry.2 ≡ walk_below u frames page entry.0 entry.2) →
+      ((entry : KeptEntry) → K entry → serves_page page entry ≡ true → walk_below t frames page entry.0 entry.2 ≡ walk_below u frames page entry.0 entry.2) →
       walk t frames root page ≡ walk u frames other page → walk_by t frames root upper page ≡ walk_by u frames other upper page
   unfolding walk_by
   walk_by_same t u frames root other page upper all below begins =
@@ -105,7 +105,7 @@ module _ (P : ℕ × Leaf → Type 0) (K : KeptEntry → Type 0) where
   flushed_holds = record { pairs = All-nil P; upper = All-nil K }
 
   pub faulted_holds : (tlb : Translations) (page : ℕ) → Holding P K tlb → Holding P K (faulted tlb page)
-  faulted_holds tlb page all = record { pairs = All-dropped P tlb.pairs page all.pairs; upper = All-filter (λ entry. not (covers page entry)) K tlb.upper all.upper }
+  faulted_holds tlb page all = record { pairs = All-dropped P tlb.pairs page all.pairs; upper = All-filter (λ entry. not (serves_page page entry)) K tlb.upper all.upper }
 
   pub invalidated_holds : (tlb : Translations) (page : ℕ) → Holding P K tlb → Holding P K (invalidated tlb page)
   invalidated_holds tlb page all = record { pairs = All-dropped P tlb.pairs page all.pairs; upper = All-nil K }

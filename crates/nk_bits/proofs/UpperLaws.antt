@@ -8,7 +8,7 @@ use Rattle.std.proofs.Math.Nat.{div-div-eq-div-mul, mul-div_cancel, one-le-pow}
 use Rattle.nk_bits.specs.declared.leaf.Rights.{Rights}
 use Rattle.nk_bits.specs.declared.leaf.Upper.{Upper}
 use Rattle.nk_bits.specs.Paging.{page_index, frame_of, rights_of, common, all_rights, is_missing, is_slot_page, walk, walk_from, upper_from, upper_walk}
-use Rattle.nk_bits.specs.UpperEntries.{KeptEntry, span_of, first_page, is_for, covers, walk_by}
+use Rattle.nk_bits.specs.UpperEntries.{KeptEntry, span_of, first_of_span, is_for, serves_page, walk_by}
 use Rattle.nk_bits.proofs.WalkLaws.{frame_in_memory}
 
 -- one look-up, by the level of its table: past an entry that isn't missing they go on, and at one that is nothing is found
@@ -124,12 +124,12 @@ pub slot_same_span : (page other level : ℕ) → 1 ≤ level → level ≤ 4 �
 unfolding span_of
 slot_same_span page other level least most same = ap (λ x. x == 2 ^ 25 - 1) (same_above page other level 4 most same)
 
-pub span_of_first_page : (level bits : ℕ) → span_of level (first_page level bits) ≡ bits
-unfolding span_of first_page
+pub span_of_first_page : (level bits : ℕ) → span_of level (first_of_span level bits) ≡ bits
+unfolding span_of first_of_span
 span_of_first_page level bits = mul-div_cancel bits (one-le-pow (level - 1) 512 (omega arith))
 
 -- an entry that serves a page is of one of the three levels, and has the page's number there
-pub covers_says : (page : ℕ) (entry : KeptEntry) → covers page entry ≡ true → (2 ≤ entry.0) × (entry.0 ≤ 4) × (entry.1 ≡ span_of entry.0 page)
+pub covers_says : (page : ℕ) (entry : KeptEntry) → serves_page page entry ≡ true → (2 ≤ entry.0) × (entry.0 ≤ 4) × (entry.1 ≡ span_of entry.0 page)
 covers_says page entry is = go (is_for 2 page entry) (is_for 3 page entry) (is_for 4 page entry) refl refl refl is
   where
     at : (level : ℕ) → 2 ≤ level → level ≤ 4 → is_for level page entry ≡ true → (2 ≤ entry.0) × (entry.0 ≤ 4) × (entry.1 ≡ span_of entry.0 page)

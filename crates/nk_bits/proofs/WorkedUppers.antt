@@ -7,8 +7,8 @@ use Rattle.nk_bits.specs.declared.leaf.Leaf.{Leaf}
 use Rattle.nk_bits.specs.declared.leaf.Upper.{Upper}
 use Rattle.nk_bits.specs.declared.access.Access.TheVariants.{Read, Write}
 use Rattle.nk_bits.specs.declared.fault.AccessFault.TheVariants.{Page}
-use Rattle.nk_bits.specs.Paging.{page_index, is_present, is_writable, is_user, is_executable, is_large, frame_of, is_missing, walk, walk_from, upper_from, upper_walk}
-use Rattle.nk_bits.specs.UpperEntries.{KeptEntry, upper_capacity, span_of, first_page, with_entry, walk_by}
+use Rattle.nk_bits.specs.Paging.{page_index, is_present, grants_writes, is_user, grants_fetches, is_large, frame_of, is_missing, walk, walk_from, upper_from, upper_walk}
+use Rattle.nk_bits.specs.UpperEntries.{KeptEntry, upper_capacity, span_of, first_of_span, with_entry, walk_by}
 use Rattle.nk_bits.specs.Translations.{Translations, capacity, filled, faulted, invalidated, forgotten, entry_forgotten, entry_kept}
 use Rattle.nk_bits.specs.Accesses.{View, reached, completed, accessed, crosses, has_canonical_bytes}
 
@@ -23,8 +23,8 @@ spans : (span_of 2 page ≡ 263171) × (span_of 3 page ≡ 514) × (span_of 4 pa
 unfolding span_of page beside
 spans = (refl, refl, refl, refl, refl)
 
-first_pages : (first_page 2 263171 ≡ 134743552) × (first_page 3 514 ≡ 134742016) × (first_page 4 1 ≡ 134217728)
-unfolding first_page
+first_pages : (first_of_span 2 263171 ≡ 134743552) × (first_of_span 3 514 ≡ 134742016) × (first_of_span 4 1 ≡ 134217728)
+unfolding first_of_span
 first_pages = (refl, refl, refl)
 
 rights : Bool → Bool → Bool → Rights
@@ -67,7 +67,7 @@ walks_below :
     (walk_by tables 512 5 (fourth ∷ []) page ≡ Ok (leaf 20 true false true)) ×
     (walk_by tables 512 5 (third ∷ []) page ≡ Ok (leaf 20 false true true)) ×
     (walk_by tables 512 5 (second ∷ []) page ≡ Ok (leaf 21 false true true))
-unfolding walk_by walk walk_from page_index is_missing is_present frame_of is_large is_writable is_user is_executable span_of page tables fourth third second upper leaf rights
+unfolding walk_by walk walk_from page_index is_missing is_present frame_of is_large grants_writes is_user grants_fetches span_of page tables fourth third second upper leaf rights
 walks_below = (refl, refl, refl, refl)
 
 -- the entry of the least level is taken, in whatever order they are kept, also where its table has no leaf; one of other pages
@@ -78,7 +78,7 @@ least_level :
     (walk_by tables 512 5 (fourth ∷ third ∷ aside ∷ []) page ≡ Ok (leaf 20 false true true)) ×
     (walk_by tables 512 6 (third ∷ (2, 263171, upper 11 true true true) ∷ []) page ≡ Err 1) ×
     (walk_by tables 512 5 (aside ∷ []) page ≡ Err 4) × (walk_by tables 512 5 (aside ∷ []) beside ≡ Ok (leaf 21 false true true))
-unfolding walk_by walk walk_from page_index is_missing is_present frame_of is_large is_writable is_user is_executable span_of page beside tables fourth third second aside upper leaf rights
+unfolding walk_by walk walk_from page_index is_missing is_present frame_of is_large grants_writes is_user grants_fetches span_of page beside tables fourth third second aside upper leaf rights
 least_level = (refl, refl, refl, refl, refl, refl)
 
 -- from root 6: what is found at each level, with the rights common to the entries down to it
@@ -86,7 +86,7 @@ found_above :
     (upper_walk tables 512 6 page 4 ≡ Some (upper 7 true true true)) ×
     (upper_walk tables 512 6 page 3 ≡ Some (upper 8 true false true)) ×
     (upper_walk tables 512 6 page 2 ≡ Some (upper 9 true false true))
-unfolding upper_from page_index is_missing is_present frame_of is_large is_writable is_user is_executable page tables upper rights
+unfolding upper_from page_index is_missing is_present frame_of is_large grants_writes is_user grants_fetches page tables upper rights
 found_above = (refl, refl, refl)
 
 -- and nothing where an entry down to that level is missing: it isn't present, its frame isn't in memory, or its page is large
@@ -95,7 +95,7 @@ missing_above :
     (upper_walk tables 512 6 (page + 262144) 3 ≡ None) × (upper_walk tables 512 6 (page + 262144) 4 ≡ Some (upper 7 true true true)) ×
     (upper_walk tables 8 6 page 3 ≡ None) × (upper_walk tables 8 6 page 4 ≡ Some (upper 7 true true true)) ×
     (upper_walk tables 512 6 (page + 1024) 2 ≡ None) × (upper_walk tables 512 6 (page + 1024) 3 ≡ Some (upper 8 true false true))
-unfolding upper_from page_index is_missing is_present frame_of is_large is_writable is_user is_executable page tables upper rights
+unfolding upper_from page_index is_missing is_present frame_of is_large grants_writes is_user grants_fetches page tables upper rights
 missing_above = (refl, refl, refl, refl, refl, refl, refl, refl)
 
 -- what is kept: both pages, and the four entries
@@ -147,5 +147,5 @@ accesses :
       tlb = record { pairs = (page, leaf 21 false true true) ∷ []; upper = fourth ∷ second ∷ aside ∷ [] };
     }) ×
     (accessed view Write entries_alone 551909605381 1 ≡ record { answer = Err (Page 3 551909605381); tlb = record { pairs = []; upper = aside ∷ [] } })
-unfolding accessed completed reached crosses has_canonical_bytes filled capacity walk_by walk walk_from page_index is_missing is_present frame_of is_large is_writable is_user is_executable span_of view entries_alone page tables fourth second aside upper leaf rights
+unfolding accessed completed reached crosses has_canonical_bytes filled capacity walk_by walk walk_from page_index is_missing is_present frame_of is_large grants_writes is_user grants_fetches span_of view entries_alone page tables fourth second aside upper leaf rights
 accesses = (refl, refl)

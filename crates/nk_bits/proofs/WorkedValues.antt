@@ -3,7 +3,7 @@ use Rattle.std.proofs.Common.{◌≡◌, ℕ, ◌+◌, Bool, true, false, ◌==�
 use Rattle.std.specs.Prelude.{Ok, Err, if◌then◌else◌}
 use Rattle.nk_bits.specs.declared.leaf.Rights.{Rights}
 use Rattle.nk_bits.specs.declared.kind.Kind.TheVariants.{Data, Code, Table, Trap, Hidden}
-use Rattle.nk_bits.specs.Paging.{page_of, page_index, is_canonical, is_present, is_writable, is_user, is_executable, is_large, frame_of, is_missing, walk}
+use Rattle.nk_bits.specs.Paging.{page_of, page_index, is_canonical, is_present, grants_writes, is_user, grants_fetches, is_large, frame_of, is_missing, walk}
 use Rattle.nk_bits.specs.EntryForms.{has_form, has_table_form, has_leaf_form}
 use Rattle.nk_bits.specs.Kinds.{allows}
 use Rattle.nk_bits.specs.AccessRights.{may}
@@ -29,12 +29,12 @@ canonical_ends : (is_canonical 140737488355327 ≡ true) × (is_canonical 140737
 canonical_ends = (refl, refl, refl, refl)
 
 -- the entry 6027 names table 6 and grants all; 8000000000003063 is the leaf of a stack: writable, neither user nor executable
-table_entry : (frame_of 24615 ≡ 6) × (is_present 24615 ≡ true) × (is_writable 24615 ≡ true) × (is_user 24615 ≡ true) × (is_executable 24615 ≡ true) × (is_large 24615 ≡ false)
-unfolding frame_of is_present is_writable is_user is_executable is_large
+table_entry : (frame_of 24615 ≡ 6) × (is_present 24615 ≡ true) × (grants_writes 24615 ≡ true) × (is_user 24615 ≡ true) × (grants_fetches 24615 ≡ true) × (is_large 24615 ≡ false)
+unfolding frame_of is_present grants_writes is_user grants_fetches is_large
 table_entry = (refl, refl, refl, refl, refl, refl)
 
-stack_entry : (frame_of 9223372036854788195 ≡ 3) × (is_present 9223372036854788195 ≡ true) × (is_writable 9223372036854788195 ≡ true) × (is_user 9223372036854788195 ≡ false) × (is_executable 9223372036854788195 ≡ false)
-unfolding frame_of is_present is_writable is_user is_executable
+stack_entry : (frame_of 9223372036854788195 ≡ 3) × (is_present 9223372036854788195 ≡ true) × (grants_writes 9223372036854788195 ≡ true) × (is_user 9223372036854788195 ≡ false) × (grants_fetches 9223372036854788195 ≡ false)
+unfolding frame_of is_present grants_writes is_user grants_fetches
 stack_entry = (refl, refl, refl, refl, refl)
 
 -- the tables of the nested area: 5 names 6 at 511, 6 names 7 at 0, 7 names 8 at 0, and 8 maps the gate's text at 1
@@ -46,12 +46,12 @@ nested_area f i =
     if f == 8 && i == 1 then 4129 else 0
 
 gate_walk : walk nested_area 512 5 (page_of gate) ≡ Ok (record { frame = 1; rights = record { can_write = false; user = false; exec = true } })
-unfolding walk nested_area gate page_index is_missing is_present frame_of is_large is_writable is_user is_executable
+unfolding walk nested_area gate page_index is_missing is_present frame_of is_large grants_writes is_user grants_fetches
 gate_walk = refl
 
 -- the page after it has no leaf, another slot has no table, and a frame outside memory counts as missing
 missing_walks : (walk nested_area 512 5 (page_of gate + 1) ≡ Err 1) × (walk nested_area 512 5 0 ≡ Err 4) × (walk nested_area 8 5 (page_of gate) ≡ Err 2)
-unfolding walk nested_area gate page_index is_missing is_present frame_of is_large is_writable is_user is_executable
+unfolding walk nested_area gate page_index is_missing is_present frame_of is_large grants_writes is_user grants_fetches
 missing_walks = (refl, refl, refl)
 
 -- what a leaf may grant: Data takes a user or a non-executable page, a stack a writable one alone, a table neither, Hidden none
@@ -77,5 +77,5 @@ judged = (refl, refl, refl, refl, refl, refl, refl)
 forms :
     (has_form 4 24615 ≡ true) × (has_form 1 9223372036854788195 ≡ true) × (has_form 1 4129 ≡ true) × (has_form 1 9223372036854796325 ≡ true) ×
     (has_form 1 4131 ≡ false) × (has_form 2 24583 ≡ false) × (has_form 3 9223372036854800423 ≡ false) × (has_form 1 0 ≡ false)
-unfolding has_table_form has_leaf_form is_present is_writable
+unfolding has_table_form has_leaf_form is_present grants_writes
 forms = (refl, refl, refl, refl, refl, refl, refl, refl)

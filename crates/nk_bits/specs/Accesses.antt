@@ -10,7 +10,7 @@ use Rattle.nk_bits.specs.declared.fault.AccessFault.{AccessFault}
 use Rattle.nk_bits.specs.declared.fault.AccessFault.TheVariants.{Page, NonCanonical}
 use Rattle.nk_bits.specs.Paging.{page_of, is_canonical, walk, walk_below}
 use Rattle.nk_bits.specs.AccessRights.{may}
-use Rattle.nk_bits.specs.UpperEntries.{KeptEntry, covers}
+use Rattle.nk_bits.specs.UpperEntries.{KeptEntry, serves_page}
 use Rattle.nk_bits.specs.Translations.{Translations, look, faulted, translation, tlb_after}
 use Rattle.nk_bits.specs.Claims.{Claim}
 use Rattle.nk_bits.specs.Outcomes.{Outcome, answered, refused, and_then}
@@ -117,7 +117,7 @@ pub record IsTarget (size va width : ℕ) (target : Target) : Type 0 where
 -- a test holds of the translation that a walk of a canonical page finds, from the root or below an entry that passes
 pub record IsWalked (view : View) (test : Claim) : Type 0 where
   pub root : (va : ℕ) (leaf : Leaf) → is_canonical va ≡ true → walk view.entries view.frames view.root (page_of va) ≡ Ok leaf → test.pair (page_of va, leaf) ≡ true
-  pub below : (entry : KeptEntry) (va : ℕ) (leaf : Leaf) → test.upper entry ≡ true → is_canonical va ≡ true → covers (page_of va) entry ≡ true →
+  pub below : (entry : KeptEntry) (va : ℕ) (leaf : Leaf) → test.upper entry ≡ true → is_canonical va ≡ true → serves_page (page_of va) entry ≡ true →
       walk_below view.entries view.frames (page_of va) entry.0 entry.2 ≡ Ok leaf → test.pair (page_of va, leaf) ≡ true
 
 -- a translation of which the test holds serves the access at this address, and gives this place
@@ -128,7 +128,7 @@ pub record Serves (view : View) (access : Access) (test : Claim) (va place : ℕ
   pub place_is : place ≡ place_in leaf va
 
 -- the translation of the page of this address is kept, serves the access, and gives this place
-pub record IsKept (view : View) (access : Access) (tlb : Translations) (va place : ℕ) : Type 0 where
+pub record IsKeptTranslation (view : View) (access : Access) (tlb : Translations) (va place : ℕ) : Type 0 where
   pub leaf : Leaf
   pub kept : look tlb.pairs (page_of va) ≡ Some leaf
   pub may_access : may access leaf.rights view.cpl view.wp view.smep ≡ true

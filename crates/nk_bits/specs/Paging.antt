@@ -32,8 +32,8 @@ unfoldable pub is_present : ℕ → Bool
 is_present e = e % 2 == 1
 
 -- bit 1, R/W: writes are granted
-unfoldable pub is_writable : ℕ → Bool
-is_writable e = e / 2 % 2 == 1
+unfoldable pub grants_writes : ℕ → Bool
+grants_writes e = e / 2 % 2 == 1
 
 -- bit 2, U/S: access at CPL 3 is granted
 unfoldable pub is_user : ℕ → Bool
@@ -44,8 +44,8 @@ unfoldable pub is_large : ℕ → Bool
 is_large e = e / 128 % 2 == 1
 
 -- bit 63, XD, clear: instruction fetches are granted
-unfoldable pub is_executable : ℕ → Bool
-is_executable e = not (e / 2 ^ 63 % 2 == 1)
+unfoldable pub grants_fetches : ℕ → Bool
+grants_fetches e = not (e / 2 ^ 63 % 2 == 1)
 
 -- bits 51 to 12: the frame that the entry names
 unfoldable pub frame_of : ℕ → ℕ
@@ -57,7 +57,7 @@ named_bits e = e / 2 ^ 63 % 2 * 2 ^ 63 + e % 512
 
 -- the rights that one entry grants
 abbrev pub rights_of : ℕ → Rights
-rights_of e = record { can_write = is_writable e; user = is_user e; exec = is_executable e }
+rights_of e = record { can_write = grants_writes e; user = is_user e; exec = grants_fetches e }
 
 -- the rights that both grant
 abbrev pub common : Rights → Rights → Rights

@@ -4,7 +4,7 @@ use Rattle.std.specs.Prelude.{◌≡◌, ◌⊎◌, ◌<◌, ◌*◌, ℕ, ◌-�
 use Rattle.nk_bits.specs.declared.leaf.Leaf.{Leaf}
 use Rattle.nk_bits.specs.declared.leaf.Upper.{Upper}
 use Rattle.nk_bits.specs.Paging.{is_canonical_page, walk, walk_below}
-use Rattle.nk_bits.specs.UpperEntries.{KeptEntry, covers, without, uncovered, with_entry, walk_by}
+use Rattle.nk_bits.specs.UpperEntries.{KeptEntry, serves_page, without, uncovered, with_entry, walk_by}
 
 -- pairs of a page number, which is the linear address divided by 4,096, and the page's leaf
 abbrev pub Pairs : Type 0
@@ -97,7 +97,7 @@ pub record IsBelowKept (t : ℕ → ℕ → ℕ) (frames : ℕ) (upper : List Ke
   pub place : ℕ
   pub entry : KeptEntry
   pub kept : slice_get upper place ≡ Some entry
-  pub for_page : covers page entry ≡ true
+  pub for_page : serves_page page entry ≡ true
   pub found : walk_below t frames page entry.0 entry.2 ≡ Ok leaf
 
 -- a translation is live: it is kept, or the page is canonical and the translation is given now, by the walk from this root

@@ -18,16 +18,16 @@ unfoldable pub span_of : ℕ → ℕ → ℕ
 span_of level page = page / 512 ^ (level - 1)
 
 -- the first of the pages that share this number
-unfoldable pub first_page : ℕ → ℕ → ℕ
-first_page level bits = bits * 512 ^ (level - 1)
+unfoldable pub first_of_span : ℕ → ℕ → ℕ
+first_of_span level bits = bits * 512 ^ (level - 1)
 
 -- the entry is the page's of this level
 abbrev pub is_for : ℕ → ℕ → KeptEntry → Bool
 is_for level page entry = entry.0 == level && entry.1 == span_of level page
 
 -- the entry serves the page
-abbrev pub covers : ℕ → KeptEntry → Bool
-covers page entry = is_for 2 page entry || is_for 3 page entry || is_for 4 page entry
+abbrev pub serves_page : ℕ → KeptEntry → Bool
+serves_page page entry = is_for 2 page entry || is_for 3 page entry || is_for 4 page entry
 
 -- what is kept for a page at a level
 abbrev pub kept_for : List KeptEntry → ℕ → ℕ → Option Upper
@@ -39,7 +39,7 @@ abbrev pub without : List KeptEntry → ℕ → ℕ → List KeptEntry
 without upper level page = filter (λ entry. not (is_for level page entry)) upper
 
 abbrev pub uncovered : List KeptEntry → ℕ → List KeptEntry
-uncovered upper page = filter (λ entry. not (covers page entry)) upper
+uncovered upper page = filter (λ entry. not (serves_page page entry)) upper
 
 -- the list after an entry is kept: it is the youngest, in place of an older one of its pages; a full list loses its oldest
 unfoldable pub with_entry : List KeptEntry → ℕ → ℕ → Upper → List KeptEntry

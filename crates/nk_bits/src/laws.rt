@@ -12,11 +12,11 @@ ghost use Rattle.nk_bits.specs.declared.leaf.Upper.{Upper};
 ghost use Rattle.nk_bits.specs.Paging.{page_of, page_index, is_canonical, frame_of, rights_of, common, all_rights, is_missing, is_slot_page, walk, walk_from, walk_below, upper_from, upper_walk, replaced, zeroed, emptied, is_slot_entry, slot_value};
 ghost use Rattle.nk_bits.specs.Kinds.{kind_of, level_of, is_data, is_storable, is_guarded, allows};
 ghost use Rattle.nk_bits.specs.AccessRights.{may};
-ghost use Rattle.nk_bits.specs.UpperEntries.{KeptEntry, span_of, first_page, covers, kept_for, walk_by};
+ghost use Rattle.nk_bits.specs.UpperEntries.{KeptEntry, span_of, first_of_span, serves_page, kept_for, walk_by};
 ghost use Rattle.nk_bits.specs.Translations.{Pairs, Translations, NamesFramesIn, look, dropped, filled, flushed, faulted, invalidated, forgotten, entry_forgotten, entry_kept, with_leaf, translation, tlb_after};
 ghost use Rattle.nk_bits.specs.Claims.{Claim, AllPass, lies_in};
 ghost use Rattle.nk_bits.specs.Outcomes.{answered};
-ghost use Rattle.nk_bits.specs.Accesses.{View, IsSmallAccessFault, IsWalked, Serves, IsKept, reached, accessed, crosses, next_page, has_canonical_bytes, place_in};
+ghost use Rattle.nk_bits.specs.Accesses.{View, IsSmallAccessFault, IsWalked, Serves, IsKeptTranslation, reached, accessed, crosses, next_page, has_canonical_bytes, place_in};
 
 /// The walk by its look-ups: it is the recursion on the level, and goes on past an entry that isn't missing.
 pub fn walk_law()
@@ -64,8 +64,8 @@ pub fn upper_law()
         → upper_walk t frames root page level ≡ upper_walk t frames root other level }
     ensures same_slot { (page other level : ℕ) → 1 ≤ level → level ≤ 4 → span_of level page ≡ span_of level other
         → is_slot_page page ≡ is_slot_page other }
-    ensures first_page { (level bits : ℕ) → span_of level (first_page level bits) ≡ bits }
-    ensures covers { (page : ℕ) (entry : KeptEntry) → covers page entry ≡ true
+    ensures first_page { (level bits : ℕ) → span_of level (first_of_span level bits) ≡ bits }
+    ensures covers { (page : ℕ) (entry : KeptEntry) → serves_page page entry ≡ true
         → (2 ≤ entry.0) × (entry.0 ≤ 4) × (entry.1 ≡ span_of entry.0 page) }
     ensures none { (t : ℕ → ℕ → ℕ) (frames root page : ℕ) → walk_by t frames root [] page ≡ walk t frames root page }
 {}
@@ -110,7 +110,7 @@ pub fn kept_law()
     ensures kept_passes { (test : Claim) (tlb : Translations) (level page : ℕ) → AllPass test tlb
         → IfSome (kept_for tlb.upper level page) (λ it. test.upper (level, span_of level page, it) ≡ true) }
     ensures walk_by_same { (t u : ℕ → ℕ → ℕ) (frames root other page : ℕ) (test : Claim) (tlb : Translations)
-        → AllPass test tlb → ((entry : KeptEntry) → test.upper entry ≡ true → covers page entry ≡ true
+        → AllPass test tlb → ((entry : KeptEntry) → test.upper entry ≡ true → serves_page page entry ≡ true
         → walk_below t frames page entry.0 entry.2 ≡ walk_below u frames page entry.0 entry.2)
         → walk t frames root page ≡ walk u frames other page
         → walk_by t frames root tlb.upper page ≡ walk_by u frames other tlb.upper page }
@@ -160,7 +160,7 @@ pub fn access_law()
         → look tlb.pairs (page_of va) ≡ Some leaf → may access leaf.rights view.cpl view.wp view.smep ≡ true
         → reached view access tlb va ≡ answered (place_in leaf va) tlb }
     ensures found_again { (view : View) (access : Access) (tlb : Translations) (va : ℕ)
-        → IfOk (reached view access tlb va).answer (IsKept view access (reached view access tlb va).tlb va) }
+        → IfOk (reached view access tlb va).answer (IsKeptTranslation view access (reached view access tlb va).tlb va) }
     ensures within { (view : View) (access : Access) (size : ℕ) (tlb : Translations) (va : ℕ)
         → view.frames ≡ size / 4096 → is_canonical va ≡ true → NamesFramesIn size tlb
         → NamesFramesIn size (reached view access tlb va).tlb }

@@ -1,7 +1,7 @@
 //! The rules that the nested kernel's calls are judged by.
 
 ghost use Rattle.std.specs.Prelude.{◌≡◌};
-ghost use Rattle.nk_bits.specs.Rules.{number_of};
+ghost use Rattle.nk_bits.specs.Rules.{rule_number};
 
 /// A rule that a call may break, in the order of the rules' numbers.
 #[derive(Clone, Copy, Debug, PartialEq, Eq)]
@@ -66,7 +66,7 @@ pub enum Rule {
 impl Rule {
     /// The rule's number, 1 to 27, which is the answer to a call that breaks it.
     pub fn number(self) -> u64
-        ensures value { result ≡ number_of self }
+        ensures value { result ≡ rule_number self }
     {
         match self {
             Rule::BadCall => 1,

@@ -7,7 +7,7 @@ use Rattle.nk_bits.specs.declared.kind.Kind.TheVariants.{Data, Table}
 use Rattle.nk_bits.specs.declared.call.CallWords.{CallWords}
 use Rattle.nk_bits.specs.declared.rule.Rule.{Rule}
 use Rattle.nk_bits.specs.declared.rule.Rule.TheVariants.{BadCall}
-use Rattle.nk_bits.specs.Rules.{number_of}
+use Rattle.nk_bits.specs.Rules.{rule_number}
 use Rattle.policy_book.specs.PolicyRules.{book_by}
 use Rattle.region_book.specs.RegionCalls.{room}
 use Rattle.region_book.specs.RegionRecords.{Region, region_of}
@@ -18,7 +18,7 @@ use Rattle.nk_body.proofs.GuardedFrames.{length_guarded}
 use Rattle.nk_body.proofs.RegionRules.{room_facts}
 
 -- the number of a rule is at most 27
-number_small : (rule : Rule) → number_of rule < 2 ^ 64
+number_small : (rule : Rule) → rule_number rule < 2 ^ 64
 number_small BadCall = omega arith
 number_small _ = omega arith
 

@@ -14,7 +14,7 @@ use Rattle.page_desc.specs.PageTables.{loose_of}
 use Rattle.policy_book.specs.PolicyRules.{stores_written}
 use Rattle.region_book.specs.RegionCalls.{guarded}
 use Rattle.nk_body.specs.CallLeft.{IsCalled, left_in, memory_left}
-use Rattle.nk_body.specs.CallRules.{Sourced, bytes_read, made, made_unless, mapped_by, stand_of, verdict, with_pages, with_pool, written, written_unless, zeros_of}
+use Rattle.nk_body.specs.CallRules.{Sourced, bytes_read, made, made_unless, mapped_by, stand_of, verdict, with_pages, with_pool, accepted_memory, written_unless, zeros_of}
 use Rattle.nk_body.specs.KindsKept.{is_reserved, is_settled}
 use Rattle.nk_body.specs.NestedRecord.{Ledger, Nested, nested_in}
 use Rattle.nk_body.proofs.CallFacts.{pool_stores, write_facts, write_guarded, zeros_small}
@@ -114,18 +114,18 @@ module _ (laws : LowerLaws) (kinds : List Kind) (root : ℕ) (ledger : Ledger) (
   abbrev stand : ℕ → ℕ → ℕ
   stand = stand_of nk call m
 
-  both : (after : Nested) (later : List ℕ) → made nk call source stand ≡ after → written nk call source m ≡ later
-      → IsLeft kinds after.tables.kinds m later source → IsLeft kinds (made nk call source stand).tables.kinds m (written nk call source m) source
+  both : (after : Nested) (later : List ℕ) → made nk call source stand ≡ after → accepted_memory nk call source m ≡ later
+      → IsLeft kinds after.tables.kinds m later source → IsLeft kinds (made nk call source stand).tables.kinds m (accepted_memory nk call source m) source
   both after later makes writes is =
       subst (λ (it : Nested × List ℕ). IsLeft kinds it.0.tables.kinds m it.1 source) (λ i. (sym makes i, sym writes i)) is
 
   tables : (after : List Kind) (later : List ℕ) → IsTablesLeft kinds after m later → IsLeft kinds after m later source
   tables after later left = from_tables kinds after m later source left
 
-  made_left : verdict nk call source ≡ None → IsLeft kinds (made nk call source stand).tables.kinds m (written nk call source m) source
+  made_left : verdict nk call source ≡ None → IsLeft kinds (made nk call source stand).tables.kinds m (accepted_memory nk call source m) source
   made_left none =
       let n : ℕ = call.number in
-      accepted_by (IsLeft kinds (made nk call source stand).tables.kinds m (written nk call source m) source) nk call source none
+      accepted_by (IsLeft kinds (made nk call source stand).tables.kinds m (accepted_memory nk call source m) source) nk call source none
       (λ is. both _ _ (made_is nk call source stand ∙ number_1 n _ _ _ _ _ _ _ _ _ _ is) (written_1 nk call source m is)
       (tables _ _ (handler_left laws kinds root m is_called.sound call.a)))
       (λ is rule. both _ _ (made_is nk call source stand ∙ number_2 n _ _ _ _ _ _ _ _ _ _ is) (written_2 nk call source m is)

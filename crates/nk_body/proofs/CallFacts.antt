@@ -8,7 +8,7 @@ use Rattle.policy_book.specs.PolicyRules.{bounds_of, policy_of, policy_rule, sto
 use Rattle.region_book.specs.RegionCalls.{fits_in, fits_region, room}
 use Rattle.region_book.specs.RegionRecords.{Region, region_of}
 use Rattle.nk_body.specs.CallRules.{IsSourceOf, Sourced, bytes_read, new_region, source_rule, wants, zeros_of}
-use Rattle.nk_body.specs.NestedRecord.{IsKept, Ledger, Nested}
+use Rattle.nk_body.specs.NestedRecord.{IsLedgerKept, Ledger, Nested}
 use Rattle.nk_body.proofs.CallNumbers.{writing_rule}
 use Rattle.nk_body.proofs.RegionFrames.{InGuarded, stores_bytes}
 use Rattle.nk_body.proofs.RegionRules.{IsAllocable, bounds_facts, source_facts, writing_facts}
@@ -39,7 +39,7 @@ write_facts nk call source number sourced none =
           ∙ sym (ap (λ r. policy_of nk.ledger.log r call.b call.d) live.1) ∙ facts.2;
     }
 
-module _ (kinds : List Kind) (ledger : Ledger) (kept : IsKept kinds ledger) (call : CallWords) where
+module _ (kinds : List Kind) (ledger : Ledger) (kept : IsLedgerKept kinds ledger) (call : CallWords) where
   pub write_guarded : (source : Sourced) → IsWriting ledger call source
       → InGuarded kinds (stores_written ledger.book call.a call.b (bytes_read source))
   write_guarded source is = written_guarded kinds ledger kept call.a call.b (bytes_read source) is.region is.found is.range

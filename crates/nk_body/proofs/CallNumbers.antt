@@ -11,11 +11,11 @@ use Rattle.page_desc.specs.PageTables.{loose_of}
 use Rattle.table_rules.specs.ValueRules.{broken}
 use Rattle.vmmu.specs.TableCalls.{declare_rule, declared, entry_rule, entry_written, memory_declared, memory_removed, memory_written, remove_rule, removed, root_loaded, root_rule}
 use Rattle.region_book.specs.RegionCalls.{alloc_rule, free_rule, room}
-use Rattle.region_book.specs.RegionCalls.{declare_rule as pages_rule}
+use Rattle.region_book.specs.RegionCalls.{pages_rule}
 use Rattle.region_book.specs.RegionRecords.{region_of}
 use Rattle.policy_book.specs.PolicyRules.{bounds_of, first_rule, policy_of, stores_written}
 use Rattle.nk_body.specs.NestedRecord.{Nested}
-use Rattle.nk_body.specs.CallRules.{Sourced, bytes_read, frames_of_call, made, mapped_by, source_rule, verdict, with_free, with_pages, with_pool, with_write, written, zeros_of}
+use Rattle.nk_body.specs.CallRules.{Sourced, bytes_read, frames_of_call, made, mapped_by, source_rule, verdict, with_free, with_pages, with_pool, with_write, accepted_memory, zeros_of}
 
 -- one of ten things, by the number of a call
 abbrev pub by_number : {A : Type 0} → ℕ → A → A → A → A → A → A → A → A → A → A → A
@@ -63,36 +63,36 @@ module _ (nk : Nested) (call : CallWords) (source : Sourced) (m : List ℕ) wher
       (stored m (zeros_of nk call (room nk.ledger.book.regions call.a)))
       (stored m (stores_written nk.ledger.book call.a call.b (bytes_read source))) m
 
-  written_by : (k : ℕ) → call.number ≡ k → written nk call source m ≡ stored_by k
-  unfolding written
+  written_by : (k : ℕ) → call.number ≡ k → accepted_memory nk call source m ≡ stored_by k
+  unfolding accepted_memory
   written_by k is = ap stored_by is
 
-  pub written_1 : call.number ≡ 1 → written nk call source m ≡ stored m (stores 8 0x2000 call.a)
+  pub written_1 : call.number ≡ 1 → accepted_memory nk call source m ≡ stored m (stores 8 0x2000 call.a)
   written_1 is = written_by 1 is
 
-  pub written_2 : call.number ≡ 2 → written nk call source m ≡ memory_declared m call.a call.b
+  pub written_2 : call.number ≡ 2 → accepted_memory nk call source m ≡ memory_declared m call.a call.b
   written_2 is = written_by 2 is
 
-  pub written_3 : call.number ≡ 3 → written nk call source m ≡ memory_written m call.a call.b call.c
+  pub written_3 : call.number ≡ 3 → accepted_memory nk call source m ≡ memory_written m call.a call.b call.c
   written_3 is = written_by 3 is
 
-  pub written_4 : call.number ≡ 4 → written nk call source m ≡ memory_removed m call.a
+  pub written_4 : call.number ≡ 4 → accepted_memory nk call source m ≡ memory_removed m call.a
   written_4 is = written_by 4 is
 
-  pub written_5 : call.number ≡ 5 → written nk call source m ≡ m
+  pub written_5 : call.number ≡ 5 → accepted_memory nk call source m ≡ m
   written_5 is = written_by 5 is
 
-  pub written_6 : call.number ≡ 6 → written nk call source m ≡ m
+  pub written_6 : call.number ≡ 6 → accepted_memory nk call source m ≡ m
   written_6 is = written_by 6 is
 
-  pub written_7 : call.number ≡ 7 → written nk call source m ≡ stored m (zeros_of nk call (room nk.ledger.book.regions call.a))
+  pub written_7 : call.number ≡ 7 → accepted_memory nk call source m ≡ stored m (zeros_of nk call (room nk.ledger.book.regions call.a))
   written_7 is = written_by 7 is
 
-  pub written_8 : call.number ≡ 8 → written nk call source m ≡ m
+  pub written_8 : call.number ≡ 8 → accepted_memory nk call source m ≡ m
   written_8 is = written_by 8 is
 
   pub written_9 : call.number ≡ 9
-      → written nk call source m ≡ stored m (stores_written nk.ledger.book call.a call.b (bytes_read source))
+      → accepted_memory nk call source m ≡ stored m (stores_written nk.ledger.book call.a call.b (bytes_read source))
   written_9 is = written_by 9 is
 
 eqb_apart : (a b : ℕ) → a ≢ b → (a == b) ≡ false

@@ -18,8 +18,8 @@ use Rattle.region_book.specs.RegionRecords.{IsEachOnce, region_of}
 use Rattle.vmmu.specs.AcceptedCalls.{IsDeclarable, IsRemovable, IsWritable}
 use Rattle.vmmu.specs.TableCalls.{declare_rule, declared, entry_rule, entry_written, memory_declared, memory_removed, memory_written, remove_rule, removed, root_loaded, root_rule}
 use Rattle.nk_body.specs.CallLeft.{IsCalled, left_in, memory_left}
-use Rattle.nk_body.specs.CallRules.{Sourced, bytes_read, bytes_standing, frames_of_call, made, made_unless, mapped_by, puts, stand_of, verdict, with_free, with_pages, with_pool, with_write, written, written_unless, zeros_of}
-use Rattle.nk_body.specs.NestedRecord.{IsKept, Ledger, Nested, handler_in, held_bytes, nested_in}
+use Rattle.nk_body.specs.CallRules.{Sourced, bytes_read, bytes_standing, frames_of_call, made, made_unless, mapped_by, puts, stand_of, verdict, with_free, with_pages, with_pool, with_write, accepted_memory, written_unless, zeros_of}
+use Rattle.nk_body.specs.NestedRecord.{IsLedgerKept, Ledger, Nested, handler_in, held_bytes, nested_in}
 use Rattle.nk_body.proofs.CallChanges.{free_inside}
 use Rattle.nk_body.proofs.CallFacts.{pool_stores, write_facts, write_guarded}
 use Rattle.nk_body.proofs.CallNumbers.{accepted_by, declaring_rule, made_is, number_1, number_2, number_3, number_4, number_5, number_6, number_7, number_8, number_9, written_1, written_2, written_3, written_4, written_5, written_6, written_7, written_8, written_9}
@@ -75,10 +75,10 @@ module _ (laws : LowerLaws) (kinds : List Kind) (root : ℕ) (ledger : Ledger) (
   pub record IsMet (after : Nested) (later : List ℕ) : Type 0 where
     pub nested : nested_in after.tables.kinds after.tables.root after.ledger later ≡ after
     pub holds : HoldsSoundTables after.tables.kinds after.tables.root later
-    pub keeps : IsKept after.tables.kinds after.ledger
+    pub keeps : IsLedgerKept after.tables.kinds after.ledger
 
-  both : (after : Nested) (later : List ℕ) → made nk call source stand ≡ after → written nk call source m ≡ later → IsMet after later
-      → IsMet (made nk call source stand) (written nk call source m)
+  both : (after : Nested) (later : List ℕ) → made nk call source stand ≡ after → accepted_memory nk call source m ≡ later → IsMet after later
+      → IsMet (made nk call source stand) (accepted_memory nk call source m)
   both after later makes writes is =
       subst (λ (it : Nested × List ℕ). IsMet it.0 it.1) (λ i. (sym makes i, sym writes i)) is
 
@@ -169,7 +169,7 @@ module _ (laws : LowerLaws) (kinds : List Kind) (root : ℕ) (ledger : Ledger) (
       tables_met _ m (laws.table.loaded kinds root frame m sound rule) refl (nothing_left laws kinds root m sound)
 
   -- stores in guarded frames
-  stores_met : (l : Ledger) (ws : List (ℕ × ℕ)) → InGuarded kinds ws → IsKept kinds l
+  stores_met : (l : Ledger) (ws : List (ℕ × ℕ)) → InGuarded kinds ws → IsLedgerKept kinds l
       → IsMet (record nk { held = puts nk.held ws; ledger = l }) (stored m ws)
   stores_met l ws are kept = record {
     nested = λ i. record {
@@ -183,7 +183,7 @@ module _ (laws : LowerLaws) (kinds : List Kind) (root : ℕ) (ledger : Ledger) (
   }
 
   pages_met : call.number ≡ 6 → declaring_rule nk call ≡ None
-      → IsMet (made nk call source stand) (written nk call source m)
+      → IsMet (made nk call source stand) (accepted_memory nk call source m)
   pages_met number rule =
       let facts = declare_facts ledger.book kinds (loose_of nk.tables) (mapped_by nk) call.a call.b call.c rule in
       let fs : List ℕ = facts.0 in
@@ -206,10 +206,10 @@ module _ (laws : LowerLaws) (kinds : List Kind) (root : ℕ) (ledger : Ledger) (
             (frames_count (mapped_by nk) (call.b / 4096) (call.a / 4096) fs facts.1);
       })
 
-  made_met : verdict nk call source ≡ None → IsMet (made nk call source stand) (written nk call source m)
+  made_met : verdict nk call source ≡ None → IsMet (made nk call source stand) (accepted_memory nk call source m)
   made_met none =
       let n : ℕ = call.number in
-      accepted_by (IsMet (made nk call source stand) (written nk call source m)) nk call source none
+      accepted_by (IsMet (made nk call source stand) (accepted_memory nk call source m)) nk call source none
       (λ is. both _ _ (made_is nk call source stand ∙ number_1 n _ _ _ _ _ _ _ _ _ _ is) (written_1 nk call source m is) trap_met)
       (λ is rule. both _ _ (made_is nk call source stand ∙ number_2 n _ _ _ _ _ _ _ _ _ _ is) (written_2 nk call source m is)
       (declared_met call.a call.b rule))

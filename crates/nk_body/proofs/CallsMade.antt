@@ -19,8 +19,8 @@ use Rattle.nk_bits.specs.Rules.{rule_of}
 use Rattle.table_rules.specs.ValueRules.{broken}
 use Rattle.page_desc.specs.FrameDescriptors.{Descriptors}
 use Rattle.vmmu.specs.declared.tables.Tables4.{Tables4}
-use Rattle.nk_body.specs.NestedRecord.{AreBooks, Books, HoldsBooks, IsKept, Ledger, Nested, OwnState, books_in, nested_by}
-use Rattle.nk_body.specs.CallRules.{Sourced, made, stand_of, verdict, written}
+use Rattle.nk_body.specs.NestedRecord.{AreBooks, Books, HoldsBooks, IsLedgerKept, Ledger, Nested, OwnState, books_in, nested_by}
+use Rattle.nk_body.specs.CallRules.{Sourced, made, stand_of, verdict, accepted_memory}
 use Rattle.nk_body.specs.CallMade.{IsMade}
 use Rattle.nk_body.proofs.CallNumbers.{made_is, number_1, number_other, verdict_is, written_1}
 
@@ -53,8 +53,8 @@ pub held_before : (before own : OwnState) (m : List ℕ) → before ≡ own → 
 held_before before own m view held = subst (λ o. HoldsBooks o m) (sym view) held
 
 -- other kinds under which every guarded frame is guarded
-pub kept_under : (kinds after : List Kind) (ledger : Ledger) → IsKept kinds ledger
-    → ((f : ℕ) → kind_of kinds f ≡ Guarded → kind_of after f ≡ Guarded) → IsKept after ledger
+pub kept_under : (kinds after : List Kind) (ledger : Ledger) → IsLedgerKept kinds ledger
+    → ((f : ℕ) → kind_of kinds f ≡ Guarded → kind_of after f ≡ Guarded) → IsLedgerKept after ledger
 kept_under kinds after ledger kept stays = record {
   book = kept.book;
   frames = All-weaker _ _ (λ (r : Region) all. All-weaker _ _ (λ (f : ℕ) is. stays f is) r.frames all) ledger.book.regions kept.frames;
@@ -81,10 +81,10 @@ module _ (books : Books) (m : List ℕ) (call : CallWords) (source : Sourced) (a
   abbrev nk : Nested
   nk = nested_by books m
 
-  pub accepted_made : verdict nk call source ≡ None → made nk call source (stand_of nk call m) ≡ made_of → written nk call source m ≡ w
+  pub accepted_made : verdict nk call source ≡ None → made nk call source (stand_of nk call m) ≡ made_of → accepted_memory nk call source m ≡ w
       → after.frames.kinds ≡ made_of.tables.kinds → after.root ≡ made_of.tables.root → after.trap ≡ made_of.trap
       → after.ledger ≡ made_of.ledger → later ≡ w → AreDescribed after.frames after.root later
-      → IsKept after.frames.kinds after.ledger → IsMade books m call source None after later
+      → IsLedgerKept after.frames.kinds after.ledger → IsMade books m call source None after later
   accepted_made none makes writes kinds root trap ledger memory described keeps = record {
     judged = sym none;
     kinds = kinds ∙ sym (ap (λ (n : Nested). n.tables.kinds) makes);
@@ -104,7 +104,7 @@ module _ (d e : Descriptors) (root other trap : ℕ) (book : Book) (log : List L
 
   pub tables_made : {A : Type 0} (r : Result A Rule)
       → made (nested_by before m) call source (stand_of (nested_by before m) call m) ≡ record (nested_by before m) { tables = after }
-      → written (nested_by before m) call source m ≡ w → AreBooks before m → rule_of r ≡ verdict (nested_by before m) call source
+      → accepted_memory (nested_by before m) call source m ≡ w → AreBooks before m → rule_of r ≡ verdict (nested_by before m) call source
       → OnErr r ((e ≡ d) × (other ≡ root) × (later ≡ m)) → OnOk r (e.kinds ≡ after.kinds)
       → OnOk r (other ≡ after.root) → OnOk r (later ≡ w) → AreDescribed e other later
       → (verdict (nested_by before m) call source ≡ None → (f : ℕ) → kind_of d.kinds f ≡ Guarded → kind_of after.kinds f ≡ Guarded)

@@ -18,7 +18,7 @@ use Rattle.phys_mem.specs.Memory.{entry_in}
 use Rattle.page_desc.specs.FrameCounts.{loose_in}
 use Rattle.page_desc.specs.FrameDescriptors.{Descriptors}
 use Rattle.page_desc.specs.PageTables.{AreDescribed, HoldsSoundTables, tables_in, value_in}
-use Rattle.region_book.specs.RegionCalls.{declare_rule, else_rule, frames_from, frames_rule, guarded, has_twice, is_bad_range, is_policy, joined, leaf_frame, mapped}
+use Rattle.region_book.specs.RegionCalls.{pages_rule, else_rule, frames_from, frames_rule, guarded, has_twice, is_bad_range, is_policy, pages_joined, leaf_frame, mapped}
 use Rattle.region_book.specs.RegionRecords.{Book, IsEachOnce}
 use Rattle.nk_body.proofs.LowerLaws.{GuardLaws, WalkLaws}
 
@@ -110,7 +110,7 @@ module _ (laws : GuardLaws) (root : ℕ) (m : List ℕ) where
 -- what holds of the frame of each page that is mapped
 module _ (at : ℕ → Option ℕ) (P : ℕ → Type 0) (each : (page f : ℕ) → at page ≡ Some f → P f) where
   joined_all : (o : Option ℕ) (r : Option (List ℕ)) (page : ℕ) → at page ≡ o → ((fs : List ℕ) → r ≡ Some fs → All P fs)
-      → (fs : List ℕ) → joined o r ≡ Some fs → All P fs
+      → (fs : List ℕ) → pages_joined o r ≡ Some fs → All P fs
   joined_all (Some f) (Some gs) page here later fs is =
       subst (All P) (same_Some (f ∷ gs) fs is) (All-cons P f gs (each page f here) (later gs refl))
   joined_all (Some f) None page here later fs is = let no : None ≡ Some fs = is in cc
@@ -127,7 +127,7 @@ unfolding frames_from
 frames_count at zero page fs is = ap length (sym (same_Some [] fs is))
 frames_count at (suc n) page fs is = go (at page) (frames_from at (page + 1) n) (λ gs found. frames_count at n (page + 1) gs found) is
   where
-    go : (o : Option ℕ) (r : Option (List ℕ)) → ((gs : List ℕ) → r ≡ Some gs → length gs ≡ n) → joined o r ≡ Some fs → length fs ≡ suc n
+    go : (o : Option ℕ) (r : Option (List ℕ)) → ((gs : List ℕ) → r ≡ Some gs → length gs ≡ n) → pages_joined o r ≡ Some fs → length fs ≡ suc n
     go (Some f) (Some gs) later is = ap length (sym (same_Some (f ∷ gs) fs is)) ∙ ap suc (later gs refl)
     go (Some f) None later is = let no : None ≡ Some fs = is in cc
     go None (Some gs) later is = let no : None ≡ Some fs = is in cc
@@ -162,8 +162,8 @@ any_same p q (f ∷ fs) same =
 
 pub rule_same : (book : Book) (kinds : List Kind) (loose other : ℕ → ℕ) (at : ℕ → Option ℕ) (address size policy : ℕ)
     → ((page f : ℕ) → at page ≡ Some f → loose f ≡ other f)
-    → declare_rule book kinds loose at address size policy ≡ declare_rule book kinds other at address size policy
-unfolding declare_rule
+    → pages_rule book kinds loose at address size policy ≡ pages_rule book kinds other at address size policy
+unfolding pages_rule
 rule_same book kinds loose other at address size policy agree =
     ap (λ rule. if is_bad_range address size then Some BadRange else rule)
     (by_frames (frames_from at (address / 4096) (size / 4096)) (λ fs found. frames_all at (λ f. loose f ≡ other f) agree (size / 4096) (address / 4096) fs found))

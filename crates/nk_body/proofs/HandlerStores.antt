@@ -7,7 +7,7 @@ use Rattle.nk_bits.specs.declared.kind.Kind.{Kind}
 use Rattle.nk_bits.specs.declared.kind.Kind.TheVariants.{Fixed}
 use Rattle.nk_bits.specs.Kinds.{kind_of}
 use Rattle.phys_mem.specs.Memory.{stores}
-use Rattle.page_desc.specs.PageTables.{is_kept, is_table, is_unguarded}
+use Rattle.page_desc.specs.PageTables.{is_unchanging, is_table, is_unguarded}
 
 -- where the stores of a number lie
 abbrev pub Places : Type 0
@@ -21,7 +21,7 @@ handler_unguarded kinds place fixed low high =
     let offset : place % 4096 < 8 = omega (arith, low, high) in
     let within : nat_lt (place % 4096) 8 ≡ true = lt-ltb _ _ offset in
     let kind : kind_of kinds (place / 4096) ≡ Fixed = ap (kind_of kinds) frame ∙ fixed in
-    λ i. not (is_table (kind i)) && (not (is_kept (kind i)) || ((frame i == 2) && within i))
+    λ i. not (is_table (kind i)) && (not (is_unchanging (kind i)) || ((frame i == 2) && within i))
 
 pub handler_stores : (kinds : List Kind) (address : ℕ) → Places → kind_of kinds 2 ≡ Fixed
     → All (λ w. is_unguarded kinds w.0 ≡ true) (stores 8 0x2000 address)

@@ -10,10 +10,10 @@ use Rattle.nk_bits.specs.declared.kind.Kind.{Kind}
 use Rattle.nk_bits.specs.declared.kind.Kind.TheVariants.{Data, Guarded}
 use Rattle.nk_bits.specs.Kinds.{is_data, kind_of}
 use Rattle.policy_book.specs.PolicyRules.{book_by, book_written, log_by, log_written, policy_rule}
-use Rattle.region_book.specs.RegionCalls.{added, freed, guarded, meets, page_region, pool_region, room}
+use Rattle.region_book.specs.RegionCalls.{with_one_more, freed, guarded, meets, page_region, pool_region, room}
 use Rattle.region_book.specs.RegionRecords.{IsApart, IsEachOnce, IsRegion, Region, pool_start, region_of}
 use Rattle.write_log.specs.LogRecords.{log_size, logged}
-use Rattle.nk_body.specs.NestedRecord.{IsKept, Ledger}
+use Rattle.nk_body.specs.NestedRecord.{IsLedgerKept, Ledger}
 use Rattle.nk_body.proofs.GuardedFrames.{guarded_stays, guarded_there}
 use Rattle.nk_body.proofs.RegionFrames.{in_memory, run_below}
 use Rattle.nk_body.proofs.RegionRules.{IsAllocable, IsDeclarable, logged_size, policy_room, room_facts}
@@ -28,7 +28,7 @@ none_meets p [] none = All-nil (λ r. p r ≡ false)
 none_meets p (r ∷ rs) none =
     let parts = or_parts (p r) (list_any p rs) none in All-cons (λ r. p r ≡ false) r rs parts.0 (none_meets p rs parts.1)
 
-module _ (kinds : List Kind) (ledger : Ledger) (kept : IsKept kinds ledger) where
+module _ (kinds : List Kind) (ledger : Ledger) (kept : IsLedgerKept kinds ledger) where
   -- a region of the pool is allocated
   module _ (size policy p : ℕ) (is : IsAllocable ledger.book size policy) (found : room ledger.book.regions size ≡ Some p) where
     abbrev region : Region
@@ -86,7 +86,7 @@ module _ (kinds : List Kind) (ledger : Ledger) (kept : IsKept kinds ledger) wher
     pub pool_held : region.place + region.size ≤ 4096 * length region.frames
     pool_held = pool_is_region.held
 
-    pub kept_pool : IsKept kinds (record ledger { book = added ledger.book region 0 })
+    pub kept_pool : IsLedgerKept kinds (record ledger { book = with_one_more ledger.book region 0 })
     kept_pool = record {
       book = added_sound ledger.book kept.book region 0 is.few refl pool_is_region apart refl (omega (arith, kept.book.most));
       frames = All-push (AreGuarded kinds) ledger.book.regions region kept.frames pool_guarded;
@@ -135,7 +135,7 @@ module _ (kinds : List Kind) (ledger : Ledger) (kept : IsKept kinds ledger) wher
           not_free (slice_index_or fs j g) (ap (kind_of kinds) (sym same) ∙ kept.frames k d below i f i_below) (is.free j g j_below);
     }
 
-    pub kept_pages : IsKept (guarded kinds fs) (record ledger { book = added ledger.book (page_region ledger.book address size policy fs) (length fs) })
+    pub kept_pages : IsLedgerKept (guarded kinds fs) (record ledger { book = with_one_more ledger.book (page_region ledger.book address size policy fs) (length fs) })
     kept_pages = record {
       book = added_sound ledger.book kept.book (page_region ledger.book address size policy fs) (length fs) is.few refl pages_is_region
           pages_apart refl is.pages;
@@ -150,7 +150,7 @@ module _ (kinds : List Kind) (ledger : Ledger) (kept : IsKept kinds ledger) wher
 
   -- a region of the pool is let go
   pub kept_free : (id : ℕ) (r : Region) → region_of ledger.book id ≡ Some r → r.pooled ≡ true
-      → IsKept kinds (record ledger { book = freed ledger.book id })
+      → IsLedgerKept kinds (record ledger { book = freed ledger.book id })
   kept_free id r found pooled = record {
     book = removed_sound ledger.book kept.book id r found pooled;
     frames = All-filter (λ x. not (x.id == id)) (AreGuarded kinds) ledger.book.regions kept.frames;
@@ -166,9 +166,9 @@ module _ (kinds : List Kind) (ledger : Ledger) (kept : IsKept kinds ledger) wher
         omega (arith, kept.log, logged_size ledger.log r.id offset bytes, policy_room ledger.log r offset (length bytes) admitted logs)
     log_fits false logs = kept.log
 
-    pub kept_written : IsKept kinds (record { book = book_written ledger.book id offset (length bytes); log = log_written ledger.book ledger.log id offset bytes })
+    pub kept_written : IsLedgerKept kinds (record { book = book_written ledger.book id offset (length bytes); log = log_written ledger.book ledger.log id offset bytes })
     kept_written =
-        subst (λ (o : Option Region). IsKept kinds (record { book = book_by ledger.book o offset (length bytes); log = log_by ledger.log o offset bytes })) (sym found)
+        subst (λ (o : Option Region). IsLedgerKept kinds (record { book = book_by ledger.book o offset (length bytes); log = log_by ledger.log o offset bytes })) (sym found)
         (record {
           book = written_sound ledger.book kept.book id offset (length bytes) r found range;
           frames = written_frames ledger.book kept.book id offset (length bytes) r found range (λ fs. All (λ f. kind_of kinds f ≡ Guarded) fs) kept.frames;

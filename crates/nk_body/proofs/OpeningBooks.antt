@@ -11,7 +11,7 @@ use Rattle.elf_image.specs.Pages.{is_executable, pages_of}
 use Rattle.boot_map.specs.declared.part.Part.{Part}
 use Rattle.boot_map.specs.declared.part.Part.TheVariants.{IdtAndTss, GateText, HandlerSlot, TrapStack, NestedStack, Root, SlotTable, AreaDirectory, AreaTable, ImageDirectory, Pool, WriteLog, WrittenBits, RegionBook, Descriptors, RangeTable, ImagePage, MapRoot, MapDirectory, MapTable, Free}
 use Rattle.boot_map.specs.Division.{Division, division_of, tables_start}
-use Rattle.boot_map.specs.Opening.{IsOpening, byte_in, byte_of_part}
+use Rattle.boot_map.specs.Opening.{IsOpening, division_byte, byte_of_part}
 use Rattle.boot_map.specs.OpeningKinds.{kind_at, kind_of_part, kinds}
 use Rattle.boot_map.specs.Parts.{common_part, part_at, sized_part}
 use Rattle.page_desc.specs.DescriptorBytes.{DiffersInDescriptors, HoldsDescriptors, descriptors_in, kinds_in}
@@ -20,7 +20,7 @@ use Rattle.page_desc.specs.PageTables.{HoldsSoundTables}
 use Rattle.region_book.specs.RegionBytes.{DiffersInRegions, HoldsRegions, RegionIndex, book_in}
 use Rattle.write_log.specs.LogBytes.{DiffersInLog, HoldsLog, LogCounts}
 use Rattle.nk_body.specs.CallMade.{KeepsForm}
-use Rattle.nk_body.specs.NestedRecord.{HoldsBooks, IsKept, Ledger, OwnState, books_in, handler_in}
+use Rattle.nk_body.specs.NestedRecord.{HoldsBooks, IsLedgerKept, Ledger, OwnState, books_in, handler_in}
 use Rattle.nk_body.specs.SourceWords.{opening_ledger}
 use Rattle.nk_body.proofs.HeldBooks.{DescriptorsAgree, LedgerLaws}
 
@@ -106,7 +106,7 @@ no_byte b d (MapTable k) o is = absurd (other_kind (Table 1) refl is)
 no_byte b d Free o is = absurd (other_kind Data refl is)
 
 pub opened_zero : (b m : List ℕ) (frames p : ℕ) → IsOpening b frames m → 512 ≤ frames → is_book_frame frames (p / 4096) ≡ true → byte_at m p ≡ 0
-unfolding byte_in kind_at
+unfolding division_byte kind_at
 opened_zero b m frames p opening least is =
     let inside : p / 4096 < frames = book_inside frames (p / 4096) least is in
     opening.bytes p (omega (arith, inside))
@@ -148,7 +148,7 @@ module _ (frames : ℕ) (index : RegionIndex) (counts : LogCounts) (m with_regio
 -- the opening's memory holds the books, with descriptors of the opening's kinds in it
 pub opened_books : (b m later : List ℕ) (frames : ℕ) (own : OwnState) → 512 ≤ frames → seen later ≡ m
     → length (kinds b frames) ≡ frames → ((f : ℕ) → f < frames → kind_of (kinds b frames) f ≡ kind_at b frames f)
-    → HoldsSoundTables (kinds b frames) 5 m → IsKept (kinds b frames) opening_ledger
+    → HoldsSoundTables (kinds b frames) 5 m → IsLedgerKept (kinds b frames) opening_ledger
     → kinds_in later ≡ kinds b frames → AreCounted (descriptors_in later) (entry_in m) → own.frames ≡ frames → own.root ≡ 5
     → own.trap ≡ handler_in (seen later) → (books_in own later).ledger ≡ opening_ledger → KeepsForm own later → HoldsBooks own later
 opened_books b m later frames own least sees count each sound kept are counted size root trap ledger form =
@@ -161,7 +161,7 @@ opened_books b m later frames own least sees count each sound kept are counted s
         };
         least = omega (arith, every, least);
         trap = trap;
-        kept = subst (λ (it : List Kind × Ledger). IsKept it.0 it.1) (λ i. (sym are i, sym ledger i)) kept;
+        kept = subst (λ (it : List Kind × Ledger). IsLedgerKept it.0 it.1) (λ i. (sym are i, sym ledger i)) kept;
       };
       stored = form.stored;
       hidden = λ f is. ap (λ ks. kind_of ks f) are ∙ kinds_hidden b frames f least each (sym (ap (λ n. is_book_frame n f) size) ∙ is);

@@ -7,7 +7,7 @@ use Rattle.nk_bits.specs.declared.kind.Kind.{Kind}
 use Rattle.nk_bits.specs.declared.kind.Kind.TheVariants.{Fixed, Guarded, Table}
 use Rattle.nk_bits.specs.EntryForms.{has_form, has_leaf_form, has_table_form}
 use Rattle.nk_bits.specs.Kinds.{allows, kind_of, level_of}
-use Rattle.nk_bits.specs.Paging.{frame_of, is_executable, is_present, is_slot_entry, is_user, is_writable, rights_of, slot_value}
+use Rattle.nk_bits.specs.Paging.{frame_of, grants_fetches, is_present, is_slot_entry, is_user, grants_writes, rights_of, slot_value}
 use Rattle.phys_mem.specs.Memory.{entry_in}
 use Rattle.boot_map.specs.Opening.{IsOpening}
 use Rattle.boot_map.specs.OpeningKinds.{kind_at, kinds}
@@ -15,7 +15,7 @@ use Rattle.boot_map.specs.Parts.{part_at}
 use Rattle.page_desc.specs.PageTables.{HoldsSoundTables}
 use Rattle.page_desc.specs.SoundTables.{is_lawful, is_lawful_leaf, is_lawful_link}
 use Rattle.write_log.specs.LogRecords.{log_size}
-use Rattle.nk_body.specs.NestedRecord.{IsKept}
+use Rattle.nk_body.specs.NestedRecord.{IsLedgerKept}
 use Rattle.nk_body.specs.SourceWords.{opening_ledger}
 use borrow.Author.Count.{below_more, below_none}
 
@@ -35,7 +35,7 @@ pub record OpeningLaws (b m : List ℕ) (frames : ℕ) : Type 0 where
   pub link : (f i : ℕ) → i < 512 → 2 ≤ level_of (kind_of (kinds b frames) f)
       → is_slot_entry (level_of (kind_of (kinds b frames) f)) i ≡ false → is_present (entry_in m f i) ≡ true
       → (level_of (kind_of (kinds b frames) (frame_of (entry_in m f i))) + 1 ≡ level_of (kind_of (kinds b frames) f))
-      × (is_writable (entry_in m f i) ≡ true) × (is_user (entry_in m f i) ≡ true) × (is_executable (entry_in m f i) ≡ true)
+      × (grants_writes (entry_in m f i) ≡ true) × (is_user (entry_in m f i) ≡ true) × (grants_fetches (entry_in m f i) ≡ true)
   pub form : (f i : ℕ) → i < 512 → 1 ≤ level_of (kind_of (kinds b frames) f) → is_present (entry_in m f i) ≡ true
       → has_form (level_of (kind_of (kinds b frames) f)) (entry_in m f i) ≡ true
   pub slot : (f : ℕ) → level_of (kind_of (kinds b frames) f) ≡ 4 → entry_in m f 511 ≡ slot_value
@@ -112,7 +112,7 @@ pool_kind b frames =
     P k = kind_at b frames (10 + k) ≡ Guarded
 
 pub opening_kept : (b : List ℕ) (frames : ℕ) → 512 ≤ frames
-    → ((f : ℕ) → f < frames → kind_of (kinds b frames) f ≡ kind_at b frames f) → IsKept (kinds b frames) opening_ledger
+    → ((f : ℕ) → f < frames → kind_of (kinds b frames) f ≡ kind_at b frames f) → IsLedgerKept (kinds b frames) opening_ledger
 unfolding log_size
 opening_kept b frames least each = record {
   book = record {

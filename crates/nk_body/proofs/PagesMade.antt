@@ -10,13 +10,13 @@ use Rattle.nk_bits.specs.declared.rule.Rule.{Rule}
 use Rattle.page_desc.specs.FrameCounts.{loose_in}
 use Rattle.page_desc.specs.FrameDescriptors.{Descriptors}
 use Rattle.page_desc.specs.PageTables.{AreDescribed, HoldsSoundTables, loose_of, tables_in}
-use Rattle.region_book.specs.RegionCalls.{added, declare_rule, frames_from, guarded, leaf_frame, mapped, page_region}
+use Rattle.region_book.specs.RegionCalls.{with_one_more, pages_rule, frames_from, guarded, leaf_frame, mapped, page_region}
 use Rattle.region_book.specs.RegionRecords.{Book, IsEachOnce}
 use Rattle.nk_bits.specs.Rules.{rule_of}
 use Rattle.write_log.specs.LogRecords.{LogRecord}
 use Rattle.nk_body.specs.CallMade.{IsMade}
 use Rattle.nk_body.specs.CallRules.{Sourced, mapped_by, stand_of, with_pages}
-use Rattle.nk_body.specs.NestedRecord.{AreBooks, Books, IsKept, Nested, nested_by}
+use Rattle.nk_body.specs.NestedRecord.{AreBooks, Books, IsLedgerKept, Nested, nested_by}
 use Rattle.nk_body.proofs.CallNumbers.{declaring_rule, made_is, number_6, verdict_is, written_6}
 use Rattle.nk_body.proofs.CallsMade.{accepted_made, books_of, refused_made}
 use Rattle.nk_body.proofs.GuardedFrames.{AreFree, frames_count, guarded_described, mapped_inside, mapped_same, rule_same}
@@ -55,20 +55,20 @@ module _ (guard : GuardLaws) (walks : WalkLaws) (loose : LooseLaw) (d e : Descri
   same_map : by_memory ≡ mapped_by nk
   same_map = mapped_same walks kinds root m are.described.sound
 
-  judged_same : declare_rule book kinds (slice_index d.loose) by_memory call.a call.b call.c ≡ declaring_rule nk call
+  judged_same : pages_rule book kinds (slice_index d.loose) by_memory call.a call.b call.c ≡ declaring_rule nk call
   judged_same =
       rule_same book kinds (slice_index d.loose) (loose_of nk.tables) by_memory call.a call.b call.c
       (λ page f found.
       let within : f < length m / 4096 = mapped_inside walks (entry_in m) (length m / 4096) root page f found in
       let inside : f < length kinds = omega (arith, within, are.described.sound.size) in
       are.described.counted.loose f inside ∙ sym (loose kinds root m f are.described.sound))
-      ∙ ap (λ at. declare_rule book kinds (loose_of nk.tables) at call.a call.b call.c) same_map
+      ∙ ap (λ at. pages_rule book kinds (loose_of nk.tables) at call.a call.b call.c) same_map
 
   pub pages_made : call.number ≡ 6 → (r : Result ℕ Rule)
-      → rule_of r ≡ declare_rule book kinds (slice_index d.loose) by_memory call.a call.b call.c
+      → rule_of r ≡ pages_rule book kinds (slice_index d.loose) by_memory call.a call.b call.c
       → OnErr r ((after ≡ book) × (e ≡ d))
       → OnOk r (IfSome (frames_from by_memory (call.a / 4096) (call.b / 4096))
-      (λ fs. (after ≡ added book (page_region book call.a call.b call.c fs) (length fs)) × (e ≡ record d { kinds = guarded kinds fs })))
+      (λ fs. (after ≡ with_one_more book (page_region book call.a call.b call.c fs) (length fs)) × (e ≡ record d { kinds = guarded kinds fs })))
       → IsMade before m call source (rule_of r) (books_of e root trap after log) m
   pages_made number (Err rule) judged err region =
       subst (λ (it : Descriptors × Book). IsMade before m call source (Some rule) (books_of it.0 root trap it.1 log) m)
@@ -83,8 +83,8 @@ module _ (guard : GuardLaws) (walks : WalkLaws) (loose : LooseLaw) (d e : Descri
       let once : IsEachOnce fs = guard.once fs is.distinct in
       let found : frames_from by_memory (call.a / 4096) (call.b / 4096) ≡ Some fs =
       ap (λ at. frames_from at (call.a / 4096) (call.b / 4096)) same_map ∙ facts.1 in
-      let becomes : (after ≡ added book (page_region book call.a call.b call.c fs) (length fs)) × (e ≡ record d { kinds = guarded kinds fs }) =
-      subst (λ (o : Option (List ℕ)). IfSome o (λ fs. (after ≡ added book (page_region book call.a call.b call.c fs) (length fs))
+      let becomes : (after ≡ with_one_more book (page_region book call.a call.b call.c fs) (length fs)) × (e ≡ record d { kinds = guarded kinds fs }) =
+      subst (λ (o : Option (List ℕ)). IfSome o (λ fs. (after ≡ with_one_more book (page_region book call.a call.b call.c fs) (length fs))
       × (e ≡ record d { kinds = guarded kinds fs }))) found region in
       let free : AreFree m kinds fs =
       λ k d below. (is.free k d below, sym (loose kinds root m _ are.described.sound) ∙ is.none k d below) in
@@ -95,6 +95,6 @@ module _ (guard : GuardLaws) (walks : WalkLaws) (loose : LooseLaw) (d e : Descri
       (written_6 nk call source m number)
       (ap (λ (d : Descriptors). d.kinds) becomes.1) refl are.trap (λ i. record { book = becomes.0 i; log = log }) refl
       (subst (λ d. AreDescribed d root m) (sym becomes.1) (guarded_described guard root m fs d are.described once free))
-      (subst (λ (it : List Kind × Book). IsKept it.0 (record { book = it.1; log = log })) (λ i. (ap (λ (d : Descriptors). d.kinds) (sym becomes.1) i, sym becomes.0 i))
+      (subst (λ (it : List Kind × Book). IsLedgerKept it.0 (record { book = it.1; log = log })) (λ i. (ap (λ (d : Descriptors). d.kinds) (sym becomes.1) i, sym becomes.0 i))
       (kept_pages kinds before.ledger are.kept (loose_of nk.tables) call.a call.b call.c fs is once
       (frames_count (mapped_by nk) (call.b / 4096) (call.a / 4096) fs facts.1)))

@@ -10,7 +10,7 @@ use Rattle.nk_bits.specs.declared.kind.Kind.{Kind}
 use Rattle.nk_bits.specs.declared.kind.Kind.TheVariants.{Fixed, Guarded, Hidden}
 use Rattle.nk_bits.specs.Kinds.{is_guarded, is_hidden, kind_of}
 use Rattle.phys_mem.specs.Memory.{stored}
-use Rattle.page_desc.specs.PageTables.{is_handler_byte, is_kept, is_table, is_unguarded}
+use Rattle.page_desc.specs.PageTables.{is_handler_byte, is_unchanging, is_table, is_unguarded}
 use Rattle.region_book.specs.RegionRecords.{Book, Region, byte_place, region_of, region_stores}
 use Rattle.nk_body.specs.NestedRecord.{handler_in}
 use Rattle.nk_body.proofs.LowerLaws.{LowerLaws}
@@ -82,7 +82,7 @@ module _ (kinds : List Kind) (ws : List (ℕ × ℕ)) (are : InGuarded kinds ws)
   pub unguarded : All (λ w. is_unguarded kinds w.0 ≡ true) ws
   unguarded =
       All-weaker (λ (w : ℕ × ℕ). kind_of kinds (w.0 / 4096) ≡ Guarded) (λ (w : ℕ × ℕ). is_unguarded kinds w.0 ≡ true)
-      (λ w is. ap (λ k. not (is_table k) && (not (is_kept k) || is_handler_byte (w.0 / 4096) (w.0 % 4096))) is) ws are
+      (λ w is. ap (λ k. not (is_table k) && (not (is_unchanging k) || is_handler_byte (w.0 / 4096) (w.0 % 4096))) is) ws are
 
   -- the handler's frame is fixed
   pub handler_aside : LowerLaws → (m : List ℕ) → kind_of kinds 2 ≡ Fixed → handler_in (stored m ws) ≡ handler_in m

@@ -11,7 +11,7 @@ use Rattle.nk_bits.specs.declared.rule.Rule.{Rule}
 use Rattle.nk_bits.specs.declared.rule.Rule.TheVariants.{BadPolicy, BadRange, BadRegion, BadSource, LogFull, NoRoom, NoWrite, NotAllocated, NotAtEnd, NotData, OutOfBounds, StillLoose, TooManyRegions, WrittenOnce}
 use Rattle.nk_bits.specs.Kinds.{is_data, kind_of}
 use Rattle.nk_bits.specs.Paging.{is_canonical}
-use Rattle.region_book.specs.RegionCalls.{alloc_rule, declare_rule, else_rule, fits_region, frames_from, frames_rule, free_rule_of, has_twice, is_bad_range, is_policy, is_taken, room}
+use Rattle.region_book.specs.RegionCalls.{alloc_rule, pages_rule, else_rule, fits_region, frames_from, frames_rule, free_rule_of, has_twice, is_bad_range, is_policy, is_range_taken, room}
 use Rattle.region_book.specs.RegionRecords.{Book, Region, is_written_in}
 use Rattle.policy_book.specs.PolicyRules.{bounds_of, first_rule, policy_rule}
 use Rattle.write_log.specs.LogRecords.{LogRecord, log_size, logged, room_of}
@@ -65,12 +65,12 @@ alloc_facts book size policy is =
       place = not_none (room book.regions size) d.0;
     }
 
-pub room_facts : (regions : List Region) (size p : ℕ) → room regions size ≡ Some p → (p + size ≤ 65536) × (is_taken regions size p ≡ false)
+pub room_facts : (regions : List Region) (size p : ℕ) → room regions size ≡ Some p → (p + size ≤ 65536) × (is_range_taken regions size p ≡ false)
 unfolding room
 room_facts regions size p found =
-    let test = (found_place (λ p. nat_le (p + size) 65536 && not (is_taken regions size p)) (map (λ k. 16 * k) (range_with_len 0 4096)) p found).3 in
-    let parts = and_parts (nat_le (p + size) 65536) (not (is_taken regions size p)) test in
-    (leb-true (p + size) 65536 parts.0, not-true (is_taken regions size p) parts.1)
+    let test = (found_place (λ p. nat_le (p + size) 65536 && not (is_range_taken regions size p)) (map (λ k. 16 * k) (range_with_len 0 4096)) p found).3 in
+    let parts = and_parts (nat_le (p + size) 65536) (not (is_range_taken regions size p)) test in
+    (leb-true (p + size) 65536 parts.0, not-true (is_range_taken regions size p) parts.1)
 
 -- a region that is let go lives, and lies in the pool
 pub free_facts : (o : Option Region) → free_rule_of o ≡ None → (r : Region) × (o ≡ Some r) × (r.pooled ≡ true)
@@ -105,9 +105,9 @@ data_by Guarded is = absurd (false≢true is)
 data_by Hidden is = absurd (false≢true is)
 
 pub declare_facts : (book : Book) (kinds : List Kind) (loose : ℕ → ℕ) (at : ℕ → Option ℕ) (address size policy : ℕ)
-    → declare_rule book kinds loose at address size policy ≡ None
+    → pages_rule book kinds loose at address size policy ≡ None
     → (fs : List ℕ) × (frames_from at (address / 4096) (size / 4096) ≡ Some fs) × IsDeclarable book kinds loose size policy fs
-unfolding declare_rule
+unfolding pages_rule
 declare_facts book kinds loose at address size policy is = by_range (is_bad_range address size) refl is
   where
     by_frames : is_bad_range address size ≡ false → (o : Option (List ℕ)) → frames_rule book kinds loose policy o ≡ None

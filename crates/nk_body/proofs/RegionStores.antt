@@ -11,12 +11,12 @@ use Rattle.policy_book.specs.PolicyRules.{stores_by, stores_written}
 use Rattle.region_book.specs.RegionCalls.{room}
 use Rattle.region_book.specs.RegionRecords.{IsRegion, Region, region_of, region_stores}
 use Rattle.nk_body.specs.CallRules.{new_region}
-use Rattle.nk_body.specs.NestedRecord.{IsKept, Ledger}
+use Rattle.nk_body.specs.NestedRecord.{IsLedgerKept, Ledger}
 use Rattle.nk_body.proofs.KeptLedgers.{AreGuarded, pool_guarded, pool_held}
 use Rattle.nk_body.proofs.RegionFrames.{InGuarded, found_holds, stores_bytes, stores_held}
 use Rattle.nk_body.proofs.RegionRules.{IsAllocable}
 
-module _ (kinds : List Kind) (ledger : Ledger) (kept : IsKept kinds ledger) where
+module _ (kinds : List Kind) (ledger : Ledger) (kept : IsLedgerKept kinds ledger) where
   -- the zeros of a new region
   pub zeros_guarded : (call : CallWords) (p : ℕ) → IsAllocable ledger.book call.a call.b → room ledger.book.regions call.a ≡ Some p
       → InGuarded kinds (region_stores (new_region ledger.book call p) 0 (replicate call.a 0))

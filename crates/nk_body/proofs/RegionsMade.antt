@@ -13,14 +13,14 @@ use Rattle.page_desc.specs.FrameDescriptors.{Descriptors}
 use Rattle.page_desc.specs.PageTables.{AreDescribed, is_unguarded}
 use Rattle.policy_book.specs.PolicyRules.{book_written, bounds_of, first_rule, log_written, policy_of, stores_written, write_rule}
 use Rattle.region_book.specs.declared.regions.Granted.{Granted}
-use Rattle.region_book.specs.RegionCalls.{added, alloc_rule, else_rule, fits_in, fits_region, free_rule, freed, pool_region, room}
+use Rattle.region_book.specs.RegionCalls.{with_one_more, alloc_rule, else_rule, fits_in, fits_region, free_rule, freed, pool_region, room}
 use Rattle.region_book.specs.RegionRecords.{Book, Region, pool_start, region_of, region_stores}
 use Rattle.nk_bits.specs.Rules.{rule_of}
 use Rattle.write_log.specs.LogRecords.{LogRecord}
 use Rattle.nk_body.specs.CallMade.{IsMade}
 use Rattle.nk_body.specs.CallRules.{IsSourceOf, NotTaken, Sourced, Unreadable, source_rule, verdict, wants, with_pool, with_write, zeros_of}
 use Rattle.nk_body.specs.CallRules.{Bytes as BytesRead}
-use Rattle.nk_body.specs.NestedRecord.{AreBooks, Books, IsKept, Nested, nested_by}
+use Rattle.nk_body.specs.NestedRecord.{AreBooks, Books, IsLedgerKept, Nested, nested_by}
 use Rattle.nk_body.proofs.CallNumbers.{made_is, number_7, number_8, number_9, verdict_is, written_7, written_8, written_9}
 use Rattle.nk_body.proofs.CallsMade.{accepted_made, books_of, refused_made}
 use Rattle.nk_body.proofs.KeptLedgers.{AreGuarded, kept_free, kept_pool, kept_written}
@@ -61,7 +61,7 @@ module _ (d : Descriptors) (root trap : ℕ) (book after : Book) (log later_log 
       → OnErr r ((after ≡ book) × (later ≡ m))
       → IfOk r (λ it. (it.id ≡ book.next) × (pool_start ≤ it.place) × (it.place < pool_start + 65536)
       × (room book.regions call.a ≡ Some (it.place - pool_start)))
-      → IfOk r (λ it. after ≡ added book (pool_region book call.a call.b (it.place - pool_start)) 0)
+      → IfOk r (λ it. after ≡ with_one_more book (pool_region book call.a call.b (it.place - pool_start)) 0)
       → IfOk r (λ it. later ≡ stored m (region_stores (pool_region book call.a call.b (it.place - pool_start)) 0 (replicate call.a 0)))
       → IsMade before m call source (rule_of r) (books_of d root trap after later_log) later
   pool_made number described logs (Err rule) judged err found allocated memory =
@@ -70,7 +70,7 @@ module _ (d : Descriptors) (root trap : ℕ) (book after : Book) (log later_log 
       let p : ℕ = it.place - pool_start in
       let is = alloc_facts book call.a call.b (sym judged) in
       let ws : List (ℕ × ℕ) = region_stores (pool_region book call.a call.b p) 0 (replicate call.a 0) in
-      let kept : IsKept d.kinds (record { book = book; log = log }) = are.kept in
+      let kept : IsLedgerKept d.kinds (record { book = book; log = log }) = are.kept in
       accepted_made before m call source (books_of d root trap after later_log) later (with_pool nk call (Some p)) (stored m ws)
       (verdict_is nk call source ∙ number_7 call.number _ _ _ _ _ _ _ _ _ _ number ∙ sym judged)
       (made_is nk call source _ ∙ number_7 call.number _ _ _ _ _ _ _ _ _ _ number ∙ ap (with_pool nk call) found.3)
@@ -78,7 +78,7 @@ module _ (d : Descriptors) (root trap : ℕ) (book after : Book) (log later_log 
       refl refl are.trap (λ i. record { book = allocated i; log = logs i }) memory
       (subst (AreDescribed d root) (sym memory)
       (described d root m ws are.described (unguarded d.kinds ws (zeros_guarded d.kinds _ kept call p is found.3))))
-      (subst (IsKept d.kinds) (λ i. record { book = sym allocated i; log = sym logs i })
+      (subst (IsLedgerKept d.kinds) (λ i. record { book = sym allocated i; log = sym logs i })
       (kept_pool d.kinds _ kept call.a call.b p is found.3))
 
   -- a region of the pool is let go
@@ -94,7 +94,7 @@ module _ (d : Descriptors) (root trap : ℕ) (book after : Book) (log later_log 
       (made_is nk call source _ ∙ number_8 call.number _ _ _ _ _ _ _ _ _ _ number) (written_8 nk call source m number)
       refl refl are.trap (λ i. record { book = out i; log = logs i }) memory
       (subst (AreDescribed d root) (sym memory) are.described)
-      (subst (IsKept d.kinds) (λ i. record { book = sym out i; log = sym logs i })
+      (subst (IsLedgerKept d.kinds) (λ i. record { book = sym out i; log = sym logs i })
       (kept_free d.kinds _ are.kept call.a live.0 live.1 live.2))
 
 -- bytes are written in a region
@@ -127,7 +127,7 @@ module _ (d : Descriptors) (root trap : ℕ) (book after : Book) (log later_log 
       (subst (AreDescribed d root) (sym memory)
       (described d root m ws are.described
       (unguarded d.kinds ws (written_guarded d.kinds _ are.kept call.a call.b bytes live.0 live.1 live.3))))
-      (subst (IsKept d.kinds) (λ i. record { book = sym book_is i; log = sym log_is i })
+      (subst (IsLedgerKept d.kinds) (λ i. record { book = sym book_is i; log = sym log_is i })
       (kept_written d.kinds _ are.kept call.a call.b bytes live.0 live.1 live.3
       (sym (ap (λ o. policy_of log o call.b (length bytes)) live.1) ∙ facts.2)))
 

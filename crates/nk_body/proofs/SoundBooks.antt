@@ -1,4 +1,4 @@
--- A sound book of regions stays sound where a region is added, one is let go, and a range of one was written.
+-- A sound book of regions stays sound where a region is with_one_more, one is let go, and a range of one was written.
 use Rattle.std.proofs.Common.{◌≡◌, ◌≢◌, ◌⊎◌, ℕ, suc, ◌+◌, ◌<◌, ◌≤◌, Bool, true, false, not, ◌==◌, List, [], ◌∷◌, length, map, arith, refl, sym, ap, ◌∙◌, subst, inl, inr, slice_index_or}
 use Rattle.std.specs.Prelude.{All, AllPairs, Some, cond, filter, if◌then◌else◌}
 use Rattle.std.specs.List.{sum_by}
@@ -9,7 +9,7 @@ use Rattle.std.proofs.lemmas.List.FromFn.{length-map-range_with_len}
 use Rattle.std.proofs.lemmas.List.Kept.{AllPairs-filter}
 use Rattle.std.proofs.lemmas.List.Quantifiers.{all_pairs_push}
 use Rattle.std.proofs.lemmas.List.Sums.{count_by-le-length, length-filter, sum_by-cons, sum_by_push}
-use Rattle.region_book.specs.RegionCalls.{added, freed}
+use Rattle.region_book.specs.RegionCalls.{with_one_more, freed}
 use Rattle.region_book.specs.RegionRecords.{Book, IsApart, IsBook, IsRegion, Region, marked, pages_of_region, region_of, with_region}
 use Rattle.nk_body.proofs.RegionFrames.{found_place}
 
@@ -83,7 +83,7 @@ module _ (book : Book) (sound : IsBook book) where
 
   -- a new region
   pub added_sound : (r : Region) (pages : ℕ) → length book.regions < 256 → r.id ≡ book.next → IsRegion (book.next + 1) r
-      → All (λ old. IsApart old r) book.regions → pages_of_region r ≡ pages → book.declared + pages ≤ 128 → IsBook (added book r pages)
+      → All (λ old. IsApart old r) book.regions → pages_of_region r ≡ pages → book.declared + pages ≤ 128 → IsBook (with_one_more book r pages)
   added_sound r pages few id is apart pages_is most = record {
     next = omega (arith, sound.next);
     count = omega (arith, few, length_push book.regions r);

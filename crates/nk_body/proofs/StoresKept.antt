@@ -7,7 +7,7 @@ use Rattle.nk_bits.specs.declared.kind.Kind.TheVariants.{Data, Code, Table, Fixe
 use Rattle.nk_bits.specs.Kinds.{is_guarded, is_storable, kind_of}
 use Rattle.phys_mem.specs.Memory.{byte_at, number_at, stored}
 use Rattle.page_desc.specs.FrameDescriptors.{Descriptors}
-use Rattle.page_desc.specs.PageTables.{AreDescribed, is_handler_byte, is_kept, is_table, is_unguarded, tables_in}
+use Rattle.page_desc.specs.PageTables.{AreDescribed, is_handler_byte, is_unchanging, is_table, is_unguarded, tables_in}
 use Rattle.nk_body.specs.NestedRecord.{AreBooks, Books, Ledger, handler_in, held_bytes, nested_in}
 use Rattle.nk_body.proofs.HeldBytes.{held_same}
 
@@ -22,7 +22,7 @@ pub record StoringLaws : Type 0 where
       → All (λ w. is_unguarded d.kinds w.0 ≡ true) ws → AreDescribed d root (stored m ws)
 
 -- a frame that may be stored to is no page table, its bytes may change, and no region lies in it
-unguarded_by : (kind : Kind) (b : Bool) → is_storable kind ≡ true → (not (is_table kind) && (not (is_kept kind) || b)) ≡ true
+unguarded_by : (kind : Kind) (b : Bool) → is_storable kind ≡ true → (not (is_table kind) && (not (is_unchanging kind) || b)) ≡ true
 unguarded_by Data b is = refl
 unguarded_by Code b is = absurd (false≢true is)
 unguarded_by (Table n) b is = absurd (false≢true is)

@@ -13,7 +13,7 @@ use Rattle.page_desc.specs.FrameCounts.{loose_in}
 use Rattle.page_desc.specs.FrameDescriptors.{last_value}
 use Rattle.page_desc.specs.PageTables.{HoldsSoundTables, tables_in}
 use Rattle.vmmu.specs.AcceptedCalls.{IsDeclarable, IsRemovable, IsWritable}
-use Rattle.nk_body.specs.NestedRecord.{IsKept, Ledger, held_bytes}
+use Rattle.nk_body.specs.NestedRecord.{IsLedgerKept, Ledger, held_bytes}
 use Rattle.nk_body.specs.KindsKept.{is_settled}
 use Rattle.nk_body.proofs.CallsMade.{kept_under}
 use Rattle.nk_body.proofs.HeldBytes.{held_same}
@@ -192,5 +192,5 @@ module _ (kinds after : List Kind) (m later : List ℕ) (left : IsTablesLeft kin
         | inr above ↦ inr (elim (cases_lt q 0x3000) [ inl within ↦ absurd (other (omega (arith, above, within))) | inr past ↦ omega (arith, past) ])
       ]
 
-  pub kept_left : (ledger : Ledger) → IsKept kinds ledger → IsKept after ledger
+  pub kept_left : (ledger : Ledger) → IsLedgerKept kinds ledger → IsLedgerKept after ledger
   kept_left ledger kept = kept_under kinds after ledger kept guarded_left

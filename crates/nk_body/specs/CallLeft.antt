@@ -4,7 +4,7 @@ use Rattle.nk_bits.specs.declared.call.CallWords.{CallWords}
 use Rattle.nk_bits.specs.declared.kind.Kind.{Kind}
 use Rattle.page_desc.specs.PageTables.{HoldsSoundTables}
 use Rattle.nk_body.specs.CallRules.{IsSourceOf, Sourced, after_call, memory_after_call, stand_of, wants}
-use Rattle.nk_body.specs.NestedRecord.{IsKept, Ledger, Nested, nested_in}
+use Rattle.nk_body.specs.NestedRecord.{IsLedgerKept, Ledger, Nested, nested_in}
 
 abbrev pub left_in : List Kind → ℕ → Ledger → List ℕ → CallWords → Sourced → Nested
 left_in kinds root ledger m call source =
@@ -17,7 +17,7 @@ memory_left kinds root ledger m call source = memory_after_call (nested_in kinds
 -- third argument have 64 bits
 pub record IsCalled (kinds : List Kind) (root : ℕ) (ledger : Ledger) (m : List ℕ) (call : CallWords) (source : Sourced) : Type 0 where
   pub sound : HoldsSoundTables kinds root m
-  pub keeps : IsKept kinds ledger
+  pub keeps : IsLedgerKept kinds ledger
   pub sourced : IsSourceOf (wants ledger.book call) source
   pub first : call.a < 2 ^ 64
   pub third : call.c < 2 ^ 64

@@ -7,7 +7,7 @@ use Rattle.page_desc.specs.PageTables.{AreDescribed}
 use Rattle.region_book.specs.RegionBytes.{HoldsRegions}
 use Rattle.write_log.specs.LogBytes.{HoldsLog}
 use Rattle.nk_body.specs.CallRules.{Sourced, made_unless, stand_of, verdict, written_unless}
-use Rattle.nk_body.specs.NestedRecord.{Books, IsKept, Nested, OwnState, nested_by}
+use Rattle.nk_body.specs.NestedRecord.{Books, IsLedgerKept, Nested, OwnState, nested_by}
 
 -- the record after a call, by the rule that it breaks
 abbrev pub left_by : Option Rule → Books → List ℕ → CallWords → Sourced → Nested
@@ -22,7 +22,7 @@ pub record IsMade (books : Books) (m : List ℕ) (call : CallWords) (source : So
   pub ledger : after.ledger ≡ (left_by rule books m call source).ledger
   pub memory : later ≡ written_unless rule (nested_by books m) call source m
   pub described : AreDescribed after.frames after.root later
-  pub keeps : IsKept after.frames.kinds after.ledger
+  pub keeps : IsLedgerKept after.frames.kinds after.ledger
 
 -- each book keeps its form in memory
 pub record KeepsForm (own : OwnState) (m : List ℕ) : Type 0 where

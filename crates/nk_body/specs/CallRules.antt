@@ -9,12 +9,12 @@ use Rattle.nk_bits.specs.declared.call.CallWords.{CallWords}
 use Rattle.nk_bits.specs.declared.rule.Rule.{Rule}
 use Rattle.nk_bits.specs.declared.rule.Rule.TheVariants.{BadCall, BadSource, NotCanonical}
 use Rattle.nk_bits.specs.Paging.{is_canonical}
-use Rattle.nk_bits.specs.Rules.{number_of}
+use Rattle.nk_bits.specs.Rules.{rule_number}
 use Rattle.page_desc.specs.PageTables.{Tables, loose_of, value_in}
 use Rattle.table_rules.specs.ValueRules.{broken}
 use Rattle.vmmu.specs.TableCalls.{declare_rule, declared, entry_rule, entry_written, memory_declared, memory_removed, memory_written, remove_rule, removed, root_loaded, root_rule}
-use Rattle.region_book.specs.RegionCalls.{added, alloc_rule, fits_in, frames_from, free_rule, freed, guarded, mapped, page_region, pool_region, room}
-use Rattle.region_book.specs.RegionCalls.{declare_rule as pages_rule}
+use Rattle.region_book.specs.RegionCalls.{with_one_more, alloc_rule, fits_in, frames_from, free_rule, freed, guarded, mapped, page_region, pool_region, room}
+use Rattle.region_book.specs.RegionCalls.{pages_rule}
 use Rattle.region_book.specs.RegionRecords.{Book, Region, pool_start, region_of, region_stores}
 use Rattle.policy_book.specs.PolicyRules.{book_written, bounds_of, first_rule, log_written, policy_of, stores_written}
 use Rattle.nk_body.specs.NestedRecord.{Ledger, Nested}
@@ -82,7 +82,7 @@ with_pages nk call stand None = nk
 with_pages nk call stand (Some fs) = record nk {
   tables = record nk.tables { kinds = guarded nk.tables.kinds fs };
   held = λ f offset. if list_any (λ g. g == f) fs then stand f offset else nk.held f offset;
-  ledger = record nk.ledger { book = added nk.ledger.book (page_region nk.ledger.book call.a call.b call.c fs) (length fs) };
+  ledger = record nk.ledger { book = with_one_more nk.ledger.book (page_region nk.ledger.book call.a call.b call.c fs) (length fs) };
 }
 
 -- a new region of the pool, whose bytes are 0
@@ -93,7 +93,7 @@ abbrev pub with_pool : Nested → CallWords → Option ℕ → Nested
 with_pool nk call None = nk
 with_pool nk call (Some p) = record nk {
   held = puts nk.held (region_stores (new_region nk.ledger.book call p) 0 (replicate call.a 0));
-  ledger = record nk.ledger { book = added nk.ledger.book (new_region nk.ledger.book call p) 0 };
+  ledger = record nk.ledger { book = with_one_more nk.ledger.book (new_region nk.ledger.book call p) 0 };
 }
 
 abbrev pub with_free : Nested → CallWords → Nested
@@ -145,8 +145,8 @@ zeros_of nk call None = []
 zeros_of nk call (Some p) = region_stores (new_region nk.ledger.book call p) 0 (replicate call.a 0)
 
 -- memory after a call that is accepted
-unfoldable pub written : Nested → CallWords → Sourced → List ℕ → List ℕ
-written nk call source m =
+unfoldable pub accepted_memory : Nested → CallWords → Sourced → List ℕ → List ℕ
+accepted_memory nk call source m =
     if call.number == 1 then stored m (stores 8 0x2000 call.a)
     else if call.number == 2 then memory_declared m call.a call.b
     else if call.number == 3 then memory_written m call.a call.b call.c
@@ -156,7 +156,7 @@ written nk call source m =
     else m
 
 abbrev pub written_unless : Option Rule → Nested → CallWords → Sourced → List ℕ → List ℕ
-written_unless None nk call source m = written nk call source m
+written_unless None nk call source m = accepted_memory nk call source m
 written_unless (Some rule) nk call source m = m
 
 abbrev pub memory_after_call : Nested → CallWords → Sourced → List ℕ → List ℕ
@@ -174,13 +174,13 @@ abbrev pub place_at : Option ℕ → Option ℕ
 place_at None = None
 place_at (Some p) = Some (pool_start + p)
 
-abbrev pub place_by : Nested → CallWords → Option ℕ
-place_by nk call = if call.number == 7 then place_at (room nk.ledger.book.regions call.a) else None
+abbrev pub answered_place : Nested → CallWords → Option ℕ
+answered_place nk call = if call.number == 7 then place_at (room nk.ledger.book.regions call.a) else None
 
 -- the answer to any call: the number of the first rule that it breaks, where it breaks one
 abbrev pub answer_by : Option Rule → Nested → CallWords → Answer
-answer_by None nk call = record { value = value_by nk call; place = place_by nk call; flush = flushes call }
-answer_by (Some rule) nk call = record { value = number_of rule; place = None; flush = false }
+answer_by None nk call = record { value = value_by nk call; place = answered_place nk call; flush = flushes call }
+answer_by (Some rule) nk call = record { value = rule_number rule; place = None; flush = false }
 
 unfoldable pub answer_to : Nested → CallWords → Sourced → Answer
 answer_to nk call source = answer_by (verdict nk call source) nk call

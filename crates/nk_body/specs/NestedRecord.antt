@@ -45,7 +45,7 @@ nested_in kinds root ledger m = record {
 }
 
 -- the ledger is sound, and each region lies in guarded frames; so does the pool
-pub record IsKept (kinds : List Kind) (ledger : Ledger) : Type 0 where
+pub record IsLedgerKept (kinds : List Kind) (ledger : Ledger) : Type 0 where
   pub book : IsBook ledger.book
   pub frames : All (λ r. All (λ f. kind_of kinds f ≡ Guarded) r.frames) ledger.book.regions
   pub pool : (f : ℕ) → 10 ≤ f → f < 26 → kind_of kinds f ≡ Guarded
@@ -68,7 +68,7 @@ pub record AreBooks (books : Books) (m : List ℕ) : Type 0 where
   pub described : AreDescribed books.frames books.root m
   pub least : 512 ≤ length books.frames.kinds
   pub trap : books.trap ≡ handler_in m
-  pub kept : IsKept books.frames.kinds books.ledger
+  pub kept : IsLedgerKept books.frames.kinds books.ledger
 
 -- what the nested kernel keeps outside memory: how many frames there are, root and handler, in which slots regions live, and
 -- how long the log is

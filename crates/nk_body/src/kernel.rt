@@ -8,13 +8,13 @@ ghost use Rattle.boot_map.specs.Opening.{IsOpening};
 ghost use Rattle.boot_map.specs.OpeningKinds.{kinds};
 ghost use Rattle.page_desc.specs.DescriptorBytes.{DiffersInDescriptors, HoldsDescriptors, descriptors_in, kinds_in};
 ghost use Rattle.page_desc.specs.FrameDescriptors.{AreCounted};
-ghost use Rattle.nk_bits.specs.Rules.{number_of, rule_of};
+ghost use Rattle.nk_bits.specs.Rules.{rule_number, rule_of};
 ghost use Rattle.policy_book.specs.PolicyRules.{bounds_of};
 ghost use Rattle.region_book.specs.RegionCalls.{fits_in};
 ghost use Rattle.region_book.specs.RegionRecords.{region_of};
 ghost use Rattle.nk_body.specs.NestedRecord.{HoldsBooks, books_in, handler_in, nested_held};
 ghost use Rattle.nk_body.specs.CallMade.{IsMade, KeepsForm};
-ghost use Rattle.nk_body.specs.CallRules.{Bytes, IsSourceOf, Sourced, after_call, answer_to, flushes, memory_after_call, place_by, stand_of, value_by, wants};
+ghost use Rattle.nk_body.specs.CallRules.{Bytes, IsSourceOf, Sourced, after_call, answer_to, flushes, memory_after_call, answered_place, stand_of, value_by, wants};
 ghost use Rattle.nk_body.specs.SourceWords.{opening_ledger, sourced_of};
 
 use crate::laws::{call_law, call_leaves_law, opening_sound_law};
@@ -166,7 +166,7 @@ impl Kernel {
         ensures frames { self.new.frames ≡ self.old.frames }
         ensures form { KeepsForm self.new mem.new }
         ensures shows { IfOk result (λ it. (it.value ≡ value_by (nested_held self.old mem.old) call.now)
-            × (it.place ≡ place_by (nested_held self.old mem.old) call.now)) }
+            × (it.place ≡ answered_place (nested_held self.old mem.old) call.now)) }
     {
         match call.number {
             SET_TRAP => self.set_trap(mem, call),
@@ -307,7 +307,7 @@ impl Kernel {
         ensures frames { self.new.frames ≡ self.old.frames }
         ensures form { KeepsForm self.new mem.new }
         ensures shows { IfOk result (λ it. (it.value ≡ (books_in self.old mem.old).ledger.book.next)
-            × (it.place ≡ place_by (nested_held self.old mem.old) call.now)) }
+            × (it.place ≡ answered_place (nested_held self.old mem.old) call.now)) }
     {
         page_tables_law();
         stored_law();
@@ -473,7 +473,7 @@ fn answered(call: &CallWords, made: &Accepted) -> Answer
 
 /// The answer to a call that breaks a rule.
 fn refused(rule: Rule) -> Answer
-    ensures { result ≡ record { value = number_of rule; place = None; flush = false } }
+    ensures { result ≡ record { value = rule_number rule; place = None; flush = false } }
 {
     Answer {
         value: rule.number(),

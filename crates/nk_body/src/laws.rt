@@ -14,7 +14,7 @@ ghost use Rattle.boot_map.specs.OpeningKinds.{kinds};
 ghost use Rattle.page_desc.specs.DescriptorBytes.{kinds_in};
 ghost use Rattle.page_desc.specs.FrameCounts.{loose_in};
 ghost use Rattle.page_desc.specs.PageTables.{HoldsSoundTables};
-ghost use Rattle.nk_body.specs.NestedRecord.{AreBooks, Books, HoldsBooks, IsKept, Ledger, Nested, OwnState, books_in, nested_in};
+ghost use Rattle.nk_body.specs.NestedRecord.{AreBooks, Books, HoldsBooks, IsLedgerKept, Ledger, Nested, OwnState, books_in, nested_in};
 ghost use Rattle.nk_body.specs.CallRules.{Sourced, answer_to, bytes_read};
 ghost use Rattle.nk_body.specs.CallLeft.{IsCalled, left_in, memory_left};
 ghost use Rattle.nk_body.specs.KindsKept.{is_reserved, is_settled};
@@ -41,7 +41,7 @@ pub fn call_law()
         HoldsSoundTables after.tables.kinds after.tables.root (memory_left kinds root ledger m call source) }
     ensures kept { (kinds : List Kind) (root : ℕ) (ledger : Ledger) (m : List ℕ) (call : CallWords) (source : Sourced)
         → IsCalled kinds root ledger m call source
-        → let after : Nested = left_in kinds root ledger m call source in IsKept after.tables.kinds after.ledger }
+        → let after : Nested = left_in kinds root ledger m call source in IsLedgerKept after.tables.kinds after.ledger }
 {
     memory_law();
     frame_law();
@@ -138,7 +138,7 @@ pub fn held_law()
 pub fn opening_sound_law()
     ensures sound { (b m : List ℕ) (frames : ℕ) → IsLayout b (division_of b frames) → IsPageList b (pages_of b)
         → IsOpening b frames m → HoldsSoundTables (kinds b frames) 5 m }
-    ensures kept { (b : List ℕ) (frames : ℕ) → IsLayout b (division_of b frames) → IsKept (kinds b frames) opening_ledger }
+    ensures kept { (b : List ℕ) (frames : ℕ) → IsLayout b (division_of b frames) → IsLedgerKept (kinds b frames) opening_ledger }
 {
     boot_map::held_law();
     opening_kinds_law();

@@ -16,7 +16,7 @@ use boot_map::{Layout, prepare};
 use elf_image::Image;
 use nk_bits::{Answer, CallWords, Control, Kind};
 use phys_mem::PhysMem;
-use region_book::Region;
+use region_book::ShownRegion;
 use std::alloc::{AllocError, Global};
 use tlb_model::Tlb;
 use write_log::Noted;
@@ -606,7 +606,13 @@ const LOGGED: [(Row, u64); 4] = [
 ];
 
 /// What is told of the log: how many bytes are left, the records, and the region.
-type Told = (usize, u64, Option<Noted>, Option<Noted>, Option<Region>);
+type Told = (
+    usize,
+    u64,
+    Option<Noted>,
+    Option<Noted>,
+    Option<ShownRegion>,
+);
 
 fn record(kernel: &Kernel, mem: &PhysMem, i: u64) -> Option<Noted>
     requires { HoldsBooks kernel.now mem.now }
@@ -641,7 +647,7 @@ fn the_log_is_full(rt: HostRuntime) {
             length,
         })
     };
-    let region = Region {
+    let region = ShownRegion {
         id: 256,
         policy: 4,
         place: POOL,

@@ -6,7 +6,7 @@ use Rattle.std.proofs.lemmas.Bool.{cases_eq, false≢true}
 use Rattle.std.proofs.lemmas.List.Quantifiers.{position-Some}
 use Rattle.std.proofs.lemmas.Slice.Eq.{bytes_eq-Decides}
 use Rattle.nk_host.specs.FaultCounts.{raised, NeverFalls, OnlyAt}
-use Rattle.nk_host.specs.ShelfInMemory.{NamedFile, Stock, at_place, place_of, file_of, count_of, with_fault, read_fails, after_read}
+use Rattle.nk_host.specs.ShelfInMemory.{NamedFile, Stock, at_place, name_place, file_of, count_of, with_fault, read_fails, after_read}
 
 abbrev no_file : NamedFile
 no_file = record { name = []; bytes = [] }
@@ -22,15 +22,15 @@ position-map p f xs = rw (position_or_len-map p f xs, length-map xs f) refl
 -- ---- counts by name
 
 -- a place that is found lies within the list
-pub place_below : (files : List NamedFile) (name : List ℕ) (i : ℕ) → place_of files name ≡ Some i → i < length files
+pub place_below : (files : List NamedFile) (name : List ℕ) (i : ℕ) → name_place files name ≡ Some i → i < length files
 place_below files name i e = (position-Some _ files i no_file e).0
 
 -- at the place of a name stands a file of that name
-pub name_at : (files : List NamedFile) (name : List ℕ) (i : ℕ) → place_of files name ≡ Some i → (get_or files i no_file).name ≡ name
+pub name_at : (files : List NamedFile) (name : List ℕ) (i : ℕ) → name_place files name ≡ Some i → (get_or files i no_file).name ≡ name
 name_at files name i e = (bytes_eq-Decides _ name).0 (position-Some _ files i no_file e).1
 
 -- two names that have one place are one
-pub one_name : (files : List NamedFile) (m n : List ℕ) (i : ℕ) → place_of files m ≡ Some i → place_of files n ≡ Some i → m ≡ n
+pub one_name : (files : List NamedFile) (m n : List ℕ) (i : ℕ) → name_place files m ≡ Some i → name_place files n ≡ Some i → m ≡ n
 one_name files m n i e f = sym (name_at files m i e) ∙ name_at files n i f
 
 -- ---- what a fault does to the counts, by places
@@ -64,15 +64,15 @@ list_above : (counts : List ℕ) (others i : ℕ) (q : Option ℕ) → i < lengt
 list_above counts others i None below h = omega arith
 list_above counts others i (Some j) below h = set_above counts i j below h
 
-fault_above : (s : Stock) (name : List ℕ) (p : Option ℕ) → place_of s.files name ≡ p → length s.files ≡ length s.counts → counted s.counts s.others p ≤ 2 ^ 64 - 1
+fault_above : (s : Stock) (name : List ℕ) (p : Option ℕ) → name_place s.files name ≡ p → length s.files ≡ length s.counts → counted s.counts s.others p ≤ 2 ^ 64 - 1
     → (n : List ℕ) → count_of s n ≤ count_of (fault_at s p) n
-fault_above s name None e same h n = others_above s.counts s.others (place_of s.files n) h
+fault_above s name None e same h n = others_above s.counts s.others (name_place s.files n) h
 fault_above s name (Some i) e same h n =
-    list_above s.counts s.others i (place_of s.files n) (omega (arith, place_below s.files name i e, same)) h
+    list_above s.counts s.others i (name_place s.files n) (omega (arith, place_below s.files name i e, same)) h
 
 -- no name's count falls by a fault
 pub never_falls : (s : Stock) (name : List ℕ) → length s.files ≡ length s.counts → count_of s name ≤ 2 ^ 64 - 1 → NeverFalls (count_of s) (count_of (with_fault s name))
-never_falls s name same h n = fault_above s name (place_of s.files name) refl same h n
+never_falls s name same h n = fault_above s name (name_place s.files name) refl same h n
 
 -- ---- the counts of other names that are held stay
 
@@ -80,19 +80,19 @@ set_stays : (counts : List ℕ) (i j v : ℕ) → j ≢ i → slice_index (slice
 set_stays counts i j v apart = grind (arith, get_or-set_other)
 
 -- the count at a place that isn't the one raised
-fault_stays : (s : Stock) (p : Option ℕ) (other : List ℕ) (j : ℕ) → place_of s.files other ≡ Some j → (p ≡ Some j → ⊥) → count_of (fault_at s p) other ≡ count_of s other
+fault_stays : (s : Stock) (p : Option ℕ) (other : List ℕ) (j : ℕ) → name_place s.files other ≡ Some j → (p ≡ Some j → ⊥) → count_of (fault_at s p) other ≡ count_of s other
 fault_stays s None other j e apart = rw e refl
 fault_stays s (Some i) other j e apart = rw e (set_stays s.counts i j _ (λ same. apart (ap Some (sym same))))
 
 -- a name that is held has a place
-pub held_place : (files : List NamedFile) (name : List ℕ) (p : Option ℕ) → place_of files name ≡ p → IsSome (file_of files name) → (i : ℕ) × (place_of files name ≡ Some i)
+pub held_place : (files : List NamedFile) (name : List ℕ) (p : Option ℕ) → name_place files name ≡ p → IsSome (file_of files name) → (i : ℕ) × (name_place files name ≡ Some i)
 held_place files name None e held = absurd (false≢true (rw e at held))
 held_place files name (Some i) e held = (i, e)
 
 pub others_stay : (s : Stock) (name : List ℕ) → OnlyAt (file_of s.files) (count_of s) (count_of (with_fault s name)) name
 others_stay s name other held apart =
     let (j, e) = held_place s.files other _ refl held in
-    fault_stays s (place_of s.files name) other j e (λ same. apart (one_name s.files other name j e same))
+    fault_stays s (name_place s.files name) other j e (λ same. apart (one_name s.files other name j e same))
 
 -- ---- a read
 

@@ -21,12 +21,12 @@ pub record Stock : Type 0 where
   pub reads : ℕ
 
 -- the place of the first file of a name
-abbrev pub place_of : List NamedFile → List ℕ → Option ℕ
-place_of files name = position (λ file. bytes_eq file.name name) files
+abbrev pub name_place : List NamedFile → List ℕ → Option ℕ
+name_place files name = position (λ file. bytes_eq file.name name) files
 
 -- the bytes of the first file of a name
 abbrev pub file_of : List NamedFile → List ℕ → Option (List ℕ)
-file_of files name = option_and_then (λ i. option_map (λ file. file.bytes) (slice_get files i)) (place_of files name)
+file_of files name = option_and_then (λ i. option_map (λ file. file.bytes) (slice_get files i)) (name_place files name)
 
 -- what stands for a name: something of its place, or something else where it isn't held
 abbrev pub at_place : {A : Type 0} → Option ℕ → A → (ℕ → A) → A
@@ -35,11 +35,11 @@ at_place (Some i) other held = held i
 
 -- the count of faults of a name
 abbrev pub count_of : Stock → List ℕ → ℕ
-count_of s name = at_place (place_of s.files name) s.others (λ i. slice_index s.counts i)
+count_of s name = at_place (name_place s.files name) s.others (λ i. slice_index s.counts i)
 
 -- the shelf with the count of a name raised
 abbrev pub with_fault : Stock → List ℕ → Stock
-with_fault s name = at_place (place_of s.files name)
+with_fault s name = at_place (name_place s.files name)
     (record s { others = raised s.others })
     (λ i. record s { counts = slice_set s.counts i (raised (slice_index s.counts i)) })
 

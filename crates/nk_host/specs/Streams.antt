@@ -15,8 +15,8 @@ pub record GivesMore (before after : Option (List ℕ)) (old new : List ℕ) (n 
   pub end : n ≡ 0 → IsAtEnd after
 
 -- the bytes are all that the reader had
-abbrev pub IsWhole : Option (List ℕ) → List ℕ → Type 0
-IsWhole before bytes = IfSome before (λ all. bytes ≡ all)
+abbrev pub IsAllOf : Option (List ℕ) → List ℕ → Type 0
+IsAllOf before bytes = IfSome before (λ all. bytes ≡ all)
 
 -- the reader had more bytes than so many
 abbrev pub HadMore : Option (List ℕ) → ℕ → Type 0

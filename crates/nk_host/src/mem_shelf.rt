@@ -6,7 +6,7 @@ ghost use Rattle.std.specs.Str.{bytes_eq};
 ghost use Rattle.std.specs.String.{string_bytes};
 ghost use Rattle.nk_host.specs.Attempts.{is_due};
 ghost use Rattle.nk_host.specs.FaultCounts.{NeverFalls, OnlyAt, Rose, RoseTo, raised};
-ghost use Rattle.nk_host.specs.ShelfInMemory.{after_read, count_of, file_of, named_files, place_of, read_fails, with_fault};
+ghost use Rattle.nk_host.specs.ShelfInMemory.{after_read, count_of, file_of, named_files, name_place, read_fails, with_fault};
 
 use crate::{FetchFault, NoMemory, PieceFault, Shelf};
 use std::alloc::Global;
@@ -49,7 +49,7 @@ fn first_place(held: &[(String, Vec<u8>)], name: &str) -> Option<usize>
 
 // The place of the first file of a name.
 fn place_of_name(held: &[(String, Vec<u8>)], name: &str) -> Option<usize>
-    ensures { result ≡ place_of (named_files held.now) name.now }
+    ensures { result ≡ name_place (named_files held.now) name.now }
 {
     first_place(held, name)
 }

@@ -2,7 +2,7 @@
 ghost use Rattle.std.specs.Prelude.{◌≡◌, ◌≢◌, ◌+◌, ◌-◌, ◌<◌, ◌≤◌, [], length, min, vec_len, IfOk, IsOk, OnOk, OnErr, IfErr};
 ghost use Rattle.std.specs.Io.KnownBytes.{Appends};
 ghost use Rattle.nk_host.specs.FaultCounts.{RoseTo};
-ghost use Rattle.nk_host.specs.Streams.{GivesAtMost, GivesMore, HadMore, IsWhole};
+ghost use Rattle.nk_host.specs.Streams.{GivesAtMost, GivesMore, HadMore, IsAllOf};
 ghost use Rattle.nk_host.specs.Taken.{AppendsPrefix};
 
 use crate::counted::Counted;
@@ -20,7 +20,7 @@ pub(crate) fn read_whole<F: Read>(
     from: &mut Counted<F>,
     most: u64,
 ) -> Result<Vec<u8>, FetchFault>
-    ensures whole { IfOk result (λ bytes. IsWhole (F.remaining from.old.inner) bytes.items) }
+    ensures whole { IfOk result (λ bytes. IsAllOf (F.remaining from.old.inner) bytes.items) }
     ensures at_most { IfOk result (λ bytes. vec_len bytes ≤ most) }
     ensures longer { result ≡ Err FetchFault.Longer → HadMore (F.remaining from.old.inner) most }
     ensures failed { result ≡ Err FetchFault.Failed → RoseTo from.old.faults from.new.faults }

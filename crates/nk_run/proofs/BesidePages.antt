@@ -10,15 +10,15 @@ use Rattle.nk_bits.specs.declared.kind.Kind.TheVariants.{Data, Guarded}
 use Rattle.nk_bits.specs.Kinds.{kind_of}
 use Rattle.phys_mem.specs.Memory.{byte_at}
 use Rattle.page_desc.specs.PageTables.{is_table}
-use Rattle.region_book.specs.RegionCalls.{added, guarded, page_region}
+use Rattle.region_book.specs.RegionCalls.{with_one_more, guarded, page_region}
 use Rattle.region_book.specs.RegionRecords.{Book, IsRegion, Region}
-use Rattle.nk_body.specs.NestedRecord.{IsKept, Nested}
+use Rattle.nk_body.specs.NestedRecord.{IsLedgerKept, Nested}
 use Rattle.nk_run.proofs.Beside.{IsBeside, IsTold, frame_at, left, place_at}
 use Rattle.nk_run.proofs.GuardedKinds.{AreFree, among, guarded_data, in_memory, kind_guarded, length_guarded}
 use Rattle.nk_run.proofs.RegionPlaces.{frame_holds}
 
 module _ (opened : ℕ → ℕ → ℕ) (tabled : ℕ → Bool) (nk : Nested) (held : ℕ → ℕ → ℕ) (m : List ℕ)
-    (beside : IsBeside opened tabled nk held m) (kept : IsKept nk.tables.kinds nk.ledger) where
+    (beside : IsBeside opened tabled nk held m) (kept : IsLedgerKept nk.tables.kinds nk.ledger) where
   abbrev kinds : List Kind
   kinds = nk.tables.kinds
 
@@ -89,7 +89,7 @@ module _ (opened : ℕ → ℕ → ℕ) (tabled : ℕ → Bool) (nk : Nested) (h
         (record nk {
           tables = record nk.tables { kinds = guarded kinds fs };
           held = run_after;
-          ledger = record nk.ledger { book = added book pages (length fs) };
+          ledger = record nk.ledger { book = with_one_more book pages (length fs) };
         })
         held_after m
     beside_pages = record {

@@ -10,10 +10,10 @@ use Rattle.nk_bits.specs.declared.kind.Kind.{Kind}
 use Rattle.nk_bits.specs.declared.kind.Kind.TheVariants.{Data, Guarded}
 use Rattle.nk_bits.specs.Kinds.{kind_of}
 use Rattle.phys_mem.specs.Memory.{stored}
-use Rattle.region_book.specs.RegionCalls.{added, freed, pool_region}
+use Rattle.region_book.specs.RegionCalls.{with_one_more, freed, pool_region}
 use Rattle.region_book.specs.RegionRecords.{Book, IsRegion, Region, byte_place, marked, region_of, region_stores, with_region}
 use Rattle.nk_body.specs.CallRules.{puts}
-use Rattle.nk_body.specs.NestedRecord.{IsKept, Ledger, Nested}
+use Rattle.nk_body.specs.NestedRecord.{IsLedgerKept, Ledger, Nested}
 use Rattle.write_log.specs.LogRecords.{LogRecord}
 use Rattle.nk_run.proofs.Beside.{AreTold, IfDeclared, IsBeside, IsTold, frame_at, left, place_at}
 use Rattle.nk_run.proofs.BesideTables.{spared}
@@ -23,7 +23,7 @@ use Rattle.nk_run.proofs.LawsBelow.{ByteLaws}
 use Rattle.nk_run.proofs.RegionPlaces.{found_id, frame_holds, frame_pooled, stores_all, stores_hit, stores_miss}
 
 module _ (laws : ByteLaws) (opened : ℕ → ℕ → ℕ) (tabled : ℕ → Bool) (nk : Nested) (held : ℕ → ℕ → ℕ) (m : List ℕ)
-    (beside : IsBeside opened tabled nk held m) (kept : IsKept nk.tables.kinds nk.ledger) where
+    (beside : IsBeside opened tabled nk held m) (kept : IsLedgerKept nk.tables.kinds nk.ledger) where
   abbrev kinds : List Kind
   kinds = nk.tables.kinds
 
@@ -198,7 +198,7 @@ module _ (laws : ByteLaws) (opened : ℕ → ℕ → ℕ) (tabled : ℕ → Bool
 
   -- a new region of the pool
   abbrev with_added : Region → Ledger
-  with_added r = record nk.ledger { book = added book r 0 }
+  with_added r = record nk.ledger { book = with_one_more book r 0 }
 
   pub beside_allocated : (next size policy p : ℕ) → IsRegion next (pool_region book size policy p)
       → All (λ f. kind_of kinds f ≡ Guarded) (pool_region book size policy p).frames

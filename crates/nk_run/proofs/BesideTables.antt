@@ -14,7 +14,7 @@ use Rattle.page_desc.specs.PageTables.{is_table}
 use Rattle.region_book.specs.RegionRecords.{IsRegion, Region}
 use Rattle.vmmu.specs.AcceptedCalls.{IsDeclarable, IsRemovable, IsWritable}
 use Rattle.vmmu.specs.TableCalls.{declared, entry_written, memory_declared, memory_removed, memory_written, removed, root_loaded}
-use Rattle.nk_body.specs.NestedRecord.{IsKept, Nested}
+use Rattle.nk_body.specs.NestedRecord.{IsLedgerKept, Nested}
 use Rattle.nk_run.proofs.Beside.{IsBeside, IsTold, frame_at, left, place_at}
 use Rattle.nk_run.proofs.GuardedKinds.{guarded_data}
 use Rattle.nk_run.proofs.LawsBelow.{ByteLaws}
@@ -133,7 +133,7 @@ module _ (laws : ByteLaws) (opened : ℕ → ℕ → ℕ) (tabled : ℕ → Bool
       ]
 
   -- a frame of data becomes a table
-  module _ (level frame : ℕ) (is : IsDeclarable nk.tables level frame) (kept : IsKept kinds nk.ledger) where
+  module _ (level frame : ℕ) (is : IsDeclarable nk.tables level frame) (kept : IsLedgerKept kinds nk.ledger) where
     abbrev pub also : ℕ → Bool
     also f = tabled f || frame == f
 

@@ -11,11 +11,11 @@ use Rattle.page_desc.specs.PageTables.{loose_of}
 use Rattle.table_rules.specs.ValueRules.{broken}
 use Rattle.vmmu.specs.TableCalls.{declare_rule, declared, entry_rule, entry_written, memory_declared, memory_removed, memory_written, remove_rule, removed, root_loaded, root_rule}
 use Rattle.region_book.specs.RegionCalls.{alloc_rule, free_rule, room}
-use Rattle.region_book.specs.RegionCalls.{declare_rule as pages_rule}
+use Rattle.region_book.specs.RegionCalls.{pages_rule}
 use Rattle.region_book.specs.RegionRecords.{region_of}
 use Rattle.policy_book.specs.PolicyRules.{bounds_of, first_rule, policy_of, stores_written}
 use Rattle.nk_body.specs.NestedRecord.{Nested}
-use Rattle.nk_body.specs.CallRules.{Sourced, bytes_read, frames_of_call, made, mapped_by, source_rule, verdict, with_free, with_pages, with_pool, with_write, written, zeros_of}
+use Rattle.nk_body.specs.CallRules.{Sourced, bytes_read, frames_of_call, made, mapped_by, source_rule, verdict, with_free, with_pages, with_pool, with_write, accepted_memory, zeros_of}
 
 -- one of ten things, by a number
 abbrev pub by_number : {A : Type 0} → A → A → A → A → A → A → A → A → A → A → ℕ → A
@@ -111,8 +111,8 @@ module _ (nk : Nested) (call : CallWords) (source : Sourced) where
         else if n == 9 then stored m (stores_written nk.ledger.book call.a call.b (bytes_read source))
         else m
 
-    pub written_at : (k : ℕ) → call.number ≡ k → written nk call source m ≡ written_by k
-    unfolding written
+    pub written_at : (k : ℕ) → call.number ≡ k → accepted_memory nk call source m ≡ written_by k
+    unfolding accepted_memory
     written_at k is = ap written_by is
 
 -- a call that breaks no rule has a number from 1 to 9

@@ -12,11 +12,11 @@ use Rattle.nk_bits.specs.Kinds.{kind_of}
 use Rattle.phys_mem.specs.Memory.{byte_at, stored}
 use Rattle.page_desc.specs.PageTables.{loose_of}
 use Rattle.vmmu.specs.TableCalls.{declared, entry_written, removed, root_loaded}
-use Rattle.region_book.specs.RegionCalls.{added, else_rule, fits_in, fits_region, freed, page_region, pool_region, room}
+use Rattle.region_book.specs.RegionCalls.{with_one_more, else_rule, fits_in, fits_region, freed, page_region, pool_region, room}
 use Rattle.region_book.specs.RegionRecords.{Book, IsRegion, Region, region_of}
 use Rattle.policy_book.specs.PolicyRules.{book_by, bounds_of, first_rule, log_by, policy_of, stores_by}
-use Rattle.nk_body.specs.NestedRecord.{IsKept, Nested}
-use Rattle.nk_body.specs.CallRules.{Bytes, IsSourceOf, NotTaken, Sourced, Unreadable, bytes_read, bytes_standing, frames_of_call, made, mapped_by, puts, source_rule, stand_of, verdict, wants, with_pages, with_pool, written, zeros_of}
+use Rattle.nk_body.specs.NestedRecord.{IsLedgerKept, Nested}
+use Rattle.nk_body.specs.CallRules.{Bytes, IsSourceOf, NotTaken, Sourced, Unreadable, bytes_read, bytes_standing, frames_of_call, made, mapped_by, puts, source_rule, stand_of, verdict, wants, with_pages, with_pool, accepted_memory, zeros_of}
 use Rattle.nk_run.proofs.Beside.{IfDeclared, IsBeside}
 use Rattle.nk_run.proofs.BesidePages.{beside_pages}
 use Rattle.nk_run.proofs.BesideRegions.{beside_allocated, beside_freed, beside_written}
@@ -46,10 +46,10 @@ pub record IsMadeBeside (opened : ℕ → ℕ → ℕ) (tabled : ℕ → Bool) (
 
 module _ (bytes : ByteLaws) (accepted : AcceptedLaws) (opened : ℕ → ℕ → ℕ) (tabled : ℕ → Bool) (nk : Nested)
     (held : ℕ → ℕ → ℕ) (m : List ℕ) (beside : IsBeside opened tabled nk held m)
-    (kept : IsKept nk.tables.kinds nk.ledger) (fixed : kind_of nk.tables.kinds 2 ≡ Fixed)
+    (kept : IsLedgerKept nk.tables.kinds nk.ledger) (fixed : kind_of nk.tables.kinds 2 ≡ Fixed)
     (call : CallWords) (source : Sourced) (sourced : IsSourceOf (wants nk.ledger.book call) source) (stand : ℕ → ℕ → ℕ)
     (none : verdict nk call source ≡ None)
-    (kept_after : IsKept (made nk call source stand).tables.kinds (made nk call source stand).ledger) where
+    (kept_after : IsLedgerKept (made nk call source stand).tables.kinds (made nk call source stand).ledger) where
   -- the replay's record, and what stands in its memory
   abbrev also : Nested
   also = record nk { held = held }
@@ -68,10 +68,10 @@ module _ (bytes : ByteLaws) (accepted : AcceptedLaws) (opened : ℕ → ℕ → 
   tabled_after f = tabled f || (call.number == 2 && call.b == f)
 
   abbrev Goal : Type 0
-  Goal = IsMadeBeside opened tabled_after run_after also_after (written also call source m)
+  Goal = IsMadeBeside opened tabled_after run_after also_after (accepted_memory also call source m)
 
   along : (t : ℕ → Bool) (after : Nested) (h : ℕ → ℕ → ℕ) (later : List ℕ) → tabled_after ≡ t → run_after ≡ after
-      → also_after ≡ record after { held = h } → written also call source m ≡ later → IsBeside opened t after h later
+      → also_after ≡ record after { held = h } → accepted_memory also call source m ≡ later → IsBeside opened t after h later
       → Goal
   along t after h later tables run replay memory is = record {
     same = replay ∙ (λ i. record (sym run i) { held = (sym replay i).held });
@@ -132,11 +132,11 @@ module _ (bytes : ByteLaws) (accepted : AcceptedLaws) (opened : ℕ → ℕ → 
 
   -- what a region that is new holds, by the book afterwards
   new_region_is : (r : Region) (pages : ℕ) (after : Nested) → run_after ≡ after
-      → after.ledger.book ≡ added nk.ledger.book r pages
+      → after.ledger.book ≡ with_one_more nk.ledger.book r pages
       → IsRegion after.ledger.book.next r × All (λ f. kind_of after.tables.kinds f ≡ Guarded) r.frames
   new_region_is r pages after run book =
-      let keeps : IsKept after.tables.kinds after.ledger =
-      subst (λ (x : Nested). IsKept x.tables.kinds x.ledger) run kept_after in
+      let keeps : IsLedgerKept after.tables.kinds after.ledger =
+      subst (λ (x : Nested). IsLedgerKept x.tables.kinds x.ledger) run kept_after in
       let regions : after.ledger.book.regions ≡ nk.ledger.book.regions ++ r ∷ [] =
       ap (λ (b : Book). b.regions) book in
       let AreGuarded : Region → Type 0 = λ r. All (λ f. kind_of after.tables.kinds f ≡ Guarded) r.frames in (

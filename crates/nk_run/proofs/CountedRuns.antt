@@ -9,7 +9,7 @@ use Rattle.gate_state.specs.declared.seen.Seen.{Seen}
 use Rattle.gate_state.specs.declared.seen.Seen.TheVariants as seen
 use Rattle.gate_state.specs.MachineStates.{MachineState, nested_of}
 use Rattle.gate_state.specs.MachineSteps.{answer_in, move_of, next, seen_by, state}
-use Rattle.gate_state.specs.StepsTaken.{Counts}
+use Rattle.gate_state.specs.StepsTaken.{CountsSteps}
 use Rattle.gate_state.specs.WholeMachine.{is_rest}
 use Rattle.report_text.specs.RunLines.{ending_line, turns_line}
 use Rattle.report_text.specs.RunSummary.{summary_lines}
@@ -46,7 +46,7 @@ within_at : (turns after : ℕ) (t : Tally) → after ≡ turns → IsWithin tur
 within_at turns after t same within = record { calls = omega (arith, same, within.calls); accepted = omega (arith, same, within.accepted); deliveries = omega (arith, same, within.deliveries) }
 
 -- a step keeps them so
-step_within : (plan : List Event) (s after : MachineState) (m : Move) (t : Tally) → is_rest m ≡ false → Counts plan m s after
+step_within : (plan : List Event) (s after : MachineState) (m : Move) (t : Tally) → is_rest m ≡ false → CountsSteps plan m s after
     → IsWithin s.turns t → IsWithin after.turns (with_step m s t)
 step_within plan s after move.Serve t goes c within =
     within_at (s.turns + 1) after.turns (with_answer (answer_in s) t) (omega (arith, c.turns)) (answered_within (answer_in s) s.turns t within)
@@ -89,7 +89,7 @@ begins_counting steps plan s turns = record {
 }
 
 module _ (steps : ℕ) (plan : List Event) (first s : MachineState) (t : Tally) (counting : IsCounting steps plan first s t)
-    (goes : ending_at steps plan s ≡ None) (counts : Counts plan (move_of plan s) s (next plan s)) where
+    (goes : ending_at steps plan s ≡ None) (counts : CountsSteps plan (move_of plan s) s (next plan s)) where
   counted_step : IsStep steps plan s (next plan s)
   counted_step =
       counted steps plan s (next plan s) (move_of plan s) (turn_left steps plan s counting.turns_within goes)

@@ -12,7 +12,7 @@ use Rattle.nk_bits.specs.declared.kind.Kind.TheVariants.{Data, Guarded, Hidden}
 use Rattle.nk_bits.specs.declared.rule.Rule.{Rule}
 use Rattle.nk_bits.specs.declared.rule.Rule.TheVariants.{BadPolicy, BadRange, NoRoom, NotData, TooManyRegions}
 use Rattle.nk_bits.specs.Kinds.{is_data, kind_of}
-use Rattle.region_book.specs.RegionCalls.{declare_rule, else_rule, frames_from, frames_rule, guarded, has_twice, is_bad_range, is_policy}
+use Rattle.region_book.specs.RegionCalls.{pages_rule, else_rule, frames_from, frames_rule, guarded, has_twice, is_bad_range, is_policy}
 use Rattle.region_book.specs.RegionRecords.{Book}
 
 -- the frame is in the list
@@ -81,9 +81,9 @@ module _ (book : Book) (kinds : List Kind) (loose : ℕ → ℕ) (at : ℕ → O
       let e = else_none (list_any (λ f. not (is_data (kind_of kinds f))) fs) NotData _ d.1 in
       (fs, refl, all_free kinds fs e.0)
 
-  pub pages_free : declare_rule book kinds loose at address size policy ≡ None
+  pub pages_free : pages_rule book kinds loose at address size policy ≡ None
       → (fs : List ℕ) × (frames_from at (address / 4096) (size / 4096) ≡ Some fs) × AreFree kinds fs
-  unfolding declare_rule
+  unfolding pages_rule
   pages_free is = by_range (is_bad_range address size) is
     where
       by_range : (b : Bool) → (if b then Some BadRange else frames_rule book kinds loose policy

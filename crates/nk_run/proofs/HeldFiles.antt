@@ -4,7 +4,7 @@ use Rattle.std.specs.Prelude.{IsSomeAnd, MatchResult, Result, Ok, Err}
 use Rattle.nk_run.specs.declared.pieces.Admitted.{Admitted}
 use Rattle.nk_run.specs.declared.pieces.Stop.{Stop}
 use Rattle.nk_run.specs.declared.pieces.Stop.TheVariants.{Faulty, Longer, Protected, Unread, Want}
-use Rattle.nk_run.specs.HeldFile.{IsKept, OfFile, WhereHeld}
+use Rattle.nk_run.specs.HeldFile.{AreFilesKept, OfFile, WhereHeld}
 use Rattle.nk_run.specs.Lines.{longest_file}
 use Rattle.nk_run.specs.ScanStops.{HasFault, HasFound, IsGoodWith, IsStop, IsStopWhereHeld}
 use Rattle.nk_run.specs.Witness.{Files, ShelfState}
@@ -27,7 +27,7 @@ where_held None name Q held b is = absurd is
 where_held (Some files) name Q held b is = the_file (files name) b Q held is
 
 module _ (before between after : ShelfState) (name : List ℕ) (Q : List ℕ → Type 0) (held : OfFile before.files name Q)
-    (kept : IsKept (record { before = before; after = between })) where
+    (kept : AreFilesKept (record { before = before; after = between })) where
   since : (P : List ℕ → Type 0) → WhereHeld between.files name P → OfFile before.files name P
   since P all =
       let R : Option Files → Type 0 = λ files. WhereHeld files name P in

@@ -9,7 +9,7 @@ use Rattle.nk_bits.specs.declared.kind.Kind.TheVariants.{Data, Hidden}
 use Rattle.nk_bits.specs.Kinds.{kind_of}
 use Rattle.phys_mem.specs.Memory.{byte_at}
 use Rattle.page_desc.specs.PageTables.{is_table}
-use Rattle.boot_map.specs.Opening.{byte_in}
+use Rattle.boot_map.specs.Opening.{division_byte}
 use Rattle.boot_map.specs.OpeningKinds.{kind_at, kinds}
 use Rattle.region_book.specs.RegionRecords.{Region}
 use Rattle.gate_state.specs.MachineOpening.{opening_memory, opening_state}
@@ -21,9 +21,9 @@ use Rattle.nk_run.proofs.ToldSections.{opened}
 
 module _ (o : Opening) (count : length (kinds o.image o.frames) ≡ o.frames)
     (each : (f : ℕ) → f < o.frames → kind_of (kinds o.image o.frames) f ≡ kind_at o.image o.frames f) where
-  byte_is : (p : ℕ) → p < 4096 * o.frames → byte_at (opening_memory o) p ≡ byte_in o.image o.frames p
+  byte_is : (p : ℕ) → p < 4096 * o.frames → byte_at (opening_memory o) p ≡ division_byte o.image o.frames p
   unfolding opening_memory
-  byte_is p inside = get_or-map-range_with_len (byte_in o.image o.frames) 0 (4096 * o.frames) p p 0 inside (omega arith)
+  byte_is p inside = get_or-map-range_with_len (division_byte o.image o.frames) 0 (4096 * o.frames) p p 0 inside (omega arith)
 
   free_bytes : (f offset : ℕ) → kind_of (kinds o.image o.frames) f ≡ Data → offset < 4096
       → byte_at (opening_memory o) (4096 * f + offset) ≡ left_alone o [] f offset
@@ -31,7 +31,7 @@ module _ (o : Opening) (count : length (kinds o.image o.frames) ≡ o.frames)
       let there : f < o.frames = omega (arith, in_memory (kinds o.image o.frames) f free, count) in
       let none : was_table o [] f ≡ false = ap (λ k. is_table k || false) (sym (each f there) ∙ free) in
       byte_is (4096 * f + offset) (omega (arith, there, inside))
-      ∙ ap (λ b. if b then 0 else byte_in o.image o.frames (4096 * f + offset)) (sym none)
+      ∙ ap (λ b. if b then 0 else division_byte o.image o.frames (4096 * f + offset)) (sym none)
 
   were_tables : (f : ℕ) → is_table (kind_of (kinds o.image o.frames) f) ≡ true → was_table o [] f ≡ true
   were_tables f table = elim (cases_lt f o.frames) [

@@ -5,22 +5,22 @@ use Rattle.std.proofs.lemmas.Bool.{eq-eqb}
 use Rattle.irq_plan.specs.declared.event.Event.{Event}
 use Rattle.text_lines.specs.TextLines.{lines}
 use Rattle.nk_body.specs.CallRules.{made}
-use Rattle.nk_body.specs.NestedRecord.{IsKept, Nested}
+use Rattle.nk_body.specs.NestedRecord.{IsLedgerKept, Nested}
 use Rattle.gate_state.specs.declared.moves.Move.{Move}
 use Rattle.gate_state.specs.GuardedStates.{IsGuarded}
 use Rattle.gate_state.specs.MachineStates.{MachineState, Opening, nested_of}
 use Rattle.gate_state.specs.MachineSteps.{Made, called_by, calls, made_by_all, move_of, next, seen_by, state}
-use Rattle.gate_state.specs.StepsTaken.{Counts}
+use Rattle.gate_state.specs.StepsTaken.{CountsSteps}
 use Rattle.gate_state.specs.WholeMachine.{is_rest}
 use Rattle.replay_core.specs.JournalLines.{Ends}
-use Rattle.replay_core.specs.ReplayedCalls.{Replay, Replayed, replay_from, stops_well}
+use Rattle.replay_core.specs.ReplayedCalls.{WholeReplay, Replayed, replay_from, stops_well}
 use Rattle.report_text.specs.ClosingSection.{section}
 use Rattle.report_text.specs.RunLines.{ending_line, turns_line}
 use Rattle.nk_run.specs.declared.ending.Ending.{Ending}
 use Rattle.nk_run.specs.declared.ending.Ending.TheVariants as ending
 use Rattle.nk_run.specs.ReplayedRuns.{was_table}
 use Rattle.nk_run.specs.RunStates.{closing, ended, ending_at, is_halted, one_unless, shown_by, steps_within}
-use Rattle.nk_run.specs.RunStates.{lines as run_lines}
+use Rattle.nk_run.specs.RunStates.{lines_from}
 use Rattle.gate_state.specs.ShownSteps.{IsShown, IsShownCall}
 use Rattle.nk_run.proofs.Beside.{IsBeside}
 use Rattle.nk_run.proofs.HeardLines.{ending_heard}
@@ -68,7 +68,7 @@ module _ (o : Opening) (plan : List Event) (s : MachineState) (follows : Follows
 
 -- where a replay ends
 pub record IsReplayed (o : Opening) (plan : List Event) (s : MachineState) (before : List Made) (n : ℕ)
-    (r : Replay) : Type 0 where
+    (r : WholeReplay) : Type 0 where
   pub good : r.bad ≡ None
   pub held : ℕ → ℕ → ℕ
   pub memory : List ℕ
@@ -78,9 +78,9 @@ pub record IsReplayed (o : Opening) (plan : List Event) (s : MachineState) (befo
 module _ (o : Opening) (plan : List Event) (steps : ℕ) where
   -- the replay of the text of n steps from a state on, and of the closing section behind it
   abbrev text_from : ℕ → MachineState → List ℕ
-  text_from n s = run_lines n plan s ++ closing o steps plan (state plan s n)
+  text_from n s = lines_from n plan s ++ closing o steps plan (state plan s n)
 
-  abbrev replay_after : ℕ → MachineState → ℕ → (ℕ → ℕ → ℕ) → List ℕ → Replay
+  abbrev replay_after : ℕ → MachineState → ℕ → (ℕ → ℕ → ℕ) → List ℕ → WholeReplay
   replay_after n s number held m = replay_from number (lines (text_from n s)) (replay_beside (nested_of s) held m)
 
   module _ (s : MachineState) (before : List Made) (held : ℕ → ℕ → ℕ) (m : List ℕ) (number : ℕ)
@@ -88,7 +88,7 @@ module _ (o : Opening) (plan : List Event) (steps : ℕ) where
     -- no step is left
     ended_here : (reason : Ending) → ending_at steps plan s ≡ Some reason
         → IsReplayed o plan s before 0 (replay_after 0 s number held m)
-    unfolding run_lines state closing calls
+    unfolding lines_from state closing calls
     ended_here reason e =
         let rest : List ℕ = turns_line s.turns ++ section o.image o.frames (nested_of s) in
         let start : Replayed = replay_beside (nested_of s) held m in
@@ -97,10 +97,10 @@ module _ (o : Opening) (plan : List Event) (steps : ℕ) where
         ∙ replay_line number (ending_line (is_halted reason)) rest (Some Ends) start
         (ending_heard (is_halted reason)) in
         record {
-          good = ap (λ (r : Replay). r.bad) is;
+          good = ap (λ (r : WholeReplay). r.bad) is;
           held = held;
           memory = m;
-          made = ap (λ (r : Replay). r.made) is;
+          made = ap (λ (r : WholeReplay). r.made) is;
           beside = subst (λ calls. IsBeside (opened o) (was_table o calls) (nested_of s) held m)
               (sym (append-nil before)) beside;
         }
@@ -110,12 +110,12 @@ module _ (o : Opening) (plan : List Event) (steps : ℕ) where
         → IsReplayed o plan (next plan s) (before ++ called_by (move_of plan s) s []) n
         (replay_after n (next plan s) it.number_after it.held_after it.memory_after)
         → IsReplayed o plan s before (suc n) (replay_after (suc n) s number held m)
-    unfolding run_lines state calls
+    unfolding lines_from state calls
     goes_on n follows it later =
-        let after : Replay = replay_after n (next plan s) it.number_after it.held_after it.memory_after in
+        let after : WholeReplay = replay_after n (next plan s) it.number_after it.held_after it.memory_after in
         let is : replay_after (suc n) s number held m ≡ after =
         ap (λ text. replay_from number (lines text) (replay_beside (nested_of s) held m))
-        (append_assoc (shown_by (move_of plan s) s) (run_lines n plan (next plan s))
+        (append_assoc (shown_by (move_of plan s) s) (lines_from n plan (next plan s))
         (closing o steps plan (state plan (next plan s) n)))
         ∙ it.goes (text_from n (next plan s))
         ∙ ap (λ (nk : Nested).
@@ -123,10 +123,10 @@ module _ (o : Opening) (plan : List Event) (steps : ℕ) where
         (replay_beside nk it.held_after it.memory_after))
         (sym (next_made o plan s follows)) in
         record {
-          good = ap (λ (r : Replay). r.bad) is ∙ later.good;
+          good = ap (λ (r : WholeReplay). r.bad) is ∙ later.good;
           held = later.held;
           memory = later.memory;
-          made = ap (λ (r : Replay). r.made) is ∙ later.made;
+          made = ap (λ (r : WholeReplay). r.made) is ∙ later.made;
           beside = subst (λ calls. IsBeside (opened o) (was_table o calls)
               (nested_of (state plan (next plan s) n)) later.held later.memory)
               (append_assoc before (called_by (move_of plan s) s []) (calls plan (next plan s) n)
@@ -145,7 +145,7 @@ at_limit steps plan s all =
 pub record StepLaws (o : Opening) (plan : List Event) : Type 0 where
   pub seen : (s : MachineState) → IsGuarded o s → IsShown (seen_by (move_of plan s) s)
   pub called : (s : MachineState) → IsGuarded o s → s.turns < 2 ^ 62 → IsShownCall s
-  pub counts : (s : MachineState) → Counts plan (move_of plan s) s (next plan s)
+  pub counts : (s : MachineState) → CountsSteps plan (move_of plan s) s (next plan s)
 
 module _ (bytes : ByteLaws) (accepted : AcceptedLaws) (o : Opening) (plan : List Event) (laws : StepLaws o plan)
     (steps : ℕ) (most_steps : steps ≤ 4294967296) where
@@ -157,7 +157,7 @@ module _ (bytes : ByteLaws) (accepted : AcceptedLaws) (o : Opening) (plan : List
       let later : IsGuarded o (next plan s) = here_guarded o plan (next plan s) (follows_next o plan s follows) in
       step_beside bytes accepted o before s guarded held m number beside (move_of plan s) (laws.seen s guarded)
       (laws.called s guarded (omega (arith, turns, most_steps)))
-      (subst (λ (nk : Nested). IsKept nk.tables.kinds nk.ledger) (next_made o plan s follows) later.ledger)
+      (subst (λ (nk : Nested). IsLedgerKept nk.tables.kinds nk.ledger) (next_made o plan s follows) later.ledger)
 
   pub replays : (most : ℕ) (s : MachineState) (before : List Made) (held : ℕ → ℕ → ℕ) (m : List ℕ) (number : ℕ)
       → Follows o plan s → s.turns ≤ steps → left steps plan s ≤ most

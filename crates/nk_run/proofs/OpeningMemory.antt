@@ -2,7 +2,7 @@
 -- record.
 use Rattle.std.proofs.Common.{◌≡◌, ℕ, ◌*◌, List}
 use Rattle.std.proofs.lemmas.List.FromFn.{fill_by_all}
-use Rattle.boot_map.specs.Opening.{IsOpening, byte_in}
+use Rattle.boot_map.specs.Opening.{IsOpening, division_byte}
 use Rattle.boot_map.specs.OpeningKinds.{kinds}
 use Rattle.phys_mem.specs.MaskedMemory.{seen}
 use Rattle.page_desc.specs.DescriptorBytes.{kinds_in}
@@ -16,7 +16,7 @@ use Rattle.nk_run.specs.Outcome.{opened}
 -- the opening has one memory
 pub same_opening : (o : Opening) (m : List ℕ) → IsOpening o.image o.frames m → m ≡ opening_memory o
 unfolding opening_memory
-same_opening o m is = fill_by_all (byte_in o.image o.frames) m (4096 * o.frames) 0 is.length is.bytes
+same_opening o m is = fill_by_all (division_byte o.image o.frames) m (4096 * o.frames) 0 is.length is.bytes
 
 pub stands_opened : (o : Opening) (own : OwnState) (m : List ℕ) → IsOpening o.image o.frames (seen m)
     → kinds_in m ≡ kinds o.image o.frames → own.root ≡ 5 → (books_in own m).ledger ≡ opening_ledger

@@ -15,7 +15,7 @@ use Rattle.nk_run.specs.declared.command_line.Role.TheVariants.{Image, Input, Pl
 use Rattle.nk_run.specs.CommandLine.{command_of, name_in}
 use Rattle.nk_run.specs.Lines.{longest_file}
 use Rattle.nk_run.specs.Witness.{Change, Files, ShelfState, Witness}
-use Rattle.nk_run.specs.Outcome.{Answer, Verdict, passes, decided, first_verdict, checks_of, text_of, outcome, outcome_of, fetched, formed, clean, journaled, opened, opening_in, planned, replay_in, roomy, file_in}
+use Rattle.nk_run.specs.Outcome.{Answer, Verdict, passes, decided, first_verdict, checks_of, text_of, outcome, command_outcome, fetch_verdict, formed, clean, journaled, opened, opening_in, planned, replay_in, roomy, file_in}
 use Rattle.nk_run.specs.Clauses.{HasEnd, HasJournal, HasOutside, HasSafeRun, IsComplete, IsCutByCount, IsCutWritten, IsDoable, IsDone, IsFaultless, IsGoodImage, IsGoodJournal, IsGoodPlan, IsOutside, IsStatus, IsText, IsUnreadByCount, IsUnreadWritten, IsUsage, IsUsageAlone, IsWantByCount, IsWantWritten, MaySay, Promises, TookAll, TookPrefix}
 use Rattle.nk_host.specs.Told.{IfTold}
 use Rattle.nk_run.proofs.Told.{if_told, told_at}
@@ -43,7 +43,7 @@ not_none (Some x) h e = cc
 
 -- the checks on a good image pass
 module _ (words : List (List ℕ)) (files : Files) (image : List ℕ) (held : files (name_in words Image) ≡ Some image) (good : IsGoodImage image) where
-  fetch_passes : fetched Image (files (name_in words Image)) ≡ passes
+  fetch_passes : fetch_verdict Image (files (name_in words Image)) ≡ passes
   fetch_passes = rw held (rw (le-ltb longest_file (length image) good.within) refl)
 
   file_is : file_in files words Image ≡ image
@@ -60,12 +60,12 @@ module _ (words : List (List ℕ)) (files : Files) (image : List ℕ) (held : fi
       ap (λ (b : List ℕ). roomy (need b frames) frames) file_is ∙ rw (le-leb (need image frames) frames fits) refl
 
   input_passes : IsSomeAnd (files (name_in words Input)) (λ input. length input ≤ longest_file)
-      → fetched Input (files (name_in words Input)) ≡ passes
+      → fetch_verdict Input (files (name_in words Input)) ≡ passes
   input_passes wanted =
       let (input, given, within) = some_and (files (name_in words Input)) _ wanted in
       rw given (rw (le-ltb longest_file (length input) within) refl)
 
-  plan_passes : IsSomeAnd (files (name_in words Plan)) IsGoodPlan → fetched Plan (files (name_in words Plan)) ≡ passes
+  plan_passes : IsSomeAnd (files (name_in words Plan)) IsGoodPlan → fetch_verdict Plan (files (name_in words Plan)) ≡ passes
   plan_passes wanted =
       let (plan, given, plan_good) = some_and (files (name_in words Plan)) _ wanted in
       rw given (rw (le-ltb longest_file (length plan) plan_good.within) refl)
@@ -76,7 +76,7 @@ module _ (words : List (List ℕ)) (files : Files) (image : List ℕ) (held : fi
       ap (λ (o : Option (List ℕ)). planned (plan_of (unwrap_or o []))) given ∙ read_passes (plan_of plan) plan_good.formed
 
   journal_passes : (o : Opening) → IsSomeAnd (files (name_in words Journal)) (IsGoodJournal o)
-      → fetched Journal (files (name_in words Journal)) ≡ passes
+      → fetch_verdict Journal (files (name_in words Journal)) ≡ passes
   journal_passes o wanted =
       let (journal, given, right) = some_and (files (name_in words Journal)) _ wanted in
       rw given (rw (le-ltb longest_file (length journal) right.within) refl)
@@ -124,14 +124,14 @@ checks_pass words files (Work number) doable = refl
 pub outcome_good : (words : List (List ℕ)) (files : Files) (command : Command) → command_of words ≡ Some command
     → IsDoable command words files → outcome words files ≡ Some (record { status = 0; text = text_of command files words })
 outcome_good words files command asked doable =
-    ap (λ (c : Option Command). outcome_of c words files) asked
+    ap (λ (c : Option Command). command_outcome c words files) asked
     ∙ ap (λ (v : Verdict). decided v (record { status = 0; text = text_of command files words })) (checks_pass words files command doable)
 
 -- words without a form have the usage line for their outcome
 formless_outcome : (words : List (List ℕ)) (files : Files) (status : ℕ) (text : List ℕ) → SaysUsage words status text
     → outcome words files ≡ Some (record { status = status; text = text })
 formless_outcome words files status text plain =
-    ap (λ (c : Option Command). outcome_of c words files) plain.formless
+    ap (λ (c : Option Command). command_outcome c words files) plain.formless
     ∙ rw (plain.status_is, plain.text_is) refl
 
 -- what a command says is said of words that have a form

@@ -9,7 +9,7 @@ use Rattle.text_lines.specs.TextLines.{lines}
 use Rattle.nk_body.specs.CallRules.{Bytes, IsSourceOf, NotTaken, Sourced, Unreadable, answer_by, answer_to, verdict, wants}
 use Rattle.nk_body.specs.NestedRecord.{Nested}
 use Rattle.replay_core.specs.JournalLines.{Calls, Heard}
-use Rattle.replay_core.specs.ReplayedCalls.{Replay, Replayed, is_answer, is_given, is_same_place, replay_from, replayed, stops_at, with_line}
+use Rattle.replay_core.specs.ReplayedCalls.{WholeReplay, Replayed, is_answer, is_given, is_same_place, replay_from, replayed, stops_at, with_line}
 use Rattle.nk_run.proofs.HeardLines.{IsHeard, noted_of}
 
 pub replay_line : (number : ℕ) (line rest : List ℕ) (says : Option Heard) (s : Replayed) → IsHeard line says
@@ -62,7 +62,7 @@ pub replay_call : (number : ℕ) (rest : List ℕ) (nk : Nested) (held : ℕ →
 replay_call number rest nk held m call source line is sourced =
     let s : Replayed = record { nested = record nk { held = held }; memory = m } in
     let it = noted_of call source (answer_to nk call source) in
-    let later : Replayed → Replay = replay_from (number + 1) (lines rest) in
+    let later : Replayed → WholeReplay = replay_from (number + 1) (lines rest) in
     let right : is_answer (answer_to (record nk { held = held }) call source) it ≡ true =
     ap (λ (a : Answer). is_answer a it) (answer_same nk held call source)
     ∙ answer_is (answer_to nk call source) call source in

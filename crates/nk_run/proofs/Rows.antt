@@ -11,7 +11,7 @@ use Rattle.nk_run.specs.declared.command_line.Role.{Role}
 use Rattle.nk_run.specs.declared.command_line.Role.TheVariants.{Image, Input, Plan, Journal}
 use Rattle.nk_run.specs.CommandLine.{IsAsked, command_of, is_same, name_in, roles_of}
 use Rattle.nk_run.specs.Witness.{Change, Files, ShelfState}
-use Rattle.nk_run.specs.Outcome.{Answer, Check, DoesPass, IsReached, IsReachedAfter, Verdict, checks_of, decided, ends, fetch, fetched, file_in, first_verdict, outcome, outcome_of, passes, image_checks, text_of, unheld, unless_ended}
+use Rattle.nk_run.specs.Outcome.{Answer, Check, DoesPass, IsReached, IsReachedAfter, Verdict, checks_of, decided, ends, fetch, fetch_verdict, file_in, first_verdict, outcome, command_outcome, passes, image_checks, text_of, unheld, unless_ended}
 use Rattle.nk_run.specs.Replies.{CommandSays, IsOwn, IsWant, RefusesBy, Stops, StopsIn, is_listed}
 use Rattle.nk_run.proofs.Checks.{first_verdict-append}
 use Rattle.nk_run.proofs.Told.{if_told, told_at}
@@ -87,7 +87,7 @@ stops_behind words before mid after image roles later status text falls same pas
 
 -- the fetch of the journal stops the row that is it alone
 pub journal_stops : (words : List (List ℕ)) (shelf : Change ShelfState) (status : ℕ) (text : List ℕ)
-    → Stops words shelf Journal (λ files. fetched Journal (files (name_in words Journal))) status text
+    → Stops words shelf Journal (λ files. fetch_verdict Journal (files (name_in words Journal))) status text
     → StopsIn words shelf (Journal ∷ []) (λ files. fetch files words Journal ∷ []) status text
 journal_stops words shelf status text (inl stop) = inl (record {
   role = Journal;
@@ -171,7 +171,7 @@ module _ (words : List (List ℕ)) (command : Command) (asked : command_of words
   outcome_is : (files : Files) → outcome words files
       ≡ decided (unless_ended (first_verdict (row files)) (first_verdict (later files))) (answer files)
   outcome_is files =
-      ap (λ (o : Option Command). outcome_of o words files) asked
+      ap (λ (o : Option Command). command_outcome o words files) asked
       ∙ ap (λ (checks : List Check). decided (first_verdict checks) (answer files)) (whole files)
       ∙ ap (λ (v : Verdict). decided v (answer files)) (first_verdict-append (row files) (later files))
 

@@ -7,7 +7,7 @@ use Rattle.irq_plan.specs.PlanFile.{plan_of}
 use Rattle.gate_state.specs.MachineOpening.{opening_state}
 use Rattle.gate_state.specs.MachineStates.{MachineState}
 use Rattle.gate_state.specs.MachineSteps.{move_of, next, state}
-use Rattle.gate_state.specs.StepsTaken.{Counts}
+use Rattle.gate_state.specs.StepsTaken.{CountsSteps}
 use Rattle.image_maker.specs.MadeImage.{image_of_number}
 use Rattle.nk_run.specs.declared.command_line.Command.{Command}
 use Rattle.nk_run.specs.declared.command_line.Command.TheVariants.{Scan, Map, Run, Replay, Make, Work}
@@ -39,7 +39,7 @@ ends_later : (n steps : ℕ) (plan : List Event) (s : MachineState) → ending_a
 unfolding state
 ends_later n steps plan s e later = record { there = later.there; not_before = goes_before n steps plan s e later }
 
-module _ (steps : ℕ) (plan : List Event) (counts : (s : MachineState) → Counts plan (move_of plan s) s (next plan s)) where
+module _ (steps : ℕ) (plan : List Event) (counts : (s : MachineState) → CountsSteps plan (move_of plan s) s (next plan s)) where
   -- how a step counts where it goes on
   goes : (s : MachineState) → s.turns ≤ steps → ending_at steps plan s ≡ None → IsStep steps plan s (next plan s)
   goes s within e =

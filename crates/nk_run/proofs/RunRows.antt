@@ -7,9 +7,9 @@ use Rattle.boot_map.specs.Division.{need}
 use Rattle.gate_state.specs.MachineOpening.{opening_state}
 use Rattle.gate_state.specs.MachineStates.{Opening}
 use Rattle.report_text.specs.ClosingSection.{section}
-use Rattle.replay_core.specs.ReplayedCalls.{Replay, replay_of}
+use Rattle.replay_core.specs.ReplayedCalls.{WholeReplay, replay_of}
 use Rattle.image_maker.specs.MadeImage.{image_of_number}
-use Rattle.nk_run.specs.declared.command_line.Command.TheVariants.{Make, Replay as ReplayCommand, Run, Work}
+use Rattle.nk_run.specs.declared.command_line.Command.TheVariants.{Make, Replay, Run, Work}
 use Rattle.nk_run.specs.declared.command_line.Role.TheVariants.{Image, Input, Journal, Plan}
 use Rattle.nk_run.specs.CommandLine.{command_of, roles_of}
 use Rattle.nk_run.specs.Outcome.{Answer, Check, Verdict, ends, events_in, file_in, first_verdict, journal_checks, journaled, opened, opening_in, outcome, passes, replay_in, roomy, run_checks, test, unless_ended, worked}
@@ -88,7 +88,7 @@ module _ (words : List (List ℕ)) (steps frames : ℕ) (asked : command_of word
         ∙ ap (λ (l : List ℕ). Some (record { status = 0; text = l })) (text_is files given.2 given.0 given.1))
 
 -- A replay.
-module _ (words : List (List ℕ)) (frames : ℕ) (asked : command_of words ≡ Some (ReplayCommand frames)) where
+module _ (words : List (List ℕ)) (frames : ℕ) (asked : command_of words ≡ Some (Replay frames)) where
   abbrev replay_row : Files → List Check
   replay_row files = journal_checks files words
 
@@ -97,16 +97,16 @@ module _ (words : List (List ℕ)) (frames : ℕ) (asked : command_of words ≡ 
       test (roomy (need (file_in files words Image) frames) frames) ∷ test (journaled (replay_in files words frames).bad) ∷ []
 
   pub replay_row_says : (shelf : Change ShelfState) (status : ℕ) (text : List ℕ)
-      → StopsIn words shelf (roles_of (ReplayCommand frames)) (λ files. journal_checks files words) status text → CommandSays words shelf status text
-  replay_row_says = row_says words (ReplayCommand frames) asked replay_row replay_later (λ files. refl) (λ e. cc)
+      → StopsIn words shelf (roles_of (Replay frames)) (λ files. journal_checks files words) status text → CommandSays words shelf status text
+  replay_row_says = row_says words (Replay frames) asked replay_row replay_later (λ files. refl) (λ e. cc)
 
   pub replayed_says : (shelf : Change ShelfState) (text : List ℕ)
       → IfTold shelf.before.files (λ files. outcome words files ≡ Some (record { status = 0; text = text })) → CommandSays words shelf 0 text
   replayed_says shelf text is =
-      outcome_says words (ReplayCommand frames) asked replay_row replay_later (λ files. refl) (λ e. cc) shelf 0 text own_zero is
+      outcome_says words (Replay frames) asked replay_row replay_later (λ files. refl) (λ e. cc) shelf 0 text own_zero is
 
   module _ (told : Option Files) (image journal : List ℕ) (held : IfTold told (λ files. (image ≡ file_in files words Image) × (journal ≡ file_in files words Journal) × (first_verdict (journal_checks files words) ≡ passes))) where
-    replay_made : Replay
+    replay_made : WholeReplay
     replay_made = replay_of journal (opened (record { image = image; frames = frames }))
 
     replay_room : (files : Files) (v : Verdict) → told ≡ Some files → roomy (need image frames) frames ≡ v
@@ -124,7 +124,7 @@ module _ (words : List (List ℕ)) (frames : ℕ) (asked : command_of words ≡ 
     pub replay_room_says : (shelf : Change ShelfState) (status : ℕ) (text : List ℕ) → shelf.before.files ≡ told
         → RefusesBy 1 (roomy (need image frames) frames) status text → CommandSays words shelf status text
     replay_room_says shelf status text same refuses =
-        later_says words (ReplayCommand frames) asked replay_row replay_later (λ files. refl) (λ e. cc)
+        later_says words (Replay frames) asked replay_row replay_later (λ files. refl) (λ e. cc)
         shelf 1 status text (roomy (need image frames) frames) (inr (inl refl))
         (if_told shelf.before.files _ (λ files e.
         let told_is : told ≡ Some files = sym same ∙ e in
@@ -135,13 +135,13 @@ module _ (words : List (List ℕ)) (frames : ℕ) (asked : command_of words ≡ 
         → RefusesBy 6 (journaled (replay_of journal (opened (record { image = image; frames = frames }))).bad) status text
         → CommandSays words shelf status text
     journal_says fits shelf status text same refuses =
-        later_says words (ReplayCommand frames) asked replay_row replay_later (λ files. refl) (λ e. cc)
+        later_says words (Replay frames) asked replay_row replay_later (λ files. refl) (λ e. cc)
         shelf 6 status text (journaled (replay_of journal (opened (record { image = image; frames = frames }))).bad) (inr (inr refl))
         (if_told shelf.before.files _ (λ files e.
         let told_is : told ≡ Some files = sym same ∙ e in (
           (told_at told _ files told_is held).2,
           λ it is. next_ends _ _ it (replay_room files passes told_is fits)
-              (ap (λ (r : Replay). journaled r.bad) (replay_is files told_is) ∙ is),
+              (ap (λ (r : WholeReplay). journaled r.bad) (replay_is files told_is) ∙ is),
         ))) refuses
 
     -- the row, the room and the journal pass, and the text is the section of what the calls made
@@ -153,9 +153,9 @@ module _ (words : List (List ℕ)) (frames : ℕ) (asked : command_of words ≡ 
     made_says fits right =
         if_told told _ (λ files e.
         let given = told_at told _ files e held in
-        all_says words (ReplayCommand frames) asked replay_row replay_later (λ files. refl) (λ e. cc)
-        files given.2 (both _ _ (replay_room files passes e fits) (ap (λ (r : Replay). journaled r.bad) (replay_is files e) ∙ ap journaled right))
-        ∙ ap (λ (r : Replay). Some (record { status = 0; text = section (file_in files words Image) frames r.made.nested })) (replay_is files e)
+        all_says words (Replay frames) asked replay_row replay_later (λ files. refl) (λ e. cc)
+        files given.2 (both _ _ (replay_room files passes e fits) (ap (λ (r : WholeReplay). journaled r.bad) (replay_is files e) ∙ ap journaled right))
+        ∙ ap (λ (r : WholeReplay). Some (record { status = 0; text = section (file_in files words Image) frames r.made.nested })) (replay_is files e)
         ∙ ap (λ (b : List ℕ). Some (record { status = 0; text = section b frames (replay_of journal (opened (record { image = image; frames = frames }))).made.nested })) (sym given.0))
 
 -- A made image needs no check.

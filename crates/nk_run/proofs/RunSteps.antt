@@ -15,14 +15,14 @@ use Rattle.report_text.specs.RunLines.{call_line, console_line, delivery_line}
 use Rattle.text_lines.specs.TextLines.{lines}
 use Rattle.cpu_step.specs.declared.stepped.Stepped.{Stepped}
 use Rattle.cpu_step.specs.declared.stepped.Stepped.TheVariants as stepped
-use Rattle.nk_body.specs.CallRules.{IsSourceOf, Sourced, made, made_unless, stand_of, verdict, wants, written, written_unless}
-use Rattle.nk_body.specs.NestedRecord.{IsKept, Nested}
+use Rattle.nk_body.specs.CallRules.{IsSourceOf, Sourced, made, made_unless, stand_of, verdict, wants, accepted_memory, written_unless}
+use Rattle.nk_body.specs.NestedRecord.{IsLedgerKept, Nested}
 use Rattle.gate_state.specs.declared.moves.Move.{Move}
 use Rattle.gate_state.specs.declared.moves.Move.TheVariants as move
 use Rattle.gate_state.specs.GuardedStates.{IsGuarded}
 use Rattle.gate_state.specs.MachineStates.{MachineState, Opening, nested_of}
 use Rattle.gate_state.specs.MachineSteps.{Made, answer_in, call_in, called_by, made_by_all, made_in, seen_by, shown_by_turn, source_of, turn_of, verdict_in, with_call}
-use Rattle.gate_state.specs.SourceBytes.{SourceRead, in_front, read_on, source_byte, source_by, source_read, source_tlb, source_with}
+use Rattle.gate_state.specs.SourceBytes.{SourceRead, in_front, read_on, source_byte, source_through, source_read, source_tlb, source_with}
 use Rattle.replay_core.specs.JournalLines.{Passes}
 use Rattle.replay_core.specs.ReplayedCalls.{Replayed, replay_from, replayed}
 use Rattle.nk_run.specs.ReplayedRuns.{declares_table, was_table}
@@ -57,7 +57,7 @@ read_count m root (suc n) tlb va bytes is =
     by_byte (Some byte) read counts is = by_later byte read.bytes counts is
 
 sourced_by : (m : List ℕ) (root : ℕ) (tlb : Translations) (va : ℕ) (o : Option ℕ)
-    → IsSourceOf o (source_by m root tlb va o)
+    → IsSourceOf o (source_through m root tlb va o)
 sourced_by m root tlb va None = refl
 sourced_by m root tlb va (Some count) = by_read (source_read m root tlb va count).bytes refl
   where
@@ -194,24 +194,24 @@ module _ (bytes : ByteLaws) (accepted : AcceptedLaws) (o : Opening) (before : Li
     stands : IsBeside (opened o) (was_table o (before ++ with_call v (made_in s) []))
         (made_with v) held_after memory_after
 
-  by_verdict : (v : Option Rule) → verdict_in s ≡ v → IsKept (made_with v).tables.kinds (made_with v).ledger
+  by_verdict : (v : Option Rule) → verdict_in s ≡ v → IsLedgerKept (made_with v).tables.kinds (made_with v).ledger
       → IsCalledBeside v
   by_verdict None none kept_after =
       let it = call_beside bytes accepted (opened o) (was_table o before) (nested_of s) held m beside guarded.ledger
       guarded.tables.handler call source sourced (made_in s).stand none kept_after in
       record {
         held_after = (made also call source (stand_of also call m)).held;
-        memory_after = written also call source m;
+        memory_after = accepted_memory also call source m;
         made = it.same;
         memory = refl;
         stands = subst (λ tabled. IsBeside (opened o) tabled (made_with None)
-            (made also call source (stand_of also call m)).held (written also call source m))
+            (made also call source (stand_of also call m)).held (accepted_memory also call source m))
             (λ i f. sym (was_more o before (made_in s) f) i) it.beside;
       }
   by_verdict (Some rule) broken kept_after =
       record { held_after = held; memory_after = m; made = refl; memory = refl; stands = nothing_more }
 
-  call_step : IsShownCall s → IsKept (made_with (verdict_in s)).tables.kinds (made_with (verdict_in s)).ledger
+  call_step : IsShownCall s → IsLedgerKept (made_with (verdict_in s)).tables.kinds (made_with (verdict_in s)).ledger
       → IsStepped o before s held m number move.Serve
   call_step small kept_after =
       let it = by_verdict (verdict_in s) refl kept_after in
@@ -236,7 +236,7 @@ module _ (bytes : ByteLaws) (accepted : AcceptedLaws) (o : Opening) (before : Li
 
   -- every step
   pub step_beside : (mv : Move) → IsShown (seen_by mv s) → IsShownCall s
-      → IsKept (made_by_all (nested_of s) (called_by mv s [])).tables.kinds
+      → IsLedgerKept (made_by_all (nested_of s) (called_by mv s [])).tables.kinds
       (made_by_all (nested_of s) (called_by mv s [])).ledger
       → IsStepped o before s held m number mv
   step_beside move.Serve shown small kept_after = call_step small kept_after

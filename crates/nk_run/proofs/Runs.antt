@@ -12,14 +12,14 @@ use Rattle.gate_state.specs.declared.moves.Move.TheVariants as move
 use Rattle.gate_state.specs.MachineOpening.{opening_state}
 use Rattle.gate_state.specs.MachineStates.{MachineState, Opening, nested_of}
 use Rattle.gate_state.specs.MachineSteps.{move_of, next, state}
-use Rattle.gate_state.specs.StepsTaken.{Counts}
+use Rattle.gate_state.specs.StepsTaken.{CountsSteps}
 use Rattle.gate_state.specs.WholeMachine.{WholeState, is_rest}
 use Rattle.nk_run.specs.declared.ending.Ending.{Ending}
 use Rattle.nk_run.specs.declared.ending.Ending.TheVariants as ending
 use Rattle.report_text.specs.ClosingSection.{section}
 use Rattle.report_text.specs.RunLines.{ending_line, turns_line}
 use Rattle.nk_run.specs.Replies.{IsWritten}
-use Rattle.nk_run.specs.RunStates.{closing, ended, ending_at, is_halted, lines, one_unless, run_length, run_text, shown_by, steps_within}
+use Rattle.nk_run.specs.RunStates.{closing, ended, ending_at, is_halted, lines_from, one_unless, run_length, run_text, shown_by, steps_within}
 use Rattle.nk_run.specs.Witness.{sink_change}
 use Rattle.nk_run.proofs.Texts.{prefix_behind, prefix_of_both, rose_before, went_on}
 
@@ -57,7 +57,7 @@ pub record IsStep (steps : ℕ) (plan : List Event) (s after : MachineState) : T
   pub turns : after.turns ≤ steps
 
 pub counted : (steps : ℕ) (plan : List Event) (s after : MachineState) (m : Move) → s.turns < steps
-    → is_rest m ≡ false → Counts plan m s after → IsStep steps plan s after
+    → is_rest m ≡ false → CountsSteps plan m s after → IsStep steps plan s after
 counted steps plan s after move.Serve turns goes c =
     record { less = omega (arith, c.turns, c.taken, turns); turns = omega (arith, c.turns, turns) }
 counted steps plan s after (move.Take what) turns goes c =
@@ -78,11 +78,11 @@ length_going steps plan s e less =
 pub text_going : (o : Opening) (steps : ℕ) (plan : List Event) (s : MachineState) → ending_at steps plan s ≡ None
     → left steps plan s ≡ suc (left steps plan (next plan s))
     → run_text o steps plan s ≡ shown_by (move_of plan s) s ++ run_text o steps plan (next plan s)
-unfolding run_text lines state
+unfolding run_text lines_from state
 text_going o steps plan s e less =
     let n = run_length steps plan (next plan s) in
-    ap (λ n. lines n plan s ++ closing o steps plan (state plan s n)) (length_going steps plan s e less)
-    ∙ append_assoc (shown_by (move_of plan s) s) (lines n plan (next plan s)) (closing o steps plan (state plan (next plan s) n))
+    ap (λ n. lines_from n plan s ++ closing o steps plan (state plan s n)) (length_going steps plan s e less)
+    ∙ append_assoc (shown_by (move_of plan s) s) (lines_from n plan (next plan s)) (closing o steps plan (state plan (next plan s) n))
 
 pub ends_within : (most steps : ℕ) (plan : List Event) (s : MachineState) (reason : Ending) → ending_at steps plan s ≡ Some reason → steps_within most steps plan s ≡ 0
 unfolding steps_within
@@ -92,9 +92,9 @@ ends_within (suc most) steps plan s reason e = ap (λ (o : Option Ending). one_u
 text_ended : (o : Opening) (steps : ℕ) (plan : List Event) (s : MachineState) (reason : Ending) → ending_at steps plan s ≡ Some reason
     → run_text o steps plan s
     ≡ ending_line (is_halted reason) ++ (turns_line s.turns ++ section o.image o.frames (nested_of s))
-unfolding run_text lines state run_length closing
+unfolding run_text lines_from state run_length closing
 text_ended o steps plan s reason e =
-    ap (λ n. lines n plan s ++ closing o steps plan (state plan s n)) (ends_within (left steps plan s) steps plan s reason e)
+    ap (λ n. lines_from n plan s ++ closing o steps plan (state plan s n)) (ends_within (left steps plan s) steps plan s reason e)
     ∙ ap (λ (why : Option Ending). ended why ++ (turns_line s.turns ++ section o.image o.frames (nested_of s))) e
 
 -- the text from the opening on, of a memory of so many frames
@@ -132,14 +132,14 @@ module _ {O : Type 0} (taken : O → Option (List ℕ)) (faults : O → ℕ) (fi
   }
 
   module _ (whole : List ℕ) (w : WholeState) (going : IsGoing taken faults first now whole o steps plan w) where
-    step_is : ending_at steps plan w.state ≡ None → Counts plan (move_of plan w.state) w.state (next plan w.state)
+    step_is : ending_at steps plan w.state ≡ None → CountsSteps plan (move_of plan w.state) w.state (next plan w.state)
         → IsStep steps plan w.state (next plan w.state)
     step_is e counts =
         counted steps plan w.state (next plan w.state) (move_of plan w.state) (turn_left steps plan w.state going.turns_within e)
         (not_resting steps plan w.state e) counts
 
     -- fewer steps are left then
-    pub goes_less : ending_at steps plan w.state ≡ None → Counts plan (move_of plan w.state) w.state (next plan w.state) → (after : MachineState)
+    pub goes_less : ending_at steps plan w.state ≡ None → CountsSteps plan (move_of plan w.state) w.state (next plan w.state) → (after : MachineState)
         → after ≡ next plan w.state → left steps plan after < left steps plan w.state
     goes_less e counts after is =
         let it = step_is e counts in
@@ -148,7 +148,7 @@ module _ {O : Type 0} (taken : O → Option (List ℕ)) (faults : O → ℕ) (fi
 
     -- a step was taken, and what it shows went out
     pub goes_on : (later : O) (after : WholeState) → after.opening ≡ w.opening → after.state ≡ next plan w.state
-        → ending_at steps plan w.state ≡ None → Counts plan (move_of plan w.state) w.state (next plan w.state)
+        → ending_at steps plan w.state ≡ None → CountsSteps plan (move_of plan w.state) w.state (next plan w.state)
         → Appends (taken now) (taken later) (shown_by (move_of plan w.state) w.state) → faults now ≤ faults later
         → IsGoing taken faults first later whole o steps plan after
     goes_on later after opening is e counts put low =
@@ -167,7 +167,7 @@ module _ {O : Type 0} (taken : O → Option (List ℕ)) (faults : O → ℕ) (fi
         }
 
     -- a step was taken, and a fault cut what it shows
-    pub was_cut : (later : O) → ending_at steps plan w.state ≡ None → Counts plan (move_of plan w.state) w.state (next plan w.state)
+    pub was_cut : (later : O) → ending_at steps plan w.state ≡ None → CountsSteps plan (move_of plan w.state) w.state (next plan w.state)
         → RoseTo (faults now) (faults later) → AppendsPrefix (taken now) (taken later) (shown_by (move_of plan w.state) w.state)
         → IsWritten (sink_change taken faults first later) 0 whole 4
     was_cut later e counts rose cut =

@@ -21,10 +21,10 @@ use Rattle.nk_run.specs.declared.command_line.Command.TheVariants.{Scan, Map, Ru
 use Rattle.nk_run.specs.declared.command_line.Role.TheVariants.{Image, Input, Plan}
 use Rattle.nk_run.specs.Clauses.{HasJournal, HasSafeRun, IsGoodImage, IsSafeRun}
 use Rattle.nk_run.specs.CommandLine.{command_of, map_with, name_in, run_with}
-use Rattle.nk_run.specs.NumberWords.{address_of, bounded, decimal_within, is_least_long, is_numeral}
+use Rattle.nk_run.specs.NumberWords.{address_word, bounded, decimal_within, is_least_long, is_numeral}
 use Rattle.nk_run.specs.JournalLaw.{IsReplayedRun}
 use Rattle.nk_run.specs.Lines.{longest_file}
-use Rattle.nk_run.specs.Outcome.{Answer, checks_of, clean, ends, events_in, fetched, file_in, first_verdict, formed, opening_in, passes, planned, roomy}
+use Rattle.nk_run.specs.Outcome.{Answer, checks_of, clean, ends, events_in, fetch_verdict, file_in, first_verdict, formed, opening_in, passes, planned, roomy}
 use Rattle.nk_run.specs.Replies.{ReadsBytes}
 use Rattle.nk_run.specs.Witness.{Files}
 use Rattle.nk_run.proofs.JournalOutcomes.{journal_of}
@@ -110,7 +110,7 @@ run_within [] steps frames e = absurd (cc)
 run_within (a ∷ []) steps frames e = absurd (cc)
 run_within (a ∷ b ∷ []) steps frames e = absurd (no_short _ _ _ (decimal_within 1 100 b) steps frames e)
 run_within (a ∷ b ∷ c ∷ []) steps frames e = absurd (cc)
-run_within (a ∷ b ∷ c ∷ d ∷ []) steps frames e = absurd (no_middle _ _ (decimal_within 512 65536 c) (address_of d) steps frames e)
+run_within (a ∷ b ∷ c ∷ d ∷ []) steps frames e = absurd (no_middle _ _ (decimal_within 512 65536 c) (address_word d) steps frames e)
 run_within (a ∷ b ∷ c ∷ d ∷ x ∷ []) steps frames e = absurd (cc)
 run_within (a ∷ b ∷ c ∷ d ∷ x ∷ f ∷ []) steps frames e = run_chosen _ x f steps frames e
 run_within (a ∷ b ∷ c ∷ d ∷ x ∷ f ∷ g ∷ more) steps frames e = absurd (cc)
@@ -140,7 +140,7 @@ fits n frames e =
     chosen true answer h e = cc
     chosen false answer h e = cc
 
-held_within : (file : Option (List ℕ)) → fetched Image file ≡ passes → length (unwrap_or file []) ≤ longest_file
+held_within : (file : Option (List ℕ)) → fetch_verdict Image file ≡ passes → length (unwrap_or file []) ≤ longest_file
 held_within None e = absurd (cc)
 held_within (Some b) e =
     elim (cases_lt longest_file (length b)) [

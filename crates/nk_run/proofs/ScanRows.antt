@@ -14,7 +14,7 @@ use Rattle.nk_run.specs.declared.pieces.Stop.TheVariants.{Faulty, Longer, Protec
 use Rattle.nk_run.specs.CommandLine.{command_of, name_in, roles_of}
 use Rattle.nk_run.specs.HeldFile.{OfFile}
 use Rattle.nk_run.specs.Lines.{longer_line, longest_file}
-use Rattle.nk_run.specs.Outcome.{Answer, IsReached, Verdict, checks_of, clean, decided, ends, fetched, first_verdict, formed, image_checks, outcome, outcome_of, passes, text_of, unless_ended}
+use Rattle.nk_run.specs.Outcome.{Answer, IsReached, Verdict, checks_of, clean, decided, ends, fetch_verdict, first_verdict, formed, image_checks, outcome, command_outcome, passes, text_of, unless_ended}
 use Rattle.nk_run.specs.Replies.{CommandSays, IsOwn}
 use Rattle.nk_run.specs.ScanStops.{HasFault, HasFound, IsGoodWith, IsReplyTo, IsStop}
 use Rattle.nk_run.specs.Witness.{Change, Files, ShelfState}
@@ -49,14 +49,14 @@ module _ (words : List (List ℕ)) (asked : command_of words ≡ Some Scan) wher
       → outcome words files ≡ decided v (record { status = 0; text = text_of Scan files words })
   decides files v is =
       let answer : Answer = record { status = 0; text = text_of Scan files words } in
-      ap (λ (o : Option Command). outcome_of o words files) asked ∙ ap (λ (u : Verdict). decided u answer) is
+      ap (λ (o : Option Command). command_outcome o words files) asked ∙ ap (λ (u : Verdict). decided u answer) is
 
   module _ (files : Files) (b : List ℕ) (held : files (name_in words Image) ≡ Some b) where
     on_bytes : first_verdict (image_checks files words)
-        ≡ unless_ended (fetched Image (Some b)) (unless_ended (formed (first_fault b)) (unless_ended (clean (first_found b)) passes))
+        ≡ unless_ended (fetch_verdict Image (Some b)) (unless_ended (formed (first_fault b)) (unless_ended (clean (first_found b)) passes))
     on_bytes =
         let row : Option (List ℕ) → Verdict = λ o.
-        unless_ended (fetched Image o) (unless_ended (formed (first_fault (unwrap_or o [])))
+        unless_ended (fetch_verdict Image o) (unless_ended (formed (first_fault (unwrap_or o [])))
         (unless_ended (clean (first_found (unwrap_or o []))) passes)) in
         ap row held
 
@@ -64,7 +64,7 @@ module _ (words : List (List ℕ)) (asked : command_of words ≡ Some Scan) wher
         → first_verdict (image_checks files words) ≡ ends (record { status = 7; text = longer_line Image })
     is_longer more = on_bytes ∙ rw (lt-ltb longest_file (length b) more) refl
 
-    is_fetched : length b ≤ longest_file → fetched Image (Some b) ≡ passes
+    is_fetched : length b ≤ longest_file → fetch_verdict Image (Some b) ≡ passes
     is_fetched within = rw (le-ltb longest_file (length b) within) refl
 
     is_faulty : (fault : _) → HasFault fault b → first_verdict (image_checks files words) ≡ unless_ended (formed (Some fault)) (unless_ended (clean (first_found b)) passes)

@@ -3,9 +3,9 @@ use Rattle.std.proofs.Common.{◌≡◌, ℕ, zero, suc, ◌+◌, ◌*◌, ◌<�
 use Rattle.std.specs.Prelude.{if◌then◌else◌, slice_index_or}
 use Rattle.std.specs.List.{range_with_len}
 use Rattle.std.proofs.lemmas.List.Elements.{All-head, All-tail}
-use Rattle.boot_map.specs.Opening.{byte_in}
+use Rattle.boot_map.specs.Opening.{division_byte}
 use Rattle.region_book.specs.RegionRecords.{IsRegion, Region}
-use Rattle.nk_body.specs.NestedRecord.{IsKept, Nested}
+use Rattle.nk_body.specs.NestedRecord.{IsLedgerKept, Nested}
 use Rattle.gate_state.specs.MachineStates.{Opening}
 use Rattle.gate_state.specs.MachineSteps.{Made}
 use Rattle.report_text.specs.ClosingSection.{bytes_of_region, entry_lines, kind_lines, lines_of_table, log_lines, region_lines, section}
@@ -31,10 +31,10 @@ regions_same one other (r ∷ rs) same =
 
 -- the byte of a frame at the opening
 abbrev pub opened : Opening → ℕ → ℕ → ℕ
-opened o f offset = byte_in o.image o.frames (4096 * f + offset)
+opened o f offset = division_byte o.image o.frames (4096 * f + offset)
 
 module _ (o : Opening) (made : List Made) (nk : Nested) (held : ℕ → ℕ → ℕ) (m : List ℕ)
-    (beside : IsBeside (opened o) (was_table o made) nk held m) (kept : IsKept nk.tables.kinds nk.ledger) where
+    (beside : IsBeside (opened o) (was_table o made) nk held m) (kept : IsLedgerKept nk.tables.kinds nk.ledger) where
   abbrev also : Nested
   also = record nk { held = held }
 

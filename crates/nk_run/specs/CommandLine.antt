@@ -7,7 +7,7 @@ use Rattle.nk_run.specs.declared.command_line.Command.{Command}
 use Rattle.nk_run.specs.declared.command_line.Command.TheVariants.{Scan, Map, Run, Replay, Make, Work}
 use Rattle.nk_run.specs.declared.command_line.Role.{Role}
 use Rattle.nk_run.specs.declared.command_line.Role.TheVariants.{Image, Input, Plan, Journal}
-use Rattle.nk_run.specs.NumberWords.{decimal_within, address_of}
+use Rattle.nk_run.specs.NumberWords.{decimal_within, address_word}
 
 -- `scan IMAGE`; and `make NUMBER` and `work NUMBER`, NUMBER from 1 to 100
 abbrev pub short_of : List ℕ → List ℕ → Option Command
@@ -26,7 +26,7 @@ map_with None va = None
 -- that, or `replay IMAGE FRAMES JOURNAL` with the same bounds on FRAMES
 abbrev pub middle_of : List ℕ → List ℕ → List ℕ → Option Command
 middle_of name frames word =
-    if bytes_eq name (codes "map") then map_with (decimal_within 512 65536 frames) (address_of word)
+    if bytes_eq name (codes "map") then map_with (decimal_within 512 65536 frames) (address_word word)
     else if bytes_eq name (codes "replay") then option_map Replay (decimal_within 512 65536 frames)
     else None
 

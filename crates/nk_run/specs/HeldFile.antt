@@ -5,7 +5,7 @@ use Rattle.nk_host.specs.Told.{IfTold}
 use Rattle.nk_run.specs.Witness.{Change, Files, ShelfState}
 
 -- the files stay, and no count falls
-pub record IsKept (shelf : Change ShelfState) : Type 0 where
+pub record AreFilesKept (shelf : Change ShelfState) : Type 0 where
   pub same_files : shelf.after.files ≡ shelf.before.files
   pub never_falls : NeverFalls shelf.before.faults shelf.after.faults
   pub wants_stand : shelf.before.wants ≤ shelf.after.wants

@@ -6,7 +6,7 @@ use Rattle.gate_state.specs.MachineOpening.{opening_state}
 use Rattle.gate_state.specs.MachineStates.{MachineState, Opening, nested_of}
 use Rattle.gate_state.specs.MachineSteps.{calls, state}
 use Rattle.report_text.specs.ClosingSection.{section}
-use Rattle.replay_core.specs.ReplayedCalls.{Replay as WholeReplay, replay_of}
+use Rattle.replay_core.specs.ReplayedCalls.{WholeReplay, replay_of}
 use Rattle.nk_run.specs.declared.command_line.Command.TheVariants.{Replay}
 use Rattle.nk_run.specs.declared.command_line.Role.TheVariants.{Image, Journal}
 use Rattle.nk_run.specs.CommandLine.{command_of, name_in}

@@ -27,6 +27,6 @@ abbrev pub canonical_only : ℕ → Option ℕ
 canonical_only va = if is_canonical va then Some va else None
 
 -- a canonical linear address of 1 to 16 hexadecimal digits of either case
-abbrev pub address_of : List ℕ → Option ℕ
-address_of word =
+abbrev pub address_word : List ℕ → Option ℕ
+address_word word =
     if is_numeral 16 word && nat_le (length word) 16 then canonical_only (digits_value 16 word) else None

@@ -2,7 +2,7 @@
 -- list of checks in order; the first that doesn't pass decides, and where all pass the command's text is written.
 use Rattle.std.specs.Prelude.{ℕ, List, [], ◌∷◌, ◌++◌, length, take, Option, None, Some, Result, Ok, Err, if◌then◌else◌, nat_lt, nat_le, unwrap_or, MatchBool, ⊤}
 use Rattle.elf_image.specs.declared.fault.ImageFault.{ImageFault}
-use Rattle.elf_image.specs.ImageFaults.{number_of, name_of}
+use Rattle.elf_image.specs.ImageFaults.{fault_number, name_of}
 use Rattle.elf_image.specs.Rows.{first_fault}
 use Rattle.elf_image.specs.Pages.{entry_of, executable_page_count}
 use Rattle.byte_scanner.specs.declared.encoding.Found.{Found}
@@ -18,7 +18,7 @@ use Rattle.gate_state.specs.MachineOpening.{opening_memory, opening_state}
 use Rattle.gate_state.specs.MachineStates.{Opening, nested_of}
 use Rattle.report_text.specs.ClosingSection.{section}
 use Rattle.report_text.specs.ImageLines.{admitted_line, image_line, protected_line}
-use Rattle.replay_core.specs.ReplayedCalls.{Replay as WholeReplay, Replayed, replay_of}
+use Rattle.replay_core.specs.ReplayedCalls.{WholeReplay, Replayed, replay_of}
 use Rattle.image_maker.specs.MadeImage.{image_of_number}
 use Rattle.nk_run.specs.declared.command_line.Command.{Command}
 use Rattle.nk_run.specs.declared.command_line.Command.TheVariants.{Scan, Map, Run, Replay, Make, Work}
@@ -63,18 +63,18 @@ decided passes answer = Some answer
 decided (ends other) answer = Some other
 decided unheld answer = None
 
--- a test on files that were fetched
+-- a test on files that were fetch_verdict
 abbrev pub test : Verdict → Check
 test verdict = record { fetches = None; finds = verdict }
 
 -- the fetch of a role's file: it has to be held, and to have at most the limit's number of bytes
-abbrev pub fetched : Role → Option (List ℕ) → Verdict
-fetched role None = unheld
-fetched role (Some file) =
+abbrev pub fetch_verdict : Role → Option (List ℕ) → Verdict
+fetch_verdict role None = unheld
+fetch_verdict role (Some file) =
     if nat_lt longest_file (length file) then ends (record { status = 7; text = longer_line role }) else passes
 
 abbrev pub fetch : Files → List (List ℕ) → Role → Check
-fetch files words role = record { fetches = Some role; finds = fetched role (files (name_in words role)) }
+fetch files words role = record { fetches = Some role; finds = fetch_verdict role (files (name_in words role)) }
 
 -- the file of a role, where one is held
 abbrev pub file_in : Files → List (List ℕ) → Role → List ℕ
@@ -84,7 +84,7 @@ file_in files words role = unwrap_or (files (name_in words role)) []
 abbrev pub formed : Option ImageFault → Verdict
 formed None = passes
 formed (Some fault) =
-    ends (record { status = 1; text = image_line (number_of fault.kind) (name_of fault.kind) fault.value })
+    ends (record { status = 1; text = image_line (fault_number fault.kind) (name_of fault.kind) fault.value })
 
 -- a protected encoding stands in the image's code: the least address is named
 abbrev pub clean : Option Found → Verdict
@@ -182,13 +182,13 @@ text_of (Make number) files words = image_of_number number
 text_of (Work number) files words = worked (image_of_number number)
 
 -- the outcome of the words, of which the command is what they spell
-abbrev pub outcome_of : Option Command → List (List ℕ) → Files → Option Answer
-outcome_of None words files = Some (record { status = 2; text = usage_line })
-outcome_of (Some command) words files =
+abbrev pub command_outcome : Option Command → List (List ℕ) → Files → Option Answer
+command_outcome None words files = Some (record { status = 2; text = usage_line })
+command_outcome (Some command) words files =
     decided (first_verdict (checks_of command files words)) (record { status = 0; text = text_of command files words })
 
 abbrev pub outcome : List (List ℕ) → Files → Option Answer
-outcome words files = outcome_of (command_of words) words files
+outcome words files = command_outcome (command_of words) words files
 
 -- a check passes
 abbrev pub DoesPass : Verdict → Type 0

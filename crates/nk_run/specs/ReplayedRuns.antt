@@ -4,7 +4,7 @@
 -- carry the stores that the outer kernel made of its own.
 use Rattle.std.specs.Prelude.{ℕ, ◌+◌, ◌*◌, ◌/◌, ◌%◌, Bool, false, ◌&&◌, ◌||◌, ◌==◌, if◌then◌else◌, List, map, slice_index, slice_index_or}
 use Rattle.std.specs.List.{list_any, range_with_len}
-use Rattle.boot_map.specs.Opening.{byte_in}
+use Rattle.boot_map.specs.Opening.{division_byte}
 use Rattle.boot_map.specs.OpeningKinds.{kind_at}
 use Rattle.page_desc.specs.PageTables.{is_table}
 use Rattle.region_book.specs.RegionRecords.{Region}
@@ -24,7 +24,7 @@ was_table o made f = is_table (kind_at o.image o.frames f) || list_any (declares
 -- what the calls alone leave in a frame that is no page table and in which none of them wrote: zeros where it was a page
 -- table, else the opening's bytes
 abbrev pub left_alone : Opening → List Made → ℕ → ℕ → ℕ
-left_alone o made f offset = if was_table o made f then 0 else byte_in o.image o.frames (4096 * f + offset)
+left_alone o made f offset = if was_table o made f then 0 else division_byte o.image o.frames (4096 * f + offset)
 
 -- a byte of a region as a replay shows it: that of the record where the region is of the pool or the byte was written
 abbrev pub replayed_byte : Opening → List Made → Nested → Region → ℕ → ℕ

@@ -51,10 +51,10 @@ shown_by (move.Take what) s = shown (seen_by (move.Take what) s)
 shown_by move.Turn s = shown (seen_by move.Turn s)
 shown_by move.Rest s = []
 
--- the lines of the first n steps from a state on
-unfoldable pub lines : ℕ → List Event → MachineState → List ℕ
-lines zero plan s = []
-lines (suc n) plan s = shown_by (move_of plan s) s ++ lines n plan (next plan s)
+-- the lines_from of the first n steps from a state on
+unfoldable pub lines_from : ℕ → List Event → MachineState → List ℕ
+lines_from zero plan s = []
+lines_from (suc n) plan s = shown_by (move_of plan s) s ++ lines_from n plan (next plan s)
 
 abbrev pub is_halted : Ending → Bool
 is_halted ending.Halted = true
@@ -71,4 +71,4 @@ closing o steps plan s = ended (ending_at steps plan s) ++ (turns_line s.turns +
 -- the text of a run from a state on, by the opening that it began from
 unfoldable pub run_text : Opening → ℕ → List Event → MachineState → List ℕ
 run_text o steps plan s =
-    let n = run_length steps plan s in lines n plan s ++ closing o steps plan (state plan s n)
+    let n = run_length steps plan s in lines_from n plan s ++ closing o steps plan (state plan s n)

@@ -6,7 +6,7 @@ use Rattle.elf_image.specs.Home.{page_size}
 use Rattle.elf_image.specs.SegmentPages.{pages_in}
 use Rattle.byte_scanner.specs.Scanned.{Scanned}
 use Rattle.byte_scanner.specs.ScannedCode.{HasWalked}
-use Rattle.nk_run.specs.HeldFile.{IsKept, WhereHeld}
+use Rattle.nk_run.specs.HeldFile.{AreFilesKept, WhereHeld}
 use Rattle.nk_run.specs.Lines.{longest_file}
 use Rattle.nk_run.specs.Witness.{Change, ShelfState}
 
@@ -31,6 +31,6 @@ IsAhead pages s i = (j : ℕ) → i ≤ j → j < length pages → s.end ≤ pag
 
 -- between two moments of the shelf all pages below number i were scanned, and hold nothing protected
 pub record IsWalk (shelf : Change ShelfState) (name : List ℕ) (headers : FileHeaders) (s : Scanned) (i : ℕ) : Type 0 where
-  pub kept : IsKept shelf
+  pub kept : AreFilesKept shelf
   pub ahead : IsAhead (pages_in headers.segments) s i
   pub walked : WhereHeld shelf.before.files name (λ b. HasWalked b s i)

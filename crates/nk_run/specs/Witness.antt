@@ -6,13 +6,13 @@ abbrev pub Files : Type 0
 Files = List ℕ → Option (List ℕ)
 
 -- counts of faults, by the bytes of names
-abbrev pub Counts : Type 0
-Counts = List ℕ → ℕ
+abbrev pub NameCounts : Type 0
+NameCounts = List ℕ → ℕ
 
 -- a shelf at one moment: its files, where it tells them, its counts of faults, and its count of wants of memory
 pub record ShelfState : Type 0 where
   pub files : Option Files
-  pub faults : Counts
+  pub faults : NameCounts
   pub wants : ℕ
 
 -- a sink at one moment: the bytes that it took, where it tells them, and its count of faults
@@ -31,7 +31,7 @@ pub record Witness : Type 0 where
   pub sink : Change SinkState
 
 -- a shelf and a sink that had one value and then another, by what their types tell of a value
-abbrev pub shelf_change : {S : Type 0} → (S → Option Files) → (S → Counts) → (S → ℕ) → S → S → Change ShelfState
+abbrev pub shelf_change : {S : Type 0} → (S → Option Files) → (S → NameCounts) → (S → ℕ) → S → S → Change ShelfState
 shelf_change files faults wants old new = record {
   before = record { files = files old; faults = faults old; wants = wants old };
   after = record { files = files new; faults = faults new; wants = wants new };

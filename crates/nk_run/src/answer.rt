@@ -4,7 +4,7 @@ ghost use Rattle.std.specs.String.{string_bytes};
 ghost use Rattle.nk_run.specs.CommandLine.{command_of};
 ghost use Rattle.nk_run.specs.Lines.{usage_line};
 ghost use Rattle.nk_run.specs.Witness.{shelf_change, sink_change};
-ghost use Rattle.nk_run.specs.ReplyText.{bytes_of};
+ghost use Rattle.nk_run.specs.ReplyText.{line_bytes};
 ghost use Rattle.nk_run.specs.Replies.{IsAnswered, ReadsBytes};
 
 use crate::command_line::Command;
@@ -22,7 +22,7 @@ use std::alloc::Global;
 /// The reply to words without a form.
 fn usage() -> Reply
     ensures status { result.status ≡ 2 }
-    ensures text { bytes_of result.line ≡ usage_line }
+    ensures text { line_bytes result.line ≡ usage_line }
 {
     Reply {
         status: 2,

@@ -6,7 +6,7 @@ ghost use Rattle.nk_run.specs.Replies.{IsAnswered, IsWritten};
 ghost use Rattle.nk_run.specs.Witness.{Change, ShelfState, sink_change};
 
 use crate::command_line::Command;
-use crate::reply::want;
+use crate::reply::no_memory;
 use image_maker::make_image;
 use nk_host::{Sink, put_all};
 use std::alloc::Global;
@@ -24,7 +24,7 @@ pub(crate) fn make<O: Sink>(alloc: Global, words: &[String], number: u64, sink: 
 {
     match make_image(alloc, number) {
         Ok(file) => put_file(&file, sink),
-        Err(_) => want().write(sink),
+        Err(_) => no_memory().write(sink),
     }
 }
 

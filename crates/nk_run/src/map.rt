@@ -9,13 +9,13 @@ ghost use Rattle.nk_run.specs.CommandLine.{command_of, word_count, IsBounded};
 ghost use Rattle.nk_run.specs.Lines.{walk_line};
 ghost use Rattle.nk_run.specs.Witness.{shelf_change};
 ghost use Rattle.nk_run.specs.Outcome.{roomy, translation_of};
-ghost use Rattle.nk_run.specs.ReplyText.{bytes_of};
+ghost use Rattle.nk_run.specs.ReplyText.{line_bytes};
 ghost use Rattle.nk_run.specs.Replies.{CommandSays, Concludes, ShowsWalk};
 
 use crate::command_line::Command;
 use crate::image::open;
 use crate::lines::{frame_line, missing_line, noroom_line};
-use crate::reply::{Reply, made, want};
+use crate::reply::{Reply, made, no_memory};
 use boot_map::{Layout, OPENING_ROOT, prepare, tables_law};
 use elf_image::Image;
 use nk_host::Shelf;
@@ -29,7 +29,7 @@ fn walk_reply(alloc: Global, memory: &PhysMem, va: u64) -> Reply
     requires canonical { IsTrue (is_canonical va) }
     ensures { let frames = length memory.now / 4096 in
         ShowsWalk (walk (entry_in memory.now) frames opening_root (page_of va))
-        result.status (bytes_of result.line) }
+        result.status (line_bytes result.line) }
 {
     match walk(memory, OPENING_ROOT, va) {
         Ok(leaf) => made(0, frame_line(alloc, leaf)),
@@ -41,7 +41,7 @@ fn walk_reply(alloc: Global, memory: &PhysMem, va: u64) -> Reply
 fn translate(alloc: Global, image: &Image, frames: u32, va: u64) -> Reply
     requires { IsBounded (Command.Map frames va) }
     ensures { Concludes (roomy (need image.now frames) frames)
-        (walk_line (translation_of image.now frames va)) result.status (bytes_of result.line) }
+        (walk_line (translation_of image.now frames va)) result.status (line_bytes result.line) }
 {
     let layout = match Layout::of(image, frames) {
         Ok(layout) => layout,
@@ -50,7 +50,7 @@ fn translate(alloc: Global, image: &Image, frames: u32, va: u64) -> Reply
     tables_law();
     match prepare(alloc, image, &layout) {
         Ok(memory) => walk_reply(alloc, &memory, va),
-        Err(_) => want(),
+        Err(_) => no_memory(),
     }
 }
 
@@ -68,7 +68,7 @@ pub(crate) fn map<S: Shelf>(
     requires bounds { IsBounded (Command.Map frames va) }
     ensures files_stay { S.files shelf.new ≡ S.files shelf.old }
     ensures says { CommandSays (map string_bytes words.now)
-        (shelf_change S.files S.faults S.wants shelf.old shelf.new) result.status (bytes_of result.line) }
+        (shelf_change S.files S.faults S.wants shelf.old shelf.new) result.status (line_bytes result.line) }
 {
     match open(alloc, words, shelf) {
         Ok(image) => translate(alloc, &image, frames, va),

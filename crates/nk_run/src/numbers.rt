@@ -1,7 +1,7 @@
 //! Numbers as words of the command line.
 ghost use Rattle.std.specs.Prelude.{◌≡◌, ◌≤◌, ◌^◌, ◌-◌, true, IsTrue, IfSome};
 ghost use Rattle.nk_bits.specs.Paging.{is_canonical};
-ghost use Rattle.nk_run.specs.NumberWords.{address_of, bounded, decimal_within, is_least_long, is_numeral};
+ghost use Rattle.nk_run.specs.NumberWords.{address_word, bounded, decimal_within, is_least_long, is_numeral};
 ghost use Rattle.std.specs.Str.Parse.{digits_value};
 ghost use Rattle.std.specs.Char.{is_digit};
 ghost use Rattle.std.specs.List.{list_all};
@@ -58,7 +58,7 @@ pub(crate) fn decimal_within(word: &str, low: u64, high: u64) -> Option<u64>
 
 /// A canonical linear address of 1 to 16 hexadecimal digits of either case.
 pub(crate) fn address_of(word: &str) -> Option<u64>
-    ensures address { result ≡ address_of word.now }
+    ensures address { result ≡ address_word word.now }
     ensures canonical { IfSome result (λ va. IsTrue (is_canonical va)) }
 {
     if !is_numeral(word.as_bytes(), 16) || word.len() > 16 {

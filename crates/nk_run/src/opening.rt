@@ -11,7 +11,7 @@ ghost use Rattle.nk_body.specs.NestedRecord.{HoldsBooks, books_in};
 ghost use Rattle.nk_body.specs.SourceWords.{opening_ledger};
 ghost use Rattle.gate_state.specs.MachineOpening.{opening_state};
 ghost use Rattle.nk_run.specs.Outcome.{passes, roomy};
-ghost use Rattle.nk_run.specs.ReplyText.{bytes_of};
+ghost use Rattle.nk_run.specs.ReplyText.{line_bytes};
 ghost use Rattle.nk_run.specs.Replies.{RefusesBy};
 
 use crate::lines::noroom_line;
@@ -37,7 +37,7 @@ pub(crate) fn divide(alloc: Global, image: &Image, frames: u32) -> Result<Layout
     ensures { MatchResult result
         (λ layout. IsLayout image.now layout × (layout.frames ≡ frames)
         × (roomy (need image.now frames) frames ≡ passes))
-        (λ reply. RefusesBy 1 (roomy (need image.now frames) frames) reply.status (bytes_of reply.line)) }
+        (λ reply. RefusesBy 1 (roomy (need image.now frames) frames) reply.status (line_bytes reply.line)) }
 {
     match Layout::of(image, frames) {
         Ok(layout) => Ok(layout),

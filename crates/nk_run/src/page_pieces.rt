@@ -7,7 +7,7 @@ ghost use Rattle.elf_image.specs.SegmentPages.{is_executable_of, pages_in};
 ghost use Rattle.byte_scanner.specs.FirstFound.{first_found};
 ghost use Rattle.byte_scanner.specs.ScannedCode.{HasWalked};
 ghost use Rattle.nk_run.specs.Witness.{shelf_change};
-ghost use Rattle.nk_run.specs.HeldFile.{IsKept, OfFile, WhereHeld};
+ghost use Rattle.nk_run.specs.HeldFile.{AreFilesKept, OfFile, WhereHeld};
 ghost use Rattle.nk_run.specs.ScanStops.{IsGoodWith, IsStop, IsStopWhereHeld};
 ghost use Rattle.nk_run.specs.WalkedPieces.{HasHeaders, IsAhead, IsOfSize};
 
@@ -27,7 +27,7 @@ fn fill_page<S: Shelf>(
 ) -> Result<(), Stop>
     requires within { WhereHeld (S.files shelf.old) name.now (λ b. part.at + part.len ≤ length b) }
     requires fits { part.skip + part.len ≤ length page.old }
-    ensures kept { IsKept (shelf_change S.files S.faults S.wants shelf.old shelf.new) }
+    ensures kept { AreFilesKept (shelf_change S.files S.faults S.wants shelf.old shelf.new) }
     ensures len { length page.new ≡ length page.old }
     ensures page { MatchResult result
         (λ _. WhereHeld (S.files shelf.old) name.now (λ b. page.new ≡ replicate part.skip 0
@@ -53,7 +53,7 @@ fn read_page<S: Shelf>(
     requires inside { i < length (pages_in headers.now.segments) }
     requires size { length page.old ≡ page_size }
     requires headers { WhereHeld (S.files shelf.old) name.now (HasHeaders headers.now) }
-    ensures kept { IsKept (shelf_change S.files S.faults S.wants shelf.old shelf.new) }
+    ensures kept { AreFilesKept (shelf_change S.files S.faults S.wants shelf.old shelf.new) }
     ensures len { length page.new ≡ page_size }
     ensures page { MatchResult result
         (λ _. WhereHeld (S.files shelf.old) name.now (λ b. IsBytesOfPage b (slice_index (pages_of b) i) page.new))
@@ -100,7 +100,7 @@ fn scan_page<S: Shelf>(
     requires headers { WhereHeld (S.files shelf.old) name.now (HasHeaders headers.now) }
     requires ahead { IsAhead (pages_in headers.now.segments) scanner.old i }
     requires walked { WhereHeld (S.files shelf.old) name.now (λ b. HasWalked b scanner.old i) }
-    ensures kept { IsKept (shelf_change S.files S.faults S.wants shelf.old shelf.new) }
+    ensures kept { AreFilesKept (shelf_change S.files S.faults S.wants shelf.old shelf.new) }
     ensures len { length page.new ≡ page_size }
     ensures ahead { OnOk result (IsAhead (pages_in headers.now.segments) scanner.new (i + 1)) }
     ensures walked { MatchResult result
@@ -130,7 +130,7 @@ fn scan_pages<S: Shelf>(
     shelf: &mut S,
 ) -> Result<(), Stop>
     requires headers { WhereHeld (S.files shelf.old) name.now (HasHeaders headers.now) }
-    ensures kept { IsKept (shelf_change S.files S.faults S.wants shelf.old shelf.new) }
+    ensures kept { AreFilesKept (shelf_change S.files S.faults S.wants shelf.old shelf.new) }
     ensures clean { MatchResult result
         (λ _. WhereHeld (S.files shelf.old) name.now (λ b. first_found b ≡ None))
         (IsStopWhereHeld (shelf_change S.files S.faults S.wants shelf.old shelf.new) name.now) }
@@ -156,7 +156,7 @@ fn scan_sized<S: Shelf>(
     shelf: &mut S,
 ) -> Result<Admitted, Stop>
     requires size { WhereHeld (S.files shelf.old) name.now (IsOfSize size) }
-    ensures kept { IsKept (shelf_change S.files S.faults S.wants shelf.old shelf.new) }
+    ensures kept { AreFilesKept (shelf_change S.files S.faults S.wants shelf.old shelf.new) }
     ensures says { MatchResult result
         (λ it. WhereHeld (S.files shelf.old) name.now (IsGoodWith it.entry it.pages))
         (IsStopWhereHeld (shelf_change S.files S.faults S.wants shelf.old shelf.new) name.now) }
@@ -181,7 +181,7 @@ pub(crate) fn scan_file<S: Shelf>(
     name: &str,
     shelf: &mut S,
 ) -> Result<Admitted, Stop>
-    ensures kept { IsKept (shelf_change S.files S.faults S.wants shelf.old shelf.new) }
+    ensures kept { AreFilesKept (shelf_change S.files S.faults S.wants shelf.old shelf.new) }
     ensures says { MatchResult result
         (λ it. OfFile (S.files shelf.old) name.now (IsGoodWith it.entry it.pages))
         (IsStop (shelf_change S.files S.faults S.wants shelf.old shelf.new) name.now) }

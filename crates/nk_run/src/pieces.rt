@@ -4,7 +4,7 @@ ghost use Rattle.std.specs.Prelude.{◌≡◌, ℕ, ◌+◌, ◌*◌, ◌<◌, �
 ghost use Rattle.elf_image.specs.Elf.{phdr_size};
 ghost use Rattle.elf_image.specs.HeaderRows.{table_of};
 ghost use Rattle.nk_run.specs.Witness.{shelf_change};
-ghost use Rattle.nk_run.specs.HeldFile.{IsKept, OfFile, WhereHeld};
+ghost use Rattle.nk_run.specs.HeldFile.{AreFilesKept, OfFile, WhereHeld};
 ghost use Rattle.nk_run.specs.ScanStops.{HasFault, IsStop, IsStopWhereHeld};
 ghost use Rattle.nk_run.specs.WalkedPieces.{HasHeaders, HasShape, IsOfSize};
 
@@ -43,7 +43,7 @@ pub(crate) struct Admitted {
 
 /// The size of the file.
 pub(crate) fn size_of<S: Shelf>(alloc: Global, name: &str, shelf: &mut S) -> Result<u64, Stop>
-    ensures kept { IsKept (shelf_change S.files S.faults S.wants shelf.old shelf.new) }
+    ensures kept { AreFilesKept (shelf_change S.files S.faults S.wants shelf.old shelf.new) }
     ensures size { MatchResult result
         (λ size. OfFile (S.files shelf.old) name.now (IsOfSize size))
         (IsStop (shelf_change S.files S.faults S.wants shelf.old shelf.new) name.now) }
@@ -65,7 +65,7 @@ pub(crate) fn piece_of<S: Shelf>(
     shelf: &mut S,
 ) -> Result<(), Stop>
     requires within { WhereHeld (S.files shelf.old) name.now (λ b. at + length into.old ≤ length b) }
-    ensures kept { IsKept (shelf_change S.files S.faults S.wants shelf.old shelf.new) }
+    ensures kept { AreFilesKept (shelf_change S.files S.faults S.wants shelf.old shelf.new) }
     ensures len { length into.new ≡ length into.old }
     ensures piece { MatchResult result
         (λ _. WhereHeld (S.files shelf.old) name.now (λ b. into.new ≡ take (length into.old) (drop at b)))
@@ -108,7 +108,7 @@ fn shape_in<S: Shelf>(
 ) -> Result<Shape, Stop>
     requires size { WhereHeld (S.files shelf.old) name.now (IsOfSize size) }
     requires head { length head.old ≡ min size 64 }
-    ensures kept { IsKept (shelf_change S.files S.faults S.wants shelf.old shelf.new) }
+    ensures kept { AreFilesKept (shelf_change S.files S.faults S.wants shelf.old shelf.new) }
     ensures shape { MatchResult result
         (λ shape. WhereHeld (S.files shelf.old) name.now (HasShape shape))
         (IsStopWhereHeld (shelf_change S.files S.faults S.wants shelf.old shelf.new) name.now) }
@@ -132,7 +132,7 @@ fn headers_in<S: Shelf>(
 ) -> Result<Headers, Stop>
     requires shape { WhereHeld (S.files shelf.old) name.now (HasShape shape) }
     requires table { length table.old ≡ phdr_size * shape.count }
-    ensures kept { IsKept (shelf_change S.files S.faults S.wants shelf.old shelf.new) }
+    ensures kept { AreFilesKept (shelf_change S.files S.faults S.wants shelf.old shelf.new) }
     ensures headers { MatchResult result
         (λ headers. WhereHeld (S.files shelf.old) name.now (HasHeaders headers))
         (IsStopWhereHeld (shelf_change S.files S.faults S.wants shelf.old shelf.new) name.now) }
@@ -149,7 +149,7 @@ fn headers_in<S: Shelf>(
 /// The shape of the file, which has `size` bytes.
 fn read_shape<S: Shelf>(alloc: Global, name: &str, size: u64, shelf: &mut S) -> Result<Shape, Stop>
     requires size { WhereHeld (S.files shelf.old) name.now (IsOfSize size) }
-    ensures kept { IsKept (shelf_change S.files S.faults S.wants shelf.old shelf.new) }
+    ensures kept { AreFilesKept (shelf_change S.files S.faults S.wants shelf.old shelf.new) }
     ensures shape { MatchResult result
         (λ shape. WhereHeld (S.files shelf.old) name.now (HasShape shape))
         (IsStopWhereHeld (shelf_change S.files S.faults S.wants shelf.old shelf.new) name.now) }
@@ -166,7 +166,7 @@ pub(crate) fn read_headers<S: Shelf>(
     shelf: &mut S,
 ) -> Result<Headers, Stop>
     requires size { WhereHeld (S.files shelf.old) name.now (IsOfSize size) }
-    ensures kept { IsKept (shelf_change S.files S.faults S.wants shelf.old shelf.new) }
+    ensures kept { AreFilesKept (shelf_change S.files S.faults S.wants shelf.old shelf.new) }
     ensures headers { MatchResult result
         (λ headers. WhereHeld (S.files shelf.old) name.now (HasHeaders headers))
         (IsStopWhereHeld (shelf_change S.files S.faults S.wants shelf.old shelf.new) name.now) }

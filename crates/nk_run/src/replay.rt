@@ -10,14 +10,14 @@ ghost use Rattle.replay_core.specs.ReplayedCalls.{replay_of};
 ghost use Rattle.nk_run.specs.CommandLine.{command_of, word_count, IsBounded};
 ghost use Rattle.nk_run.specs.Witness.{shelf_change, sink_change};
 ghost use Rattle.nk_run.specs.Outcome.{file_in, first_verdict, journal_checks, journaled, opened, passes};
-ghost use Rattle.nk_run.specs.ReplyText.{bytes_of};
+ghost use Rattle.nk_run.specs.ReplyText.{line_bytes};
 ghost use Rattle.nk_run.specs.Replies.{CommandSays, IsAnswered, IsReplayedFrom, IsWritten, RefusesBy, StopsIn};
 
 use crate::command_line::{Command, Role};
 use crate::image::{fetch, open};
 use crate::lines::journal_line;
 use crate::opening::{Guarded, divide, guard};
-use crate::reply::{Reply, made, want};
+use crate::reply::{Reply, made, no_memory};
 use boot_map::Layout;
 use elf_image::Image;
 use nk_host::{Shelf, Sink};
@@ -49,7 +49,7 @@ fn hold<S: Shelf>(alloc: Global, words: &[String], shelf: &mut S) -> Result<Held
         × (held.journal.items ≡ file_in files names Role.Journal)
         × (first_verdict (journal_checks files names) ≡ passes)))
         (λ reply. StopsIn names (shelf_change S.files S.faults S.wants shelf.old shelf.new)
-        (Role.Image ∷ Role.Journal ∷ []) (λ files. journal_checks files names) reply.status (bytes_of reply.line)) }
+        (Role.Image ∷ Role.Journal ∷ []) (λ files. journal_checks files names) reply.status (line_bytes reply.line)) }
 {
     let image = match open(alloc, words, shelf) {
         Ok(image) => image,
@@ -63,7 +63,7 @@ fn hold<S: Shelf>(alloc: Global, words: &[String], shelf: &mut S) -> Result<Held
 
 /// The reply to the first line of a journal that isn't right.
 fn refuse(alloc: Global, number: u64) -> Reply
-    ensures { RefusesBy 6 (journaled (Some number)) result.status (bytes_of result.line) }
+    ensures { RefusesBy 6 (journaled (Some number)) result.status (line_bytes result.line) }
 {
     made(6, journal_line(alloc, number))
 }
@@ -81,18 +81,18 @@ fn make_calls(
         × (nested_held left.kernel left.memory ≡ (replay_of journal.now from).made.nested)
         × HoldsBooks left.kernel left.memory
         × (length left.memory ≡ 4096 * layout.now.frames))
-        (λ reply. RefusesBy 6 (journaled (replay_of journal.now from).bad) reply.status (bytes_of reply.line)) }
+        (λ reply. RefusesBy 6 (journaled (replay_of journal.now from).bad) reply.status (line_bytes reply.line)) }
 {
     let Guarded { memory, kernel } = match guard(alloc, image, layout) {
         Some(guarded) => guarded,
-        None => return Err(want()),
+        None => return Err(no_memory()),
     };
     let mut memory = memory;
     let mut kernel = kernel;
     match replay_calls(alloc, &mut kernel, &mut memory, journal) {
         Ok(()) => Ok(Guarded { memory, kernel }),
         Err(ReplayFault::Line(number)) => Err(refuse(alloc, number)),
-        Err(ReplayFault::Memory) => Err(want()),
+        Err(ReplayFault::Memory) => Err(no_memory()),
     }
 }
 
@@ -110,7 +110,7 @@ fn make_replay<S: Shelf>(
     ensures made { let names = map string_bytes words.now in MatchResult result
         (λ it. IsReplayedFrom names (S.files shelf.old) frames it.image it.layout it.left.kernel it.left.memory)
         (λ reply. CommandSays names (shelf_change S.files S.faults S.wants shelf.old shelf.new)
-        reply.status (bytes_of reply.line)) }
+        reply.status (line_bytes reply.line)) }
 {
     let held = match hold(alloc, words, shelf) {
         Ok(held) => held,

@@ -2,7 +2,7 @@
 ghost use Rattle.std.specs.Prelude.{◌≡◌, ◌≤◌, MatchResult};
 ghost use Rattle.std.specs.String.{string_bytes};
 ghost use Rattle.nk_run.specs.Replies.{IsWant, IsWritten};
-ghost use Rattle.nk_run.specs.ReplyText.{bytes_of};
+ghost use Rattle.nk_run.specs.ReplyText.{line_bytes};
 ghost use Rattle.nk_run.specs.Witness.{sink_change};
 
 use crate::lines::no_memory_line;
@@ -28,7 +28,7 @@ pub(crate) struct Reply {
 impl Line {
     /// The line's bytes.
     fn as_bytes(&self) -> &[u8]
-        ensures { result.now ≡ bytes_of self.now }
+        ensures { result.now ≡ line_bytes self.now }
     {
         match self {
             Line::Fixed(text) => text.as_bytes(),
@@ -39,8 +39,8 @@ impl Line {
 }
 
 /// There was no memory.
-pub(crate) fn want() -> Reply
-    ensures { IsWant result.status (bytes_of result.line) }
+pub(crate) fn no_memory() -> Reply
+    ensures { IsWant result.status (line_bytes result.line) }
 {
     Reply {
         status: 5,
@@ -51,15 +51,15 @@ pub(crate) fn want() -> Reply
 /// A line made for the occasion, or that there was no memory for it.
 pub(crate) fn made(status: u8, line: Result<String, AllocError>) -> Reply
     ensures { MatchResult line
-        (λ line. (result.status ≡ status) × (bytes_of result.line ≡ string_bytes line))
-        (λ _. IsWant result.status (bytes_of result.line)) }
+        (λ line. (result.status ≡ status) × (line_bytes result.line ≡ string_bytes line))
+        (λ _. IsWant result.status (line_bytes result.line)) }
 {
     match line {
         Ok(line) => Reply {
             status,
             line: Line::Made(line),
         },
-        Err(_) => want(),
+        Err(_) => no_memory(),
     }
 }
 
@@ -68,7 +68,7 @@ impl Reply {
     pub(crate) fn write<O: Sink>(&self, sink: &mut O) -> u8
         ensures never_falls { O.faults sink.old ≤ O.faults sink.new }
         ensures written { IsWritten (sink_change O.taken O.faults sink.old sink.new)
-            self.now.status (bytes_of self.now.line) result }
+            self.now.status (line_bytes self.now.line) result }
     {
         match put_all(sink, self.line.as_bytes()) {
             Ok(()) => self.status,

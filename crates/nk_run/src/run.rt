@@ -9,7 +9,7 @@ ghost use Rattle.gate_state.specs.MachineOpening.{opening_state};
 ghost use Rattle.nk_run.specs.CommandLine.{command_of, word_count, IsBounded};
 ghost use Rattle.nk_run.specs.Witness.{shelf_change, sink_change};
 ghost use Rattle.nk_run.specs.Outcome.{file_in, first_verdict, passes, roomy, run_checks};
-ghost use Rattle.nk_run.specs.ReplyText.{bytes_of};
+ghost use Rattle.nk_run.specs.ReplyText.{line_bytes};
 ghost use Rattle.nk_run.specs.Replies.{CommandSays, IsAnswered, IsReady, RefusesBy, StopsIn, TellsBytes};
 
 use crate::command_line::{Command, Role};
@@ -17,7 +17,7 @@ use crate::drive::drive;
 use crate::image::open;
 use crate::inputs::{Outside, open_outside};
 use crate::opening::{begin, divide};
-use crate::reply::{Reply, want};
+use crate::reply::{Reply, no_memory};
 use boot_map::Layout;
 use elf_image::Image;
 use gate_state::Machine;
@@ -51,7 +51,7 @@ fn hold<S: Shelf>(alloc: Global, words: &[String], shelf: &mut S) -> Result<Held
         × (plan_of (file_in files names Role.Plan) ≡ Ok held.outside.plan)
         × (first_verdict (run_checks files names) ≡ passes)))
         (λ reply. StopsIn names (shelf_change S.files S.faults S.wants shelf.old shelf.new)
-        (Role.Image ∷ Role.Input ∷ Role.Plan ∷ []) (λ files. run_checks files names) reply.status (bytes_of reply.line)) }
+        (Role.Image ∷ Role.Input ∷ Role.Plan ∷ []) (λ files. run_checks files names) reply.status (line_bytes reply.line)) }
 {
     let image = match open(alloc, words, shelf) {
         Ok(image) => image,
@@ -79,7 +79,7 @@ fn make_ready<S: Shelf>(
     ensures ready { let names = map string_bytes words.now in MatchResult result
         (λ it. IsReady names (S.files shelf.old) steps frames it.image it.layout it.outside.input.items it.outside.plan)
         (λ reply. CommandSays names (shelf_change S.files S.faults S.wants shelf.old shelf.new)
-        reply.status (bytes_of reply.line)) }
+        reply.status (line_bytes reply.line)) }
 {
     let held = match hold(alloc, words, shelf) {
         Ok(held) => held,
@@ -128,6 +128,6 @@ pub(crate) fn run<S: Shelf, O: Sink>(
     let Outside { input, plan } = outside;
     match begin(alloc, &image, &layout, input) {
         Some(machine) => drive(Machine::Outer(machine), &image, &layout, &plan, steps, sink),
-        None => want().write(sink),
+        None => no_memory().write(sink),
     }
 }

@@ -3,7 +3,7 @@ ghost use Rattle.std.specs.Prelude.{◌≡◌, ◌<◌, length, map, Some};
 ghost use Rattle.std.specs.String.{string_bytes};
 ghost use Rattle.nk_run.specs.CommandLine.{command_of, name_in, word_count, word_place};
 ghost use Rattle.nk_run.specs.Witness.{shelf_change};
-ghost use Rattle.nk_run.specs.ReplyText.{bytes_of};
+ghost use Rattle.nk_run.specs.ReplyText.{line_bytes};
 ghost use Rattle.nk_run.specs.Replies.{CommandSays};
 ghost use Rattle.nk_run.specs.ScanStops.{IsReplyTo, IsShort};
 
@@ -12,7 +12,7 @@ use crate::image::{faulty, protected};
 use crate::lines::{longer_line, unread_line};
 use crate::page_pieces::scan_file;
 use crate::pieces::Stop;
-use crate::reply::{Line, Reply, want};
+use crate::reply::{Line, Reply, no_memory};
 use nk_host::Shelf;
 use report_text::admitted_line;
 use std::alloc::Global;
@@ -28,14 +28,14 @@ fn image_name(words: &[String]) -> &str
 /// The reply to a scan that stopped.
 fn stopped(stop: Stop) -> Reply
     requires { IsShort stop }
-    ensures { IsReplyTo stop result.status (bytes_of result.line) }
+    ensures { IsReplyTo stop result.status (line_bytes result.line) }
 {
     match stop {
         Stop::Unread => Reply {
             status: 3,
             line: Line::Fixed(unread_line(Role::Image)),
         },
-        Stop::Want => want(),
+        Stop::Want => no_memory(),
         Stop::Longer => Reply {
             status: 7,
             line: Line::Fixed(longer_line(Role::Image)),
@@ -52,7 +52,7 @@ pub(crate) fn scan<S: Shelf>(alloc: Global, words: &[String], shelf: &mut S) -> 
     requires count { length words.now ≡ word_count Command.Scan }
     ensures files_stay { S.files shelf.new ≡ S.files shelf.old }
     ensures says { CommandSays (map string_bytes words.now)
-        (shelf_change S.files S.faults S.wants shelf.old shelf.new) result.status (bytes_of result.line) }
+        (shelf_change S.files S.faults S.wants shelf.old shelf.new) result.status (line_bytes result.line) }
 {
     match scan_file(alloc, image_name(words), shelf) {
         Ok(it) => Reply {

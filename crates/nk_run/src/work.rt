@@ -8,7 +8,7 @@ ghost use Rattle.nk_run.specs.Witness.{Change, ShelfState, sink_change};
 use crate::command_line::Command;
 use crate::count::count;
 use crate::opening::begin;
-use crate::reply::want;
+use crate::reply::no_memory;
 use boot_map::Layout;
 use elf_image::Image;
 use gate_state::Machine;
@@ -71,14 +71,14 @@ pub(crate) fn work<O: Sink>(alloc: Global, words: &[String], number: u64, sink: 
 {
     let Ready { image, layout } = match make_ready(alloc, number) {
         Some(ready) => ready,
-        None => return want().write(sink),
+        None => return no_memory().write(sink),
     };
     let plan = match quiet(alloc) {
         Some(plan) => plan,
-        None => return want().write(sink),
+        None => return no_memory().write(sink),
     };
     match begin(alloc, &image, &layout, Vec::new(alloc)) {
         Some(machine) => count(Machine::Outer(machine), &plan, sink),
-        None => want().write(sink),
+        None => no_memory().write(sink),
     }
 }

@@ -2,7 +2,7 @@
 use Rattle.std.proofs.Common.{◌≡◌, ◌≢◌, ℕ, ◌*◌, ◌<◌, ◌≤◌, true, false, List, length, arith, refl, ap}
 use Rattle.std.proofs.lemmas.Bool.{and_from, eq-eqb, false_from_ne_true, or_left, or_right}
 use Rattle.nk_bits.specs.declared.kind.Kind.{Kind}
-use Rattle.nk_bits.specs.Paging.{frame_of, is_present, is_user, is_writable}
+use Rattle.nk_bits.specs.Paging.{frame_of, is_present, is_user, grants_writes}
 use Rattle.page_desc.specs.FrameCounts.{holds_leaves, holds_links, is_link_to, is_loose, is_loose_leaf, links_in, loose_in}
 use Rattle.page_desc.proofs.Counts.{count_least, count_most}
 
@@ -29,7 +29,7 @@ module _ (kinds : List Kind) (t : ℕ → ℕ → ℕ) where
   -- a frame with no loose leaf: each of its leaves, in each table that is counted, is neither writable nor user
   pub loose_none : (frame f i : ℕ) → loose_in kinds t frame ≡ 0 → f < length kinds → i < 512
       → holds_leaves kinds t f ≡ true → is_present (t f i) ≡ true → frame_of (t f i) ≡ frame
-      → (is_writable (t f i) ≡ false) × (is_user (t f i) ≡ false)
+      → (grants_writes (t f i) ≡ false) × (is_user (t f i) ≡ false)
   loose_none frame f i none inside small holds present names = (
     false_from_ne_true _ (λ writes. not_loose frame f i none inside small holds names (and_from _ _ present (or_left _ _ writes))),
     false_from_ne_true _ (λ users. not_loose frame f i none inside small holds names (and_from _ _ present (or_right _ _ users))),

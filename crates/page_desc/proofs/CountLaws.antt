@@ -5,7 +5,7 @@ use Rattle.nk_bits.specs.declared.kind.Kind.{Kind}
 use Rattle.nk_bits.specs.declared.kind.Kind.TheVariants.{Data, Code, Table, Fixed, Trap, Guarded, Hidden}
 use Rattle.nk_bits.specs.Kinds.{kind_of, level_of}
 use Rattle.nk_bits.specs.Paging.{replaced}
-use Rattle.page_desc.specs.FrameCounts.{IsSlotFixed, holds_leaves, holds_links, is_link_level, is_link_to, is_loose_leaf, is_slot_leaf_table, links_in, loose_in, may_hold_table, one_if}
+use Rattle.page_desc.specs.FrameCounts.{IsSlotFixed, holds_leaves, holds_links, is_link_level, is_link_to, is_loose_leaf, is_slot_leaf_table, links_in, loose_in, may_hold_table, count_if}
 use Rattle.page_desc.proofs.Counts.{count_changed, count_same}
 use Rattle.page_desc.proofs.SlotLeafTables.{holds_where, leaves_by_kind, slot_same}
 
@@ -96,8 +96,8 @@ module _ (kinds : List Kind) (t : ℕ → ℕ → ℕ) (a b c : ℕ) (fixed : Is
       ap (λ s. level_of (kind_of kinds f) == 1 || s) (slot_same (replaced t a b c) t f (λ i part. replaced_elsewhere t a b c 9 i (λ e _. apart_from_slot (sym e))))
 
   pub loose_replaced : (frame : ℕ) →
-      loose_in kinds (replaced t a b c) frame + one_if (level_of (kind_of kinds a) == 1 && is_loose_leaf frame (t a b))
-      ≡ loose_in kinds t frame + one_if (level_of (kind_of kinds a) == 1 && is_loose_leaf frame c)
+      loose_in kinds (replaced t a b c) frame + count_if (level_of (kind_of kinds a) == 1 && is_loose_leaf frame (t a b))
+      ≡ loose_in kinds t frame + count_if (level_of (kind_of kinds a) == 1 && is_loose_leaf frame c)
   unfolding loose_in
   loose_replaced frame =
       let by_level : holds_leaves kinds t a ≡ (level_of (kind_of kinds a) == 1) =
@@ -105,21 +105,21 @@ module _ (kinds : List Kind) (t : ℕ → ℕ → ℕ) (a b c : ℕ) (fixed : Is
       let all =
       count_changed (length kinds) 512 a b (holds_leaves kinds t) (holds_leaves kinds (replaced t a b c)) (is_loose_leaf frame) t (replaced t a b c) inside small
       (λ f i below part other. both_same (holds_leaves kinds t f) _ _ _ (replaced_leaves f) (λ holds. ap (is_loose_leaf frame) (replaced_elsewhere t a b c f i other))) in
-      let old : one_if (holds_leaves kinds t a && is_loose_leaf frame (t a b)) ≡ one_if (level_of (kind_of kinds a) == 1 && is_loose_leaf frame (t a b)) =
-      ap (λ s. one_if (s && is_loose_leaf frame (t a b))) by_level in
-      let new : one_if (holds_leaves kinds (replaced t a b c) a && is_loose_leaf frame (replaced t a b c a b)) ≡ one_if (level_of (kind_of kinds a) == 1 && is_loose_leaf frame c) =
-      ap (λ s. one_if (s && is_loose_leaf frame (replaced t a b c a b))) (replaced_leaves a ∙ by_level)
-      ∙ ap (λ e. one_if (level_of (kind_of kinds a) == 1 && is_loose_leaf frame e)) (replaced_here t a b c) in
+      let old : count_if (holds_leaves kinds t a && is_loose_leaf frame (t a b)) ≡ count_if (level_of (kind_of kinds a) == 1 && is_loose_leaf frame (t a b)) =
+      ap (λ s. count_if (s && is_loose_leaf frame (t a b))) by_level in
+      let new : count_if (holds_leaves kinds (replaced t a b c) a && is_loose_leaf frame (replaced t a b c a b)) ≡ count_if (level_of (kind_of kinds a) == 1 && is_loose_leaf frame c) =
+      ap (λ s. count_if (s && is_loose_leaf frame (replaced t a b c a b))) (replaced_leaves a ∙ by_level)
+      ∙ ap (λ e. count_if (level_of (kind_of kinds a) == 1 && is_loose_leaf frame e)) (replaced_here t a b c) in
       omega (arith, all, old, new)
 
   pub links_replaced : (frame : ℕ) →
-      links_in kinds (replaced t a b c) frame + one_if (is_link_level (level_of (kind_of kinds a)) && is_link_to frame (t a b))
-      ≡ links_in kinds t frame + one_if (is_link_level (level_of (kind_of kinds a)) && is_link_to frame c)
+      links_in kinds (replaced t a b c) frame + count_if (is_link_level (level_of (kind_of kinds a)) && is_link_to frame (t a b))
+      ≡ links_in kinds t frame + count_if (is_link_level (level_of (kind_of kinds a)) && is_link_to frame c)
   unfolding links_in holds_links
   links_replaced frame =
       let all =
       count_changed (length kinds) 512 a b (holds_links kinds) (holds_links kinds) (is_link_to frame) t (replaced t a b c) inside small
       (λ f i below part other. both_same (holds_links kinds f) _ _ _ refl (λ holds. ap (is_link_to frame) (replaced_elsewhere t a b c f i other))) in
-      let new : one_if (holds_links kinds a && is_link_to frame (replaced t a b c a b)) ≡ one_if (holds_links kinds a && is_link_to frame c) =
-      ap (λ e. one_if (holds_links kinds a && is_link_to frame e)) (replaced_here t a b c) in
+      let new : count_if (holds_links kinds a && is_link_to frame (replaced t a b c a b)) ≡ count_if (holds_links kinds a && is_link_to frame c) =
+      ap (λ e. count_if (holds_links kinds a && is_link_to frame e)) (replaced_here t a b c) in
       omega (arith, all, new)

@@ -7,9 +7,9 @@ use Rattle.phys_mem.specs.Memory.{byte_at, entry_in}
 use Rattle.nk_bits.specs.declared.kind.Kind.{Kind}
 use Rattle.nk_bits.specs.declared.kind.Kind.TheVariants.{Data, Fixed, Guarded}
 use Rattle.nk_bits.specs.Kinds.{kind_of, level_of}
-use Rattle.page_desc.specs.FrameCounts.{is_link_level, is_link_to, is_loose_leaf, links_in, loose_in, one_if}
+use Rattle.page_desc.specs.FrameCounts.{is_link_level, is_link_to, is_loose_leaf, links_in, loose_in, count_if}
 use Rattle.page_desc.specs.FrameDescriptors.{Descriptors}
-use Rattle.page_desc.specs.PageTables.{AreDescribed, HoldsSoundTables, is_handler_byte, is_kept, is_table, kept_bytes, table_entries, tables_in}
+use Rattle.page_desc.specs.PageTables.{AreDescribed, HoldsSoundTables, is_handler_byte, is_unchanging, is_table, unchanging_bytes, table_entries, tables_in}
 use Rattle.page_desc.proofs.KindChanges.{fixed_kinds, kind_elsewhere, kind_here, links_moved, loose_moved}
 use Rattle.page_desc.proofs.KindsKept.{TablesInMemory, tables_guarded}
 
@@ -42,11 +42,11 @@ module _ (kinds : List Kind) (a : ℕ) (inside : a < length kinds) (free : kind_
   unfolding table_entries
   entries_stay m f i = ap (λ b. if b && nat_lt i 512 then entry_in m f i else 0) (same_test is_table refl f)
 
-  bytes_stay : (m : List ℕ) (f o : ℕ) → kept_bytes after m f o ≡ kept_bytes kinds m f o
-  unfolding kept_bytes
+  bytes_stay : (m : List ℕ) (f o : ℕ) → unchanging_bytes after m f o ≡ unchanging_bytes kinds m f o
+  unfolding unchanging_bytes
   bytes_stay m f o =
       ap (λ b. if b && nat_lt o 4096 && not (is_handler_byte f o) then byte_at m (4096 * f + o) else 0)
-      (same_test is_kept refl f)
+      (same_test is_unchanging refl f)
 
   pub guarded_tables : (root : ℕ) (m : List ℕ) → tables_in after root m ≡ record (tables_in kinds root m) { kinds = after }
   guarded_tables root m =
@@ -64,7 +64,7 @@ module _ (kinds : List Kind) (a : ℕ) (inside : a < length kinds) (free : kind_
     guarded_links frame =
         let none : (e : ℕ) → (is_link_level (level_of (kind_of kinds a)) && is_link_to frame e) ≡ false =
         λ e. ap (λ k. is_link_level (level_of k) && is_link_to frame e) free in
-        let last = ap one_if (none (entry_in m a 511)) in
+        let last = ap count_if (none (entry_in m a 511)) in
         let moved =
         links_moved kinds (entry_in m) (entry_in m) a Guarded sound.slot inside not_fixed (λ is. cc) (λ f i apart. refl)
         frame (λ i small. none (entry_in m a i)) (λ i small. refl) in

@@ -6,7 +6,7 @@ use Rattle.nk_bits.specs.declared.kind.Kind.{Kind}
 use Rattle.nk_bits.specs.declared.kind.Kind.TheVariants.{Fixed, Hidden}
 use Rattle.nk_bits.specs.Kinds.{kind_of, level_of}
 use Rattle.nk_bits.specs.Paging.{frame_of, is_present}
-use Rattle.page_desc.specs.FrameCounts.{IsSlotFixed, count_in, holds_leaves, holds_links, is_link_level, is_link_to, is_loose_leaf, is_slot_leaf_table, links_in, loose_in, one_if}
+use Rattle.page_desc.specs.FrameCounts.{IsSlotFixed, count_in, holds_leaves, holds_links, is_link_level, is_link_to, is_loose_leaf, is_slot_leaf_table, links_in, loose_in, count_if}
 use Rattle.page_desc.proofs.Counts.{count_changed, count_same}
 use Rattle.page_desc.proofs.SlotLeafTables.{leaves_by_kind, slot_same}
 use Rattle.page_desc.proofs.CountLaws.{both_same}
@@ -144,8 +144,8 @@ module _ (kinds : List Kind) (t u : ℕ → ℕ → ℕ) (a : ℕ) (kind : Kind)
   pub links_moved : (frame : ℕ)
       → ((i : ℕ) → i < 511 → (is_link_level (level_of (kind_of kinds a)) && is_link_to frame (t a i)) ≡ false)
       → ((i : ℕ) → i < 511 → (is_link_level (level_of kind) && is_link_to frame (u a i)) ≡ false)
-      → links_in (set kinds a kind) u frame + one_if (is_link_level (level_of (kind_of kinds a)) && is_link_to frame (t a 511))
-      ≡ links_in kinds t frame + one_if (is_link_level (level_of kind) && is_link_to frame (u a 511))
+      → links_in (set kinds a kind) u frame + count_if (is_link_level (level_of (kind_of kinds a)) && is_link_to frame (t a 511))
+      ≡ links_in kinds t frame + count_if (is_link_level (level_of kind) && is_link_to frame (u a 511))
   unfolding links_in holds_links
   links_moved frame none_before none_after =
       let size =
@@ -160,6 +160,6 @@ module _ (kinds : List Kind) (t u : ℕ → ℕ → ℕ) (a : ℕ) (kind : Kind)
             ∙ sym (ap (λ g. holds_links kinds g && is_link_to frame (t g i)) is ∙ none_before i first)
         | inr apart ↦ both_same (holds_links kinds f) _ _ _ (moved_links f apart) (λ holds. ap (is_link_to frame) (same f i apart))
       ]) in
-      let last : one_if (holds_links (set kinds a kind) a && is_link_to frame (u a 511)) ≡ one_if (is_link_level (level_of kind) && is_link_to frame (u a 511)) =
-      ap (λ b. one_if (b && is_link_to frame (u a 511))) links_after in
+      let last : count_if (holds_links (set kinds a kind) a && is_link_to frame (u a 511)) ≡ count_if (is_link_level (level_of kind) && is_link_to frame (u a 511)) =
+      ap (λ b. count_if (b && is_link_to frame (u a 511))) links_after in
       omega (arith, size, all, last)

@@ -6,7 +6,7 @@ use Rattle.nk_bits.specs.declared.kind.Kind.{Kind}
 use Rattle.nk_bits.specs.declared.kind.Kind.TheVariants.{Data, Table, Guarded}
 use Rattle.nk_bits.specs.declared.leaf.Rights.{Rights}
 use Rattle.nk_bits.specs.Kinds.{allows, kind_of, level_of}
-use Rattle.nk_bits.specs.Paging.{emptied, frame_of, is_executable, is_present, is_slot_entry, is_user, is_writable, rights_of, zeroed}
+use Rattle.nk_bits.specs.Paging.{emptied, frame_of, grants_fetches, is_present, is_slot_entry, is_user, grants_writes, rights_of, zeroed}
 use Rattle.page_desc.specs.FrameCounts.{holds_leaves, holds_links, is_slot_leaf_table, links_in, loose_in}
 use Rattle.page_desc.specs.SoundTables.{AreTables}
 use Rattle.page_desc.proofs.CountBounds.{links_none, loose_none}
@@ -52,11 +52,11 @@ module _ (kinds : List Kind) (t : ℕ → ℕ → ℕ) (a : ℕ) (tables : AreTa
   module _ (free : kind_of kinds a ≡ Data) (none : loose_in kinds t a ≡ 0) where
     leaf_plain : (f i : ℕ) → i < 512 → level_of (kind_of kinds f) ≡ 1 → is_present (t f i) ≡ true → frame_of (t f i) ≡ a
         → allows (kind_of kinds a) (rights_of (t f i)) ≡ true
-        → (not (is_writable (t f i)) && not (is_user (t f i)) && not (is_executable (t f i))) ≡ true
+        → (not (grants_writes (t f i)) && not (is_user (t f i)) && not (grants_fetches (t f i))) ≡ true
     leaf_plain f i small one present named allowed =
         let tight =
         loose_none kinds t a f i none (within f (omega (arith, one))) small (leaf_holds kinds t f one) present named in
-        grants_none (is_writable (t f i)) (is_user (t f i)) (is_executable (t f i)) tight.0 tight.1 (ap (λ k. allows k (rights_of (t f i))) (sym free) ∙ allowed)
+        grants_none (grants_writes (t f i)) (is_user (t f i)) (grants_fetches (t f i)) tight.0 tight.1 (ap (λ k. allows k (rights_of (t f i))) (sym free) ∙ allowed)
 
     no_level : (level : ℕ) → 2 ≤ level → level_of (kind_of kinds a) + 1 ≡ level → ⊥
     no_level level least below = absurd (omega (arith, least, below, ap level_of free))
@@ -80,12 +80,12 @@ module _ (kinds : List Kind) (t : ℕ → ℕ → ℕ) (a : ℕ) (tables : AreTa
   pub tables_old : 1 ≤ level_of (kind_of kinds a) → links_in kinds t a ≡ 0 → AreTables (set kinds a Data) (zeroed t a)
   tables_old low none =
       tables_moved kinds t (zeroed t a) a Data tables inside (λ f i apart. zeroed_elsewhere t a f i apart) (λ i small least most. absurd (omega (arith, least)))
-      (λ f i small one present named allowed. none_is_data (is_writable (t f i)) (is_user (t f i)) (is_executable (t f i)) (table_allows (kind_of kinds a) (rights_of (t f i)) low allowed))
+      (λ f i small one present named allowed. none_is_data (grants_writes (t f i)) (is_user (t f i)) (grants_fetches (t f i)) (table_allows (kind_of kinds a) (rights_of (t f i)) low allowed))
       (λ f i small least most present named below. absurd (links_none kinds t a f i none (within f (omega (arith, least))) small (link_holds kinds f least most) present named))
 
   -- guarded bytes become data
   pub tables_freed : kind_of kinds a ≡ Guarded → AreTables (set kinds a Data) t
   tables_freed is =
       tables_moved kinds t t a Data tables inside (λ f i apart. refl) (λ i small least most. absurd (omega (arith, least)))
-      (λ f i small one present named allowed. none_is_data (is_writable (t f i)) (is_user (t f i)) (is_executable (t f i)) (ap (λ k. allows k (rights_of (t f i))) (sym is) ∙ allowed))
+      (λ f i small one present named allowed. none_is_data (grants_writes (t f i)) (is_user (t f i)) (grants_fetches (t f i)) (ap (λ k. allows k (rights_of (t f i))) (sym is) ∙ allowed))
       (λ f i small least most present named below. absurd (omega (arith, least, below, ap level_of is)))

@@ -5,14 +5,14 @@ use Rattle.std.proofs.lemmas.Bool.{and_from, and_parts, cases_Bool, cond-false, 
 use Rattle.nk_bits.specs.declared.kind.Kind.{Kind}
 use Rattle.nk_bits.specs.EntryForms.{has_form, has_leaf_form, has_table_form}
 use Rattle.nk_bits.specs.Kinds.{allows, kind_of, level_of}
-use Rattle.nk_bits.specs.Paging.{frame_of, is_executable, is_present, is_slot_entry, is_user, is_writable, rights_of, slot_value}
+use Rattle.nk_bits.specs.Paging.{frame_of, grants_fetches, is_present, is_slot_entry, is_user, grants_writes, rights_of, slot_value}
 use Rattle.page_desc.specs.SoundTables.{AreTables, grants_all, is_lawful, is_lawful_leaf, is_lawful_link}
 use Rattle.page_desc.proofs.SoundWalk.{lawful_form, lawful_present}
 use Rattle.page_desc.proofs.TablesKept.{lawful_absent, lawful_from, lawful_slot}
 
 -- a value in a table's form grants every right
 form_grants : (e : ℕ) → has_table_form e ≡ true → grants_all e ≡ true
-unfolding has_table_form is_writable is_user is_executable
+unfolding has_table_form grants_writes is_user grants_fetches
 form_grants e form =
     let parts = and_parts (e % 64 == 39 && e / 128 % 4 == 0) (e / 2 ^ 52 % 2 ^ 12 == 0) form in
     let low : e % 64 ≡ 39 = eqb-true _ _ (and_parts (e % 64 == 39) (e / 128 % 4 == 0) parts.0).0 in

@@ -4,7 +4,7 @@ use Rattle.phys_mem.specs.Memory.{entry_in}
 use Rattle.nk_bits.specs.declared.kind.Kind.{Kind}
 use Rattle.nk_bits.specs.Kinds.{kind_of, level_of}
 use Rattle.page_desc.specs.FieldChanges.{DiffersInField, IsReadable}
-use Rattle.page_desc.specs.FrameCounts.{IsSlotFixed, holds_leaves, holds_links, is_link_to, is_loose_leaf, links_in, loose_in, may_hold_table, one_if, sum_below}
+use Rattle.page_desc.specs.FrameCounts.{IsSlotFixed, holds_leaves, holds_links, is_link_to, is_loose_leaf, links_in, loose_in, may_hold_table, count_if, sum_below}
 use Rattle.page_desc.proofs.CountLaws.{both_same, link_low, links_elsewhere, loose_elsewhere, table_holds}
 use Rattle.page_desc.proofs.Counts.{row}
 use Rattle.page_desc.proofs.FieldPasses.{directory_left, table_left}
@@ -33,20 +33,20 @@ module _ (kinds : List Kind) (frames at : ℕ) (m n : List ℕ) (all : frames �
       (slot_same (entry_in n) (entry_in m) f (directory_left kinds frames at m n all readable change))
 
   -- the entries of frame 9 that name a frame
-  pub marks_left : (f : ℕ) → sum_below 512 (λ i. one_if (is_link_to f (entry_in n 9 i))) ≡ sum_below 512 (λ i. one_if (is_link_to f (entry_in m 9 i)))
+  pub marks_left : (f : ℕ) → sum_below 512 (λ i. count_if (is_link_to f (entry_in n 9 i))) ≡ sum_below 512 (λ i. count_if (is_link_to f (entry_in m 9 i)))
   marks_left f =
-      sum_same 512 (λ i. one_if (is_link_to f (entry_in n 9 i))) (λ i. one_if (is_link_to f (entry_in m 9 i)))
-      (λ i small. ap (λ e. one_if (is_link_to f e)) (directory_left kinds frames at m n all readable change i small))
+      sum_same 512 (λ i. count_if (is_link_to f (entry_in n 9 i))) (λ i. count_if (is_link_to f (entry_in m 9 i)))
+      (λ i small. ap (λ e. count_if (is_link_to f e)) (directory_left kinds frames at m n all readable change i small))
 
   -- the entries of a frame that count
   pub loose_row : (f other : ℕ) → row 512 (holds_leaves kinds (entry_in n)) (is_loose_leaf other) (entry_in n) f ≡ row 512 (holds_leaves kinds (entry_in m)) (is_loose_leaf other) (entry_in m) f
   loose_row f other =
-      sum_same 512 _ _ (λ i small. ap one_if (both_same (holds_leaves kinds (entry_in m) f) (holds_leaves kinds (entry_in n) f) _ _ (leaves_left f)
+      sum_same 512 _ _ (λ i small. ap count_if (both_same (holds_leaves kinds (entry_in m) f) (holds_leaves kinds (entry_in n) f) _ _ (leaves_left f)
       (λ holds. ap (is_loose_leaf other) (table_left kinds frames at m n all readable change f i small (leaves_may kinds (entry_in m) f readable.slot holds)))))
 
   pub links_row : (f other : ℕ) → row 512 (holds_links kinds) (is_link_to other) (entry_in n) f ≡ row 512 (holds_links kinds) (is_link_to other) (entry_in m) f
   links_row f other =
-      sum_same 512 _ _ (λ i small. ap one_if (both_same (holds_links kinds f) (holds_links kinds f) _ _ refl
+      sum_same 512 _ _ (λ i small. ap count_if (both_same (holds_links kinds f) (holds_links kinds f) _ _ refl
       (λ holds. ap (is_link_to other) (table_left kinds frames at m n all readable change f i small (links_may kinds f holds)))))
 
   -- all that counts

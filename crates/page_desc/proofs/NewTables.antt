@@ -7,7 +7,7 @@ use Rattle.nk_bits.specs.declared.kind.Kind.{Kind}
 use Rattle.nk_bits.specs.declared.kind.Kind.TheVariants.{Data, Table, Fixed}
 use Rattle.nk_bits.specs.Kinds.{kind_of, level_of}
 use Rattle.nk_bits.specs.Paging.{emptied, frame_of, is_present, is_slot_entry, slot_value, zeroed}
-use Rattle.page_desc.specs.FrameCounts.{IsSlotFixed, is_link_level, is_link_to, is_loose_leaf, links_in, loose_in, one_if}
+use Rattle.page_desc.specs.FrameCounts.{IsSlotFixed, is_link_level, is_link_to, is_loose_leaf, links_in, loose_in, count_if}
 use Rattle.page_desc.proofs.KindChanges.{absent_zero, link_absent, loose_absent, links_moved, loose_moved}
 
 -- the frame that the kernel slot's entry names is 6
@@ -85,16 +85,16 @@ module _ (kinds : List Kind) (t : ℕ → ℕ → ℕ) (a level : ℕ) (fixed : 
       (λ i small. leaf_row level i frame (emptied t a level a i) (λ other. ap is_present (emptied_here t a level i other) ∙ absent_zero))
 
   pub links_emptied : (frame : ℕ)
-      → links_in (set kinds a (Table level)) (emptied t a level) frame ≡ links_in kinds t frame + one_if (level == 4 && frame == 6)
+      → links_in (set kinds a (Table level)) (emptied t a level) frame ≡ links_in kinds t frame + count_if (level == 4 && frame == 6)
   links_emptied frame =
       let all =
       links_moved kinds t (emptied t a level) a (Table level) fixed inside not_fixed table_apart (λ f i apart. emptied_elsewhere t a level f i apart) frame
       (λ i small. ap (λ k. is_link_level (level_of k) && is_link_to frame (t a i)) free)
       (λ i small. and_right (is_link_level level) _ (link_absent frame (emptied t a level a i) (ap is_present (emptied_here t a level i (not_below level i small)) ∙ absent_zero))) in
-      let before : one_if (is_link_level (level_of (kind_of kinds a)) && is_link_to frame (t a 511)) ≡ 0 =
-      ap (λ k. one_if (is_link_level (level_of k) && is_link_to frame (t a 511))) free in
-      let after : one_if (is_link_level level && is_link_to frame (emptied t a level a 511)) ≡ one_if (level == 4 && frame == 6) =
-      ap one_if (last_link level frame (emptied t a level a 511) most (λ four. emptied_slot t a level 511 (ap (λ l. is_slot_entry l 511) four)) (λ apart. ap is_present (emptied_here t a level 511 (not_lower level 511 apart)) ∙ absent_zero)) in
+      let before : count_if (is_link_level (level_of (kind_of kinds a)) && is_link_to frame (t a 511)) ≡ 0 =
+      ap (λ k. count_if (is_link_level (level_of k) && is_link_to frame (t a 511))) free in
+      let after : count_if (is_link_level level && is_link_to frame (emptied t a level a 511)) ≡ count_if (level == 4 && frame == 6) =
+      ap count_if (last_link level frame (emptied t a level a 511) most (λ four. emptied_slot t a level 511 (ap (λ l. is_slot_entry l 511) four)) (λ apart. ap is_present (emptied_here t a level 511 (not_lower level 511 apart)) ∙ absent_zero)) in
       omega (arith, all, before, after)
 
 -- an empty table of level 1 to 4 becomes data, with its entries 0
@@ -114,12 +114,12 @@ module _ (kinds : List Kind) (t : ℕ → ℕ → ℕ) (a : ℕ) (fixed : IsSlot
       (λ i small. refl)
 
   pub links_zeroed : (frame : ℕ)
-      → links_in (set kinds a Data) (zeroed t a) frame + one_if (level_of (kind_of kinds a) == 4 && frame == 6) ≡ links_in kinds t frame
+      → links_in (set kinds a Data) (zeroed t a) frame + count_if (level_of (kind_of kinds a) == 4 && frame == 6) ≡ links_in kinds t frame
   links_zeroed frame =
       let all =
       links_moved kinds t (zeroed t a) a Data fixed inside was_fixed data_apart (λ f i apart. zeroed_elsewhere t a f i apart) frame
       (λ i small. and_right (is_link_level (level_of (kind_of kinds a))) (is_link_to frame (t a i)) (link_absent frame (t a i) (empty i (omega (arith, small)) (not_below (level_of (kind_of kinds a)) i small))))
       (λ i small. refl) in
-      let before : one_if (is_link_level (level_of (kind_of kinds a)) && is_link_to frame (t a 511)) ≡ one_if (level_of (kind_of kinds a) == 4 && frame == 6) =
-      ap one_if (last_link (level_of (kind_of kinds a)) frame (t a 511) most slot (λ apart. empty 511 (omega arith) (not_lower (level_of (kind_of kinds a)) 511 apart))) in
+      let before : count_if (is_link_level (level_of (kind_of kinds a)) && is_link_to frame (t a 511)) ≡ count_if (level_of (kind_of kinds a) == 4 && frame == 6) =
+      ap count_if (last_link (level_of (kind_of kinds a)) frame (t a 511) most slot (λ apart. empty 511 (omega arith) (not_lower (level_of (kind_of kinds a)) 511 apart))) in
       omega (arith, all, before)

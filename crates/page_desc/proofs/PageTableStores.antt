@@ -10,7 +10,7 @@ use Rattle.nk_bits.specs.Kinds.{kind_of}
 use Rattle.phys_mem.specs.Memory.{byte_at, entry_in, stored}
 use Rattle.page_desc.specs.FrameCounts.{links_in, loose_in}
 use Rattle.page_desc.specs.FrameDescriptors.{Descriptors}
-use Rattle.page_desc.specs.PageTables.{AreDescribed, HoldsSoundTables, Tables, is_handler_byte, is_kept, is_table, is_unguarded, kept_bytes, links_of, loose_of, table_entries, tables_in}
+use Rattle.page_desc.specs.PageTables.{AreDescribed, HoldsSoundTables, Tables, is_handler_byte, is_unchanging, is_table, is_unguarded, unchanging_bytes, links_of, loose_of, table_entries, tables_in}
 use Rattle.page_desc.proofs.PageTableValues.{links_are, loose_is}
 use Rattle.page_desc.proofs.SoundWhere.{sound_where}
 
@@ -40,19 +40,19 @@ unguarded_apart kinds place f free table same =
 
 -- nor is it one that never changes
 pub unguarded_kept : (kinds : List Kind) (place f offset : ℕ) → is_unguarded kinds place ≡ true
-    → (is_kept (kind_of kinds f) && nat_lt offset 4096 && not (is_handler_byte f offset)) ≡ true
+    → (is_unchanging (kind_of kinds f) && nat_lt offset 4096 && not (is_handler_byte f offset)) ≡ true
     → place ≢ 4096 * f + offset
 unguarded_kept kinds place f offset free kept same =
-    let parts = and_parts (is_kept (kind_of kinds f) && nat_lt offset 4096) (not (is_handler_byte f offset)) kept in
-    let inside = and_parts (is_kept (kind_of kinds f)) (nat_lt offset 4096) parts.0 in
+    let parts = and_parts (is_unchanging (kind_of kinds f) && nat_lt offset 4096) (not (is_handler_byte f offset)) kept in
+    let inside = and_parts (is_unchanging (kind_of kinds f)) (nat_lt offset 4096) parts.0 in
     let small : offset < 4096 = ltb-true offset 4096 inside.1 in
     let frame : place / 4096 ≡ f = omega (arith, same, small) in
     let rest : place % 4096 ≡ offset = omega (arith, same, small) in
-    let either : (not (is_kept (kind_of kinds f)) || is_handler_byte f offset) ≡ true =
-    sym (λ j. not (is_kept (kind_of kinds (frame j))) || is_handler_byte (frame j) (rest j))
+    let either : (not (is_unchanging (kind_of kinds f)) || is_handler_byte f offset) ≡ true =
+    sym (λ j. not (is_unchanging (kind_of kinds (frame j))) || is_handler_byte (frame j) (rest j))
     ∙ (and_parts (not (is_table (kind_of kinds (place / 4096)))) _ free).1 in
-    elim (or_cases (not (is_kept (kind_of kinds f))) (is_handler_byte f offset) either) [
-      | inl other ↦ clash (is_kept (kind_of kinds f)) inside.0 other
+    elim (or_cases (not (is_unchanging (kind_of kinds f))) (is_handler_byte f offset) either) [
+      | inl other ↦ clash (is_unchanging (kind_of kinds f)) inside.0 other
       | inr handler ↦ clash (is_handler_byte f offset) handler parts.1
     ]
 
@@ -60,11 +60,11 @@ unguarded_kept kinds place f offset free kept same =
 pub unguarded_fixed : (kinds : List Kind) (place f : ℕ) → is_unguarded kinds place ≡ true → kind_of kinds f ≡ Fixed → f ≢ 2
     → place / 4096 ≢ f
 unguarded_fixed kinds place f free is apart same =
-    let either : (not (is_kept (kind_of kinds f)) || is_handler_byte f (place % 4096)) ≡ true =
-    ap (λ g. not (is_kept (kind_of kinds g)) || is_handler_byte g (place % 4096)) (sym same)
+    let either : (not (is_unchanging (kind_of kinds f)) || is_handler_byte f (place % 4096)) ≡ true =
+    ap (λ g. not (is_unchanging (kind_of kinds g)) || is_handler_byte g (place % 4096)) (sym same)
     ∙ (and_parts (not (is_table (kind_of kinds (place / 4096)))) _ free).1 in
-    elim (or_cases (not (is_kept (kind_of kinds f))) (is_handler_byte f (place % 4096)) either) [
-      | inl other ↦ clash (is_kept (kind_of kinds f)) (ap is_kept is) other
+    elim (or_cases (not (is_unchanging (kind_of kinds f))) (is_handler_byte f (place % 4096)) either) [
+      | inl other ↦ clash (is_unchanging (kind_of kinds f)) (ap is_unchanging is) other
       | inr handler ↦ apart (eqb-true f 2 (and_parts (f == 2) (nat_lt (place % 4096) 8) handler).0)
     ]
 
@@ -92,10 +92,10 @@ module _ (laws : StoreLaws) (kinds : List Kind) (m : List ℕ) (ws : List (ℕ �
       let parts = and_parts (is_table (kind_of kinds f)) (nat_lt i 512) is in
       table_stays f i (ltb-true i 512 parts.1) parts.0)
 
-  bytes_stay : (f offset : ℕ) → kept_bytes kinds (stored m ws) f offset ≡ kept_bytes kinds m f offset
-  unfolding kept_bytes
+  bytes_stay : (f offset : ℕ) → unchanging_bytes kinds (stored m ws) f offset ≡ unchanging_bytes kinds m f offset
+  unfolding unchanging_bytes
   bytes_stay f offset =
-      choice_same (is_kept (kind_of kinds f) && nat_lt offset 4096 && not (is_handler_byte f offset)) _ _ 0
+      choice_same (is_unchanging (kind_of kinds f) && nat_lt offset 4096 && not (is_handler_byte f offset)) _ _ 0
       (λ kept. laws.byte_elsewhere m ws (4096 * f + offset)
       (All-weaker (λ (w : ℕ × ℕ). is_unguarded kinds w.0 ≡ true) (λ (w : ℕ × ℕ). w.0 ≢ 4096 * f + offset)
       (λ w is. unguarded_kept kinds w.0 f offset is kept) ws free))
@@ -103,7 +103,7 @@ module _ (laws : StoreLaws) (kinds : List Kind) (m : List ℕ) (ws : List (ℕ �
   pub tables_stay : (root : ℕ) → tables_in kinds root (stored m ws) ≡ tables_in kinds root m
   tables_stay root =
       let entries : table_entries kinds (stored m ws) ≡ table_entries kinds m = λ j f i. entries_stay f i j in
-      let bytes : kept_bytes kinds (stored m ws) ≡ kept_bytes kinds m = λ j f offset. bytes_stay f offset j in
+      let bytes : unchanging_bytes kinds (stored m ws) ≡ unchanging_bytes kinds m = λ j f offset. bytes_stay f offset j in
       λ j. record { kinds = kinds; entries = entries j; fixed = bytes j; root = root }
 
   module _ (root : ℕ) (sound : HoldsSoundTables kinds root m) where

@@ -7,7 +7,7 @@ use Rattle.nk_bits.specs.declared.kind.Kind.{Kind}
 use Rattle.nk_bits.specs.declared.kind.Kind.TheVariants.{Fixed}
 use Rattle.nk_bits.specs.Kinds.{kind_of, level_of}
 use Rattle.page_desc.specs.FrameCounts.{is_link_level, links_in, loose_in}
-use Rattle.page_desc.specs.PageTables.{HoldsSoundTables, is_handler_byte, is_kept, is_table, kept_bytes, links_of, loose_of, number_by, table_entries, tables_in, value_in}
+use Rattle.page_desc.specs.PageTables.{HoldsSoundTables, is_handler_byte, is_unchanging, is_table, unchanging_bytes, links_of, loose_of, number_by, table_entries, tables_in, value_in}
 use Rattle.page_desc.proofs.CountsWhere.{holds_apart, links_where, loose_where}
 
 -- bytes that are memory's spell memory's number
@@ -25,11 +25,11 @@ number_of_bytes bytes m base (suc n) place same =
 
 -- a byte of a fixed frame but 2
 pub kept_here : (kinds : List Kind) (m : List ℕ) (f offset : ℕ) → kind_of kinds f ≡ Fixed → f ≢ 2 → offset < 4096
-    → kept_bytes kinds m f offset ≡ byte_at m (4096 * f + offset)
-unfolding kept_bytes
+    → unchanging_bytes kinds m f offset ≡ byte_at m (4096 * f + offset)
+unfolding unchanging_bytes
 kept_here kinds m f offset is apart small =
-    cond-true (is_kept (kind_of kinds f) && nat_lt offset 4096 && not (is_handler_byte f offset)) _ _
-    (and_from _ _ (and_from _ _ (ap is_kept is) (lt-ltb offset 4096 small))
+    cond-true (is_unchanging (kind_of kinds f) && nat_lt offset 4096 && not (is_handler_byte f offset)) _ _
+    (and_from _ _ (and_from _ _ (ap is_unchanging is) (lt-ltb offset 4096 small))
     (ap not (and_left (f == 2) (nat_lt offset 8) (ne_eqb f 2 apart))))
 
 pub value_of_table : (kinds : List Kind) (root : ℕ) (m : List ℕ) (f i : ℕ) → i < 512
@@ -44,7 +44,7 @@ pub value_of_fixed : (kinds : List Kind) (root : ℕ) (m : List ℕ) (f i : ℕ)
 unfolding value_in entry_in
 value_of_fixed kinds root m f i small is apart =
     cond-false (is_table (kind_of kinds f)) _ _ (ap is_table is)
-    ∙ number_of_bytes (kept_bytes kinds m f) m (4096 * f) 8 (8 * i)
+    ∙ number_of_bytes (unchanging_bytes kinds m f) m (4096 * f) 8 (8 * i)
     (λ k least below. kept_here kinds m f k is apart (omega (arith, small, below)))
 
 -- a table by its level

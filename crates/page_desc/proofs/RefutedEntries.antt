@@ -4,28 +4,28 @@ use Rattle.std.proofs.Common.{◌≡◌, ◌≢◌, ℕ, ◌/◌, ◌%◌, ◌^�
 use Rattle.std.proofs.lemmas.Bool.{and_parts, both_ways, cond-false, eqb-true, false_from_ne_true, ne_eqb, or_cases}
 use Rattle.nk_bits.specs.declared.kind.Kind.{Kind}
 use Rattle.nk_bits.specs.EntryForms.{has_leaf_form, has_table_form}
-use Rattle.nk_bits.specs.Paging.{is_large, is_present, is_writable}
+use Rattle.nk_bits.specs.Paging.{is_large, is_present, grants_writes}
 use Rattle.page_desc.specs.SoundTables.{is_lawful}
 use Rattle.page_desc.proofs.LawfulForms.{lawful_has_form}
 
 -- the bits of a value in a leaf's form
 record LeafBits (e : ℕ) : Type 0 where
   accessed : e / 8 % 8 ≡ 4
-  dirty : is_writable e ≡ true → e / 64 % 2 ≡ 1
+  dirty : grants_writes e ≡ true → e / 64 % 2 ≡ 1
   low : e / 128 % 4 ≡ 0
   high : e / 2 ^ 52 % 2 ^ 11 ≡ 0
 
 leaf_bits : (e : ℕ) → has_leaf_form e ≡ true → LeafBits e
 unfolding has_leaf_form
 leaf_bits e form =
-    let all = and_parts (is_present e && e / 8 % 8 == 4 && (not (is_writable e) || e / 64 % 2 == 1) && e / 128 % 4 == 0) (e / 2 ^ 52 % 2 ^ 11 == 0) form in
-    let lower = and_parts (is_present e && e / 8 % 8 == 4 && (not (is_writable e) || e / 64 % 2 == 1)) (e / 128 % 4 == 0) all.0 in
-    let written = and_parts (is_present e && e / 8 % 8 == 4) (not (is_writable e) || e / 64 % 2 == 1) lower.0 in
+    let all = and_parts (is_present e && e / 8 % 8 == 4 && (not (grants_writes e) || e / 64 % 2 == 1) && e / 128 % 4 == 0) (e / 2 ^ 52 % 2 ^ 11 == 0) form in
+    let lower = and_parts (is_present e && e / 8 % 8 == 4 && (not (grants_writes e) || e / 64 % 2 == 1)) (e / 128 % 4 == 0) all.0 in
+    let written = and_parts (is_present e && e / 8 % 8 == 4) (not (grants_writes e) || e / 64 % 2 == 1) lower.0 in
     let first = and_parts (is_present e) (e / 8 % 8 == 4) written.0 in
     record {
       accessed = eqb-true _ _ first.1;
-      dirty = λ writes. elim (or_cases (not (is_writable e)) (e / 64 % 2 == 1) written.1) [
-        | inl reads ↦ absurd (both_ways (not (is_writable e)) (λ j. not (writes j)) reads)
+      dirty = λ writes. elim (or_cases (not (grants_writes e)) (e / 64 % 2 == 1) written.1) [
+        | inl reads ↦ absurd (both_ways (not (grants_writes e)) (λ j. not (writes j)) reads)
         | inr dirty ↦ eqb-true _ _ dirty
       ];
       low = eqb-true _ _ lower.1;
@@ -63,7 +63,7 @@ module _ (kinds : List Kind) (i e : ℕ) (present : is_present e ≡ true) where
   a_leaf_that_is_not_accessed_is_unlawful clear = no_leaf (λ bits. absurd (omega (arith, clear, bits.accessed)))
 
   -- bit 6, D: a write would set it
-  a_writable_leaf_that_is_not_dirty_is_unlawful : is_writable e ≡ true → e / 2 ^ 6 % 2 ≡ 0
+  a_writable_leaf_that_is_not_dirty_is_unlawful : grants_writes e ≡ true → e / 2 ^ 6 % 2 ≡ 0
       → is_lawful kinds 1 i e ≡ false
   a_writable_leaf_that_is_not_dirty_is_unlawful writes clear =
       no_leaf (λ bits. absurd (omega (arith, clear, bits.dirty writes)))

@@ -3,7 +3,7 @@ use Rattle.std.proofs.Common.{◌≡◌, ℕ, ◌+◌, ◌-◌, ◌/◌, ◌<◌
 use Rattle.nk_bits.specs.Paging.{frame_of, is_present}
 use Rattle.page_desc.specs.DescriptorBytes.{HoldsDescriptors, descriptors_in, field_in, kinds_in}
 use Rattle.page_desc.specs.FieldChanges.{DiffersInField}
-use Rattle.page_desc.specs.FrameCounts.{is_link_level, is_loose, one_if}
+use Rattle.page_desc.specs.FrameCounts.{is_link_level, is_loose, count_if}
 use Rattle.page_desc.specs.FrameDescriptors.{IsReplaceable, IsReplaced}
 use Rattle.page_desc.proofs.DescriptorValues.{descriptor_count, frames_in, kinds_alike, links_within, loose_within}
 
@@ -13,10 +13,10 @@ and_assoc false b c = refl
 
 -- the test and the frame, as the code has them and as the definition has them
 as_counted : (test counts was : Bool) (frame from other : ℕ) → was ≡ (test && counts) → from ≡ frame
-    → one_if (was && from == other) ≡ one_if (test && (counts && frame == other))
+    → count_if (was && from == other) ≡ count_if (test && (counts && frame == other))
 as_counted test counts was frame from other stands named =
-    ap (λ b. one_if (b && from == other)) stands ∙ ap (λ k. one_if ((test && counts) && k == other)) named
-    ∙ ap one_if (and_assoc test counts (frame == other))
+    ap (λ b. count_if (b && from == other)) stands ∙ ap (λ k. count_if ((test && counts) && k == other)) named
+    ∙ ap count_if (and_assoc test counts (frame == other))
 
 module _ (frames : ℕ) (m : List ℕ) (held : HoldsDescriptors frames m) (level old new : ℕ)
     (lawful : IsReplaceable level old new (descriptors_in m)) where
@@ -63,7 +63,7 @@ module _ (frames : ℕ) (m : List ℕ) (held : HoldsDescriptors frames m) (level
 -- one list changed by the code's tests: field by field
 pub record IsChanged (frames at : ℕ) (was will : Bool) (from to : ℕ) (before after : List ℕ) : Type 0 where
   pub each : (other : ℕ) → other < frames
-      → field_in after at other + one_if (was && from == other) ≡ field_in before at other + one_if (will && to == other)
+      → field_in after at other + count_if (was && from == other) ≡ field_in before at other + count_if (will && to == other)
   pub differs : DiffersInField frames at before after
 
 -- the tests and frames of an entry that was and of one that will be
@@ -76,7 +76,7 @@ pub record AreTests (test was_one will_one was will : Bool) (old new from to : �
 change_is : (frames at : ℕ) (test was_one will_one was will : Bool) (old new from to : ℕ) (before after : List ℕ)
     → AreTests test was_one will_one was will old new from to → IsChanged frames at was will from to before after
     → (other : ℕ) → other < frames
-    → field_in after at other + one_if (test && (was_one && frame_of old == other)) ≡ field_in before at other + one_if (test && (will_one && frame_of new == other))
+    → field_in after at other + count_if (test && (was_one && frame_of old == other)) ≡ field_in before at other + count_if (test && (will_one && frame_of new == other))
 change_is frames at test was_one will_one was will old new from to before after tests changed other inside =
     omega (
       arith,

@@ -12,7 +12,7 @@ use Rattle.nk_bits.specs.Kinds.{is_hidden, kind_of}
 use Rattle.nk_bits.specs.Paging.{walk}
 use Rattle.page_desc.specs.DescriptorBytes.{HoldsTables, descriptors_in, kinds_in}
 use Rattle.page_desc.specs.FrameDescriptors.{Descriptors}
-use Rattle.page_desc.specs.PageTables.{AreDescribed, HoldsSoundTables, Tables, is_handler_byte, is_kept, is_table, is_unguarded, kept_bytes, table_entries, tables_in, value_in}
+use Rattle.page_desc.specs.PageTables.{AreDescribed, HoldsSoundTables, Tables, is_handler_byte, is_unchanging, is_table, is_unguarded, unchanging_bytes, table_entries, tables_in, value_in}
 use Rattle.page_desc.proofs.DescriptorValues.{descriptor_count, frames_in}
 use Rattle.page_desc.proofs.DescriptorsKept.{descriptors_held, descriptors_same}
 use Rattle.page_desc.proofs.PageTableStores.{StoreLaws, choice_same, described_stays}
@@ -29,7 +29,7 @@ table_shown Trap is = refl
 table_shown Guarded is = refl
 table_shown Hidden is = sym is
 
-kept_shown : (kind : Kind) → is_kept kind ≡ true → is_hidden kind ≡ false
+kept_shown : (kind : Kind) → is_unchanging kind ≡ true → is_hidden kind ≡ false
 kept_shown Data is = refl
 kept_shown Code is = refl
 kept_shown (Table level) is = refl
@@ -69,13 +69,13 @@ module _ (kinds : List Kind) (l m : List ℕ) (alike : AreAlike kinds l m) where
       let parts = and_parts (is_table (kind_of kinds f)) (nat_lt i 512) is in
       table_same f i (ltb-true i 512 parts.1) parts.0)
 
-  bytes_same : (f offset : ℕ) → kept_bytes kinds l f offset ≡ kept_bytes kinds m f offset
-  unfolding kept_bytes
+  bytes_same : (f offset : ℕ) → unchanging_bytes kinds l f offset ≡ unchanging_bytes kinds m f offset
+  unfolding unchanging_bytes
   bytes_same f offset =
-      choice_same (is_kept (kind_of kinds f) && nat_lt offset 4096 && not (is_handler_byte f offset)) _ _ 0
+      choice_same (is_unchanging (kind_of kinds f) && nat_lt offset 4096 && not (is_handler_byte f offset)) _ _ 0
       (λ kept.
-      let parts = and_parts (is_kept (kind_of kinds f) && nat_lt offset 4096) (not (is_handler_byte f offset)) kept in
-      let inside = and_parts (is_kept (kind_of kinds f)) (nat_lt offset 4096) parts.0 in
+      let parts = and_parts (is_unchanging (kind_of kinds f) && nat_lt offset 4096) (not (is_handler_byte f offset)) kept in
+      let inside = and_parts (is_unchanging (kind_of kinds f)) (nat_lt offset 4096) parts.0 in
       let small : offset < 4096 = ltb-true offset 4096 inside.1 in
       let frame : (4096 * f + offset) / 4096 ≡ f = omega (arith, small) in
       alike.bytes (4096 * f + offset) (ap (λ g. is_hidden (kind_of kinds g)) frame ∙ kept_shown (kind_of kinds f) inside.0))
@@ -83,7 +83,7 @@ module _ (kinds : List Kind) (l m : List ℕ) (alike : AreAlike kinds l m) where
   pub tables_same : (root : ℕ) → tables_in kinds root l ≡ tables_in kinds root m
   tables_same root =
       let entries : table_entries kinds l ≡ table_entries kinds m = λ j f i. entries_same f i j in
-      let bytes : kept_bytes kinds l ≡ kept_bytes kinds m = λ j f offset. bytes_same f offset j in
+      let bytes : unchanging_bytes kinds l ≡ unchanging_bytes kinds m = λ j f offset. bytes_same f offset j in
       λ j. record { kinds = kinds; entries = entries j; fixed = bytes j; root = root }
 
   module _ (root : ℕ) (sound : HoldsSoundTables kinds root m) where

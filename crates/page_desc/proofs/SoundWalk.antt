@@ -10,7 +10,7 @@ use Rattle.nk_bits.specs.declared.leaf.Rights.{Rights}
 use Rattle.nk_bits.specs.declared.leaf.Upper.{Upper}
 use Rattle.nk_bits.specs.EntryForms.{has_form}
 use Rattle.nk_bits.specs.Kinds.{allows, kind_of, level_of}
-use Rattle.nk_bits.specs.Paging.{all_rights, common, frame_of, has_all, is_canonical_page, is_executable, is_missing, is_present, is_slot_entry, is_slot_page, is_user, is_writable, page_index, rights_of, slot_value, upper_from, upper_walk, walk, walk_below, walk_from}
+use Rattle.nk_bits.specs.Paging.{all_rights, common, frame_of, has_all, is_canonical_page, grants_fetches, is_missing, is_present, is_slot_entry, is_slot_page, is_user, grants_writes, page_index, rights_of, slot_value, upper_from, upper_walk, walk, walk_below, walk_from}
 use Rattle.page_desc.specs.SoundTables.{AreTables, grants_all, is_lawful, is_lawful_leaf, is_lawful_link}
 
 -- a canonical page outside the kernel slot has another entry than the slot's
@@ -52,8 +52,8 @@ lawful_present kinds level i e lawful other present = (lawful_parts kinds level 
 -- the rights that a link leaves
 grants_common : (e : ℕ) → grants_all e ≡ true → common all_rights (rights_of e) ≡ all_rights
 grants_common e grants =
-    let parts = and_parts (is_writable e && is_user e) (is_executable e) grants in
-    let first = and_parts (is_writable e) (is_user e) parts.0 in
+    let parts = and_parts (grants_writes e && is_user e) (grants_fetches e) grants in
+    let first = and_parts (grants_writes e) (is_user e) parts.0 in
     λ j. record { can_write = first.0 j; user = first.1 j; exec = parts.1 j }
 
 pub present_found : (frames level e : ℕ) → is_missing frames level e ≡ false → is_present e ≡ true

@@ -6,7 +6,7 @@ use Rattle.std.proofs.lemmas.Bool.{and_from, and_right, both_ways, cond-false, c
 use Rattle.nk_bits.specs.declared.kind.Kind.TheVariants.{Data, Table}
 use Rattle.nk_bits.specs.Kinds.{kind_of, level_of}
 use Rattle.nk_bits.specs.Paging.{emptied, is_present, is_slot_entry, slot_value, zeroed}
-use Rattle.page_desc.specs.FrameCounts.{IsSlotFixed, is_link_level, is_link_to, is_loose_leaf, links_in, loose_in, one_if}
+use Rattle.page_desc.specs.FrameCounts.{IsSlotFixed, is_link_level, is_link_to, is_loose_leaf, links_in, loose_in, count_if}
 use Rattle.page_desc.specs.FrameDescriptors.{AreCounted, Descriptors, IsReplaced, last_value}
 use Rattle.page_desc.proofs.KindChanges.{absent_zero, link_absent, loose_absent}
 use Rattle.page_desc.proofs.NewTables.{last_link, leaf_row, links_emptied, links_zeroed, loose_emptied, loose_zeroed, not_lower}
@@ -32,10 +32,10 @@ counted_new_table before after t a level counted fixed inside free most change =
     record {
       loose = λ frame within.
           let same = ap (λ kinds. loose_in kinds (emptied t a level) frame) change.kinds in
-          let old : one_if (level == 1 && is_loose_leaf frame 0) ≡ 0 =
-          ap one_if (and_right (level == 1) _ (loose_absent frame 0 absent_zero)) in
-          let new : one_if (level == 1 && is_loose_leaf frame (last_value level)) ≡ 0 =
-          ap one_if (last_leaf level frame) in
+          let old : count_if (level == 1 && is_loose_leaf frame 0) ≡ 0 =
+          ap count_if (and_right (level == 1) _ (loose_absent frame 0 absent_zero)) in
+          let new : count_if (level == 1 && is_loose_leaf frame (last_value level)) ≡ 0 =
+          ap count_if (last_leaf level frame) in
           omega (
             arith,
             same,
@@ -47,10 +47,10 @@ counted_new_table before after t a level counted fixed inside free most change =
           );
       links = λ frame within.
           let same = ap (λ kinds. links_in kinds (emptied t a level) frame) change.kinds in
-          let old : one_if (is_link_level level && is_link_to frame 0) ≡ 0 =
-          ap one_if (and_right (is_link_level level) _ (link_absent frame 0 absent_zero)) in
-          let new : one_if (is_link_level level && is_link_to frame (last_value level)) ≡ one_if (level == 4 && frame == 6) =
-          ap one_if (last_link level frame (last_value level) most (last_slot level) (last_absent level)) in
+          let old : count_if (is_link_level level && is_link_to frame 0) ≡ 0 =
+          ap count_if (and_right (is_link_level level) _ (link_absent frame 0 absent_zero)) in
+          let new : count_if (is_link_level level && is_link_to frame (last_value level)) ≡ count_if (level == 4 && frame == 6) =
+          ap count_if (last_link level frame (last_value level) most (last_slot level) (last_absent level)) in
           omega (
             arith,
             same,
@@ -75,10 +75,10 @@ counted_old_table before after t a counted fixed inside least most empty slot ch
     record {
       loose = λ frame within.
           let same = ap (λ kinds. loose_in (set kinds a Data) (zeroed t a) frame) change.kinds in
-          let old : one_if (level == 1 && is_loose_leaf frame (t a 511)) ≡ 0 =
-          ap one_if (leaf_row level 511 frame (t a 511) (empty 511 (omega arith))) in
-          let new : one_if (level == 1 && is_loose_leaf frame 0) ≡ 0 =
-          ap one_if (and_right (level == 1) _ (loose_absent frame 0 absent_zero)) in
+          let old : count_if (level == 1 && is_loose_leaf frame (t a 511)) ≡ 0 =
+          ap count_if (leaf_row level 511 frame (t a 511) (empty 511 (omega arith))) in
+          let new : count_if (level == 1 && is_loose_leaf frame 0) ≡ 0 =
+          ap count_if (and_right (level == 1) _ (loose_absent frame 0 absent_zero)) in
           omega (
             arith,
             same,
@@ -90,10 +90,10 @@ counted_old_table before after t a counted fixed inside least most empty slot ch
           );
       links = λ frame within.
           let same = ap (λ kinds. links_in (set kinds a Data) (zeroed t a) frame) change.kinds in
-          let old : one_if (is_link_level level && is_link_to frame (t a 511)) ≡ one_if (level == 4 && frame == 6) =
-          ap one_if (last_link level frame (t a 511) most slot (λ other. empty 511 (omega arith) (not_lower level 511 other))) in
-          let new : one_if (is_link_level level && is_link_to frame 0) ≡ 0 =
-          ap one_if (and_right (is_link_level level) _ (link_absent frame 0 absent_zero)) in
+          let old : count_if (is_link_level level && is_link_to frame (t a 511)) ≡ count_if (level == 4 && frame == 6) =
+          ap count_if (last_link level frame (t a 511) most slot (λ other. empty 511 (omega arith) (not_lower level 511 other))) in
+          let new : count_if (is_link_level level && is_link_to frame 0) ≡ 0 =
+          ap count_if (and_right (is_link_level level) _ (link_absent frame 0 absent_zero)) in
           omega (
             arith,
             same,

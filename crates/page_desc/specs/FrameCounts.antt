@@ -7,7 +7,7 @@ use Rattle.std.specs.List.{list_any, range_with_len}
 use Rattle.nk_bits.specs.declared.kind.Kind.{Kind}
 use Rattle.nk_bits.specs.declared.kind.Kind.TheVariants.{Data, Code, Table, Fixed, Trap, Guarded, Hidden}
 use Rattle.nk_bits.specs.Kinds.{kind_of, level_of}
-use Rattle.nk_bits.specs.Paging.{frame_of, is_present, is_user, is_writable}
+use Rattle.nk_bits.specs.Paging.{frame_of, is_present, is_user, grants_writes}
 
 -- the sum of g over the numbers below n
 unfoldable pub sum_below : ℕ → (ℕ → ℕ) → ℕ
@@ -15,13 +15,13 @@ sum_below zero g = 0
 sum_below (suc n) g = sum_below n g + g n
 
 -- 1 where the test passes
-abbrev pub one_if : Bool → ℕ
-one_if b = if b then 1 else 0
+abbrev pub count_if : Bool → ℕ
+count_if b = if b then 1 else 0
 
 -- how many entries pass the test, among the first so many of each frame that is counted, over the first so many frames
 unfoldable pub count_in : ℕ → ℕ → (ℕ → Bool) → (ℕ → Bool) → (ℕ → ℕ → ℕ) → ℕ
 count_in frames entries is_counted test t =
-    sum_below frames (λ f. sum_below entries (λ i. one_if (is_counted f && test (t f i))))
+    sum_below frames (λ f. sum_below entries (λ i. count_if (is_counted f && test (t f i))))
 
 -- the entry is present and names this frame
 abbrev pub is_link_to : ℕ → ℕ → Bool
@@ -29,7 +29,7 @@ is_link_to frame e = is_present e && frame_of e == frame
 
 -- a leaf is loose where it is present, and writable or user
 abbrev pub is_loose : ℕ → Bool
-is_loose e = is_present e && (is_writable e || is_user e)
+is_loose e = is_present e && (grants_writes e || is_user e)
 
 -- the entry is a loose leaf of this frame
 abbrev pub is_loose_leaf : ℕ → ℕ → Bool

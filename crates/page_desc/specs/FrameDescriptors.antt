@@ -3,7 +3,7 @@
 use Rattle.std.specs.Prelude.{◌≡◌, ◌<◌, ◌≤◌, ℕ, ◌+◌, ◌-◌, ◌^◌, true, ◌&&◌, ◌==◌, if◌then◌else◌, List, length, slice_index}
 use Rattle.nk_bits.specs.declared.kind.Kind.{Kind}
 use Rattle.nk_bits.specs.Paging.{frame_of, is_present, slot_value}
-use Rattle.page_desc.specs.FrameCounts.{is_link_level, is_link_to, is_loose, is_loose_leaf, links_in, loose_in, one_if}
+use Rattle.page_desc.specs.FrameCounts.{is_link_level, is_link_to, is_loose, is_loose_leaf, links_in, loose_in, count_if}
 
 -- by frame: its kind, how many loose leaves it has, and how many links name it
 pub record Descriptors : Type 0 where
@@ -32,11 +32,11 @@ pub record IsReplaceable (level old new : ℕ) (d : Descriptors) : Type 0 where
 pub record IsReplaced (level old new : ℕ) (before after : Descriptors) : Type 0 where
   pub kinds : after.kinds ≡ before.kinds
   pub loose : (frame : ℕ) → frame < length before.kinds
-      → slice_index after.loose frame + one_if (level == 1 && is_loose_leaf frame old)
-      ≡ slice_index before.loose frame + one_if (level == 1 && is_loose_leaf frame new)
+      → slice_index after.loose frame + count_if (level == 1 && is_loose_leaf frame old)
+      ≡ slice_index before.loose frame + count_if (level == 1 && is_loose_leaf frame new)
   pub links : (frame : ℕ) → frame < length before.kinds
-      → slice_index after.links frame + one_if (is_link_level level && is_link_to frame old)
-      ≡ slice_index before.links frame + one_if (is_link_level level && is_link_to frame new)
+      → slice_index after.links frame + count_if (is_link_level level && is_link_to frame old)
+      ≡ slice_index before.links frame + count_if (is_link_level level && is_link_to frame new)
 
 -- what the last entry of a new table of this level holds: the kernel slot's value at level 4, else 0
 abbrev pub last_value : ℕ → ℕ

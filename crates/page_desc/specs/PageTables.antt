@@ -23,14 +23,14 @@ abbrev pub is_table : Kind → Bool
 is_table kind = nat_lt 0 (level_of kind)
 
 -- the bytes of the frame never change: they are fixed, or code of the image
-abbrev pub is_kept : Kind → Bool
-is_kept Data = false
-is_kept Code = true
-is_kept (Table level) = false
-is_kept Fixed = true
-is_kept Trap = false
-is_kept Guarded = false
-is_kept Hidden = false
+abbrev pub is_unchanging : Kind → Bool
+is_unchanging Data = false
+is_unchanging Code = true
+is_unchanging (Table level) = false
+is_unchanging Fixed = true
+is_unchanging Trap = false
+is_unchanging Guarded = false
+is_unchanging Hidden = false
 
 -- the handler slot: the first eight bytes of frame 2
 abbrev pub is_handler_byte : ℕ → ℕ → Bool
@@ -42,9 +42,9 @@ unfoldable pub table_entries : List Kind → List ℕ → ℕ → ℕ → ℕ
 table_entries kinds m f i = if is_table (kind_of kinds f) && nat_lt i 512 then entry_in m f i else 0
 
 -- the bytes that never change; 0 for every other frame, past a frame's 4,096 bytes, and in the handler slot
-unfoldable pub kept_bytes : List Kind → List ℕ → ℕ → ℕ → ℕ
-kept_bytes kinds m f offset =
-    if is_kept (kind_of kinds f) && nat_lt offset 4096 && not (is_handler_byte f offset) then byte_at m (4096 * f + offset)
+unfoldable pub unchanging_bytes : List Kind → List ℕ → ℕ → ℕ → ℕ
+unchanging_bytes kinds m f offset =
+    if is_unchanging (kind_of kinds f) && nat_lt offset 4096 && not (is_handler_byte f offset) then byte_at m (4096 * f + offset)
     else 0
 
 -- what kinds, root and memory stand for
@@ -52,7 +52,7 @@ abbrev pub tables_in : List Kind → ℕ → List ℕ → Tables
 tables_in kinds root m = record {
   kinds = kinds;
   entries = table_entries kinds m;
-  fixed = kept_bytes kinds m;
+  fixed = unchanging_bytes kinds m;
   root = root;
 }
 
@@ -76,7 +76,7 @@ links_of t frame = links_in t.kinds (value_in t) frame
 abbrev pub is_unguarded : List Kind → ℕ → Bool
 is_unguarded kinds place =
     let kind = kind_of kinds (place / 4096) in
-    not (is_table kind) && (not (is_kept kind) || is_handler_byte (place / 4096) (place % 4096))
+    not (is_table kind) && (not (is_unchanging kind) || is_handler_byte (place / 4096) (place % 4096))
 
 -- memory holds sound tables under this root: there is a kind for each frame, no table is of a level above 4, every entry
 -- of every table is lawful, linked or not, the root is of level 4, and the frames of the kernel slot's own tables and of

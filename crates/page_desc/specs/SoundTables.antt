@@ -4,11 +4,11 @@ use Rattle.std.specs.Prelude.{◌≡◌, ◌<◌, ◌≤◌, ℕ, ◌+◌, Bool,
 use Rattle.nk_bits.specs.declared.kind.Kind.{Kind}
 use Rattle.nk_bits.specs.EntryForms.{has_form}
 use Rattle.nk_bits.specs.Kinds.{allows, kind_of, level_of}
-use Rattle.nk_bits.specs.Paging.{frame_of, is_executable, is_present, is_slot_entry, is_user, is_writable, rights_of, slot_value}
+use Rattle.nk_bits.specs.Paging.{frame_of, grants_fetches, is_present, is_slot_entry, is_user, grants_writes, rights_of, slot_value}
 
 -- the entry grants every right
 abbrev pub grants_all : ℕ → Bool
-grants_all e = is_writable e && is_user e && is_executable e
+grants_all e = grants_writes e && is_user e && grants_fetches e
 
 -- the entry names a frame that holds a table of the level below this one, and grants every right
 abbrev pub is_lawful_link : List Kind → ℕ → ℕ → Bool

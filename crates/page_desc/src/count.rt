@@ -3,7 +3,7 @@
 ghost use Rattle.std.specs.Prelude.{◌≡◌, ◌<◌, ◌≤◌, ℕ, ◌+◌, ◌-◌, ◌*◌, ◌^◌, true, ◌&&◌, ◌==◌, length};
 ghost use Rattle.page_desc.specs.DescriptorBytes.{field_in};
 ghost use Rattle.page_desc.specs.FieldChanges.{DiffersInField};
-ghost use Rattle.page_desc.specs.FrameCounts.{is_link_level, is_loose, one_if};
+ghost use Rattle.page_desc.specs.FrameCounts.{is_link_level, is_loose, count_if};
 
 use crate::fields::{field, put};
 use nk_bits::Entry;
@@ -30,7 +30,7 @@ pub fn raise(mem: &mut PhysMem, at: u32, frames: u32, stands: bool, frame: u64)
     requires at { at ≤ 12 }
     requires room { stands ≡ true → frame < frames → field_in mem.old at frame < 2 ^ 32 - 1 }
     ensures each { (other : ℕ) → other < frames
-        → field_in mem.new at other ≡ field_in mem.old at other + one_if (stands && frame == other) }
+        → field_in mem.new at other ≡ field_in mem.old at other + count_if (stands && frame == other) }
     ensures differs { DiffersInField frames at mem.old mem.new }
 {
     if stands && frame < u64::from(frames) {
@@ -45,7 +45,7 @@ pub fn lower(mem: &mut PhysMem, at: u32, frames: u32, stands: bool, frame: u64)
     requires at { at ≤ 12 }
     requires counted { stands ≡ true → frame < frames → 1 ≤ field_in mem.old at frame }
     ensures each { (other : ℕ) → other < frames
-        → field_in mem.new at other + one_if (stands && frame == other) ≡ field_in mem.old at other }
+        → field_in mem.new at other + count_if (stands && frame == other) ≡ field_in mem.old at other }
     ensures differs { DiffersInField frames at mem.old mem.new }
 {
     if stands && frame < u64::from(frames) {
@@ -61,7 +61,7 @@ pub fn change(mem: &mut PhysMem, at: u32, frames: u32, was: bool, from: u64, is:
     requires counted { was ≡ true → from < frames → 1 ≤ field_in mem.old at from }
     requires room { is ≡ true → to < frames → field_in mem.old at to < 2 ^ 32 - 1 }
     ensures each { (other : ℕ) → other < frames
-        → field_in mem.new at other + one_if (was && from == other) ≡ field_in mem.old at other + one_if (is && to == other) }
+        → field_in mem.new at other + count_if (was && from == other) ≡ field_in mem.old at other + count_if (is && to == other) }
     ensures differs { DiffersInField frames at mem.old mem.new }
 {
     lower(mem, at, frames, was, from);

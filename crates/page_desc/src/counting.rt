@@ -8,7 +8,7 @@ ghost use Rattle.nk_bits.specs.Kinds.{kind_of, level_of};
 ghost use Rattle.nk_bits.specs.Paging.{is_present};
 ghost use Rattle.page_desc.specs.DescriptorBytes.{DiffersInDescriptors, field_in, kind_by, word_of};
 ghost use Rattle.page_desc.specs.FieldChanges.{DiffersInField, IsReadable};
-ghost use Rattle.page_desc.specs.FrameCounts.{holds_leaves, holds_links, is_link_level, is_link_to, is_loose, is_loose_leaf, is_slot_leaf_table, links_in, loose_in, one_if, sum_below};
+ghost use Rattle.page_desc.specs.FrameCounts.{holds_leaves, holds_links, is_link_level, is_link_to, is_loose, is_loose_leaf, is_slot_leaf_table, links_in, loose_in, count_if, sum_below};
 
 use crate::count::{is_link_level, is_loose, raise};
 use crate::fields::{KIND, LINKS, LOOSE, field, put, word_of};
@@ -59,7 +59,7 @@ fn add_leaves(mem: &mut PhysMem, count: u32, frame: u32)
     requires apart { is_book_frame count frame ≡ false }
     requires room { (other : ℕ) → other < count → field_in mem.old 4 other ≤ 2 ^ 31 }
     ensures each { (other : ℕ) → other < count → field_in mem.new 4 other
-        ≡ field_in mem.old 4 other + sum_below 512 (λ i. one_if (is_loose_leaf other (entry_in mem.old frame i))) }
+        ≡ field_in mem.old 4 other + sum_below 512 (λ i. count_if (is_loose_leaf other (entry_in mem.old frame i))) }
     ensures differs { DiffersInField count 4 mem.old mem.new }
 {
     for index in 0..ENTRIES {
@@ -75,7 +75,7 @@ fn add_links(mem: &mut PhysMem, count: u32, frame: u32)
     requires apart { is_book_frame count frame ≡ false }
     requires room { (other : ℕ) → other < count → field_in mem.old 8 other ≤ 2 ^ 31 }
     ensures each { (other : ℕ) → other < count → field_in mem.new 8 other
-        ≡ field_in mem.old 8 other + sum_below 512 (λ i. one_if (is_link_to other (entry_in mem.old frame i))) }
+        ≡ field_in mem.old 8 other + sum_below 512 (λ i. count_if (is_link_to other (entry_in mem.old frame i))) }
     ensures differs { DiffersInField count 8 mem.old mem.new }
 {
     for index in 0..ENTRIES {
@@ -96,10 +96,10 @@ fn count_loose_in(mem: &mut PhysMem, count: u32, kinds: &[Kind], frame: u32)
     requires count { count ≡ length kinds.now }
     requires frame { frame < count }
     requires readable { IsReadable kinds.now mem.old }
-    requires marked { field_in mem.old 8 frame ≡ sum_below 512 (λ i. one_if (is_link_to frame (entry_in mem.old 9 i))) }
+    requires marked { field_in mem.old 8 frame ≡ sum_below 512 (λ i. count_if (is_link_to frame (entry_in mem.old 9 i))) }
     requires room { (other : ℕ) → other < count → field_in mem.old 4 other ≤ 2 ^ 31 }
     ensures each { (other : ℕ) → other < count → field_in mem.new 4 other ≡ field_in mem.old 4 other
-        + sum_below 512 (λ i. one_if (holds_leaves kinds.now (entry_in mem.old) frame && is_loose_leaf other (entry_in mem.old frame i))) }
+        + sum_below 512 (λ i. count_if (holds_leaves kinds.now (entry_in mem.old) frame && is_loose_leaf other (entry_in mem.old frame i))) }
     ensures differs { DiffersInField count 4 mem.old mem.new }
 {
     let mark = field(mem, LINKS, frame);
@@ -115,7 +115,7 @@ fn count_links_in(mem: &mut PhysMem, count: u32, kinds: &[Kind], frame: u32)
     requires readable { IsReadable kinds.now mem.old }
     requires room { (other : ℕ) → other < count → field_in mem.old 8 other ≤ 2 ^ 31 }
     ensures each { (other : ℕ) → other < count → field_in mem.new 8 other ≡ field_in mem.old 8 other
-        + sum_below 512 (λ i. one_if (holds_links kinds.now frame && is_link_to other (entry_in mem.old frame i))) }
+        + sum_below 512 (λ i. count_if (holds_links kinds.now frame && is_link_to other (entry_in mem.old frame i))) }
     ensures differs { DiffersInField count 8 mem.old mem.new }
 {
     if is_link_level(level_of(kind_at(kinds, frame))) {
@@ -129,7 +129,7 @@ fn count_loose(mem: &mut PhysMem, count: u32, kinds: &[Kind])
     requires most { count ≤ 65536 }
     requires readable { IsReadable kinds.now mem.old }
     requires marked { (frame : ℕ) → frame < count
-        → field_in mem.old 8 frame ≡ sum_below 512 (λ i. one_if (is_link_to frame (entry_in mem.old 9 i))) }
+        → field_in mem.old 8 frame ≡ sum_below 512 (λ i. count_if (is_link_to frame (entry_in mem.old 9 i))) }
     requires zero { (other : ℕ) → other < count → field_in mem.old 4 other ≡ 0 }
     ensures each { (other : ℕ) → other < count → field_in mem.new 4 other ≡ loose_in kinds.now (entry_in mem.old) other }
     ensures differs { DiffersInField count 4 mem.old mem.new }

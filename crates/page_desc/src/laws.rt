@@ -9,8 +9,8 @@ ghost use Rattle.nk_bits.specs.declared.leaf.Leaf.{Leaf};
 ghost use Rattle.nk_bits.specs.declared.leaf.Upper.{Upper};
 ghost use Rattle.nk_bits.specs.EntryForms.{has_form, has_leaf_form, has_table_form};
 ghost use Rattle.nk_bits.specs.Kinds.{allows, kind_of, level_of};
-ghost use Rattle.nk_bits.specs.Paging.{emptied, frame_of, has_all, is_canonical_page, is_present, is_slot_entry, is_slot_page, is_user, is_writable, replaced, rights_of, slot_value, upper_walk, walk, walk_below, zeroed};
-ghost use Rattle.page_desc.specs.FrameCounts.{IsSlotFixed, holds_leaves, holds_links, is_link_level, is_link_to, is_loose_leaf, links_in, loose_in, may_hold_table, one_if};
+ghost use Rattle.nk_bits.specs.Paging.{emptied, frame_of, has_all, is_canonical_page, is_present, is_slot_entry, is_slot_page, is_user, grants_writes, replaced, rights_of, slot_value, upper_walk, walk, walk_below, zeroed};
+ghost use Rattle.page_desc.specs.FrameCounts.{IsSlotFixed, holds_leaves, holds_links, is_link_level, is_link_to, is_loose_leaf, links_in, loose_in, may_hold_table, count_if};
 ghost use Rattle.page_desc.specs.FrameDescriptors.{AreCounted, Descriptors, IsReplaceable, IsReplaced, last_value};
 ghost use Rattle.page_desc.specs.PageTables.{AreDescribed, HoldsSoundTables, is_table, is_unguarded, links_of, loose_of, tables_in, value_in};
 ghost use Rattle.page_desc.specs.SoundTables.{AreTables, grants_all, is_lawful};
@@ -24,12 +24,12 @@ use phys_mem::{frame_law, memory_law};
 pub fn count_law()
     ensures loose_replaced { (kinds : List Kind) (t : ℕ → ℕ → ℕ) (a b c frame : ℕ) → IsSlotFixed kinds t
         → 1 ≤ level_of (kind_of kinds a) → b < 512
-        → loose_in kinds (replaced t a b c) frame + one_if (level_of (kind_of kinds a) == 1 && is_loose_leaf frame (t a b))
-        ≡ loose_in kinds t frame + one_if (level_of (kind_of kinds a) == 1 && is_loose_leaf frame c) }
+        → loose_in kinds (replaced t a b c) frame + count_if (level_of (kind_of kinds a) == 1 && is_loose_leaf frame (t a b))
+        ≡ loose_in kinds t frame + count_if (level_of (kind_of kinds a) == 1 && is_loose_leaf frame c) }
     ensures links_replaced { (kinds : List Kind) (t : ℕ → ℕ → ℕ) (a b c frame : ℕ) → IsSlotFixed kinds t
         → 1 ≤ level_of (kind_of kinds a) → b < 512
-        → links_in kinds (replaced t a b c) frame + one_if (is_link_level (level_of (kind_of kinds a)) && is_link_to frame (t a b))
-        ≡ links_in kinds t frame + one_if (is_link_level (level_of (kind_of kinds a)) && is_link_to frame c) }
+        → links_in kinds (replaced t a b c) frame + count_if (is_link_level (level_of (kind_of kinds a)) && is_link_to frame (t a b))
+        ≡ links_in kinds t frame + count_if (is_link_level (level_of (kind_of kinds a)) && is_link_to frame c) }
     ensures elsewhere { (kinds : List Kind) (t u : ℕ → ℕ → ℕ) (frame : ℕ) → IsSlotFixed kinds t
         → ((f i : ℕ) → i < 512 → may_hold_table (kind_of kinds f) ≡ true → u f i ≡ t f i)
         → (loose_in kinds u frame ≡ loose_in kinds t frame) × (links_in kinds u frame ≡ links_in kinds t frame) }
@@ -41,17 +41,17 @@ pub fn count_law()
         → kind_of kinds a ≡ Data → level ≤ 4
         → (loose_in (slice_set kinds a (Table level)) (emptied t a level) frame ≡ loose_in kinds t frame)
         × (links_in (slice_set kinds a (Table level)) (emptied t a level) frame
-        ≡ links_in kinds t frame + one_if (level == 4 && frame == 6)) }
+        ≡ links_in kinds t frame + count_if (level == 4 && frame == 6)) }
     ensures old_table { (kinds : List Kind) (t : ℕ → ℕ → ℕ) (a frame : ℕ) → IsSlotFixed kinds t
         → 1 ≤ level_of (kind_of kinds a) → level_of (kind_of kinds a) ≤ 4
         → ((i : ℕ) → i < 512 → is_slot_entry (level_of (kind_of kinds a)) i ≡ false → is_present (t a i) ≡ false)
         → (level_of (kind_of kinds a) ≡ 4 → t a 511 ≡ slot_value)
         → (loose_in (slice_set kinds a Data) (zeroed t a) frame ≡ loose_in kinds t frame)
-        × (links_in (slice_set kinds a Data) (zeroed t a) frame + one_if (level_of (kind_of kinds a) == 4 && frame == 6)
+        × (links_in (slice_set kinds a Data) (zeroed t a) frame + count_if (level_of (kind_of kinds a) == 4 && frame == 6)
         ≡ links_in kinds t frame) }
     ensures no_loose_leaf { (kinds : List Kind) (t : ℕ → ℕ → ℕ) (frame f i : ℕ) → loose_in kinds t frame ≡ 0
         → f < length kinds → i < 512 → holds_leaves kinds t f ≡ true → is_present (t f i) ≡ true → frame_of (t f i) ≡ frame
-        → (is_writable (t f i) ≡ false) × (is_user (t f i) ≡ false) }
+        → (grants_writes (t f i) ≡ false) × (is_user (t f i) ≡ false) }
     ensures no_link { (kinds : List Kind) (t : ℕ → ℕ → ℕ) (frame f i : ℕ) → links_in kinds t frame ≡ 0
         → f < length kinds → i < 512 → holds_links kinds f ≡ true → is_present (t f i) ≡ true → frame_of (t f i) ≢ frame }
     ensures most { (kinds : List Kind) (t : ℕ → ℕ → ℕ) (frame : ℕ)

@@ -9,20 +9,20 @@ use Rattle.nk_bits.specs.Translations.{Translations}
 use Rattle.nk_bits.specs.Outcomes.{Outcome, outcome_of, answered, and_then}
 use Rattle.nk_bits.specs.Accesses.{View, IsAccessSize, IsTarget, accessed}
 use Rattle.page_walk.specs.declared.plan.Span.{Span}
-use Rattle.page_walk.specs.declared.plan.Source.{Source}
-use Rattle.page_walk.specs.declared.plan.Source.TheVariants.{Is, At}
-use Rattle.page_walk.specs.declared.plan.Plan.{Plan}
+use Rattle.page_walk.specs.declared.plan.Origin.{Origin}
+use Rattle.page_walk.specs.declared.plan.Origin.TheVariants.{Is, At}
+use Rattle.page_walk.specs.declared.plan.AccessPlan.{AccessPlan}
 use Rattle.page_walk.specs.declared.plan.Gathered.{Gathered}
 use Rattle.page_walk.specs.declared.plan.SpanFault.{SpanFault}
 use Rattle.page_walk.specs.MemoryAccess.{loaded}
 
 -- the fault of an access, with whether the stack was addressed
-abbrev pub marked : {A : Type 0} → Span → Result A AccessFault → Result A SpanFault
-marked span (Ok answer) = Ok answer
-marked span (Err fault) = Err (record { fault = fault; stack = span.stack })
+abbrev pub with_stack : {A : Type 0} → Span → Result A AccessFault → Result A SpanFault
+with_stack span (Ok answer) = Ok answer
+with_stack span (Err fault) = Err (record { fault = fault; stack = span.stack })
 
 abbrev pub in_span : {A : Type 0} → Span → Outcome AccessFault A → Outcome SpanFault A
-in_span span outcome = outcome_of (marked span outcome.answer) outcome.tlb
+in_span span outcome = outcome_of (with_stack span outcome.answer) outcome.tlb
 
 -- the check of a write, where there is one
 abbrev pub checked : View → Option Span → Translations → Outcome SpanFault (Option Target)
@@ -31,12 +31,12 @@ checked view (Some span) tlb =
     and_then (in_span span (accessed view Write tlb span.va span.width)) (λ target after. answered (Some target) after)
 
 -- the value of a source: a load where it stands in memory
-abbrev pub taken : List ℕ → View → Source → Translations → Outcome SpanFault ℕ
+abbrev pub taken : List ℕ → View → Origin → Translations → Outcome SpanFault ℕ
 taken m view (Is value) tlb = answered value tlb
 taken m view (At span) tlb = in_span span (loaded m view tlb span.va span.width)
 
 -- the accesses of a plan but the last check, in order
-unfoldable pub gathered : List ℕ → View → Plan → Translations → Outcome SpanFault Gathered
+unfoldable pub gathered : List ℕ → View → AccessPlan → Translations → Outcome SpanFault Gathered
 gathered m view plan tlb =
     and_then (checked view plan.both tlb) (λ both after_both.
     and_then (taken m view plan.to after_both) (λ to after_to.
@@ -44,7 +44,7 @@ gathered m view plan tlb =
     answered (record { both = both; to = to; from = from }) after_from)))
 
 -- an operand in memory has 1, 2, 4 or 8 bytes
-abbrev pub IsSource : Source → Type 0
+abbrev pub IsSource : Origin → Type 0
 IsSource (Is value) = Unit {0}
 IsSource (At span) = IsAccessSize span.width
 
@@ -52,14 +52,14 @@ abbrev pub IsSized : Option Span → Type 0
 IsSized span = IfSome span (λ span. IsAccessSize span.width)
 
 -- each place that a plan addresses has 1, 2, 4 or 8 bytes
-pub record IsPlan (plan : Plan) : Type 0 where
+pub record IsAccessPlan (plan : AccessPlan) : Type 0 where
   pub both_sized : IsSized plan.both
   pub to_sized : IsSource plan.to
   pub from_sized : IsSource plan.from
   pub last_sized : IsSized plan.last
 
 -- a value is that of its source, or fits the bytes that it was read from
-abbrev pub FitsSource : Source → ℕ → Type 0
+abbrev pub FitsSource : Origin → ℕ → Type 0
 FitsSource (Is value) taken = taken ≡ value
 FitsSource (At span) taken = taken < 256 ^ span.width
 

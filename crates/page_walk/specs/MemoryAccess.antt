@@ -52,6 +52,6 @@ abbrev pub saved : View → Translations → ℕ → ℕ → Outcome AccessFault
 saved view tlb va width = and_then (accessed view Write tlb va width) (λ target after. answered tt after)
 
 -- the memory after a store, by the answer of its check: the bytes stand at the places found, or none has changed
-abbrev pub written : List ℕ → ℕ → ℕ → ℕ → Result Target AccessFault → List ℕ
-written m va width value (Ok target) = stored m (stores_at va width target value)
-written m va width value (Err fault) = m
+abbrev pub bytes_written : List ℕ → ℕ → ℕ → ℕ → Result Target AccessFault → List ℕ
+bytes_written m va width value (Ok target) = stored m (stores_at va width target value)
+bytes_written m va width value (Err fault) = m

@@ -17,4 +17,4 @@ mod tests;
 pub use laws::places_law;
 pub use levels::{Missing, upper, walk, walk_below};
 pub use nk_bits::{Leaf, Upper};
-pub use plan::{Gathered, Plan, Source, Span, SpanFault};
+pub use plan::{AccessPlan, Gathered, Origin, Span, SpanFault};

@@ -15,7 +15,7 @@ pub struct Span {
 
 /// Where the value of an operand comes from.
 #[derive(Clone, Copy, Debug, PartialEq, Eq)]
-pub enum Source {
+pub enum Origin {
     /// It is at hand: in a register or in the instruction, or there is no operand and it is 0.
     Is(u64),
     /// It stands in memory.
@@ -24,13 +24,13 @@ pub enum Source {
 
 /// The accesses of an instruction, in the order in which their faults count.
 #[derive(Clone, Copy, Debug, PartialEq, Eq)]
-pub struct Plan {
+pub struct AccessPlan {
     /// The check of an operand that is both read and written.
     pub both: Option<Span>,
     /// The first read, as a rule that of the first operand.
-    pub to: Source,
+    pub to: Origin,
     /// The second read.
-    pub from: Source,
+    pub from: Origin,
     /// The check of a write to a place that isn't read, which comes last.
     pub last: Option<Span>,
 }

@@ -16,7 +16,7 @@ use denote.Memory.{mem, shared_of}
 use denote.Plain.{uint_out}
 use denote.Slice.{elements_shared}
 use denote.Steps.{nothing}
-use Rattle.phys_mem.specs.Ownership.{row_of}
+use Rattle.phys_mem.specs.Ownership.{bytes_row}
 use Rattle.phys_mem.specs.Runs.{run_at, with_run}
 use Rattle.phys_mem.proofs.RunLaws.{with_run-fits, length-run_at}
 
@@ -35,10 +35,10 @@ module _ {M : Type 1} {𝓤 : Ura M} (𝓛 : Logic 𝓤) (b : ℕ) where
       use2 𝓛 (‵ (Row (o + 1) (xs ++ ys))) (glue xs ys (o + 1) at (omega arith)) $ move ! (1 ∷ 0 ∷ []) $ fjoin ! $ done !
 
   -- bytes are room, whatever they are
-  pub to_room : (bs : List ℕ) (o : ℕ) → ent 𝓤 (sem 𝓛 (Row o bs)) (sem 𝓛 (froom (row_of (length bs)) b o))
+  pub to_room : (bs : List ℕ) (o : ℕ) → ent 𝓤 (sem 𝓛 (Row o bs)) (sem 𝓛 (froom (bytes_row (length bs)) b o))
   to_room [] o = 𝓛.laws.room_nil (ty_int w8) b o
   to_room (x ∷ bs) o = qed 𝓛 (‵ (Row o (x ∷ bs)) ∷ []) ∵ fsplit ! $ use1 𝓛 (‵ (fat full_share (ty_int w8) b o (vint w8 x))) (uint_out 𝓛 full_share w8 x b o) $ forget ! 0 refl $ move ! (1 ∷ []) $
-      use1 𝓛 (‵ (froom (row_of (length bs)) b (o + 1))) (to_room bs (o + 1)) $ move ! (1 ∷ []) $ by ! (𝓛.laws.room_cons (ty_int w8) (length bs) b o)
+      use1 𝓛 (‵ (froom (bytes_row (length bs)) b (o + 1))) (to_room bs (o + 1)) $ move ! (1 ∷ []) $ by ! (𝓛.laws.room_cons (ty_int w8) (length bs) b o)
 
   module _ (m : List ℕ) (p n o : ℕ) where
     -- the bytes but for the n from place p on

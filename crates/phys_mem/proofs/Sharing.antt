@@ -21,7 +21,7 @@ use denote.Struct.Lending.{Lends, Lends-both, Lends-first, Lends-said, Lends-fal
 use mir.Syntax.{w8}
 use Rattle.std.specs.declared.alloc.Global.{Global}
 use Rattle.std.specs.contracts.impls.GlobalAllocator.TheImpl.{ghosts}
-use Rattle.phys_mem.specs.Ownership.{row_of, cells_own, cells_lent}
+use Rattle.phys_mem.specs.Ownership.{bytes_row, cells_own, cells_lent}
 
 pub cells_lent_laws : (p : Ptr) (bs : List ℕ) (n : ℕ) → ShrLaws (cells_lent p bs n)
 cells_lent_laws (block_ptr b o) bs n = beside_shr_laws (said (flt (length bs + n) (2 ^ 63))) (elements_shared u8 bs b o) (said_shr_laws (flt (length bs + n) (2 ^ 63)) tt) (elements_shr_laws u8 (uint_row_laws w8) bs b o)
@@ -43,7 +43,7 @@ module _ {M : Type 1} {𝓤 : Ura M} (𝓛 : Logic 𝓤) where
   pub Lends-cells : (heap : Global) (p : Ptr) (bs : List ℕ) (n : ℕ) → Lends 𝓛 (cells_own heap p bs n) (cells_lent p bs n) l
   Lends-cells heap (block_ptr b o) bs n =
       let few = flt (length bs + n) (2 ^ 63) in
-      let rest = fsep (froom (row_of n) b (length bs + o)) (ghosts.dealloc_token heap (row_of (length bs + n)) (block_ptr b o)) in
+      let rest = fsep (froom (bytes_row n) b (length bs + o)) (ghosts.dealloc_token heap (bytes_row (length bs + n)) (block_ptr b o)) in
       Lends-both 𝓛 few (fsep (cells (mem u8) bs b o) rest) (said few) (elements_shared u8 bs b o) l (Lends-said 𝓛 few tt l)
       (Lends-first 𝓛 (cells (mem u8) bs b o) rest (elements_shared u8 bs b o) l (Lends-bytes bs b o))
   Lends-cells heap null_ptr bs n = Lends-false 𝓛 (said ffalse) l

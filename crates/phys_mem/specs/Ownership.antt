@@ -12,12 +12,12 @@ use denote.Sharing.{said, beside}
 use denote.RawPtr.{Ptr, block_ptr, null_ptr}
 
 -- n bytes side by side
-abbrev pub row_of : ℕ → Ty
-row_of n = ty_array (ty_int w8) n
+abbrev pub bytes_row : ℕ → Ty
+bytes_row n = ty_array (ty_int w8) n
 
 -- the allocation at a pointer: fewer than 2 ^ 63 bytes, of which the first are bs and n more hold nothing yet, and the right to free it
 abbrev pub cells_own : Global → Ptr → List ℕ → ℕ → Fml
-cells_own heap (block_ptr b o) bs n = fsep (flt (length bs + n) (2 ^ 63)) (fsep (cells (mem u8) bs b o) (fsep (froom (row_of n) b (length bs + o)) (ghosts.dealloc_token heap (row_of (length bs + n)) (block_ptr b o))))
+cells_own heap (block_ptr b o) bs n = fsep (flt (length bs + n) (2 ^ 63)) (fsep (cells (mem u8) bs b o) (fsep (froom (bytes_row n) b (length bs + o)) (ghosts.dealloc_token heap (bytes_row (length bs + n)) (block_ptr b o))))
 cells_own heap null_ptr bs n = ffalse
 
 -- what a `&` to the owner holds: that there are so few, and a `&` to each byte

@@ -7,8 +7,8 @@ use Rattle.std.specs.Option.{option_map}
 use Rattle.std.proofs.lemmas.Bool.{lt-leb}
 use Rattle.std.proofs.lemmas.List.FromFn.{get_or-range_with_len, length-range_with_len}
 use Rattle.std.proofs.lemmas.Option.{same_Some}
-use Rattle.region_book.specs.declared.regions.Region.{Region as ShownRegion}
-use Rattle.region_book.specs.RegionRecords.{Book, IsBook, IsRegion, Region, pool_frame, pool_start, region_of, shown}
+use Rattle.region_book.specs.declared.regions.ShownRegion.{ShownRegion}
+use Rattle.region_book.specs.RegionRecords.{Book, IsBook, IsRegion, Region, pool_frame, pool_start, region_of, shown_region}
 use Rattle.policy_book.proofs.FoundRegions.{is_sound}
 
 -- every frame of a list is in a memory of so many bytes
@@ -29,13 +29,13 @@ pool_within next size r sound pooled large =
     (run_within (r.first - pool_start) r.size ((r.place + r.size + 4095) / 4096) size (omega (arith, place.0, place.1))
     (ap (λ q. (q + r.size + 4095) / 4096) place.2) large)
 
-pub frames_within : (book : Book) (id size : ℕ) (s : ShownRegion) → IsBook book → option_map shown (region_of book id) ≡ Some s →
+pub frames_within : (book : Book) (id size : ℕ) (s : ShownRegion) → IsBook book → option_map shown_region (region_of book id) ≡ Some s →
     s.pooled ≡ true → 4096 * 26 ≤ size → IfSome (region_of book id) (AreWithin size)
 frames_within book id size s sound is pooled large = go (region_of book id) is (is_sound book id sound)
   where
-    go : (o : Option Region) → option_map shown o ≡ Some s → IfSome o (IsRegion book.next) → IfSome o (AreWithin size)
+    go : (o : Option Region) → option_map shown_region o ≡ Some s → IfSome o (IsRegion book.next) → IfSome o (AreWithin size)
     go None is live = tt
-    go (Some r) is live = pool_within book.next size r live (ap (λ (s : ShownRegion). s.pooled) (same_Some (shown r) s is) ∙ pooled) large
+    go (Some r) is live = pool_within book.next size r live (ap (λ (s : ShownRegion). s.pooled) (same_Some (shown_region r) s is) ∙ pooled) large
 
 -- a frame below 26 is none of the books'
 below_books : (frames f : ℕ) → f < 26 → is_book_frame frames f ≡ false
@@ -58,10 +58,10 @@ pool_apart next all r sound pooled =
     (run_apart (r.first - pool_start) r.size ((r.place + r.size + 4095) / 4096) all (omega (arith, place.0, place.1))
     (ap (λ q. (q + r.size + 4095) / 4096) place.2))
 
-pub frames_apart : (book : Book) (id all : ℕ) (s : ShownRegion) → IsBook book → option_map shown (region_of book id) ≡ Some s →
+pub frames_apart : (book : Book) (id all : ℕ) (s : ShownRegion) → IsBook book → option_map shown_region (region_of book id) ≡ Some s →
     s.pooled ≡ true → IfSome (region_of book id) (AreApart all)
 frames_apart book id all s sound is pooled = go (region_of book id) is (is_sound book id sound)
   where
-    go : (o : Option Region) → option_map shown o ≡ Some s → IfSome o (IsRegion book.next) → IfSome o (AreApart all)
+    go : (o : Option Region) → option_map shown_region o ≡ Some s → IfSome o (IsRegion book.next) → IfSome o (AreApart all)
     go None is live = tt
-    go (Some r) is live = pool_apart book.next all r live (ap (λ (s : ShownRegion). s.pooled) (same_Some (shown r) s is) ∙ pooled)
+    go (Some r) is live = pool_apart book.next all r live (ap (λ (s : ShownRegion). s.pooled) (same_Some (shown_region r) s is) ∙ pooled)

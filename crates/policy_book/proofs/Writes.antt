@@ -7,9 +7,9 @@ use Rattle.std.proofs.lemmas.Bool.{eqb-true, ltb-false, ne_eqb}
 use Rattle.std.proofs.lemmas.Option.{same_Some}
 use Rattle.nk_bits.specs.declared.rule.Rule.{Rule}
 use Rattle.nk_bits.specs.declared.rule.Rule.TheVariants.{BadRegion, LogFull, NoWrite, NotAtEnd, OutOfBounds, WrittenOnce}
-use Rattle.region_book.specs.declared.regions.Region.{Region as ShownRegion}
+use Rattle.region_book.specs.declared.regions.ShownRegion.{ShownRegion}
 use Rattle.region_book.specs.RegionCalls.{else_rule, fits_region}
-use Rattle.region_book.specs.RegionRecords.{Region, is_written_in, shown}
+use Rattle.region_book.specs.RegionRecords.{Region, is_written_in, shown_region}
 use Rattle.write_log.specs.LogRecords.{LogRecord, log_size, logged, room_of}
 use Rattle.policy_book.specs.PolicyRules.{bounds_of, first_rule, log_by, policy_of, policy_rule}
 
@@ -45,32 +45,32 @@ module _ (log : List LogRecord) (offset count : ℕ) where
   unfolding policy_rule
   by_tests r = refl
 
-  of_shown : (r : Region) (s : ShownRegion) → option_map shown (Some r) ≡ Some s → policy_rule log r offset count ≡ rule_as r s.policy
-  of_shown r s is = by_tests r ∙ ap (λ (s : ShownRegion). rule_as r s.policy) (same_Some (shown r) s is)
+  of_shown : (r : Region) (s : ShownRegion) → option_map shown_region (Some r) ≡ Some s → policy_rule log r offset count ≡ rule_as r s.policy
+  of_shown r s is = by_tests r ∙ ap (λ (s : ShownRegion). rule_as r s.policy) (same_Some (shown_region r) s is)
 
-  pub once_rule : (o : Option Region) (s : ShownRegion) (written : Bool) → option_map shown o ≡ Some s → s.policy ≡ 1 →
+  pub once_rule : (o : Option Region) (s : ShownRegion) (written : Bool) → option_map shown_region o ≡ Some s → s.policy ≡ 1 →
       IfSome o (λ r. written ≡ is_written_in r offset count) → then_some written WrittenOnce ≡ policy_of log o offset count
   once_rule None s written is policy test = let no : None ≡ Some s = is in cc
   once_rule (Some r) s written is policy test =
       then_is written WrittenOnce ∙ ap (λ b. else_rule b WrittenOnce None) test ∙ sym (of_shown r s is ∙ ap (rule_as r) policy)
 
-  pub append_rule : (o : Option Region) (s : ShownRegion) → option_map shown o ≡ Some s → s.policy ≡ 2 →
+  pub append_rule : (o : Option Region) (s : ShownRegion) → option_map shown_region o ≡ Some s → s.policy ≡ 2 →
       then_some (not (offset == s.tail)) NotAtEnd ≡ policy_of log o offset count
   append_rule None s is policy = let no : None ≡ Some s = is in cc
   append_rule (Some r) s is policy =
-      ap (λ (s : ShownRegion). then_some (not (offset == s.tail)) NotAtEnd) (sym (same_Some (shown r) s is))
+      ap (λ (s : ShownRegion). then_some (not (offset == s.tail)) NotAtEnd) (sym (same_Some (shown_region r) s is))
       ∙ then_is (not (offset == r.tail)) NotAtEnd ∙ sym (of_shown r s is ∙ ap (rule_as r) policy)
 
-  pub closed_rule : (o : Option Region) (s : ShownRegion) → option_map shown o ≡ Some s → s.policy ≡ 3 → Some NoWrite ≡ policy_of log o offset count
+  pub closed_rule : (o : Option Region) (s : ShownRegion) → option_map shown_region o ≡ Some s → s.policy ≡ 3 → Some NoWrite ≡ policy_of log o offset count
   closed_rule None s is policy = let no : None ≡ Some s = is in cc
   closed_rule (Some r) s is policy = sym (of_shown r s is ∙ ap (rule_as r) policy)
 
-  pub log_rule : (o : Option Region) (s : ShownRegion) → option_map shown o ≡ Some s → s.policy ≡ 4 →
+  pub log_rule : (o : Option Region) (s : ShownRegion) → option_map shown_region o ≡ Some s → s.policy ≡ 4 →
       then_some (nat_lt (room_of log) (24 + count)) LogFull ≡ policy_of log o offset count
   log_rule None s is policy = let no : None ≡ Some s = is in cc
   log_rule (Some r) s is policy = then_is (nat_lt (room_of log) (24 + count)) LogFull ∙ sym (of_shown r s is ∙ ap (rule_as r) policy)
 
-  pub other_rule : (o : Option Region) (s : ShownRegion) → option_map shown o ≡ Some s → s.policy ≢ 1 → s.policy ≢ 2 → s.policy ≢ 3 → s.policy ≢ 4 →
+  pub other_rule : (o : Option Region) (s : ShownRegion) → option_map shown_region o ≡ Some s → s.policy ≢ 1 → s.policy ≢ 2 → s.policy ≢ 3 → s.policy ≢ 4 →
       None ≡ policy_of log o offset count
   other_rule None s is one two three four = refl
   other_rule (Some r) s is one two three four = sym (of_shown r s is ∙ by_other s.policy _ _ _ one two three four)

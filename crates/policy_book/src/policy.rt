@@ -8,13 +8,13 @@ ghost use Rattle.nk_bits.specs.Rules.{rule_of};
 ghost use Rattle.policy_book.specs.PolicyRules.{book_written, log_written, policy_of, stores_written, write_rule};
 ghost use Rattle.region_book.specs.RegionBytes.{HoldsRegions, book_in};
 ghost use Rattle.region_book.specs.RegionCalls.{fits_in};
-ghost use Rattle.region_book.specs.RegionRecords.{IsBook, byte_place, region_of, shown};
+ghost use Rattle.region_book.specs.RegionRecords.{IsBook, byte_place, region_of, shown_region};
 ghost use Rattle.write_log.specs.LogBytes.{HoldsLog, log_in};
 ghost use Rattle.write_log.specs.LogRecords.{logged, room_of};
 
 use nk_bits::Rule;
 use phys_mem::PhysMem;
-use region_book::{Region, Regions, apart_law, held_regions_law};
+use region_book::{Regions, ShownRegion, apart_law, held_regions_law};
 use write_log::{Log, held_log_law};
 
 const WRITE_ONCE: u8 = 1;
@@ -95,13 +95,13 @@ fn judge_policy(
     regions: &Regions,
     log: &Log,
     mem: &PhysMem,
-    region: &Region,
+    region: &ShownRegion,
     offset: u32,
     count: u32,
 ) -> Option<Rule>
     requires held { HoldsRegions regions.now mem.now }
     requires held_log { HoldsLog log.now mem.now }
-    requires found { option_map shown (region_of (book_in regions.now mem.now) region.now.id) ≡ Some region.now }
+    requires found { option_map shown_region (region_of (book_in regions.now mem.now) region.now.id) ≡ Some region.now }
     requires fits { fits_in (book_in regions.now mem.now) region.now.id offset count ≡ true }
     ensures { result ≡ policy_of (log_in log.now mem.now) (region_of (book_in regions.now mem.now) region.now.id) offset count }
 {

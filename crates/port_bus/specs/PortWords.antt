@@ -15,8 +15,8 @@ rest_of [] = []
 rest_of (byte ∷ rest) = rest
 
 -- what IN gives: port 0xEA is the input, port 0xEB tells whether a byte of it is left, and no device is at another port
-unfoldable pub byte_from : List ℕ → ℕ → ℕ
-byte_from input port = if port == 0xEA then next_byte input else if port == 0xEB then ready_byte input else 0xFF
+unfoldable pub port_byte : List ℕ → ℕ → ℕ
+port_byte input port = if port == 0xEA then next_byte input else if port == 0xEB then ready_byte input else 0xFF
 
 -- what IN leaves of the input
 unfoldable pub input_after : List ℕ → ℕ → List ℕ

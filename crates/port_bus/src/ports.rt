@@ -1,7 +1,7 @@
 //! The input and the console behind their ports.
 
 ghost use Rattle.std.specs.Prelude.{◌≡◌, drop};
-ghost use Rattle.port_bus.specs.PortWords.{next_byte, ready_byte, rest_of, byte_from, input_after, console_byte};
+ghost use Rattle.port_bus.specs.PortWords.{next_byte, ready_byte, rest_of, port_byte, input_after, console_byte};
 
 use std::marker::Model;
 
@@ -45,9 +45,9 @@ impl Ports {
 
     /// IN from a port: 0xEA takes the next byte of the input and gives 0 at its end, 0xEB gives 1 while a byte is left
     /// and then 0, and any other port gives 0xFF.
-    #[tactic(auto, unfolding(crate::specs::PortWords::byte_from, crate::specs::PortWords::input_after))]
+    #[tactic(auto, unfolding(crate::specs::PortWords::port_byte, crate::specs::PortWords::input_after))]
     pub fn take(&mut self, port: u16) -> u8
-        ensures byte { result ≡ byte_from self.old port }
+        ensures byte { result ≡ port_byte self.old port }
         ensures input { self.new ≡ input_after self.old port }
     {
         match port {

@@ -1,19 +1,19 @@
--- The book after a row was added, by its rows and bits.
+-- The book after a row was with_one_more, by its rows and bits.
 use Rattle.std.proofs.Common.{◌≡◌, ℕ, ◌+◌, ◌-◌, ◌*◌, ◌<◌, ◌≤◌, true, false, not, ◌&&◌, List, [], ◌∷◌, ◌++◌, length, arith, sym, ap, ◌∙◌, subst}
 use Rattle.std.proofs.lemmas.List.{length-map}
 use Rattle.region_book.specs.declared.row.Row.{Row}
-use Rattle.region_book.specs.RegionCalls.{added, is_taken}
+use Rattle.region_book.specs.RegionCalls.{with_one_more, is_range_taken}
 use Rattle.region_book.specs.RegionRecords.{Book, pool_start}
-use Rattle.region_book.specs.RegionRows.{IsHeld, IsKept, bit_in, book_of, first_bit, in_run, new_region, region_at}
+use Rattle.region_book.specs.RegionRows.{IsHeld, AreRowsKept, bit_in, book_of, first_bit, in_run, region_of_row, region_at}
 use Rattle.region_book.proofs.BookBits.{added_regions}
 use Rattle.region_book.proofs.KeptRows.{IsNew, each_apart, held_more, kept_added, new_held}
 use Rattle.region_book.proofs.PoolPlaces.{taken_by_rows}
 
 module _ (rows : List Row) (bits : List ℕ) (next declared : ℕ) (now : Book)
     (view : book_of rows bits next declared ≡ now) (row : Row) (pages : ℕ)
-    (kept : IsKept rows bits declared) (small : row.size ≤ 65536)
+    (kept : AreRowsKept rows bits declared) (small : row.size ≤ 65536)
     (pooled : row.pooled ≡ true → (pool_start ≤ row.first) × (row.first + row.size ≤ pool_start + 65536) ×
-    (is_taken now.regions row.size (row.first - pool_start) ≡ false))
+    (is_range_taken now.regions row.size (row.first - pool_start) ≡ false))
     (paged : row.pooled ≡ false → (row.size ≡ 4096 * pages) × (row.slot ≡ now.declared))
     (most : now.declared + pages ≤ 128) where
   pub new : IsNew rows declared pages row
@@ -23,7 +23,7 @@ module _ (rows : List Row) (bits : List ℕ) (next declared : ℕ) (now : Book)
       is.0,
       is.1,
       sym (taken_by_rows bits rows row.size (row.first - pool_start))
-          ∙ ap (λ (book : Book). is_taken book.regions row.size (row.first - pool_start)) view ∙ is.2,
+          ∙ ap (λ (book : Book). is_range_taken book.regions row.size (row.first - pool_start)) view ∙ is.2,
     );
     declared = λ e. let is = paged e in (is.0, is.1 ∙ ap (λ (book : Book). book.declared) (sym view));
   }
@@ -35,9 +35,9 @@ module _ (rows : List Row) (bits : List ℕ) (next declared : ℕ) (now : Book)
   row_held = held_more (declared + pages) 128 row pages_within (new_held rows declared pages row new)
 
   module _ (after : List ℕ) (after_rows : List Row) (after_is : after_rows ≡ rows ++ row ∷ []) where
-    pub added_kept : length now.regions < 256 → length after ≡ 73728 → IsKept after_rows after (declared + pages)
+    pub added_kept : length now.regions < 256 → length after ≡ 73728 → AreRowsKept after_rows after (declared + pages)
     added_kept few long =
-        subst (λ rs. IsKept rs after (declared + pages)) (sym after_is)
+        subst (λ rs. AreRowsKept rs after (declared + pages)) (sym after_is)
         (kept_added rows bits after declared pages row kept new
         (omega (
           arith,
@@ -47,9 +47,9 @@ module _ (rows : List Row) (bits : List ℕ) (next declared : ℕ) (now : Book)
         )) pages_within long)
 
     pub added_is : ((k : ℕ) → bit_in after k ≡ (bit_in bits k && not (in_run (first_bit row) row.size k))) →
-        book_of after_rows after (next + 1) (declared + pages) ≡ added now (new_region row) pages
+        book_of after_rows after (next + 1) (declared + pages) ≡ with_one_more now (region_of_row row) pages
     added_is each =
         ap (λ rs. book_of rs after (next + 1) (declared + pages)) after_is
-        ∙ ap (λ rs. record (added (book_of rows bits next declared) (new_region row) pages) { regions = rs })
+        ∙ ap (λ rs. record (with_one_more (book_of rows bits next declared) (region_of_row row) pages) { regions = rs })
         (added_regions rows bits after row (each_apart rows bits after declared pages row kept new) each)
-        ∙ ap (λ book. added book (new_region row) pages) view
+        ∙ ap (λ book. with_one_more book (region_of_row row) pages) view

@@ -7,7 +7,7 @@ use Rattle.std.proofs.lemmas.Bool.Decides.{nat_tests}
 use Rattle.std.proofs.lemmas.List.{map_push}
 use Rattle.region_book.specs.declared.row.Row.{Row}
 use Rattle.region_book.specs.RegionRecords.{marked}
-use Rattle.region_book.specs.RegionRows.{AreApart, IsKept, bit_in, bits_from, first_bit, frames_of_row, in_run, moved, new_region, place_of_row, region_at}
+use Rattle.region_book.specs.RegionRows.{AreApart, AreRowsKept, bit_in, bits_from, first_bit, frames_of_row, in_run, moved, region_of_row, place_of_row, region_at}
 use Rattle.region_book.proofs.BookRows.{written_at}
 use Rattle.region_book.proofs.ListEdits.{map_agree, map_run_agree, map_run_same, map_set_agree}
 
@@ -86,7 +86,7 @@ marked_row bits after row offset count tail tail_is each =
 
 -- the regions after bits of a row were set and its tail moved
 pub marked_regions : (rows : List Row) (bits after : List ℕ) (declared i : ℕ) (row : Row) (offset count tail : ℕ) →
-    IsKept rows bits declared →
+    AreRowsKept rows bits declared →
     i < length rows → ((d : Row) → slice_index_or rows i d ≡ row) → offset + count ≤ row.size → tail ≡ offset + count →
     ((k : ℕ) → bit_in after k ≡ (bit_in bits k || in_run (first_bit row + offset) count k)) →
     map (region_at after) (set rows i (moved row tail)) ≡ set (map (region_at bits) rows) i
@@ -127,7 +127,7 @@ bits_clear bits first count clear =
 pub added_regions : (rows : List Row) (bits after : List ℕ) (row : Row) →
     ((k : ℕ) (d : Row) → k < length rows → AreApart (slice_index_or rows k d) row) →
     ((k : ℕ) → bit_in after k ≡ (bit_in bits k && not (in_run (first_bit row) row.size k))) →
-    map (region_at after) (rows ++ row ∷ []) ≡ map (region_at bits) rows ++ new_region row ∷ []
+    map (region_at after) (rows ++ row ∷ []) ≡ map (region_at bits) rows ++ region_of_row row ∷ []
 added_regions rows bits after row apart each =
     map_push (region_at after) rows row
     ∙ ap (λ rs. rs ++ region_at after row ∷ [])
@@ -151,7 +151,7 @@ added_regions rows bits after row apart each =
     cleared : (b : ℕ) → first_bit row ≤ b → b < first_bit row + row.size → bit_in after b ≡ false
     cleared b low high = each b ∙ gone (bit_in bits b) (in_run (first_bit row) row.size b) (grind (arith, nat_tests))
 
-    new_is : region_at after row ≡ new_region row
+    new_is : region_at after row ≡ region_of_row row
     new_is =
         ap (λ (written : List Bool). record {
           id = row.id;

@@ -5,19 +5,19 @@ use Rattle.std.proofs.lemmas.Bool.{cases_lt, false≢true}
 use Rattle.std.proofs.lemmas.List.{length-replicate}
 use Rattle.nk_bits.specs.declared.kind.Kind.{Kind}
 use Rattle.nk_bits.specs.Kinds.{is_data, kind_of}
-use Rattle.region_book.specs.RegionCalls.{added, page_region}
+use Rattle.region_book.specs.RegionCalls.{with_one_more, page_region}
 use Rattle.region_book.specs.RegionRecords.{Book, IsApart, IsBook, IsEachOnce, IsRegion}
-use Rattle.region_book.specs.RegionRows.{frames_of_row, new_region, place_of_row}
+use Rattle.region_book.specs.RegionRows.{frames_of_row, region_of_row, place_of_row}
 use Rattle.region_book.proofs.SoundBooks.{added_sound}
 
 -- its row
 pub page_row_is : (now : Book) (next va size policy slot count : ℕ) (frames : List ℕ) → next ≡ now.next →
     size ≡ 4096 * count →
-    new_region (record { id = next; first = va; size = size; tail = 0; policy = policy; pooled = false; slot = slot; frames = frames }) ≡ page_region now va size policy (take count frames)
+    region_of_row (record { id = next; first = va; size = size; tail = 0; policy = policy; pooled = false; slot = slot; frames = frames }) ≡ page_region now va size policy (take count frames)
 unfolding frames_of_row place_of_row
 page_row_is now next va size policy slot count frames next_is size_is =
     let pages : size / 4096 ≡ count = omega (arith, size_is) in
-    ap (λ id. new_region (record { id = id; first = va; size = size; tail = 0; policy = policy; pooled = false; slot = slot; frames = frames })) next_is
+    ap (λ id. region_of_row (record { id = id; first = va; size = size; tail = 0; policy = policy; pooled = false; slot = slot; frames = frames })) next_is
     ∙ ap (λ n. page_region now va size policy (take n frames)) pages
 
 -- the frames of the range hold data, and those of the pool and of the regions don't
@@ -59,7 +59,7 @@ module _ (now : Book) (sound : IsBook now) (va size policy : ℕ) (fs : List ℕ
 
   pub page_added : length now.regions < 256 → now.declared + length fs ≤ 128 →
       All (λ r. All (λ f. is_data (kind_of kinds f) ≡ false) r.frames) now.regions →
-      IsBook (added now (page_region now va size policy fs) (length fs))
+      IsBook (with_one_more now (page_region now va size policy fs) (length fs))
   page_added few most others =
       added_sound now sound (page_region now va size policy fs) (length fs) few refl page_is_region
       (apart others) refl most

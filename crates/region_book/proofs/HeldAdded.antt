@@ -8,9 +8,9 @@ use Rattle.std.proofs.lemmas.List.Folds.{list_any-append, list_any_none}
 use Rattle.std.proofs.lemmas.List.Quantifiers.{all_pairs_push}
 use Rattle.region_book.specs.declared.row.Row.{Row}
 use Rattle.region_book.specs.RegionBytes.{HasRowForm, HoldsRegions, RegionIndex, bits_in, book_in, row_in}
-use Rattle.region_book.specs.RegionCalls.{added, is_taken}
+use Rattle.region_book.specs.RegionCalls.{with_one_more, is_range_taken}
 use Rattle.region_book.specs.RegionRecords.{pool_start}
-use Rattle.region_book.specs.RegionRows.{AreApart, bit_in, first_bit, in_run, new_region, region_at}
+use Rattle.region_book.specs.RegionRows.{AreApart, bit_in, first_bit, in_run, region_of_row, region_at}
 use Rattle.region_book.specs.SlotChanges.{DiffersInSlot}
 use Rattle.region_book.proofs.AddedBook.{added_is, added_kept, new}
 use Rattle.region_book.proofs.KeptRows.{each_apart}
@@ -34,15 +34,15 @@ grown index s pages = index_of (index.slots ++ s ∷ []) (index.next + 1) (index
 
 pub grown_is : (slots after : List ℕ) (next declared s pages : ℕ) (index : RegionIndex) → after ≡ slots ++ s ∷ [] →
     index_of slots next declared ≡ index → index_of after (next + 1) (declared + pages) ≡ grown index s pages
-grown_is slots after next declared s pages index added view =
-    ap (λ list. index_of list (next + 1) (declared + pages)) added
+grown_is slots after next declared s pages index with_one_more view =
+    ap (λ list. index_of list (next + 1) (declared + pages)) with_one_more
     ∙ ap (λ (it : RegionIndex). grown it s pages) view
 
 module _ (index : RegionIndex) (m n : List ℕ) (held : HoldsRegions index m) (s : ℕ) (small : s < 256)
     (fresh : list_any (λ t. t == s) index.slots ≡ false) (differs : DiffersInSlot s m n) (row : Row)
     (row_is : row_in n s ≡ row) (pages : ℕ) (most : index.declared + pages ≤ 128) (size : row.size ≤ 65536)
     (pooled : row.pooled ≡ true → (pool_start ≤ row.first) × (row.first + row.size ≤ pool_start + 65536) ×
-    (is_taken (book_in index m).regions row.size (row.first - pool_start) ≡ false))
+    (is_range_taken (book_in index m).regions row.size (row.first - pool_start) ≡ false))
     (paged : row.pooled ≡ false → (row.size ≡ 4096 * pages) × (row.slot ≡ index.declared)) where
   left : LeavesSlots s m n
   left = left_by_slot s m n differs
@@ -81,7 +81,7 @@ module _ (index : RegionIndex) (m n : List ℕ) (held : HoldsRegions index m) (s
       ∙ bit_kept (bit_in (bits_in m) k) (in_run (first_bit row) row.size k) (unset k)
 
   pub added_in : book_in (grown index s pages) n
-      ≡ added (book_in index m) (new_region row) pages
+      ≡ with_one_more (book_in index m) (region_of_row row) pages
   added_in =
       added_is (map (row_in m) index.slots) (bits_in m) index.next index.declared (book_in index m) refl row pages held.kept
       size pooled paged most (bits_in n) (map (row_in n) (index.slots ++ s ∷ [])) rows_added each

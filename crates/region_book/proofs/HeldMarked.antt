@@ -9,7 +9,7 @@ use Rattle.std.proofs.lemmas.List.Folds.{list_any_at}
 use Rattle.region_book.specs.declared.row.Row.{Row}
 use Rattle.region_book.specs.RegionBytes.{HasRowForm, HoldsRegions, RegionIndex, bits_in, book_in, row_in}
 use Rattle.region_book.specs.RegionRecords.{IsBook, marked, region_of, with_region}
-use Rattle.region_book.specs.RegionRows.{IsKept, bit_in, book_of, first_bit, in_run, moved, row_of}
+use Rattle.region_book.specs.RegionRows.{AreRowsKept, bit_in, book_of, first_bit, in_run, moved, row_of}
 use Rattle.region_book.proofs.KeptRows.{kept_moved}
 use Rattle.region_book.proofs.LeftSlots.{LeavesSlots, form_left, not_in, row_left, zero_left}
 use Rattle.region_book.proofs.ListEdits.{map_set_agree}
@@ -74,7 +74,7 @@ module _ (index : RegionIndex) (m n : List ℕ) (held : HoldsRegions index m) (i
       size = omega (arith, held.size, left.size);
       slots = held.slots;
       once = held.once;
-      kept = subst (λ rows. IsKept rows (bits_in n) index.declared) (sym rows_are)
+      kept = subst (λ rows. AreRowsKept rows (bits_in n) index.declared) (sym rows_are)
           (kept_moved (map (row_in m) index.slots) (bits_in m) index.declared held.kept (bits_in n) i (offset + count)
           (row_in m s) (rows_within index m held i s within at) (row_here index m held i s within at) long);
       rows = λ k d below. elim (cases_eq (slice_index_or index.slots k d) s) [

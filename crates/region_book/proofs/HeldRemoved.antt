@@ -12,7 +12,7 @@ use Rattle.region_book.specs.declared.row.Row.{Row}
 use Rattle.region_book.specs.RegionBytes.{HasRowForm, HoldsRegions, RegionIndex, bits_in, book_in, row_in, slot_place}
 use Rattle.region_book.specs.RegionCalls.{freed}
 use Rattle.region_book.specs.RegionRecords.{IsBook, Region}
-use Rattle.region_book.specs.RegionRows.{AreApart, IsKept, bit_in, book_of, first_bit, in_run, region_at}
+use Rattle.region_book.specs.RegionRows.{AreApart, AreRowsKept, bit_in, book_of, first_bit, in_run, region_at}
 use Rattle.region_book.proofs.BookBits.{region_elsewhere}
 use Rattle.region_book.proofs.FreedBook.{freed_is}
 use Rattle.region_book.proofs.KeptRows.{kept_removed}
@@ -150,7 +150,7 @@ module _ (index : RegionIndex) (m n : List ℕ) (held : HoldsRegions index m) (b
         size = omega (arith, held.size, left.size);
         slots = All-filter (λ t. is_other id (row_in m t)) (λ t. t < 256) index.slots held.slots;
         once = AllPairs-filter (λ a b. a ≢ b) (λ t. is_other id (row_in m t)) index.slots held.once;
-        kept = subst (λ rows. IsKept rows (bits_in n) index.declared) (sym rows_removed)
+        kept = subst (λ rows. AreRowsKept rows (bits_in n) index.declared) (sym rows_removed)
             (record { count = kept.count; room = long; most = kept.most; held = kept.held; apart = kept.apart });
         rows = all_kept (λ t. is_other id (row_in m t)) (HasRowForm n) index.slots
             (λ k d below stays. form_left s m n left _ (not_here _ stays) (held.rows k d below));

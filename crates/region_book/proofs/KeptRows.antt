@@ -10,7 +10,7 @@ use Rattle.std.proofs.lemmas.List.Quantifiers.{all_pairs_push}
 use Rattle.std.proofs.lemmas.List.Sums.{count_by-le-length, length-filter}
 use Rattle.region_book.specs.declared.row.Row.{Row}
 use Rattle.region_book.specs.RegionRecords.{pool_start}
-use Rattle.region_book.specs.RegionRows.{AreApart, IsHeld, IsKept, first_bit, moved, row_meets}
+use Rattle.region_book.specs.RegionRows.{AreApart, IsHeld, AreRowsKept, first_bit, moved, row_meets}
 use Rattle.region_book.proofs.Found.{none_any}
 use Rattle.region_book.proofs.ListEdits.{pairs_set}
 
@@ -22,14 +22,14 @@ held_more slots more row order held = record {
   declared = λ e. ((held.declared e).0, omega (arith, (held.declared e).1));
 }
 
-module _ (rows : List Row) (bits : List ℕ) (declared : ℕ) (kept : IsKept rows bits declared) where
+module _ (rows : List Row) (bits : List ℕ) (declared : ℕ) (kept : AreRowsKept rows bits declared) where
   pub all_held : All (IsHeld 128) rows
   all_held = All-weaker (IsHeld declared) (IsHeld 128)
       (λ row held. held_more declared 128 row kept.most held) rows kept.held
 
   pub kept_moved : (after : List ℕ) (i tail : ℕ) (row : Row) → i < length rows →
       ((d : Row) → slice_index_or rows i d ≡ row) → length after ≡ 73728 →
-      IsKept (set rows i (moved row tail)) after declared
+      AreRowsKept (set rows i (moved row tail)) after declared
   unfolding first_bit
   kept_moved after i tail row within is long =
       let held : IsHeld declared row = subst (IsHeld declared) (is row) (kept.held i row within) in
@@ -43,7 +43,7 @@ module _ (rows : List Row) (bits : List ℕ) (declared : ℕ) (kept : IsKept row
             (λ z apart. apart);
       }
 
-  pub kept_removed : (p : Row → Bool) → IsKept (filter p rows) bits declared
+  pub kept_removed : (p : Row → Bool) → AreRowsKept (filter p rows) bits declared
   kept_removed p = record {
     count = omega (arith, kept.count, length-filter p rows, count_by-le-length p rows);
     room = kept.room;
@@ -129,7 +129,7 @@ module _ (declared pages : ℕ) (old row : Row) (held : IsHeld declared old) whe
         ]
       ]
 
-module _ (rows : List Row) (bits after : List ℕ) (declared pages : ℕ) (row : Row) (kept : IsKept rows bits declared)
+module _ (rows : List Row) (bits after : List ℕ) (declared pages : ℕ) (row : Row) (kept : AreRowsKept rows bits declared)
     (new : IsNew rows declared pages row) where
   pub each_apart : (k : ℕ) (d : Row) → k < length rows → AreApart (slice_index_or rows k d) row
   each_apart k d below =
@@ -137,7 +137,7 @@ module _ (rows : List Row) (bits after : List ℕ) (declared pages : ℕ) (row :
       (λ pooled. none_any (row_meets row.size (row.first - pool_start)) rows (new.pooled pooled).2 k d below)
 
   pub kept_added : length rows < 256 → declared + pages ≤ 128 → length after ≡ 73728 →
-      IsKept (rows ++ row ∷ []) after (declared + pages)
+      AreRowsKept (rows ++ row ∷ []) after (declared + pages)
   kept_added few most long = record {
     count = omega (arith, few, length_push rows row);
     room = long;

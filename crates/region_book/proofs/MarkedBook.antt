@@ -4,7 +4,7 @@ use Rattle.std.specs.Prelude.{Some, IfSome}
 use Rattle.std.proofs.lemmas.List.{get_or-map, length-map}
 use Rattle.region_book.specs.declared.row.Row.{Row}
 use Rattle.region_book.specs.RegionRecords.{Book, IsBook, Region, marked, region_of, with_region}
-use Rattle.region_book.specs.RegionRows.{IsKept, bit_in, book_of, first_bit, in_run, moved, region_at, row_of}
+use Rattle.region_book.specs.RegionRows.{AreRowsKept, bit_in, book_of, first_bit, in_run, moved, region_at, row_of}
 use Rattle.region_book.proofs.BookBits.{marked_regions}
 use Rattle.region_book.proofs.BookRows.{region_found}
 use Rattle.region_book.proofs.Found.{for_some, of_some}
@@ -29,7 +29,7 @@ module _ (rows : List Row) (bits : List ℕ) (next declared : ℕ) (now : Book) 
   is_now : (d : Region) → slice_index_or (book_of rows bits next declared).regions i d ≡ region_at bits row
   is_now d = get_or-map (region_at bits) rows i row d within ∙ ap (region_at bits) (is row)
 
-  module _ (after : List ℕ) (offset count tail : ℕ) (kept : IsKept rows bits declared) (book : IsBook now)
+  module _ (after : List ℕ) (offset count tail : ℕ) (kept : AreRowsKept rows bits declared) (book : IsBook now)
       (fits : IfSome (region_of now id) (λ r. offset + count ≤ r.size)) (tail_is : tail ≡ offset + count)
       (each : (k : ℕ) → bit_in after k ≡ (bit_in bits k || in_run (first_bit row + offset) count k)) where
     sound : IsBook (book_of rows bits next declared)

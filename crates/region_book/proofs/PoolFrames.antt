@@ -7,8 +7,8 @@ use Rattle.std.proofs.lemmas.Bool.{lt-leb}
 use Rattle.std.proofs.lemmas.List.Elements.{All-weaker}
 use Rattle.std.proofs.lemmas.Option.{same_Some}
 use Rattle.phys_mem.specs.MaskedMemory.{is_book_frame}
-use Rattle.region_book.specs.declared.regions.Region.{Region as ShownRegion}
-use Rattle.region_book.specs.RegionRecords.{Book, IsBook, IsRegion, Region, pool_start, region_of, shown}
+use Rattle.region_book.specs.declared.regions.ShownRegion.{ShownRegion}
+use Rattle.region_book.specs.RegionRecords.{Book, IsBook, IsRegion, Region, pool_start, region_of, shown_region}
 use Rattle.region_book.proofs.Found.{for_some}
 use Rattle.region_book.proofs.RegionReads.{region_sound}
 
@@ -28,14 +28,14 @@ pool_frames next memory r is pooled most =
     (run_within (r.first - pool_start) r.size ((r.place + r.size + 4095) / 4096) memory
     (omega (arith, place.0, place.1)) (ap (λ q. (q + r.size + 4095) / 4096) place.2) most)
 
--- the region that is shown
-region_shown : (o : Option Region) (s : ShownRegion) → option_map shown o ≡ Some s →
-    (r : Region) × (o ≡ Some r) × (shown r ≡ s)
+-- the region that is shown_region
+region_shown : (o : Option Region) (s : ShownRegion) → option_map shown_region o ≡ Some s →
+    (r : Region) × (o ≡ Some r) × (shown_region r ≡ s)
 region_shown None s is = let no : None ≡ Some s = is in cc
-region_shown (Some r) s is = (r, refl, same_Some (shown r) s is)
+region_shown (Some r) s is = (r, refl, same_Some (shown_region r) s is)
 
 pub shown_frames : (now : Book) (id memory : ℕ) (s : ShownRegion) → IsBook now →
-    option_map shown (region_of now id) ≡ Some s → s.pooled ≡ true → 4096 * 26 ≤ memory →
+    option_map shown_region (region_of now id) ≡ Some s → s.pooled ≡ true → 4096 * 26 ≤ memory →
     IfSome (region_of now id) (λ r. All (λ f. 4096 * f + 4096 ≤ memory) r.frames)
 shown_frames now id memory s book found pooled most =
     let live = region_shown (region_of now id) s found in
@@ -49,7 +49,7 @@ unfolding is_book_frame
 low_frame size f low = ap (λ b. b && nat_lt f (64 + (size + 255) / 256)) (lt-leb 26 f (omega (arith, low)))
 
 pub shown_aside : (now : Book) (id size : ℕ) (s : ShownRegion) → IsBook now →
-    option_map shown (region_of now id) ≡ Some s → s.pooled ≡ true →
+    option_map shown_region (region_of now id) ≡ Some s → s.pooled ≡ true →
     IfSome (region_of now id) (λ r. All (λ f. is_book_frame size f ≡ false) r.frames)
 shown_aside now id size s book found pooled =
     let live = region_shown (region_of now id) s found in

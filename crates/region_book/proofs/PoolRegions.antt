@@ -8,9 +8,9 @@ use Rattle.std.proofs.lemmas.List.FromFn.{length-range_with_len}
 use Rattle.phys_mem.specs.MaskedMemory.{is_book_frame}
 use Rattle.phys_mem.specs.Memory.{stored}
 use Rattle.region_book.specs.declared.row.Row.{Row}
-use Rattle.region_book.specs.RegionCalls.{added, is_taken, meets, pool_region, room}
+use Rattle.region_book.specs.RegionCalls.{with_one_more, is_range_taken, meets, pool_region, room}
 use Rattle.region_book.specs.RegionRecords.{Book, IsApart, IsBook, IsRegion, Region, pool_start, region_stores}
-use Rattle.region_book.specs.RegionRows.{IsHeld, frames_of_row, new_region, place_in, place_of_row, row_stores}
+use Rattle.region_book.specs.RegionRows.{IsHeld, frames_of_row, region_of_row, row_place, place_of_row, row_stores}
 use Rattle.region_book.proofs.Found.{found_place, none_any}
 use Rattle.region_book.proofs.RowPlaces.{region_stores_is}
 use Rattle.region_book.proofs.SeenStores.{low_is_no_book}
@@ -19,11 +19,11 @@ use Rattle.region_book.proofs.SoundBooks.{added_sound}
 -- its row
 pub pool_row_is : (now : Book) (next p first size policy slot : ℕ) (frames : List ℕ) → next ≡ now.next →
     first ≡ pool_start + p →
-    new_region (record { id = next; first = first; size = size; tail = 0; policy = policy; pooled = true; slot = slot; frames = frames }) ≡ pool_region now size policy p
+    region_of_row (record { id = next; first = first; size = size; tail = 0; policy = policy; pooled = true; slot = slot; frames = frames }) ≡ pool_region now size policy p
 unfolding frames_of_row place_of_row
 pool_row_is now next p first size policy slot frames next_is first_is =
     let place : first - pool_start ≡ p = omega (arith, first_is) in
-    ap (λ id. new_region (record { id = id; first = first; size = size; tail = 0; policy = policy; pooled = true; slot = slot; frames = frames })) next_is
+    ap (λ id. region_of_row (record { id = id; first = first; size = size; tail = 0; policy = policy; pooled = true; slot = slot; frames = frames })) next_is
     ∙ ap (λ q. record {
       id = now.next;
       policy = policy;
@@ -39,8 +39,8 @@ pool_row_is now next p first size policy slot frames next_is first_is =
 
 -- its bytes lie in frames 10 to 25
 pub pool_places : (row : Row) (p size : ℕ) → row.pooled ≡ true → row.first ≡ pool_start + p → p + row.size ≤ 65536 →
-    4096 * 26 ≤ size → (k : ℕ) → k < row.size → place_in row k < size
-unfolding place_in
+    4096 * 26 ≤ size → (k : ℕ) → k < row.size → row_place row k < size
+unfolding row_place
 pool_places row p size pooled first fits most k within =
     subst (λ place. place < size) (sym
     (ap (λ b. if b then 4096 * 10 + (row.first - pool_start) + k else 4096 * slice_index_or row.frames
@@ -49,17 +49,17 @@ pool_places row p size pooled first fits most k within =
 
 -- which are no book frames
 pub pool_aside : (row : Row) (p frames : ℕ) → row.pooled ≡ true → row.first ≡ pool_start + p → p + row.size ≤ 65536 →
-    (k : ℕ) → k < row.size → is_book_frame frames (place_in row k / 4096) ≡ false
+    (k : ℕ) → k < row.size → is_book_frame frames (row_place row k / 4096) ≡ false
 pool_aside row p frames pooled first fits k within =
-    low_is_no_book frames (place_in row k) (pool_places row p (4096 * 26) pooled first fits (omega arith) k within)
+    low_is_no_book frames (row_place row k) (pool_places row p (4096 * 26) pooled first fits (omega arith) k within)
 
 -- the room that is found is free
-pub room_free : (regions : List Region) (size p : ℕ) → room regions size ≡ Some p → is_taken regions size p ≡ false
+pub room_free : (regions : List Region) (size p : ℕ) → room regions size ≡ Some p → is_range_taken regions size p ≡ false
 unfolding room
 room_free regions size p found =
-    let test = (found_place (λ p. nat_le (p + size) 65536 && not (is_taken regions size p))
+    let test = (found_place (λ p. nat_le (p + size) 65536 && not (is_range_taken regions size p))
     (map (λ k. 16 * k) (range_with_len 0 4096)) p found).3 in
-    not-true (is_taken regions size p) (and_parts (nat_le (p + size) 65536) (not (is_taken regions size p)) test).1
+    not-true (is_range_taken regions size p) (and_parts (nat_le (p + size) 65536) (not (is_range_taken regions size p)) test).1
 
 module _ (now : Book) (sound : IsBook now) (size policy p : ℕ) (some : 1 ≤ size) (fits : p + size ≤ 65536)
     (low : 1 ≤ policy) (high : policy ≤ 4) where
@@ -83,7 +83,7 @@ module _ (now : Book) (sound : IsBook now) (size policy p : ℕ) (some : 1 ≤ s
         declared = λ e. absurd (false≢true (sym e));
       }
 
-  apart : is_taken now.regions size p ≡ false → All (λ old. IsApart old (pool_region now size policy p)) now.regions
+  apart : is_range_taken now.regions size p ≡ false → All (λ old. IsApart old (pool_region now size policy p)) now.regions
   apart free k d below = record {
     pool = λ old_pooled pooled.
         go (slice_index_or now.regions k d) old_pooled (sound.each k d below)
@@ -104,16 +104,16 @@ module _ (now : Book) (sound : IsBook now) (size policy p : ℕ) (some : 1 ≤ s
             | inr before ↦ inr (omega (arith, place.0, ltb-false (old.first - pool_start) (p + size) before))
           ]
 
-  pub pool_added : (r : Region) → r ≡ pool_region now size policy p → is_taken now.regions size p ≡ false →
-      length now.regions < 256 → IsBook (added now r 0)
+  pub pool_added : (r : Region) → r ≡ pool_region now size policy p → is_range_taken now.regions size p ≡ false →
+      length now.regions < 256 → IsBook (with_one_more now r 0)
   pool_added r is free few =
-      subst (λ r. IsBook (added now r 0)) (sym is)
+      subst (λ r. IsBook (with_one_more now r 0)) (sym is)
       (added_sound now sound (pool_region now size policy p) 0 few refl pool_is_region (apart free) refl
       (omega (arith, sound.most)))
 
 -- its bytes are made 0
 pub zeros_are : (now : Book) (row : Row) (size policy p q : ℕ) (before after : List ℕ) → IsHeld 128 row →
-    row.size ≡ size → new_region row ≡ pool_region now size policy p → p ≡ q →
+    row.size ≡ size → region_of_row row ≡ pool_region now size policy p → p ≡ q →
     after ≡ stored before (row_stores row 0 (replicate row.size 0)) →
     after ≡ stored before (region_stores (pool_region now size policy q) 0 (replicate size 0))
 zeros_are now row size policy p q before after held size_is is place was =

@@ -5,7 +5,7 @@ use Rattle.std.specs.List.{list_any, range_with_len}
 use Rattle.phys_mem.specs.Memory.{stored}
 use Rattle.region_book.specs.declared.row.Row.{Row}
 use Rattle.region_book.specs.RegionRecords.{Book, IsBook, IsRegion, Region, byte_place, is_written_in, region_of, region_stores}
-use Rattle.region_book.specs.RegionRows.{IsHeld, bit_in, first_bit, place_in, region_at, region_with, row_stores}
+use Rattle.region_book.specs.RegionRows.{IsHeld, bit_in, first_bit, row_place, region_at, region_with, row_stores}
 use Rattle.region_book.proofs.BookRows.{written_by_bits}
 use Rattle.region_book.proofs.Found.{for_some, found_holds, of_some}
 use Rattle.region_book.proofs.RowPlaces.{byte_place_is, frame_of_place, place_within, region_stores_is}
@@ -28,7 +28,7 @@ module _ (now : Book) (id : ℕ) (o : Option Row) (row : Row) (is : o ≡ Some r
 
   pub byte_fits : (size : ℕ) → IsBook now →
       IfSome (region_of now id) (λ r. All (λ f. 4096 * f + 4096 ≤ size) r.frames) →
-      (k : ℕ) → k < row.size → place_in row k < size
+      (k : ℕ) → k < row.size → row_place row k < size
   byte_fits size book frames k within =
       subst (λ p. p < size) (byte_place_is 128 row found.0 k held_row within)
       (place_within now.next size k (region_with found.0 row)
@@ -37,14 +37,14 @@ module _ (now : Book) (id : ℕ) (o : Option Row) (row : Row) (is : o ≡ Some r
       (λ r. All (λ f. 4096 * f + 4096 ≤ size) r.frames) found.1 frames))
 
   pub byte_aside : (test : ℕ → Bool) → IsBook now → IfSome (region_of now id) (λ r. All (λ f. test f ≡ false) r.frames) →
-      (k : ℕ) → k < row.size → test (place_in row k / 4096) ≡ false
+      (k : ℕ) → k < row.size → test (row_place row k / 4096) ≡ false
   byte_aside test book frames k within =
       subst (λ p. test (p / 4096) ≡ false) (byte_place_is 128 row found.0 k held_row within)
       (frame_of_place now.next k (region_with found.0 row) (λ f. test f ≡ false)
       (region_sound now id (region_with found.0 row) book found.1) within
       (of_some (region_of now id) (region_with found.0 row) (λ r. All (λ f. test f ≡ false) r.frames) found.1 frames))
 
-  pub byte_is : (offset : ℕ) (read : ℕ → ℕ) (byte : ℕ) → offset < row.size → byte ≡ read (place_in row offset) →
+  pub byte_is : (offset : ℕ) (read : ℕ → ℕ) (byte : ℕ) → offset < row.size → byte ≡ read (row_place row offset) →
       IfSome (region_of now id) (λ r. byte ≡ read (byte_place r offset))
   byte_is offset read byte within was =
       for_some (region_of now id) (region_with found.0 row) (λ r. byte ≡ read (byte_place r offset)) found.1

@@ -7,7 +7,7 @@ use Rattle.phys_mem.specs.MaskedMemory.{is_book_frame, masked, seen}
 use Rattle.phys_mem.specs.Memory.{byte_at}
 use Rattle.region_book.specs.declared.row.Row.{Row}
 use Rattle.region_book.specs.RegionBytes.{DiffersInRegions, HoldsRegions, RegionIndex, bits_in, book_in, row_in, slot_place}
-use Rattle.region_book.specs.RegionRows.{IsKept, bit_in, book_of, first_bit, in_run}
+use Rattle.region_book.specs.RegionRows.{AreRowsKept, bit_in, book_of, first_bit, in_run}
 use Rattle.region_book.proofs.ListEdits.{map_agree}
 use Rattle.region_book.proofs.SlotRows.{IsSameSlot, bits_stay, form_stays, row_stays}
 
@@ -53,8 +53,8 @@ module _ (index : RegionIndex) (m n : List ℕ) (held : HoldsRegions index m) (s
     size = subst (λ k. 0x40000 ≤ k) (sym size) held.size;
     slots = held.slots;
     once = held.once;
-    kept = subst (λ rows. IsKept rows (bits_in n) index.declared) (sym rows_same)
-        (subst (λ bits. IsKept (map (row_in m) index.slots) bits index.declared) (sym bits_same) held.kept);
+    kept = subst (λ rows. AreRowsKept rows (bits_in n) index.declared) (sym rows_same)
+        (subst (λ bits. AreRowsKept (map (row_in m) index.slots) bits index.declared) (sym bits_same) held.kept);
     rows = λ k d below. form_stays m n _ (slot_same _ (held.slots k d below)) (held.rows k d below);
     free = λ s p below other inside.
         same (slot_place s + p) (omega arith) (omega (arith, below, inside)) ∙ held.free s p below other inside;

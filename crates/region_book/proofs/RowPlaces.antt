@@ -7,7 +7,7 @@ use Rattle.std.proofs.lemmas.List.{get_or-take}
 use Rattle.std.proofs.lemmas.List.FromFn.{get_or-range_with_len}
 use Rattle.region_book.specs.declared.row.Row.{Row}
 use Rattle.region_book.specs.RegionRecords.{IsRegion, Region, byte_place, pool_frame, pool_start, region_stores}
-use Rattle.region_book.specs.RegionRows.{IsHeld, frames_of_row, place_in, place_of_row, region_with, row_stores}
+use Rattle.region_book.specs.RegionRows.{IsHeld, frames_of_row, row_place, place_of_row, region_with, row_stores}
 
 -- in the pool the frames follow one another
 pool_byte : (p size offset : ℕ) → offset < size →
@@ -27,8 +27,8 @@ page_byte frames size offset within whole =
     ∙ ap (λ f. 4096 * f + offset % 4096) (get_or-take (size / 4096) frames (offset / 4096) 0 (omega (arith, whole)))
 
 pub byte_place_is : (slots : ℕ) (row : Row) (written : List Bool) (offset : ℕ) → IsHeld slots row → offset < row.size →
-    byte_place (region_with written row) offset ≡ place_in row offset
-unfolding frames_of_row place_in place_of_row
+    byte_place (region_with written row) offset ≡ row_place row offset
+unfolding frames_of_row row_place place_of_row
 byte_place_is slots row written offset held within =
     elim (cases_Bool row.pooled) [
       | inl pooled ↦ go true pooled (pool_byte (row.first - pool_start) row.size offset within)
@@ -77,5 +77,5 @@ region_stores_is slots row written offset [] held fits = refl
 region_stores_is slots row written offset (b ∷ bytes) held fits =
     ap (λ place. (place, b) ∷ region_stores (region_with written row) (offset + 1) bytes)
     (byte_place_is slots row written offset held (omega arith))
-    ∙ ap (λ later. (place_in row offset, b) ∷ later)
+    ∙ ap (λ later. (row_place row offset, b) ∷ later)
     (region_stores_is slots row written (offset + 1) bytes held (omega arith))

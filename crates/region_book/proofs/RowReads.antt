@@ -5,10 +5,10 @@ use Rattle.std.specs.List.{list_any}
 use Rattle.std.proofs.lemmas.List.{get_or-map, length-map}
 use Rattle.std.proofs.lemmas.List.Folds.{list_any_at, list_any_more}
 use Rattle.std.proofs.lemmas.Option.{slice_get-map}
-use Rattle.region_book.specs.declared.regions.Region.{Region as ShownRegion}
+use Rattle.region_book.specs.declared.regions.ShownRegion.{ShownRegion}
 use Rattle.region_book.specs.declared.row.Row.{Row}
 use Rattle.region_book.specs.RegionBytes.{HoldsRegions, RegionIndex, bits_in, book_in, row_in}
-use Rattle.region_book.specs.RegionRecords.{region_of, shown}
+use Rattle.region_book.specs.RegionRecords.{region_of, shown_region}
 use Rattle.region_book.specs.RegionRows.{IsHeld, bits_from, first_bit, region_at, region_with, row_of}
 use Rattle.region_book.proofs.BookRows.{region_found, region_missing}
 use Rattle.region_book.proofs.KeptRows.{held_more}
@@ -57,11 +57,11 @@ module _ (index : RegionIndex) (m slots : List ℕ) (order : slots ≡ index.slo
       (subst (λ xs. row_of (map (row_in m) xs) id ≡ None) order none)
 
   pub shown_at : (i s : ℕ) (row : Row) (result : ShownRegion) → Some s ≡ slice_get slots i → row ≡ row_in m s
-      → result ≡ shown (region_at (bits_in m) row)
-      → Some result ≡ option_map shown (slice_get (book_in index m).regions i)
+      → result ≡ shown_region (region_at (bits_in m) row)
+      → Some result ≡ option_map shown_region (slice_get (book_in index m).regions i)
   shown_at i s row result place read is =
       ap Some is
-      ∙ ap (option_map shown) (ap (option_map (region_at (bits_in m)))
+      ∙ ap (option_map shown_region) (ap (option_map (region_at (bits_in m)))
       (ap Some read ∙ ap (option_map (row_in m)) (place ∙ ap (λ xs. slice_get xs i) order)
       ∙ sym (slice_get-map (row_in m) index.slots i))
       ∙ sym (slice_get-map (region_at (bits_in m)) (map (row_in m) index.slots) i))

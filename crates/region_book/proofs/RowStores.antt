@@ -3,22 +3,22 @@ use Rattle.std.proofs.Common.{◌≡◌, ℕ, zero, suc, ◌+◌, ◌-◌, ◌%�
 use Rattle.std.proofs.lemmas.List.{drop_more, drop_all}
 use Rattle.phys_mem.specs.Memory.{stored, stores}
 use Rattle.region_book.specs.declared.row.Row.{Row}
-use Rattle.region_book.specs.RegionRows.{place_in, row_stores}
+use Rattle.region_book.specs.RegionRows.{row_place, row_stores}
 
 -- the next byte is stored
 store_more : (m : List ℕ) (row : Row) (offset b : ℕ) (bs : List ℕ) → b < 256 →
-    stored (stored m (stores 1 (place_in row offset) b)) (row_stores row (offset + 1) bs) ≡ stored m
+    stored (stored m (stores 1 (row_place row offset) b)) (row_stores row (offset + 1) bs) ≡ stored m
     (row_stores row offset (b ∷ bs))
 unfolding stored stores row_stores
 store_more m row offset b bs small =
     let byte : b % 256 ≡ b = omega arith in
-    ap (λ v. stored (set m (place_in row offset) v) (row_stores row (offset + 1) bs)) byte
+    ap (λ v. stored (set m (row_place row offset) v) (row_stores row (offset + 1) bs)) byte
 
 none_left : (m : List ℕ) (row : Row) (offset : ℕ) → stored m (row_stores row offset []) ≡ m
 unfolding stored row_stores
 none_left m row offset = refl
 
-module _ (whole now after : List ℕ) (row : Row) (place offset : ℕ) (place_is : place ≡ place_in row offset) where
+module _ (whole now after : List ℕ) (row : Row) (place offset : ℕ) (place_is : place ≡ row_place row offset) where
   pub byte_more : (first i : ℕ) (bytes : List ℕ) (b : ℕ) → offset ≡ first + i → i < length bytes →
       b ≡ slice_index bytes i → b < 256 →
       after ≡ stored now (stores 1 place b) → stored now (row_stores row (first + i) (drop i bytes)) ≡ whole →
@@ -27,7 +27,7 @@ module _ (whole now after : List ℕ) (row : Row) (place offset : ℕ) (place_is
       let next : first + (i + 1) ≡ offset + 1 = omega (arith, at) in
       ap (λ m. stored m (row_stores row (first + (i + 1)) (drop (i + 1) bytes)))
       (stored_is ∙ ap (λ p. stored now (stores 1 p b)) place_is)
-      ∙ ap (λ o. stored (stored now (stores 1 (place_in row offset) b)) (row_stores row o (drop (i + 1) bytes))) next
+      ∙ ap (λ o. stored (stored now (stores 1 (row_place row offset) b)) (row_stores row o (drop (i + 1) bytes))) next
       ∙ store_more now row offset b (drop (i + 1) bytes) small
       ∙ ap (λ bs. stored now (row_stores row offset bs))
       (ap (λ v. v ∷ drop (i + 1) bytes) is ∙ sym (drop_more bytes i 0 within))

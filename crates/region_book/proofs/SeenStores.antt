@@ -8,23 +8,23 @@ use Rattle.phys_mem.specs.MaskedMemory.{is_book_frame, masked, seen}
 use Rattle.phys_mem.specs.Memory.{byte_at, stored}
 use Rattle.region_book.specs.declared.row.Row.{Row}
 use Rattle.region_book.specs.RegionBytes.{HoldsRegions, RegionIndex, book_in}
-use Rattle.region_book.specs.RegionRows.{place_in, row_stores}
+use Rattle.region_book.specs.RegionRows.{row_place, row_stores}
 use Rattle.region_book.proofs.RegionsKept.{book_same, held_same}
 
 -- a store of a row's bytes is at one of its places
 row_stores_at : (P : ℕ → Type 0) (row : Row) (offset : ℕ) (bytes : List ℕ) →
-    ((k : ℕ) → offset ≤ k → k < offset + length bytes → P (place_in row k)) →
+    ((k : ℕ) → offset ≤ k → k < offset + length bytes → P (row_place row k)) →
     All (λ w. P w.0) (row_stores row offset bytes)
 unfolding row_stores
 row_stores_at P row offset [] each = All-nil (λ (w : ℕ × ℕ). P w.0)
 row_stores_at P row offset (b ∷ bytes) each =
-    All-cons (λ (w : ℕ × ℕ). P w.0) (place_in row offset, b) (row_stores row (offset + 1) bytes)
+    All-cons (λ (w : ℕ × ℕ). P w.0) (row_place row offset, b) (row_stores row (offset + 1) bytes)
     (each offset (omega arith) (omega arith))
     (row_stores_at P row (offset + 1) bytes (λ k least most. each k (omega (arith, least)) (omega (arith, most))))
 
 -- no byte of so many from the first on stands in a book frame
 abbrev pub IsAside : ℕ → Row → ℕ → Type 0
-IsAside size row count = (k : ℕ) → k < count → is_book_frame (size / 4096) (place_in row k / 4096) ≡ false
+IsAside size row count = (k : ℕ) → k < count → is_book_frame (size / 4096) (row_place row k / 4096) ≡ false
 
 module _ (before after : List ℕ) (row : Row) (offset count : ℕ) (bytes : List ℕ) (fits : offset + length bytes ≤ count)
     (aside : IsAside (length before) row count) (stored_is : after ≡ stored before (row_stores row offset bytes)) where

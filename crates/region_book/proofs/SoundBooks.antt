@@ -1,4 +1,4 @@
--- A book stays sound where a range of a region was written, a region of the pool is let go and a new one is added.
+-- A book stays sound where a range of a region was written, a region of the pool is let go and a new one is with_one_more.
 use Rattle.std.proofs.Common.{◌≡◌, ℕ, ◌+◌, ◌<◌, ◌≤◌, Bool, true, false, not, ◌==◌, length, set, arith, refl, sym, ap, ◌∙◌, subst, slice_index_or}
 use Rattle.std.specs.Prelude.{All, Some, if◌then◌else◌}
 use Rattle.std.proofs.lemmas.Bool.{eqb-true, not-false}
@@ -8,7 +8,7 @@ use Rattle.std.proofs.lemmas.List.FromFn.{length-map-range_with_len}
 use Rattle.std.proofs.lemmas.List.Kept.{AllPairs-filter}
 use Rattle.std.proofs.lemmas.List.Quantifiers.{all_pairs_push}
 use Rattle.std.proofs.lemmas.List.Sums.{count_by-le-length, length-filter, sum_by-set, sum_by_push}
-use Rattle.region_book.specs.RegionCalls.{added, freed}
+use Rattle.region_book.specs.RegionCalls.{with_one_more, freed}
 use Rattle.region_book.specs.RegionRecords.{Book, IsApart, IsBook, IsRegion, Region, marked, pages_of_region, region_of, with_region}
 use Rattle.region_book.proofs.Found.{found_place}
 use Rattle.region_book.proofs.ListEdits.{pairs_set, place_of_key, replaced_by_key, sum_filter}
@@ -94,7 +94,7 @@ module _ (book : Book) (sound : IsBook book) where
   pub added_sound : (r : Region) (pages : ℕ) → length book.regions < 256 → r.id ≡ book.next →
       IsRegion (book.next + 1) r →
       All (λ old. IsApart old r) book.regions → pages_of_region r ≡ pages → book.declared + pages ≤ 128 →
-      IsBook (added book r pages)
+      IsBook (with_one_more book r pages)
   added_sound r pages few id is apart pages_is most = record {
     next = omega (arith, sound.next);
     count = omega (arith, few, length_push book.regions r);

@@ -5,7 +5,7 @@ use Rattle.std.specs.List.{range_with_len}
 use Rattle.nk_bits.specs.declared.kind.Kind.TheVariants.{Data, Code, Table, Fixed, Trap, Guarded, Hidden}
 use Rattle.nk_bits.specs.declared.rule.Rule.{Rule}
 use Rattle.nk_bits.specs.declared.rule.Rule.TheVariants.{BadPolicy, BadRange, BadRegion, NoRoom, NotAllocated, NotData, StillLoose, TooManyRegions}
-use Rattle.region_book.specs.RegionCalls.{added, alloc_rule, declare_rule, frames_from, frames_rule, free_rule, freed, guarded, has_twice, is_bad_range, page_region, pool_region, room}
+use Rattle.region_book.specs.RegionCalls.{with_one_more, alloc_rule, pages_rule, frames_from, frames_rule, free_rule, freed, guarded, has_twice, is_bad_range, page_region, pool_region, room}
 use Rattle.region_book.specs.RegionRecords.{Book, Region, byte_place, is_written_in, marked, region_stores}
 
 -- a write-once region of the pool: so many bytes from a place in it on; what no rule looks at is left empty
@@ -197,7 +197,7 @@ abbrev frame_at : ℕ → Option ℕ
 frame_at p = if p == 5 then Some 0 else if p == 6 then Some 4 else if p == 7 then Some 0 else None
 
 abbrev declaring_at : ℕ → ℕ → ℕ → Option Rule
-declaring_at = declare_rule (book_with [] 0) (Data ∷ Code ∷ Fixed ∷ Trap ∷ Data ∷ []) (λ f. 0) frame_at
+declaring_at = pages_rule (book_with [] 0) (Data ∷ Code ∷ Fixed ∷ Trap ∷ Data ∷ []) (λ f. 0) frame_at
 
 -- each page of the range is mapped, and to a frame of its own
 pages :
@@ -210,7 +210,7 @@ pages :
     (declaring_at 0x7000 8192 5 ≡ Some BadRange) ×
     (declaring_at 0x5001 4096 5 ≡ Some BadRange) ×
     (declaring_at 0x5000 4096 5 ≡ Some BadPolicy)
-unfolding declare_rule frames_from has_twice
+unfolding pages_rule frames_from has_twice
 pages = (refl, refl, refl, refl, refl, refl, refl, refl, refl)
 
 -- frames become guarded, and those behind the last one stay out
@@ -262,7 +262,7 @@ addeds :
     (two_pages.id ≡ 512) ×
     (two_pages.first ≡ 0x5000) ×
     (two_pages.pooled ≡ false) ×
-    (added (book_with (page 256 ∷ []) 1) two_pages 2
+    (with_one_more (book_with (page 256 ∷ []) 1) two_pages 2
     ≡ record { regions = page 256 ∷ two_pages ∷ []; next = 513; declared = 3 })
 addeds = (refl, refl, refl, refl)
 

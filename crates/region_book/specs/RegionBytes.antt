@@ -12,7 +12,7 @@ use Rattle.std.specs.List.{list_any, range_with_len}
 use Rattle.phys_mem.specs.Memory.{byte_at, number_at}
 use Rattle.region_book.specs.declared.row.Row.{Row}
 use Rattle.region_book.specs.RegionRecords.{Book, IsEachOnce}
-use Rattle.region_book.specs.RegionRows.{IsKept, bit_in, book_of, first_bit, in_run}
+use Rattle.region_book.specs.RegionRows.{AreRowsKept, bit_in, book_of, first_bit, in_run}
 
 -- what the book keeps outside memory: the slots of the live regions in the order of their identifiers, the next identifier,
 -- and how many pages were declared
@@ -58,7 +58,7 @@ pub record HoldsRegions (index : RegionIndex) (m : List ℕ) : Type 0 where
   pub size : 0x40000 ≤ length m
   pub slots : All (λ s. s < 256) index.slots
   pub once : IsEachOnce index.slots
-  pub kept : IsKept (map (row_in m) index.slots) (bits_in m) index.declared
+  pub kept : AreRowsKept (map (row_in m) index.slots) (bits_in m) index.declared
   pub rows : All (HasRowForm m) index.slots
   pub free : (s p : ℕ) → s < 256 → list_any (λ t. t == s) index.slots ≡ false → p < 64 → byte_at m (slot_place s + p) ≡ 0
   pub bits : (k : ℕ) → bit_in (bits_in m) k ≡ true

@@ -25,13 +25,13 @@ abbrev pub meets : ℕ → ℕ → ℕ → ℕ → Bool
 meets p size q count = nat_lt p (q + count) && nat_lt q (p + size)
 
 -- a live region of the pool has a byte of the range
-abbrev pub is_taken : List Region → ℕ → ℕ → Bool
-is_taken regions size p = list_any (λ r. r.pooled && meets p size (r.first - pool_start) r.size) regions
+abbrev pub is_range_taken : List Region → ℕ → ℕ → Bool
+is_range_taken regions size p = list_any (λ r. r.pooled && meets p size (r.first - pool_start) r.size) regions
 
 -- the least multiple of 16 from which on so many bytes of the pool are free
 unfoldable pub room : List Region → ℕ → Option ℕ
 room regions size =
-    find (λ p. nat_le (p + size) 65536 && not (is_taken regions size p)) (map (λ k. 16 * k) (range_with_len 0 4096))
+    find (λ p. nat_le (p + size) 65536 && not (is_range_taken regions size p)) (map (λ k. 16 * k) (range_with_len 0 4096))
 
 unfoldable pub alloc_rule : Book → ℕ → ℕ → Option Rule
 alloc_rule book size policy =
@@ -55,8 +55,8 @@ pool_region book size policy p = record {
 }
 
 -- the book with a region more
-abbrev pub added : Book → Region → ℕ → Book
-added book r pages = record {
+abbrev pub with_one_more : Book → Region → ℕ → Book
+with_one_more book r pages = record {
   regions = book.regions ++ r ∷ [];
   next = book.next + 1;
   declared = book.declared + pages;
@@ -94,13 +94,13 @@ abbrev pub mapped : (ℕ → ℕ → ℕ) → ℕ → ℕ → ℕ → Option ℕ
 mapped t frames root page = if is_canonical_page page then leaf_frame (walk t frames root page) else None
 
 -- the frames of so many pages from a page on, where each is mapped
-abbrev pub joined : Option ℕ → Option (List ℕ) → Option (List ℕ)
-joined (Some f) (Some fs) = Some (f ∷ fs)
-joined _ _ = None
+abbrev pub pages_joined : Option ℕ → Option (List ℕ) → Option (List ℕ)
+pages_joined (Some f) (Some fs) = Some (f ∷ fs)
+pages_joined _ _ = None
 
 unfoldable pub frames_from : (ℕ → Option ℕ) → ℕ → ℕ → Option (List ℕ)
 frames_from at page zero = Some []
-frames_from at page (suc n) = joined (at page) (frames_from at (page + 1) n)
+frames_from at page (suc n) = pages_joined (at page) (frames_from at (page + 1) n)
 
 -- two places of the list hold the same frame
 unfoldable pub has_twice : List ℕ → Bool
@@ -125,8 +125,8 @@ frames_rule book kinds loose policy (Some fs) =
     (else_rule (list_any (λ f. not (loose f == 0)) fs) StillLoose None)))))
 
 -- a page's frame is given by at, the loose leaves of a frame by loose
-unfoldable pub declare_rule : Book → List Kind → (ℕ → ℕ) → (ℕ → Option ℕ) → ℕ → ℕ → ℕ → Option Rule
-declare_rule book kinds loose at address size policy =
+unfoldable pub pages_rule : Book → List Kind → (ℕ → ℕ) → (ℕ → Option ℕ) → ℕ → ℕ → ℕ → Option Rule
+pages_rule book kinds loose at address size policy =
     if is_bad_range address size then Some BadRange
     else frames_rule book kinds loose policy (frames_from at (address / 4096) (size / 4096))
 

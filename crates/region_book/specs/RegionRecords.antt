@@ -1,7 +1,7 @@
 -- Protected regions, as plain data: what each is, where its bytes stand, and what a sound book of them is.
 use Rattle.std.specs.Prelude.{◌≡◌, ◌≢◌, ◌⊎◌, ◌<◌, ◌≤◌, ℕ, ◌+◌, ◌-◌, ◌*◌, ◌/◌, ◌%◌, Bool, true, false, ◌&&◌, ◌||◌, ◌==◌, nat_le, nat_lt, if◌then◌else◌, List, [], ◌∷◌, length, map, slice_index, slice_index_or, Option, All, AllPairs}
 use Rattle.std.specs.List.{find, list_any, range_with_len, sum_by}
-use Rattle.region_book.specs.declared.regions.Region.{Region as ShownRegion}
+use Rattle.region_book.specs.declared.regions.ShownRegion.{ShownRegion}
 
 -- a region: its identifier; its policy, 1 to 4; whether it lies in the pool; its first linear address; its size in bytes;
 -- the frames that hold it, in order, and the place of its first byte in the first of them; which of its bytes were written,
@@ -18,8 +18,8 @@ pub record Region : Type 0 where
   pub tail : ℕ
 
 -- a region, as others see it
-abbrev pub shown : Region → ShownRegion
-shown r = record { id = r.id; policy = r.policy; place = r.first; size = r.size; tail = r.tail; pooled = r.pooled }
+abbrev pub shown_region : Region → ShownRegion
+shown_region r = record { id = r.id; policy = r.policy; place = r.first; size = r.size; tail = r.tail; pooled = r.pooled }
 
 -- the live regions by identifier, the next identifier, and how many pages were declared
 pub record Book : Type 0 where

@@ -56,8 +56,8 @@ abbrev pub region_at : List ℕ → Row → Region
 region_at bits row = region_with (bits_from bits (first_bit row) row.size) row
 
 -- a new region
-abbrev pub new_region : Row → Region
-new_region row = region_with (replicate row.size false) row
+abbrev pub region_of_row : Row → Region
+region_of_row row = region_with (replicate row.size false) row
 
 -- a row whose tail moved, where it is append-only
 abbrev pub moved : Row → ℕ → Row
@@ -72,15 +72,15 @@ abbrev pub row_meets : ℕ → ℕ → Row → Bool
 row_meets size p row = row.pooled && meets p size (row.first - pool_start) row.size
 
 -- the place in memory of a row's byte
-unfoldable pub place_in : Row → ℕ → ℕ
-place_in row offset =
+unfoldable pub row_place : Row → ℕ → ℕ
+row_place row offset =
     if row.pooled then 4096 * pool_frame + (row.first - pool_start) + offset
     else 4096 * slice_index row.frames (offset / 4096) + offset % 4096
 
 -- the stores that put bytes in a row's region from an offset on
 unfoldable pub row_stores : Row → ℕ → List ℕ → List (ℕ × ℕ)
 row_stores row offset [] = []
-row_stores row offset (b ∷ bs) = (place_in row offset, b) ∷ row_stores row (offset + 1) bs
+row_stores row offset (b ∷ bs) = (row_place row offset, b) ∷ row_stores row (offset + 1) bs
 
 -- a row lies in the pool, or in slots below so many
 pub record IsHeld (slots : ℕ) (row : Row) : Type 0 where
@@ -93,7 +93,7 @@ abbrev pub AreApart : Row → Row → Type 0
 AreApart one other = (first_bit one + one.size ≤ first_bit other) ⊎ (first_bit other + other.size ≤ first_bit one)
 
 -- at most 256 rows, each with bits of its own
-pub record IsKept (rows : List Row) (bits : List ℕ) (declared : ℕ) : Type 0 where
+pub record AreRowsKept (rows : List Row) (bits : List ℕ) (declared : ℕ) : Type 0 where
   pub count : length rows ≤ 256
   pub room : length bits ≡ 73728
   pub most : declared ≤ 128

@@ -24,7 +24,7 @@ mod regions;
 mod laws;
 
 pub use laws::{apart_law, declared_law, held_regions_law};
-pub use regions::{Granted, Region, Regions};
+pub use regions::{Granted, Regions, ShownRegion};
 
 #[cfg(test)]
 mod tests;

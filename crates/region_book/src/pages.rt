@@ -5,7 +5,7 @@ ghost use Rattle.std.specs.List.{list_any};
 ghost use Rattle.phys_mem.specs.Memory.{entry_in};
 ghost use Rattle.nk_bits.specs.Kinds.{is_data, kind_of};
 ghost use Rattle.page_desc.specs.DescriptorBytes.{DiffersInDescriptors, HoldsDescriptors, descriptors_in, kinds_in};
-ghost use Rattle.region_book.specs.RegionCalls.{declare_rule, frames_from, frames_rule, guarded, has_twice, is_bad_range, is_policy, mapped};
+ghost use Rattle.region_book.specs.RegionCalls.{pages_rule, frames_from, frames_rule, guarded, has_twice, is_bad_range, is_policy, mapped};
 ghost use Rattle.region_book.specs.RegionRecords.{Book, IsEachOnce};
 ghost use Rattle.nk_bits.specs.Rules.{rule_of};
 
@@ -15,7 +15,7 @@ use page_walk::walk;
 use phys_mem::PhysMem;
 
 /// The number of bytes of a page.
-const PAGE_BYTES: u64 = 4096;
+const PAGE_SIZE: u64 = 4096;
 
 /// The most bytes of a range.
 const MOST_BYTES: u64 = 65536;
@@ -56,7 +56,7 @@ fn frame_of(mem: &PhysMem, root: u32, page: u64) -> Option<u16>
     if page >= NO_PAGE {
         return None;
     }
-    let va = page * PAGE_BYTES;
+    let va = page * PAGE_SIZE;
     if !canonical(va) {
         return None;
     }
@@ -77,8 +77,8 @@ pub(crate) fn pages_of(mem: &PhysMem, root: u32, va: u64, size: u64) -> Option<P
     ensures frames { IfSome result (λ p. All (λ f. f < length mem.now / 4096) (take p.count p.frames)) }
     ensures behind { IfSome result (λ p. (i : ℕ) → i < 16 → p.count ≤ i → slice_index p.frames i ≡ 0) }
 {
-    let first = va / PAGE_BYTES;
-    let count = (size / PAGE_BYTES) as u32;
+    let first = va / PAGE_SIZE;
+    let count = (size / PAGE_SIZE) as u32;
     let mut pages = Pages {
         frames: [0; 16],
         count,
@@ -96,7 +96,7 @@ pub(crate) fn pages_of(mem: &PhysMem, root: u32, va: u64, size: u64) -> Option<P
 pub(crate) fn is_bad_range(va: u64, size: u64) -> bool
     ensures { result ≡ is_bad_range va size }
 {
-    let is_uneven = (va % PAGE_BYTES != 0) | (size % PAGE_BYTES != 0);
+    let is_uneven = (va % PAGE_SIZE != 0) | (size % PAGE_SIZE != 0);
     !canonical(va) | is_uneven | (size == 0) | (size > MOST_BYTES)
 }
 
@@ -195,7 +195,7 @@ fn judge_frames(
 
 /// Judges that the pages of a range become a protected region, in a book of so many regions and of so many declared pages;
 /// gives their frames.
-#[tactic(auto, unfolding(crate::specs::RegionCalls::declare_rule))]
+#[tactic(auto, unfolding(crate::specs::RegionCalls::pages_rule))]
 pub(crate) fn judge_declare(
     count: usize,
     declared: u32,
@@ -209,7 +209,7 @@ pub(crate) fn judge_declare(
     requires held { HoldsDescriptors frames.now mem.now }
     requires root { 4096 * root < length mem.now }
     ensures judged { (book : Book) → length book.regions ≡ count → book.declared ≡ declared → rule_of result
-        ≡ declare_rule book (kinds_in mem.now) (slice_index (descriptors_in mem.now).loose)
+        ≡ pages_rule book (kinds_in mem.now) (slice_index (descriptors_in mem.now).loose)
         (mapped (entry_in mem.now) (length mem.now / 4096) root) va size policy }
     ensures found { IfOk result (λ p. frames_from (mapped (entry_in mem.now) (length mem.now / 4096) root) (va / 4096) (size / 4096)
         ≡ Some (take p.count p.frames)) }

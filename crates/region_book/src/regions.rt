@@ -6,12 +6,12 @@ ghost use Rattle.phys_mem.specs.Memory.{byte_at, entry_in, stored};
 ghost use Rattle.nk_bits.specs.Kinds.{is_data, kind_of};
 ghost use Rattle.nk_bits.specs.Rules.{rule_of};
 ghost use Rattle.page_desc.specs.DescriptorBytes.{DiffersInDescriptors, HoldsDescriptors, descriptors_in, kinds_in};
-ghost use Rattle.region_book.specs.RegionCalls.{added, alloc_rule, declare_rule, fits_in, frames_from, free_rule, freed, guarded, is_policy, is_taken, mapped, page_region, pool_region, room};
-ghost use Rattle.region_book.specs.RegionRecords.{Book, IsBook, byte_place, is_written_in, marked, pool_start, region_of, region_stores, shown, with_region};
+ghost use Rattle.region_book.specs.RegionCalls.{with_one_more, alloc_rule, pages_rule, fits_in, frames_from, free_rule, freed, guarded, is_policy, is_range_taken, mapped, page_region, pool_region, room};
+ghost use Rattle.region_book.specs.RegionRecords.{Book, IsBook, byte_place, is_written_in, marked, pool_start, region_of, region_stores, shown_region, with_region};
 ghost use Rattle.region_book.specs.declared.row.Row.{Row};
 ghost use Rattle.region_book.specs.SlotChanges.{DiffersInSlot, IsStorableRow};
 ghost use Rattle.region_book.specs.RegionBytes.{DiffersInRegions, HasRowForm, HoldsRegions, book_in, row_in};
-ghost use Rattle.region_book.specs.RegionRows.{IsHeld, moved, new_region, region_with, row_of};
+ghost use Rattle.region_book.specs.RegionRows.{IsHeld, moved, region_of_row, region_with, row_of};
 
 use crate::bits::{any_set, clear_run, set_run};
 use crate::laws::held_regions_law;
@@ -30,7 +30,7 @@ const MOST_REGIONS: usize = 256;
 
 /// A region, as others see it.
 #[derive(Clone, Copy, Debug, PartialEq, Eq)]
-pub struct Region {
+pub struct ShownRegion {
     pub id: u64,
     /// 1 is write-once, 2 append-only, 3 no-write, 4 write-log.
     pub policy: u8,
@@ -103,10 +103,10 @@ impl Regions {
     }
 
     /// A live region by its place in the order of identifiers, from 0 on.
-    pub fn nth(&self, mem: &PhysMem, i: usize) -> Region
+    pub fn nth(&self, mem: &PhysMem, i: usize) -> ShownRegion
         requires held { HoldsRegions self.now mem.now }
         requires number { i < length self.now.slots }
-        ensures { Some result ≡ option_map shown (slice_get (book_in self.now mem.now).regions i) }
+        ensures { Some result ≡ option_map shown_region (slice_get (book_in self.now mem.now).regions i) }
     {
         row_at(mem, self.slots.at(i)).shown()
     }
@@ -125,9 +125,9 @@ impl Regions {
     }
 
     /// The live region that has this identifier.
-    pub fn find(&self, mem: &PhysMem, id: u64) -> Option<Region>
+    pub fn find(&self, mem: &PhysMem, id: u64) -> Option<ShownRegion>
         requires held { HoldsRegions self.now mem.now }
-        ensures { result ≡ option_map shown (region_of (book_in self.now mem.now) id) }
+        ensures { result ≡ option_map shown_region (region_of (book_in self.now mem.now) id) }
     {
         match self.row(mem, id) {
             Some(row) => Some(row.shown()),
@@ -252,12 +252,12 @@ impl Regions {
         requires root { 4096 * root < length mem.old }
         requires regions { All (λ r. All (λ f. is_data (kind_of (kinds_in mem.old) f) ≡ false) r.frames) (book_in self.old mem.old).regions }
         requires pool { (f : ℕ) → 10 ≤ f → f < 26 → is_data (kind_of (kinds_in mem.old) f) ≡ false }
-        ensures judged { rule_of result ≡ declare_rule (book_in self.old mem.old) (kinds_in mem.old) (slice_index (descriptors_in mem.old).loose)
+        ensures judged { rule_of result ≡ pages_rule (book_in self.old mem.old) (kinds_in mem.old) (slice_index (descriptors_in mem.old).loose)
             (mapped (entry_in mem.old) (length mem.old / 4096) root) va size policy }
         ensures refused { OnErr result ((self.new ≡ self.old) × (mem.new ≡ mem.old)) }
         ensures declared { IfOk result (λ id. id ≡ self.old.next) }
         ensures region { OnOk result (IfSome (frames_from (mapped (entry_in mem.old) (length mem.old / 4096) root) (va / 4096) (size / 4096))
-            (λ fs. (book_in self.new mem.new ≡ added (book_in self.old mem.old) (page_region (book_in self.old mem.old) va size policy fs) (length fs))
+            (λ fs. (book_in self.new mem.new ≡ with_one_more (book_in self.old mem.old) (page_region (book_in self.old mem.old) va size policy fs) (length fs))
             × (descriptors_in mem.new ≡ record (descriptors_in mem.old) { kinds = guarded (kinds_in mem.old) fs }))) }
         ensures stays { frames.new ≡ frames.old }
         ensures described { HoldsDescriptors frames.new mem.new }
@@ -300,7 +300,7 @@ impl Regions {
     fn page_row(&self, pages: &Pages, va: u64, size: u32, policy: u8) -> Row
         requires whole { size ≡ 4096 * pages.now.count }
         requires none { (i : ℕ) → i < 16 → pages.now.count ≤ i → slice_index pages.now.frames i ≡ 0 }
-        ensures region { (book : Book) → book.next ≡ self.now.next → new_region result ≡ page_region book va size policy (take pages.now.count pages.now.frames) }
+        ensures region { (book : Book) → book.next ≡ self.now.next → region_of_row result ≡ page_region book va size policy (take pages.now.count pages.now.frames) }
         ensures id { result.id ≡ self.now.next }
         ensures row { (result.size ≡ size) × (result.pooled ≡ false) × (result.slot ≡ self.now.declared) }
         ensures storable { self.now.declared ≤ 128 → IsStorableRow result }
@@ -327,7 +327,7 @@ impl Regions {
         ensures granted { IfOk result (λ it. (it.id ≡ self.old.next) × (pool_start ≤ it.place) × (it.place < pool_start + 65536)
             × (room (book_in self.old mem.old).regions size ≡ Some (it.place - pool_start))) }
         ensures allocated { IfOk result (λ it. book_in self.new mem.new
-            ≡ added (book_in self.old mem.old) (pool_region (book_in self.old mem.old) size policy (it.place - pool_start)) 0) }
+            ≡ with_one_more (book_in self.old mem.old) (pool_region (book_in self.old mem.old) size policy (it.place - pool_start)) 0) }
         ensures memory { IfOk result (λ it. seen mem.new ≡ stored (seen mem.old)
             (region_stores (pool_region (book_in self.old mem.old) size policy (it.place - pool_start)) 0 (replicate size 0))) }
         ensures held { HoldsRegions self.new mem.new }
@@ -389,7 +389,7 @@ impl Regions {
     // The row of a new region at a place of the pool.
     fn pool_row(&self, place: u32, size: u32, policy: u8) -> Row
         requires within { place + size ≤ 65536 }
-        ensures region { (book : Book) → book.next ≡ self.now.next → new_region result ≡ pool_region book size policy place }
+        ensures region { (book : Book) → book.next ≡ self.now.next → region_of_row result ≡ pool_region book size policy place }
         ensures first { result.first ≡ pool_start + place }
         ensures row { (result.size ≡ size) × (result.pooled ≡ true) }
         ensures held { IsHeld 128 result }
@@ -415,10 +415,10 @@ impl Regions {
         requires most { self.old.declared + pages ≤ 128 }
         requires size { row.size ≤ 65536 }
         requires pooled { row.pooled ≡ true → (pool_start ≤ row.first) × (row.first + row.size ≤ pool_start + 65536)
-            × (is_taken (book_in self.old mem.old).regions row.size (row.first - pool_start) ≡ false) }
+            × (is_range_taken (book_in self.old mem.old).regions row.size (row.first - pool_start) ≡ false) }
         requires declared { row.pooled ≡ false → (row.size ≡ 4096 * pages) × (row.slot ≡ self.old.declared) }
         requires storable { IsStorableRow row }
-        ensures added { book_in self.new mem.new ≡ added (book_in self.old mem.old) (new_region row) pages }
+        ensures added { book_in self.new mem.new ≡ with_one_more (book_in self.old mem.old) (region_of_row row) pages }
         ensures held { HoldsRegions self.new mem.new }
         ensures elsewhere { DiffersInRegions mem.old mem.new }
     {

@@ -3,10 +3,10 @@
 ghost use Rattle.std.specs.Prelude.{◌≡◌, ◌≢◌, ◌==◌, ◌<◌, ◌≤◌, ℕ, ◌+◌, ◌-◌, ◌^◌, Bool, List, IfNone, IfSome, Some, None, length, slice_index_or, false, true};
 ghost use Rattle.std.specs.List.{position};
 ghost use Rattle.region_book.specs.declared.row.Row.{Row};
-ghost use Rattle.region_book.specs.RegionRecords.{pool_start, shown};
-ghost use Rattle.region_book.specs.RegionRows.{IsHeld, first_bit, place_in, region_with, row_meets, row_of};
+ghost use Rattle.region_book.specs.RegionRecords.{pool_start, shown_region};
+ghost use Rattle.region_book.specs.RegionRows.{IsHeld, first_bit, row_place, region_with, row_meets, row_of};
 
-use crate::regions::Region;
+use crate::regions::ShownRegion;
 
 /// The first linear address of the pool.
 pub(crate) const POOL_START: u64 = 0xFFFF_FF80_0001_0000;
@@ -35,10 +35,10 @@ pub(crate) struct Row {
 
 impl Row {
     /// The row, as others see its region.
-    pub fn shown(&self) -> Region
-        ensures { (written : List Bool) → result ≡ shown (region_with written self.now) }
+    pub fn shown(&self) -> ShownRegion
+        ensures { (written : List Bool) → result ≡ shown_region (region_with written self.now) }
     {
-        Region {
+        ShownRegion {
             id: self.id,
             policy: self.policy,
             place: self.first,
@@ -73,11 +73,11 @@ impl Row {
     }
 
     /// The place in memory of the byte at an offset.
-    #[tactic(auto, unfolding(crate::specs::RegionRows::place_in))]
+    #[tactic(auto, unfolding(crate::specs::RegionRows::row_place))]
     pub fn place(&self, offset: u32) -> u64
         requires held { IsHeld 128 self.now }
         requires offset { offset < self.now.size }
-        ensures { result ≡ place_in self.now offset }
+        ensures { result ≡ row_place self.now offset }
     {
         if self.pooled {
             POOL_PLACE + u64::from(self.start()) + u64::from(offset)

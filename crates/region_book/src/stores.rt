@@ -4,7 +4,7 @@ ghost use Rattle.std.specs.Prelude.{◌≡◌, ◌<◌, ◌≤◌, ℕ, ◌+◌,
 ghost use Rattle.phys_mem.specs.MaskedMemory.{is_book_frame, seen};
 ghost use Rattle.phys_mem.specs.Memory.{byte_at, stored};
 ghost use Rattle.region_book.specs.RegionBytes.{DiffersInRegions};
-ghost use Rattle.region_book.specs.RegionRows.{IsHeld, place_in, row_stores};
+ghost use Rattle.region_book.specs.RegionRows.{IsHeld, row_place, row_stores};
 
 use crate::row::Row;
 use phys_mem::{PhysMem, frame_law, mask_law, memory_law};
@@ -19,8 +19,8 @@ const FRAMES_END: u32 = 64;
 pub(crate) fn put(mem: &mut PhysMem, row: &Row, offset: u32, bytes: &[u8])
     requires held { IsHeld 128 row.now }
     requires within { offset + length bytes.now ≤ row.now.size }
-    requires memory { (k : ℕ) → k < row.now.size → place_in row.now k < length mem.old }
-    requires apart { (k : ℕ) → k < row.now.size → is_book_frame (length mem.old / 4096) (place_in row.now k / 4096) ≡ false }
+    requires memory { (k : ℕ) → k < row.now.size → row_place row.now k < length mem.old }
+    requires apart { (k : ℕ) → k < row.now.size → is_book_frame (length mem.old / 4096) (row_place row.now k / 4096) ≡ false }
     ensures stored { mem.new ≡ stored mem.old (row_stores row.now offset bytes.now) }
     ensures seen { seen mem.new ≡ stored (seen mem.old) (row_stores row.now offset bytes.now) }
     ensures others { (p : ℕ) → is_book_frame (length mem.old / 4096) (p / 4096) ≡ true → byte_at mem.new p ≡ byte_at mem.old p }
@@ -37,8 +37,8 @@ pub(crate) fn put(mem: &mut PhysMem, row: &Row, offset: u32, bytes: &[u8])
 /// Makes every byte 0.
 pub(crate) fn put_zeros(mem: &mut PhysMem, row: &Row)
     requires held { IsHeld 128 row.now }
-    requires memory { (k : ℕ) → k < row.now.size → place_in row.now k < length mem.old }
-    requires apart { (k : ℕ) → k < row.now.size → is_book_frame (length mem.old / 4096) (place_in row.now k / 4096) ≡ false }
+    requires memory { (k : ℕ) → k < row.now.size → row_place row.now k < length mem.old }
+    requires apart { (k : ℕ) → k < row.now.size → is_book_frame (length mem.old / 4096) (row_place row.now k / 4096) ≡ false }
     ensures stored { mem.new ≡ stored mem.old (row_stores row.now 0 (replicate row.now.size 0)) }
     ensures seen { seen mem.new ≡ stored (seen mem.old) (row_stores row.now 0 (replicate row.now.size 0)) }
     ensures others { (p : ℕ) → is_book_frame (length mem.old / 4096) (p / 4096) ≡ true → byte_at mem.new p ≡ byte_at mem.old p }

@@ -8,7 +8,7 @@ ghost use Rattle.phys_mem.specs.MaskedMemory.{is_book_frame};
 ghost use Rattle.region_book.specs.RegionBytes.{HoldsRegions, book_in};
 ghost use Rattle.region_book.specs.RegionRecords.{IsBook, region_of};
 
-use crate::{Region, Regions};
+use crate::{Regions, ShownRegion};
 use nk_bits::Rule;
 use phys_mem::PhysMem;
 use std::alloc::Global;
@@ -195,7 +195,7 @@ fn are_zero(mem: &PhysMem, at: u64, count: u64) -> bool
 }
 
 /// Whether a slot has the bytes of a region of the pool.
-fn is_row_of(mem: &PhysMem, at: u64, region: &Region) -> bool
+fn is_row_of(mem: &PhysMem, at: u64, region: &ShownRegion) -> bool
     requires { at ≤ 0x3FFC0 }
 {
     let sizes = u64::from(region.size) + (u64::from(region.tail) << 32);

@@ -5,14 +5,14 @@ use Rattle.nk_body.specs.CallRules.{answer_to, made, verdict}
 use Rattle.nk_body.specs.NestedRecord.{Nested}
 use Rattle.nk_body.specs.SourceWords.{opening_ledger}
 use Rattle.region_book.specs.RegionCalls.{alloc_rule, room}
-use Rattle.replay_core.specs.ReplayedCalls.{Replay, Replayed, replay_from, replay_of}
+use Rattle.replay_core.specs.ReplayedCalls.{WholeReplay, Replayed, replay_from, replay_of}
 
 module _ (nk : Nested) (memory : List ℕ) where
   -- the opening's ledger, with any tables, handler, guarded bytes and memory
   abbrev pub opened : Replayed
   opened = record { nested = record nk { ledger = opening_ledger }; memory = memory }
 
-  abbrev pub replay : List ℕ → Replay
+  abbrev pub replay : List ℕ → WholeReplay
   replay journal = replay_of journal opened
 
   -- the first line that isn't right, and what is left: handler, next identifier, live regions and records of the log

@@ -2,15 +2,15 @@
 -- front of a buffer.
 use Rattle.std.specs.Prelude.{ℕ, Bool, ◌==◌, if◌then◌else◌, List, length, take, Option, None, Some}
 use Rattle.nk_body.specs.CallRules.{Bytes, NotTaken, Sourced, Unreadable}
-use Rattle.replay_core.specs.declared.heard.Heard.{Heard as Read}
-use Rattle.replay_core.specs.declared.heard.Heard.TheVariants as read
+use Rattle.replay_core.specs.declared.heard.ReadLine.{ReadLine}
+use Rattle.replay_core.specs.declared.heard.ReadLine.TheVariants as read
 use Rattle.replay_core.specs.declared.source.Taken.{Taken}
 use Rattle.replay_core.specs.declared.source.Taken.TheVariants as taken
 use Rattle.replay_core.specs.JournalLines.{Ends, Heard, Passes, noted_with, source_of_word}
 use Rattle.replay_core.specs.ReplayedCalls.{is_given}
 
 -- what the line says, once the word of its source is read; None where that is out of form
-abbrev pub heard_in : Option Read → Option Heard
+abbrev pub heard_in : Option ReadLine → Option Heard
 heard_in None = None
 heard_in (Some read.Passes) = Some Passes
 heard_in (Some (read.Calls it)) =
@@ -27,10 +27,10 @@ so_many count None = None
 so_many count (Some bytes) = if length bytes == count then Some bytes else None
 
 -- how many bytes of the buffer are the source's
-abbrev pub count_of : Taken → ℕ
-count_of taken.Nothing = 0
-count_of taken.Unreadable = 0
-count_of (taken.Bytes count) = count
+abbrev pub taken_count : Taken → ℕ
+taken_count taken.Nothing = 0
+taken_count taken.Unreadable = 0
+taken_count (taken.Bytes count) = count
 
 -- the source, by the buffer
 abbrev pub source_in : List ℕ → Taken → Sourced

@@ -56,39 +56,39 @@ replayed s it = record {
 }
 
 -- where a replay ends: what was made, and the number of the first line that isn't right, if any
-pub record Replay : Type 0 where
+pub record WholeReplay : Type 0 where
   pub made : Replayed
   pub bad : Option ℕ
 
-abbrev pub stops_well : Replayed → Replay
+abbrev pub stops_well : Replayed → WholeReplay
 stops_well s = record { made = s; bad = None }
 
-abbrev pub stops_at : ℕ → Replayed → Replay
+abbrev pub stops_at : ℕ → Replayed → WholeReplay
 stops_at number s = record { made = s; bad = Some number }
 
 -- a call whose source isn't right isn't made; one whose answer isn't right is, and is the last
-abbrev pub with_call : ℕ → Replayed → Noted → (Replayed → Replay) → Replay
-with_call number s it later =
+abbrev pub with_noted : ℕ → Replayed → Noted → (Replayed → WholeReplay) → WholeReplay
+with_noted number s it later =
     if is_source_right s it
     then (if is_answer_right s it then later (replayed s it) else stops_at number (replayed s it))
     else stops_at number s
 
-abbrev pub with_line : ℕ → Replayed → Option Heard → (Replayed → Replay) → Replay
+abbrev pub with_line : ℕ → Replayed → Option Heard → (Replayed → WholeReplay) → WholeReplay
 with_line number s None later = stops_at number s
 with_line number s (Some Passes) later = later s
-with_line number s (Some (Calls it)) later = with_call number s it later
+with_line number s (Some (Calls it)) later = with_noted number s it later
 with_line number s (Some Ends) later = stops_well s
 
 -- the replay of these lines, of which the first has this number
-unfoldable pub replay_from : ℕ → List (List ℕ) → Replayed → Replay
+unfoldable pub replay_from : ℕ → List (List ℕ) → Replayed → WholeReplay
 replay_from number [] s = stops_well s
 replay_from number (line ∷ later) s = with_line number s (heard_of (words line)) (replay_from (number + 1) later)
 
 -- the replay of a journal, whose lines are numbered from 1
-unfoldable pub replay_of : List ℕ → Replayed → Replay
+unfoldable pub replay_of : List ℕ → Replayed → WholeReplay
 replay_of journal s = replay_from 1 (lines journal) s
 
 -- a replay may stop so: want of memory is free
-abbrev pub IsFaultOf : Replay → ReplayFault → Type 0
-IsFaultOf replay (Line number) = replay.bad ≡ Some number
-IsFaultOf replay Memory = ⊤
+abbrev pub IsReplayFault : WholeReplay → ReplayFault → Type 0
+IsReplayFault replay (Line number) = replay.bad ≡ Some number
+IsReplayFault replay Memory = ⊤

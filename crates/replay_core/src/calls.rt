@@ -5,16 +5,16 @@ ghost use Rattle.nk_body.specs.CallRules.{wants};
 ghost use Rattle.nk_body.specs.NestedRecord.{HoldsBooks, books_in};
 ghost use Rattle.nk_body.specs.SourceWords.{opening_ledger, sourced_of};
 ghost use Rattle.replay_core.specs.declared.fault.ReplayFault.TheVariants.{Memory};
-ghost use Rattle.replay_core.specs.declared.heard.Heard.TheVariants.{Calls};
+ghost use Rattle.replay_core.specs.declared.heard.ReadLine.TheVariants.{Calls};
 ghost use Rattle.replay_core.specs.HeardLines.{heard_in};
 ghost use Rattle.replay_core.specs.JournalLines.{heard_of};
-ghost use Rattle.replay_core.specs.ReplayedCalls.{IsFaultOf, Replay, Replayed, is_given, is_same_place, replay_of};
-ghost use Rattle.replay_core.specs.ReplayedCalls.{standing_held, with_call, with_line};
+ghost use Rattle.replay_core.specs.ReplayedCalls.{IsReplayFault, WholeReplay, Replayed, is_given, is_same_place, replay_of};
+ghost use Rattle.replay_core.specs.ReplayedCalls.{standing_held, with_noted, with_line};
 ghost use Rattle.replay_core.specs.ReplaySteps.{after_step, noted_in};
 ghost use Rattle.text_lines.specs.TextLines.{words};
 
 use crate::fault::ReplayFault;
-use crate::heard::{Heard, Noted, hear};
+use crate::heard::{ReadCall, ReadLine, hear};
 use crate::source::{source, take};
 use nk_bits::Answer;
 use nk_body::{Kernel, Source, call_leaves_law};
@@ -45,19 +45,19 @@ fn is_same_place(one: Option<u64>, other: Option<u64>) -> bool
 }
 
 /// Whether the answer is the one that is noted.
-fn is_answer(answer: &Answer, noted: &Noted) -> bool
+fn is_answer(answer: &Answer, noted: &ReadCall) -> bool
     ensures { result ≡ (answer.now.value == noted.now.value && is_same_place answer.now.place noted.now.place) }
 {
     answer.value == noted.value && is_same_place(answer.place, noted.place)
 }
 
 /// Makes a call, and compares its answer with the one that is noted.
-fn make(kernel: &mut Kernel, mem: &mut PhysMem, noted: &Noted, source: Source) -> Step
+fn make(kernel: &mut Kernel, mem: &mut PhysMem, noted: &ReadCall, source: Source) -> Step
     requires books { HoldsBooks kernel.old mem.old }
     requires next { (books_in kernel.old mem.old).ledger.book.next < 2 ^ 63 }
     requires given { is_given (wants (books_in kernel.old mem.old).ledger.book noted.now.call) (sourced_of source) ≡ true }
-    ensures step { (number : ℕ) (later : Replayed → Replay)
-        → with_call number (standing_held kernel.old mem.old) (noted_in noted.now (sourced_of source.entry)) later
+    ensures step { (number : ℕ) (later : Replayed → WholeReplay)
+        → with_noted number (standing_held kernel.old mem.old) (noted_in noted.now (sourced_of source.entry)) later
         ≡ after_step result number (standing_held kernel.new mem.new) later }
     ensures books { HoldsBooks kernel.new mem.new }
     ensures next { (books_in kernel.new mem.new).ledger.book.next ≤ (books_in kernel.old mem.old).ledger.book.next + 1 }
@@ -74,11 +74,11 @@ fn make(kernel: &mut Kernel, mem: &mut PhysMem, noted: &Noted, source: Source) -
 }
 
 /// Makes the call of a line, where it takes what is noted of its source.
-fn follow_call(kernel: &mut Kernel, mem: &mut PhysMem, buffer: &mut [u8], noted: &Noted) -> Step
+fn follow_call(kernel: &mut Kernel, mem: &mut PhysMem, buffer: &mut [u8], noted: &ReadCall) -> Step
     requires books { HoldsBooks kernel.old mem.old }
     requires next { (books_in kernel.old mem.old).ledger.book.next < 2 ^ 63 }
     requires room { 65536 ≤ length buffer.old }
-    ensures step { (number : ℕ) (later : Replayed → Replay)
+    ensures step { (number : ℕ) (later : Replayed → WholeReplay)
         → with_line number (standing_held kernel.old mem.old) (heard_in (Some (Calls noted.now))) later
         ≡ after_step result number (standing_held kernel.new mem.new) later }
     ensures books { HoldsBooks kernel.new mem.new }
@@ -98,7 +98,7 @@ fn follow_line(kernel: &mut Kernel, mem: &mut PhysMem, buffer: &mut [u8], line: 
     requires books { HoldsBooks kernel.old mem.old }
     requires next { (books_in kernel.old mem.old).ledger.book.next < 2 ^ 63 }
     requires room { 65536 ≤ length buffer.old }
-    ensures step { (number : ℕ) (later : Replayed → Replay)
+    ensures step { (number : ℕ) (later : Replayed → WholeReplay)
         → with_line number (standing_held kernel.old mem.old) (heard_of (words line.now)) later
         ≡ after_step result number (standing_held kernel.new mem.new) later }
     ensures books { HoldsBooks kernel.new mem.new }
@@ -107,9 +107,9 @@ fn follow_line(kernel: &mut Kernel, mem: &mut PhysMem, buffer: &mut [u8], line: 
     ensures room { length buffer.new ≡ length buffer.old }
 {
     match hear(line) {
-        Some(Heard::Passes) => Step::Goes,
-        Some(Heard::Calls(noted)) => follow_call(kernel, mem, buffer, &noted),
-        Some(Heard::Ends) => Step::Ends,
+        Some(ReadLine::Passes) => Step::Goes,
+        Some(ReadLine::Calls(noted)) => follow_call(kernel, mem, buffer, &noted),
+        Some(ReadLine::Ends) => Step::Ends,
         None => Step::Stops,
     }
 }
@@ -159,7 +159,7 @@ pub fn replay(
     requires books { HoldsBooks kernel.old mem.old }
     requires ledger { (books_in kernel.old mem.old).ledger ≡ opening_ledger }
     ensures done { IfOk result (λ _. (replay_of journal.now (standing_held kernel.old mem.old)).bad ≡ None) }
-    ensures fault { IfErr result (IsFaultOf (replay_of journal.now (standing_held kernel.old mem.old))) }
+    ensures fault { IfErr result (IsReplayFault (replay_of journal.now (standing_held kernel.old mem.old))) }
     ensures made { result ≢ Err Memory
         → standing_held kernel.new mem.new ≡ (replay_of journal.now (standing_held kernel.old mem.old)).made }
     ensures untouched { result ≡ Err Memory → (kernel.new ≡ kernel.old) × (mem.new ≡ mem.old) }

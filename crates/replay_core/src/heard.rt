@@ -12,7 +12,7 @@ use text_lines::split_words;
 /// What a line says of a call: the call; the word of its source, which isn't read yet; the answer, and the place of a
 /// region.
 #[derive(Clone, Copy, Debug, PartialEq, Eq)]
-pub(crate) struct Noted<'j> {
+pub(crate) struct ReadCall<'j> {
     pub(crate) call: CallWords,
     pub(crate) source: &'j [u8],
     pub(crate) value: u64,
@@ -21,10 +21,10 @@ pub(crate) struct Noted<'j> {
 
 /// What a line says.
 #[derive(Clone, Copy, Debug, PartialEq, Eq)]
-pub(crate) enum Heard<'j> {
+pub(crate) enum ReadLine<'j> {
     /// A byte of the console, or a delivery.
     Passes,
-    Calls(Noted<'j>),
+    Calls(ReadCall<'j>),
     Ends,
 }
 
@@ -49,12 +49,12 @@ fn call_line<'j>(
     source: &'j [u8],
     value: &[u8],
     place_word: &[u8],
-) -> Option<Heard<'j>>
+) -> Option<ReadLine<'j>>
     ensures { heard_in result ≡ noted_with call (source_of_word source.now) (least_decimal value.now)
         (place_of_word place_word.now) }
 {
     match (call, least_decimal(value), place(place_word)) {
-        (Some(call), Some(value), Some(place)) => Some(Heard::Calls(Noted {
+        (Some(call), Some(value), Some(place)) => Some(ReadLine::Calls(ReadCall {
             call,
             source,
             value,
@@ -65,20 +65,20 @@ fn call_line<'j>(
 }
 
 /// A line of two words: a byte of the console, or the end.
-fn short_line<'j>(verb: &[u8], word: &[u8]) -> Option<Heard<'j>>
+fn short_line<'j>(verb: &[u8], word: &[u8]) -> Option<ReadLine<'j>>
     ensures { heard_in result ≡ heard_of (verb.now ∷ word.now ∷ []) }
 {
     if is_text(verb, b"c") {
-        is_byte(word).then_some(Heard::Passes)
+        is_byte(word).then_some(ReadLine::Passes)
     } else {
         (is_text(verb, b"end") && (is_text(word, b"halted") || is_text(word, b"steps"))).then_some(
-            Heard::Ends,
+            ReadLine::Ends,
         )
     }
 }
 
 /// What the line says; None where it is out of form.
-pub(crate) fn hear(line: &[u8]) -> Option<Heard<'_>>
+pub(crate) fn hear(line: &[u8]) -> Option<ReadLine<'_>>
     ensures heard { heard_in result ≡ heard_of (words line.now) }
     ensures some { IfSome result (λ _. 0 < length line.now) }
 {
@@ -88,7 +88,7 @@ pub(crate) fn hear(line: &[u8]) -> Option<Heard<'_>>
     match words.as_slice() {
         [verb, word] => short_line(verb, word),
         [verb, vector, code, rip, cr2] => {
-            (is_text(verb, b"i") && is_delivery(vector, code, rip, cr2)).then_some(Heard::Passes)
+            (is_text(verb, b"i") && is_delivery(vector, code, rip, cr2)).then_some(ReadLine::Passes)
         }
         [verb, number, a, b, c, d, source, value, place] => {
             if is_text(verb, b"k") {

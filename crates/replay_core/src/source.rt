@@ -5,7 +5,7 @@ ghost use Rattle.std.specs.Option.{option_map};
 ghost use Rattle.hex.specs.Hex.{decode_sized};
 ghost use Rattle.nk_body.specs.SourceWords.{sourced_of};
 ghost use Rattle.replay_core.specs.JournalLines.{bytes_of_word, decoded, source_of_word};
-ghost use Rattle.replay_core.specs.HeardLines.{count_of, given_source, put_in, so_many, source_in};
+ghost use Rattle.replay_core.specs.HeardLines.{taken_count, given_source, put_in, so_many, source_in};
 
 use crate::word::{is_lower, is_text};
 use nk_body::Source;
@@ -41,7 +41,7 @@ fn is_read(buffer: &mut [u8], word: &[u8]) -> bool
 pub(crate) fn take(buffer: &mut [u8], wanted: Option<u64>, word: &[u8]) -> Option<Taken>
     requires room { IfSome wanted (λ count. count ≤ length buffer.old) }
     ensures size { length buffer.new ≡ length buffer.old }
-    ensures room { IfSome result (λ taken. count_of taken ≤ length buffer.new) }
+    ensures room { IfSome result (λ taken. taken_count taken ≤ length buffer.new) }
     ensures taken { option_map (source_in buffer.new) result ≡ given_source wanted (source_of_word word.now) }
 {
     match wanted {
@@ -59,7 +59,7 @@ pub(crate) fn take(buffer: &mut [u8], wanted: Option<u64>, word: &[u8]) -> Optio
 
 /// The source of a call, from the buffer.
 pub(crate) fn source<'b>(buffer: &'b [u8], taken: Taken) -> Source<'b>
-    requires room { count_of taken ≤ length buffer.now }
+    requires room { taken_count taken ≤ length buffer.now }
     ensures { sourced_of result ≡ source_in buffer.now taken }
 {
     match taken {

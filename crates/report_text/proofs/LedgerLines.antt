@@ -9,9 +9,9 @@ use Rattle.nk_bits.specs.declared.kind.Kind.{Kind}
 use Rattle.nk_bits.specs.declared.kind.Kind.TheVariants.{Guarded}
 use Rattle.nk_bits.specs.Kinds.{is_guarded, kind_of}
 use Rattle.nk_body.specs.NestedRecord.{AreBooks, Books, Nested, held_bytes, nested_by}
-use Rattle.region_book.specs.declared.regions.Region.{Region as ShownRegion}
+use Rattle.region_book.specs.declared.regions.ShownRegion.{ShownRegion}
 use Rattle.region_book.specs.RegionBytes.{RegionIndex, book_in, row_in}
-use Rattle.region_book.specs.RegionRecords.{Book, IsBook, IsRegion, Region, byte_place, region_of, shown}
+use Rattle.region_book.specs.RegionRecords.{Book, IsBook, IsRegion, Region, byte_place, region_of, shown_region}
 use Rattle.write_log.specs.declared.log.Noted.{Noted}
 use Rattle.write_log.specs.LogRecords.{LogRecord, noted}
 use Rattle.report_text.specs.ClosingSection.{bytes_of_region, lines_of, log_lines, region_lines}
@@ -118,18 +118,18 @@ found (x ∷ rs) rising (suc i) r e =
     within (x ∷ rs) zero r e = omega arith
     within (x ∷ rs) (suc i) r e = let low = within rs i r e in omega (arith, low)
 
--- what is shown is a region that lives, and it is found by its identifier
+-- what is shown_region is a region that lives, and it is found by its identifier
 pub record IsShown (book : Book) (i : ℕ) (it : ShownRegion) : Type 0 where
   pub region : Region
   pub at : slice_get book.regions i ≡ Some region
-  pub same : it ≡ shown region
+  pub same : it ≡ shown_region region
   pub live : region_of book it.id ≡ Some region
 
 pub shown_at : (book : Book) → IsBook book → (i : ℕ) (it : ShownRegion) → i < length book.regions
-    → Some it ≡ option_map shown (slice_get book.regions i) → IsShown book i it
+    → Some it ≡ option_map shown_region (slice_get book.regions i) → IsShown book i it
 shown_at book sound i it below e =
     let (r, at) = there book.regions i below in
-    let same : it ≡ shown r = same_Some it (shown r) (e ∙ ap (option_map shown) at) in
+    let same : it ≡ shown_region r = same_Some it (shown_region r) (e ∙ ap (option_map shown_region) at) in
     record {
       region = r;
       at = at;

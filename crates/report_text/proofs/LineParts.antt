@@ -7,8 +7,8 @@ use Rattle.hex.specs.Hex.{encode_lower, encode_with}
 use Rattle.nk_bits.specs.declared.call.Answer.{Answer}
 use Rattle.nk_bits.specs.declared.call.CallWords.{CallWords}
 use Rattle.nk_body.specs.CallRules.{Sourced}
-use Rattle.region_book.specs.declared.regions.Region.{Region as ShownRegion}
-use Rattle.region_book.specs.RegionRecords.{Region, shown}
+use Rattle.region_book.specs.declared.regions.ShownRegion.{ShownRegion}
+use Rattle.region_book.specs.RegionRecords.{Region, shown_region}
 use Rattle.write_log.specs.declared.log.Noted.{Noted}
 use Rattle.write_log.specs.LogRecords.{LogRecord, noted}
 use Rattle.report_text.specs.ClosingSection.{lines_of}
@@ -26,7 +26,7 @@ six a b c d e f rest =
     (behind c (d ++ (e ++ f)) (d ++ (e ++ (f ++ rest))) rest
     (behind d (e ++ f) (e ++ (f ++ rest)) rest (append_assoc e f rest))))
 
--- the lines of a record and of a region up to their bytes, by what is shown of them, and of a call up to its source
+-- the lines of a record and of a region up to their bytes, by what is shown_region of them, and of a call up to its source
 abbrev record_head : ℕ → Noted → List ℕ
 record_head number it =
     codes "l " ++ (decimal number ++ (codes " " ++ (decimal it.region
@@ -59,13 +59,13 @@ log_parts number of it x same e =
     sym (ap (λ l. l ++ rest) (e ∙ ap (record_head number) same) ∙ whole)
 
 -- of a region
-pub region_parts : (r : Region) (it : ShownRegion) (bytes x : List ℕ) → it ≡ shown r → x ≡ region_head it
+pub region_parts : (r : Region) (it : ShownRegion) (bytes x : List ℕ) → it ≡ shown_region r → x ≡ region_head it
     → region_line r bytes ≡ x ++ (encode_lower bytes ++ codes "\n")
 unfolding region_line
 region_parts r it bytes x same e =
     let rest = encode_lower bytes ++ codes "\n" in
     let later = six (decimal r.policy) (codes " ") (hex_16 r.first) (codes " ") (decimal r.size) (codes " ") rest in
-    let whole : region_head (shown r) ++ rest ≡ region_line r bytes =
+    let whole : region_head (shown_region r) ++ rest ≡ region_line r bytes =
     behind (codes "r ") _ _ rest (behind (decimal r.id) _ _ rest (behind (codes " ") _ _ rest later)) in
     sym (ap (λ l. l ++ rest) (e ∙ ap region_head same) ∙ whole)
 

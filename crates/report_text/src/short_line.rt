@@ -3,7 +3,7 @@
 
 ghost use Rattle.std.specs.Prelude.{◌≡◌, ◌+◌, ◌*◌, ◌≤◌, ◌++◌, [], decimal, drop, length};
 ghost use Rattle.hex.specs.Hex.{encode_lower};
-ghost use Rattle.elf_image.specs.ImageFaults.{name_of, number_of};
+ghost use Rattle.elf_image.specs.ImageFaults.{name_of, fault_number};
 ghost use Rattle.report_text.specs.ImageLines.{admitted_line, image_line, protected_line};
 ghost use Rattle.report_text.specs.RunLines.{hex_16};
 
@@ -114,7 +114,7 @@ fn kind_name(kind: FaultKind) -> &'static str
 /// The image's first fault.
 #[tactic(auto, unfolding(crate::specs::ImageLines::image_line))]
 pub fn image_line(fault: &ImageFault) -> ShortLine
-    ensures { result ≡ image_line (number_of fault.now.kind) (name_of fault.now.kind) fault.now.value }
+    ensures { result ≡ image_line (fault_number fault.now.kind) (name_of fault.now.kind) fault.now.value }
 {
     let mut line = ShortLine::new();
     line.text("\n");

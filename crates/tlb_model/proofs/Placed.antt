@@ -13,7 +13,7 @@ use Rattle.tlb_model.specs.declared.order.Order.{Order}
 use Rattle.tlb_model.specs.declared.slot.Slot.{Slot}
 use Rattle.tlb_model.specs.declared.table.Table.{Table}
 use Rattle.tlb_model.specs.SlotBuckets.{IsChained, is_kept, slot_at}
-use Rattle.tlb_model.specs.SlotOrder.{IsOrder, is_taken}
+use Rattle.tlb_model.specs.SlotOrder.{IsOrder, is_slot_used}
 use Rattle.tlb_model.specs.TranslationTable.{IsTable, pairs_from, pairs_of, stands}
 use Rattle.tlb_model.proofs.Ages.{kept_stands, look_anchored, look_first, look_later, pairs_append, pairs_here, pairs_same, slot_changed, slot_left, stale}
 use Rattle.tlb_model.proofs.Empty.{stands_none}
@@ -92,7 +92,7 @@ module _ (t : Table) (it : IsTable t) (page : ℕ) (leaf : Leaf) (at : ℕ) (bou
           ∙ ap (λ (slot : Slot). (slot.page, slot.leaf) ∷ []) (slot_changed t.slots at placed within)
 
   pub table_placed : (chains : Chains) (order : Order) → IsChained t.generation slots_placed chains.firsts chains.nexts → IsOrder order → order.count ≡ t.order.count + 1 →
-      is_taken order at ≡ true → ((other : ℕ) → other < 1024 → other ≢ at → is_taken order other ≡ is_taken t.order other) →
+      is_slot_used order at ≡ true → ((other : ℕ) → other < 1024 → other ≢ at → is_slot_used order other ≡ is_slot_used t.order other) →
       IsTable record { slots = slots_placed; chains = chains; order = order; ages = record { items = ring_placed; capacity = t.ages.capacity }; front = t.front; generation = t.generation }
   table_placed chains order chained ordered count taken others = record {
     anchored = anchored;
@@ -104,7 +104,7 @@ module _ (t : Table) (it : IsTable t) (page : ℕ) (leaf : Leaf) (at : ℕ) (bou
     named = All-push (λ k. k < 1024) t.ages.items at it.named bound;
     front = it.front;
     ordered = ordered;
-    taken = each (λ k slot. k < 1024 → is_kept t.generation slot ≡ is_taken order k) (λ _. kept_placed ∙ sym taken) (λ k differ below. it.taken k below ∙ sym (others k below differ));
+    taken = each (λ k slot. k < 1024 → is_kept t.generation slot ≡ is_slot_used order k) (λ _. kept_placed ∙ sym taken) (λ k differ below. it.taken k below ∙ sym (others k below differ));
     listed = counted;
     distinct = subst HasDistinctPages (sym pairs_placed) (all_pairs_push (λ one other. one.0 ≢ other.0) (pairs_of t) (page, leaf) it.distinct (differ_from_absent (pairs_of t) page absent));
   }

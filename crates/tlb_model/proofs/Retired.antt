@@ -7,7 +7,7 @@ use Rattle.tlb_model.specs.declared.chains.Chains.{Chains}
 use Rattle.tlb_model.specs.declared.order.Order.{Order}
 use Rattle.tlb_model.specs.declared.table.Table.{Table}
 use Rattle.tlb_model.specs.SlotBuckets.{IsChained, empty_slot, is_kept, slot_at}
-use Rattle.tlb_model.specs.SlotOrder.{IsOrder, is_taken}
+use Rattle.tlb_model.specs.SlotOrder.{IsOrder, is_slot_used}
 use Rattle.tlb_model.specs.TranslationTable.{IsTable, pairs_of}
 use Rattle.tlb_model.proofs.Ages.{kept_within, length_dropped, look_anchored, pairs_dropped, slot_changed, slot_left}
 use Rattle.tlb_model.proofs.PairLaws.{distinct_dropped}
@@ -42,8 +42,8 @@ module _ (t : Table) (at : ℕ) (it : IsTable t) (kept : is_kept t.generation (s
       (look_anchored t.slots t.generation t.front t.ages.items at kept it.front (it.anchored at kept) alone)
 
   pub retired_table : (chains : Chains) (order : Order) → IsChained t.generation (slice_set t.slots at empty_slot) chains.firsts chains.nexts →
-      IsOrder order → order.count + 1 ≡ t.order.count → is_taken order at ≡ false →
-      ((other : ℕ) → other < 1024 → other ≢ at → is_taken order other ≡ is_taken t.order other) → IsTable (retired chains order)
+      IsOrder order → order.count + 1 ≡ t.order.count → is_slot_used order at ≡ false →
+      ((other : ℕ) → other < 1024 → other ≢ at → is_slot_used order other ≡ is_slot_used t.order other) → IsTable (retired chains order)
   retired_table chains order chained ordered count free others =
       record {
         anchored = λ own keeps.
@@ -67,7 +67,7 @@ module _ (t : Table) (at : ℕ) (it : IsTable t) (kept : is_kept t.generation (s
         ordered = ordered;
         taken = λ own below. elim (cases_eq own at) [
           | inl same ↦ ap (λ i. is_kept t.generation (slot_at (slice_set t.slots at empty_slot) i)) same ∙ ap (is_kept t.generation) (slot_changed t.slots at empty_slot within)
-              ∙ empty_is_free t.generation ∙ sym free ∙ ap (is_taken order) (sym same)
+              ∙ empty_is_free t.generation ∙ sym free ∙ ap (is_slot_used order) (sym same)
           | inr differ ↦ ap (is_kept t.generation) (slot_left t.slots at empty_slot own differ) ∙ it.taken own below ∙ sym (others own below differ)
         ];
         listed =

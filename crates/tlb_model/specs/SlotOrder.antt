@@ -11,5 +11,5 @@ pub record IsOrder (it : Order) : Type 0 where
   pub ordered : (at : ℕ) → at < 1024 → slice_index it.slots (slice_index it.numbers at) ≡ at
 
 -- the slot is among the first so many
-abbrev pub is_taken : Order → ℕ → Bool
-is_taken it at = nat_lt (slice_index it.numbers at) it.count
+abbrev pub is_slot_used : Order → ℕ → Bool
+is_slot_used it at = nat_lt (slice_index it.numbers at) it.count

@@ -6,7 +6,7 @@ use Rattle.nk_bits.specs.Translations.{Pairs, HasDistinctPages}
 use Rattle.tlb_model.specs.declared.slot.Slot.{Slot}
 use Rattle.tlb_model.specs.declared.table.Table.{Table}
 use Rattle.tlb_model.specs.SlotBuckets.{IsChained, is_kept, slot_at}
-use Rattle.tlb_model.specs.SlotOrder.{IsOrder, is_taken}
+use Rattle.tlb_model.specs.SlotOrder.{IsOrder, is_slot_used}
 
 -- the slot's translation has this place
 abbrev pub stands : ℕ → ℕ → Slot → Bool
@@ -36,7 +36,7 @@ pub record IsTable (t : Table) : Type 0 where
   pub named : All (λ at. at < 1024) t.ages.items
   pub front : t.front < 2048
   pub ordered : IsOrder t.order
-  pub taken : (at : ℕ) → at < 1024 → is_kept t.generation (slot_at t.slots at) ≡ is_taken t.order at
+  pub taken : (at : ℕ) → at < 1024 → is_kept t.generation (slot_at t.slots at) ≡ is_slot_used t.order at
   pub listed : t.order.count ≡ length (pairs_of t)
   pub distinct : HasDistinctPages (pairs_of t)
 

@@ -13,8 +13,6 @@ mod order;
 mod slot;
 mod steps;
 mod table;
-#[cfg(test)]
-mod table_tests;
 mod translations;
 
 pub use translations::{CAPACITY, NoMemory, Tlb};

@@ -2,7 +2,7 @@
 //! given back without a search.
 
 ghost use Rattle.std.specs.Prelude.{◌≡◌, ◌≢◌, ◌<◌, ◌≤◌, ℕ, ◌+◌, true, false, ◌==◌, if◌then◌else◌, slice_index};
-ghost use Rattle.tlb_model.specs.SlotOrder.{IsOrder, is_taken};
+ghost use Rattle.tlb_model.specs.SlotOrder.{IsOrder, is_slot_used};
 
 /// All slots, in order, and of each slot its number in the order.
 #[derive(Drop)]
@@ -30,7 +30,7 @@ impl Order {
     /// Whether a slot is taken.
     pub(crate) fn is_taken(&self, at: u16) -> bool
         requires slot { at < 1024 }
-        ensures { result ≡ is_taken self.now at }
+        ensures { result ≡ is_slot_used self.now at }
     {
         self.numbers[usize::from(at)] < self.count
     }
@@ -40,7 +40,7 @@ impl Order {
         requires order { IsOrder self.now }
         requires room { self.now.count < 1024 }
         ensures slot { result < 1024 }
-        ensures free { is_taken self.now result ≡ false }
+        ensures free { is_slot_used self.now result ≡ false }
     {
         self.slots[usize::from(self.count)]
     }
@@ -49,11 +49,11 @@ impl Order {
     pub(crate) fn take(&mut self, at: u16)
         requires order { IsOrder self.old }
         requires slot { at < 1024 }
-        requires free { is_taken self.old at ≡ false }
+        requires free { is_slot_used self.old at ≡ false }
         ensures order { IsOrder self.new }
         ensures count { self.new.count ≡ self.old.count + 1 }
-        ensures taken { is_taken self.new at ≡ true }
-        ensures others { (other : ℕ) → other < 1024 → other ≢ at → is_taken self.new other ≡ is_taken self.old other }
+        ensures taken { is_slot_used self.new at ≡ true }
+        ensures others { (other : ℕ) → other < 1024 → other ≢ at → is_slot_used self.new other ≡ is_slot_used self.old other }
     {
         self.exchange(at, self.count);
         self.count += 1;
@@ -63,11 +63,11 @@ impl Order {
     pub(crate) fn release(&mut self, at: u16)
         requires order { IsOrder self.old }
         requires slot { at < 1024 }
-        requires taken { is_taken self.old at ≡ true }
+        requires taken { is_slot_used self.old at ≡ true }
         ensures order { IsOrder self.new }
         ensures count { self.new.count + 1 ≡ self.old.count }
-        ensures free { is_taken self.new at ≡ false }
-        ensures others { (other : ℕ) → other < 1024 → other ≢ at → is_taken self.new other ≡ is_taken self.old other }
+        ensures free { is_slot_used self.new at ≡ false }
+        ensures others { (other : ℕ) → other < 1024 → other ≢ at → is_slot_used self.new other ≡ is_slot_used self.old other }
     {
         self.count -= 1;
         self.exchange(at, self.count);

@@ -1,6 +1,7 @@
 //! The lists at worked values: youngest last, 1,024 translations and 64 upper entries at most. Pages whose numbers are
 //! 1,024 apart share a bucket of the table. An entry of level 2 serves 512 pages, and the pages below 2^18 share those
 //! above.
+mod table;
 
 use crate::Tlb;
 use nk_bits::{Leaf, Rights, Upper};

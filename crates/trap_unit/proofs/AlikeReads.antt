@@ -16,7 +16,7 @@ use Rattle.x86_regs.specs.AlikeMemories.{AreAlike}
 use Rattle.x86_regs.specs.Operands.{wrapped}
 use Rattle.trap_unit.specs.declared.gate.Gate.{Gate}
 use Rattle.trap_unit.specs.declared.shutdown.Shut.{Shut}
-use Rattle.trap_unit.specs.TrapDelivery.{entry_found, gate_address, gate_found, gate_read, gate_level, if_good, interrupt_allowed, is_good, or_shut, passes_limit, read_at, shut}
+use Rattle.trap_unit.specs.TrapDelivery.{entry_found, descriptor_address, gate_found, gate_read, gate_level, if_good, interrupt_allowed, is_good, or_shut, passes_limit, read_at, shut}
 
 -- what is used of the laws of accesses and of alike memories
 pub record ReadLaws : Type 0 where
@@ -70,7 +70,7 @@ module _ (laws : ReadLaws) (test : Claim) (control : Control) (tables : Tables) 
         gate_read control tables vector m tlb ≡ gate_read control tables vector n tlb
     unfolding gate_read
     gate_same tlb pass =
-        let va : ℕ = gate_address tables vector in
+        let va : ℕ = descriptor_address tables vector in
         let address : ℕ = tables.idt + 16 * vector in
         let low = read_at control va m tlb in
         let high = read_at control (wrapped (va + 8)) m low.tlb in
@@ -81,7 +81,7 @@ module _ (laws : ReadLaws) (test : Claim) (control : Control) (tables : Tables) 
     gate_passes : (tlb : Translations) → AllPass test tlb → AllPass test (gate_read control tables vector m tlb).tlb
     unfolding gate_read
     gate_passes tlb pass =
-        let va : ℕ = gate_address tables vector in
+        let va : ℕ = descriptor_address tables vector in
         let low = read_at control va m tlb in
         let kept_low = read_passes (tables.idt + 16 * vector) tlb pass in
         let high = read_at control (wrapped (va + 8)) m low.tlb in

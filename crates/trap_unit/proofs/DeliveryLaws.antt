@@ -9,7 +9,7 @@ use Rattle.nk_bits.specs.Paging.{is_canonical}
 use Rattle.nk_bits.specs.Outcomes.{Outcome}
 use Rattle.nk_bits.specs.Accesses.{accessed}
 use Rattle.nk_bits.specs.Translations.{Translations}
-use Rattle.page_walk.specs.MemoryAccess.{view_of, written}
+use Rattle.page_walk.specs.MemoryAccess.{view_of, bytes_written}
 use Rattle.phys_mem.specs.Memory.{stored}
 use Rattle.x86_regs.specs.declared.delivery.Frame.{Frame}
 use Rattle.x86_regs.specs.declared.delivery.Tables.{Tables}
@@ -52,7 +52,7 @@ abbrev pub StoresKeepLength : Type 0
 StoresKeepLength = (m : List ℕ) (ws : List (ℕ × ℕ)) → length (stored m ws) ≡ length m
 
 written_length : StoresKeepLength → (m : List ℕ) (va width value : ℕ) (answer : Result Target AccessFault) →
-    length (written m va width value answer) ≡ length m
+    length (bytes_written m va width value answer) ≡ length m
 written_length keep m va width value (Ok target) = keep m _
 written_length keep m va width value (Err fault) = refl
 

@@ -8,7 +8,7 @@ use Rattle.nk_bits.specs.declared.leaf.Target.{Target}
 use Rattle.nk_bits.specs.Accesses.{accessed}
 use Rattle.nk_bits.specs.Outcomes.{Outcome}
 use Rattle.nk_bits.specs.Translations.{Translations}
-use Rattle.page_walk.specs.MemoryAccess.{view_of, written}
+use Rattle.page_walk.specs.MemoryAccess.{view_of, bytes_written}
 use Rattle.phys_mem.specs.Memory.{stored}
 use Rattle.x86_regs.specs.declared.delivery.Tables.{Tables}
 use Rattle.x86_regs.specs.declared.registers.Regs.{Regs}
@@ -27,7 +27,7 @@ unfolding stored
 stored_none m = refl
 
 written_stored : (m : List ℕ) (va width value : ℕ) (answer : Result Target AccessFault)
-    → written m va width value answer ≡ stored m (stores_found va width value answer)
+    → bytes_written m va width value answer ≡ stored m (stores_found va width value answer)
 written_stored m va width value (Ok target) = refl
 written_stored m va width value (Err fault) = stored_none m
 

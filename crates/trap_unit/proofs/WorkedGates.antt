@@ -2,7 +2,7 @@
 use Rattle.std.proofs.Common.{◌≡◌, ℕ, true, false, refl}
 use Rattle.x86_regs.specs.declared.delivery.Tables.{Tables}
 use Rattle.trap_unit.specs.declared.gate.Gate.{Gate}
-use Rattle.trap_unit.specs.TrapDelivery.{gate_address, gate_level, gate_offset, is_good, passes_limit}
+use Rattle.trap_unit.specs.TrapDelivery.{descriptor_address, gate_level, gate_offset, is_good, passes_limit}
 
 abbrev gate : ℕ → ℕ → Gate
 gate low high = record { low = low; high = high }
@@ -47,6 +47,6 @@ limits = (refl, refl, refl, refl)
 
 -- the last gate of 256, and one whose address wraps
 addresses :
-    (gate_address (tables 0xFFFFFF8000000000 4095) 255 ≡ 0xFFFFFF8000000FF0) ×
-    (gate_address (tables 0xFFFFFFFFFFFFFFF8 4095) 1 ≡ 8)
+    (descriptor_address (tables 0xFFFFFF8000000000 4095) 255 ≡ 0xFFFFFF8000000FF0) ×
+    (descriptor_address (tables 0xFFFFFFFFFFFFFFF8 4095) 1 ≡ 8)
 addresses = (refl, refl)

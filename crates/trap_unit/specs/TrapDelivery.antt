@@ -9,7 +9,7 @@ use Rattle.nk_bits.specs.Paging.{is_canonical}
 use Rattle.nk_bits.specs.Translations.{Translations}
 use Rattle.nk_bits.specs.Outcomes.{Outcome, outcome_of, answered, refused, and_then}
 use Rattle.nk_bits.specs.Accesses.{accessed}
-use Rattle.page_walk.specs.MemoryAccess.{loaded, view_of, written}
+use Rattle.page_walk.specs.MemoryAccess.{loaded, view_of, bytes_written}
 use Rattle.x86_alu.specs.Flags.{with_flag}
 use Rattle.x86_regs.specs.declared.delivery.Tables.{Tables}
 use Rattle.x86_regs.specs.declared.registers.Regs.{Regs}
@@ -35,8 +35,8 @@ read_at control va m tlb =
     outcome_of (or_shut read.answer) read.tlb
 
 -- a gate has sixteen bytes (SDM volume 3, 6.14.1)
-abbrev pub gate_address : Tables → ℕ → ℕ
-gate_address tables vector = wrapped (tables.idt + 16 * vector)
+abbrev pub descriptor_address : Tables → ℕ → ℕ
+descriptor_address tables vector = wrapped (tables.idt + 16 * vector)
 
 -- the limit is the offset of the table's last byte
 abbrev pub passes_limit : Tables → ℕ → Bool
@@ -45,7 +45,7 @@ passes_limit tables vector = nat_lt tables.limit (16 * vector + 15)
 -- the gate of a vector, its low half first
 unfoldable pub gate_read : Control → Tables → ℕ → List ℕ → Translations → Outcome Shut Gate
 gate_read control tables vector m tlb =
-    let va = gate_address tables vector in
+    let va = descriptor_address tables vector in
     and_then (read_at control va m tlb) (λ low after.
     and_then (read_at control (wrapped (va + 8)) m after) (λ high last.
     answered (record { low = low; high = high }) last))
@@ -91,7 +91,7 @@ entry_found control tables vector m tlb =
 unfoldable pub interrupt_allowed : Control → Tables → ℕ → ℕ → List ℕ → Translations → Outcome Shut Bool
 interrupt_allowed control tables cpl vector m tlb =
     if passes_limit tables vector then answered false tlb
-    else and_then (read_at control (gate_address tables vector) m tlb) (λ low after.
+    else and_then (read_at control (descriptor_address tables vector) m tlb) (λ low after.
     answered (nat_le cpl (gate_level low)) after)
 
 -- memory and translations after pushes, with the address of the last one
@@ -110,7 +110,7 @@ unfoldable pub pushed : Control → ℕ → ℕ → List ℕ → Translations �
 pushed control value top m tlb =
     let va = lowered top 8 in
     let check : Outcome AccessFault Target = accessed (view_of m control 0) Write tlb va 8 in
-    record { memory = written m va 8 value check.answer; tlb = check.tlb; answer = made_at va check.answer }
+    record { memory = bytes_written m va 8 value check.answer; tlb = check.tlb; answer = made_at va check.answer }
 
 -- what comes after a push: the next ones, below it, or nothing where it faulted
 abbrev pub pushed_on : Result ℕ Shut → List ℕ → Translations → (ℕ → List ℕ → Translations → Pushed) → Pushed

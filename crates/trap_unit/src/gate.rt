@@ -3,7 +3,7 @@
 ghost use Rattle.std.specs.Prelude.{◌≡◌, ◌⊎◌, ◌+◌, ◌*◌, ◌<◌, length};
 ghost use Rattle.nk_bits.specs.Translations.{NamesFramesIn};
 ghost use Rattle.nk_bits.specs.Outcomes.{outcome_of};
-ghost use Rattle.trap_unit.specs.TrapDelivery.{gate_address, gate_found, gate_level, gate_offset, gate_read, interrupt_allowed, is_good, passes_limit};
+ghost use Rattle.trap_unit.specs.TrapDelivery.{descriptor_address, gate_found, gate_level, gate_offset, gate_read, interrupt_allowed, is_good, passes_limit};
 
 use crate::reads::read_at;
 use crate::selectors::SUPERVISOR_CODE;
@@ -106,7 +106,7 @@ fn gate_read(
 }
 
 fn gate_address(tables: &Tables, vector: u8) -> u64
-    ensures { result ≡ gate_address tables.now vector }
+    ensures { result ≡ descriptor_address tables.now vector }
 {
     tables.idt.wrapping_add(16 * u64::from(vector))
 }

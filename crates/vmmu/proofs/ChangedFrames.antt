@@ -8,7 +8,7 @@ use Rattle.nk_bits.specs.Kinds.{kind_of, level_of}
 use Rattle.nk_bits.specs.Paging.{frame_of, is_present}
 use Rattle.phys_mem.specs.Memory.{byte_at, entry_in}
 use Rattle.page_desc.specs.FrameCounts.{IsSlotFixed}
-use Rattle.page_desc.specs.PageTables.{HoldsSoundTables, is_handler_byte, is_kept, is_table, kept_bytes, table_entries, tables_in}
+use Rattle.page_desc.specs.PageTables.{HoldsSoundTables, is_handler_byte, is_unchanging, is_table, unchanging_bytes, table_entries, tables_in}
 use Rattle.page_desc.specs.SoundTables.{AreTables}
 
 -- the entries of a frame that is no table, of one that is, and past a table's last entry
@@ -39,22 +39,22 @@ entries_same kinds after m n f i kind same =
     ]
 
 -- the bytes of a frame that may change, and of a frame of the same kind and bytes
-pub bytes_none : (kinds : List Kind) (m : List ℕ) (f o : ℕ) → is_kept (kind_of kinds f) ≡ false
-    → kept_bytes kinds m f o ≡ 0
-unfolding kept_bytes
+pub bytes_none : (kinds : List Kind) (m : List ℕ) (f o : ℕ) → is_unchanging (kind_of kinds f) ≡ false
+    → unchanging_bytes kinds m f o ≡ 0
+unfolding unchanging_bytes
 bytes_none kinds m f o is =
     cond-false _ (byte_at m (4096 * f + o)) 0 (and_left _ (not (is_handler_byte f o)) (and_left _ (nat_lt o 4096) is))
 
 pub bytes_same : (kinds after : List Kind) (m n : List ℕ) (f o : ℕ) → kind_of after f ≡ kind_of kinds f
     → (o < 4096 → byte_at n (4096 * f + o) ≡ byte_at m (4096 * f + o))
-    → kept_bytes after n f o ≡ kept_bytes kinds m f o
-unfolding kept_bytes
+    → unchanging_bytes after n f o ≡ unchanging_bytes kinds m f o
+unfolding unchanging_bytes
 bytes_same kinds after m n f o kind same =
     elim (cases_lt o 4096) [
-      | inl small ↦ (λ j. if is_kept (kind j) && nat_lt o 4096 && not (is_handler_byte f o) then same small j else 0)
+      | inl small ↦ (λ j. if is_unchanging (kind j) && nat_lt o 4096 && not (is_handler_byte f o) then same small j else 0)
       | inr past ↦
-          cond-false _ (byte_at n (4096 * f + o)) 0 (and_left _ (not (is_handler_byte f o)) (and_right (is_kept (kind_of after f)) _ (le-ltb o 4096 past)))
-          ∙ sym (cond-false _ (byte_at m (4096 * f + o)) 0 (and_left _ (not (is_handler_byte f o)) (and_right (is_kept (kind_of kinds f)) _ (le-ltb o 4096 past))))
+          cond-false _ (byte_at n (4096 * f + o)) 0 (and_left _ (not (is_handler_byte f o)) (and_right (is_unchanging (kind_of after f)) _ (le-ltb o 4096 past)))
+          ∙ sym (cond-false _ (byte_at m (4096 * f + o)) 0 (and_left _ (not (is_handler_byte f o)) (and_right (is_unchanging (kind_of kinds f)) _ (le-ltb o 4096 past))))
     ]
 
 -- in frame a alone kinds and bytes may differ, and it isn't one of those that never change
@@ -64,8 +64,8 @@ pub record IsChange (kinds after : List Kind) (m n : List ℕ) (a : ℕ) : Type 
   pub kind : (f : ℕ) → f ≢ a → kind_of after f ≡ kind_of kinds f
   pub entry : (f i : ℕ) → f ≢ a → i < 512 → entry_in n f i ≡ entry_in m f i
   pub byte : (p : ℕ) → p / 4096 ≢ a → byte_at n p ≡ byte_at m p
-  pub was : is_kept (kind_of kinds a) ≡ false
-  pub becomes : is_kept (kind_of after a) ≡ false
+  pub was : is_unchanging (kind_of kinds a) ≡ false
+  pub becomes : is_unchanging (kind_of after a) ≡ false
 
 place_in : (f o : ℕ) → o < 4096 → (4096 * f + o) / 4096 ≡ f
 place_in f o small = omega (arith, small)
@@ -74,7 +74,7 @@ place_in f o small = omega (arith, small)
 pub tables_changed : (kinds after : List Kind) (root : ℕ) (m n : List ℕ) (a : ℕ) (u : ℕ → ℕ → ℕ)
     → IsChange kinds after m n a → ((i : ℕ) → table_entries after n a i ≡ u a i)
     → ((f i : ℕ) → f ≢ a → table_entries kinds m f i ≡ u f i)
-    → tables_in after root n ≡ record { kinds = after; entries = u; fixed = kept_bytes kinds m; root = root }
+    → tables_in after root n ≡ record { kinds = after; entries = u; fixed = unchanging_bytes kinds m; root = root }
 tables_changed kinds after root m n a u change here apart =
     λ j. record { kinds = after; entries = λ f i. entry f i j; fixed = λ f o. kept f o j; root = root }
   where
@@ -85,12 +85,12 @@ tables_changed kinds after root m n a u change here apart =
           | inr other ↦ entries_same kinds after m n f i (change.kind f other) (change.entry f i other) ∙ apart f i other
         ]
 
-    kept : (f o : ℕ) → kept_bytes after n f o ≡ kept_bytes kinds m f o
+    kept : (f o : ℕ) → unchanging_bytes after n f o ≡ unchanging_bytes kinds m f o
     kept f o =
         elim (cases_eq f a) [
           | inl is ↦
-              ap (λ g. kept_bytes after n g o) is ∙ bytes_none after n a o change.becomes
-              ∙ sym (ap (λ g. kept_bytes kinds m g o) is ∙ bytes_none kinds m a o change.was)
+              ap (λ g. unchanging_bytes after n g o) is ∙ bytes_none after n a o change.becomes
+              ∙ sym (ap (λ g. unchanging_bytes kinds m g o) is ∙ bytes_none kinds m a o change.was)
           | inr other ↦ bytes_same kinds after m n f o (change.kind f other)
               (λ small. change.byte (4096 * f + o) (λ e. other (sym (place_in f o small) ∙ e)))
         ]
@@ -100,7 +100,7 @@ module _ (kinds after : List Kind) (root : ℕ) (m n : List ℕ) (a : ℕ) (chan
     (holds : HoldsSoundTables kinds root m) where
   not_fixed : (f : ℕ) → kind_of kinds f ≡ Fixed → f ≢ a
   not_fixed f fixed is =
-      false≢true (sym change.was ∙ ap (λ g. is_kept (kind_of kinds g)) (sym is) ∙ ap is_kept fixed)
+      false≢true (sym change.was ∙ ap (λ g. is_unchanging (kind_of kinds g)) (sym is) ∙ ap is_unchanging fixed)
 
   stays_fixed : (f : ℕ) → kind_of kinds f ≡ Fixed → kind_of after f ≡ Fixed
   stays_fixed f fixed = change.kind f (not_fixed f fixed) ∙ fixed

@@ -9,7 +9,7 @@ use Rattle.nk_bits.specs.Kinds.{kind_of, level_of}
 use Rattle.nk_bits.specs.Paging.{emptied, is_slot_entry, slot_value}
 use Rattle.phys_mem.specs.Memory.{byte_at, entry_in, frame_zeroed, stores}
 use Rattle.page_desc.specs.FrameDescriptors.{last_value}
-use Rattle.page_desc.specs.PageTables.{HoldsSoundTables, is_kept, is_table, table_entries, tables_in}
+use Rattle.page_desc.specs.PageTables.{HoldsSoundTables, is_unchanging, is_table, table_entries, tables_in}
 use Rattle.page_desc.specs.SoundTables.{AreTables}
 use Rattle.vmmu.specs.TableCalls.{declared, memory_declared}
 use Rattle.vmmu.specs.AcceptedCalls.{IsDeclarable}
@@ -55,8 +55,8 @@ module _ (laws : LowerLaws) (kinds : List Kind) (root level frame : ℕ) (m : Li
     entry = λ f i apart small. laws.entries.emptied m frame level f i inside small
         ∙ emptied_elsewhere (entry_in m) frame level f i apart;
     byte = byte_apart;
-    was = ap is_kept call.free;
-    becomes = ap is_kept is_new;
+    was = ap is_unchanging call.free;
+    becomes = ap is_unchanging is_new;
   }
 
   new_entry : (i : ℕ) → table_entries (set kinds frame (Table level)) (memory_declared m level frame) frame i

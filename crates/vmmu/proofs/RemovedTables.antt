@@ -6,7 +6,7 @@ use Rattle.nk_bits.specs.declared.kind.Kind.TheVariants.{Data, Hidden}
 use Rattle.nk_bits.specs.Kinds.{kind_of, level_of}
 use Rattle.nk_bits.specs.Paging.{zeroed}
 use Rattle.phys_mem.specs.Memory.{entry_in}
-use Rattle.page_desc.specs.PageTables.{HoldsSoundTables, is_kept, is_table, table_entries, tables_in}
+use Rattle.page_desc.specs.PageTables.{HoldsSoundTables, is_unchanging, is_table, table_entries, tables_in}
 use Rattle.page_desc.specs.SoundTables.{AreTables}
 use Rattle.vmmu.specs.TableCalls.{memory_removed, removed}
 use Rattle.vmmu.specs.AcceptedCalls.{IsRemovable}
@@ -39,7 +39,7 @@ module _ (laws : LowerLaws) (kinds : List Kind) (root frame : ℕ) (m : List ℕ
     entry = λ f i apart small. laws.entries.zeroed m frame f i inside small ∙ zeroed_elsewhere (entry_in m) frame f i apart;
     byte = λ p apart. laws.bytes.zeroed_elsewhere m frame p inside apart;
     was = table_changes (kind_of kinds frame) call.table;
-    becomes = ap is_kept is_data;
+    becomes = ap is_unchanging is_data;
   }
 
   removed_tables : AreTables (set kinds frame Data) (entry_in (memory_removed m frame))

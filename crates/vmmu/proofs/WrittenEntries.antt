@@ -7,7 +7,7 @@ use Rattle.nk_bits.specs.declared.kind.Kind.TheVariants.{Data, Code, Table, Fixe
 use Rattle.nk_bits.specs.Kinds.{kind_of, level_of}
 use Rattle.nk_bits.specs.Paging.{replaced}
 use Rattle.phys_mem.specs.Memory.{byte_at, entry_in, stores}
-use Rattle.page_desc.specs.PageTables.{HoldsSoundTables, is_kept, is_table, table_entries, tables_in}
+use Rattle.page_desc.specs.PageTables.{HoldsSoundTables, is_unchanging, is_table, table_entries, tables_in}
 use Rattle.page_desc.specs.SoundTables.{AreTables}
 use Rattle.vmmu.specs.TableCalls.{entry_written, memory_written}
 use Rattle.vmmu.specs.AcceptedCalls.{IsWritable}
@@ -28,7 +28,7 @@ unfolding replaced
 replaced_elsewhere t a b c f i apart = cond-false (f == a && i == b) c (t f i) (and_left _ (i == b) (ne_eqb f a apart))
 
 -- a table is none of the frames that never change
-pub table_changes : (kind : Kind) → 1 ≤ level_of kind → is_kept kind ≡ false
+pub table_changes : (kind : Kind) → 1 ≤ level_of kind → is_unchanging kind ≡ false
 table_changes Data low = refl
 table_changes Code low = absurd (omega arith)
 table_changes (Table level) low = refl

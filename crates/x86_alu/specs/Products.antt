@@ -13,14 +13,14 @@ product false w a b = a * b
 product true w a b = spelled (2 * w) (signs_differ w a b) (size w a * size w b)
 
 -- a signed number with this sign and this size is not one of w bits
-abbrev pub is_outside : ℕ → Bool → ℕ → Bool
-is_outside w true n = nat_lt (2 ^ (w - 1)) n
-is_outside w false n = nat_le (2 ^ (w - 1)) n
+abbrev pub exceeds_width : ℕ → Bool → ℕ → Bool
+exceeds_width w true n = nat_lt (2 ^ (w - 1)) n
+exceeds_width w false n = nat_le (2 ^ (w - 1)) n
 
 -- the product does not fit w bits, unsigned or signed
 abbrev pub product_overflows : Bool → ℕ → ℕ → ℕ → Bool
 product_overflows false w a b = nat_le (2 ^ w) (a * b)
-product_overflows true w a b = is_outside w (signs_differ w a b) (size w a * size w b)
+product_overflows true w a b = exceeds_width w (signs_differ w a b) (size w a * size w b)
 
 -- the high or the low w bits of a product
 abbrev pub half_of : Bool → ℕ → ℕ → ℕ

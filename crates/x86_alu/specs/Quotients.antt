@@ -1,7 +1,7 @@
 -- A number of 2 w bits, divided by one of w bits.
 use Rattle.std.specs.Prelude.{ℕ, ◌+◌, ◌*◌, ◌/◌, ◌%◌, ◌^◌, Bool, true, false, ◌||◌, ◌==◌, nat_le}
 use Rattle.x86_alu.specs.SignedNumbers.{sign, size, differ, spelled}
-use Rattle.x86_alu.specs.Products.{is_outside}
+use Rattle.x86_alu.specs.Products.{exceeds_width}
 
 -- the dividend, from its two halves
 abbrev pub joined : ℕ → ℕ → ℕ → ℕ
@@ -21,7 +21,7 @@ rest_size w n by = size (2 * w) n % size w by
 -- the divisor is zero, or the quotient doesn't fit w bits
 abbrev pub is_refused : Bool → ℕ → ℕ → ℕ → Bool
 is_refused false w n by = (by == 0) || nat_le (2 ^ w) (n / by)
-is_refused true w n by = (by == 0) || is_outside w (is_negative w n by) (quotient_size w n by)
+is_refused true w n by = (by == 0) || exceeds_width w (is_negative w n by) (quotient_size w n by)
 
 -- the quotient, rounded toward zero
 abbrev pub quotient : Bool → ℕ → ℕ → ℕ → ℕ

@@ -42,13 +42,13 @@ shift_flags op w a n flags =
     else with_flag carry_flag carry (with_flag overflow_flag overflow (result_flags w value flags)))
 
 -- the low n of w bits stand above the others
-abbrev pub exchanged : ℕ → ℕ → ℕ → ℕ
-exchanged w a n = a % 2 ^ n * 2 ^ (w - n) + a / 2 ^ n
+abbrev pub low_above : ℕ → ℕ → ℕ → ℕ
+low_above w a n = a % 2 ^ n * 2 ^ (w - n) + a / 2 ^ n
 
 -- the bits turned around by n places, to the left or to the right
 abbrev pub rotated : Bool → ℕ → ℕ → ℕ → ℕ
-rotated true w a n = exchanged w a (w - n % w)
-rotated false w a n = exchanged w a (n % w)
+rotated true w a n = low_above w a (w - n % w)
+rotated false w a n = low_above w a (n % w)
 
 -- CF of a rotation: the result's lowest bit to the left, its highest to the right
 abbrev pub rotate_carry : Bool → ℕ → ℕ → Bool

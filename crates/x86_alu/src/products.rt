@@ -3,7 +3,7 @@
 ghost use Rattle.std.specs.Prelude.{◌≡◌, ◌*◌, ◌<◌, ◌≤◌, ◌^◌, true};
 ghost use Rattle.x86_alu.specs.SignedNumbers.{cut, negated, size, spelled};
 ghost use Rattle.decode_fields.specs.Widths.{IsWidth};
-ghost use Rattle.x86_alu.specs.Products.{signs_differ, product, is_outside, product_overflows, half_of, product_flags};
+ghost use Rattle.x86_alu.specs.Products.{signs_differ, product, exceeds_width, product_overflows, half_of, product_flags};
 
 use crate::answers::Out;
 use crate::flags::{CF, OF, with_flag};
@@ -75,7 +75,7 @@ fn product_size(width: u8, a: u64, b: u64) -> u128
 /// Whether a signed number of this sign and this size, how far it is from zero, isn't one of `width` bits.
 pub fn is_outside(width: u8, negative: bool, size: u128) -> bool
     requires { IsWidth width }
-    ensures { result ≡ is_outside width negative size }
+    ensures { result ≡ exceeds_width width negative size }
 {
     let half = 1 << (width - 1);
     if negative { half < size } else { half <= size }

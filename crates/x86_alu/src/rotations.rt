@@ -3,7 +3,7 @@
 ghost use Rattle.std.specs.Prelude.{◌≡◌, ◌<◌, ◌≤◌, ◌^◌};
 ghost use Rattle.x86_alu.specs.SignedNumbers.{cut};
 ghost use Rattle.decode_fields.specs.Widths.{IsWidth};
-ghost use Rattle.x86_alu.specs.Shifts.{masked_count, exchanged, rotated, rotate_carry, rotate_overflow, rotate_flags};
+ghost use Rattle.x86_alu.specs.Shifts.{masked_count, low_above, rotated, rotate_carry, rotate_overflow, rotate_flags};
 
 use crate::answers::Out;
 use crate::flags::{CF, OF, with_flag};
@@ -40,7 +40,7 @@ fn exchanged(width: u8, a: u64, places: u8) -> u64
     requires width { IsWidth width }
     requires fits { a < 2 ^ width }
     requires places { places ≤ width }
-    ensures { result ≡ exchanged width a places }
+    ensures { result ≡ low_above width a places }
 {
     let a = a as u128;
     let low = a & ((1 << places) - 1);

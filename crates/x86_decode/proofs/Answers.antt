@@ -15,7 +15,7 @@ use Rattle.x86_decode.specs.Grid.{entry_at}
 use Rattle.x86_decode.specs.Meaning.{operand_length}
 use Rattle.x86_decode.specs.Reader.{answer_of, decoded_of, chosen, read_choice, read_escaped, read_of, read_rest, read_row}
 use Rattle.x86_decode.proofs.RowReading.{finished_cut, finished_whole}
-use Rattle.x86_decode.specs.Spelling.{AreBytes, IsCut, SameSpelling, Spells}
+use Rattle.x86_decode.specs.Spelling.{AreBytes, IsCutOff, SameSpelling, Spells}
 use Rattle.x86_decode.proofs.FieldLaws.{FieldLaws}
 use Rattle.x86_decode.proofs.Finding.{Front, read_front, short_cut}
 use Rattle.x86_decode.proofs.Reading.{cut_read, spelled_read}
@@ -51,7 +51,7 @@ front_read laws instr bytes size f =
     ap read_of (sym (take-append-drop size bytes))
     ∙ (spelled_read laws instr (take size bytes) (drop size bytes) f.lawful.spells ∙ ap (Whole instr) (length-take-le size bytes f.within))
 
-cut_of : (laws : FieldLaws) (bytes : List ℕ) → IsCut bytes → read_of bytes ≡ Short
+cut_of : (laws : FieldLaws) (bytes : List ℕ) → IsCutOff bytes → read_of bytes ≡ Short
 cut_of laws bytes c = cut_read laws c.instr bytes c.more c.spells c.some
 
 unknown_is : (laws : FieldLaws) (bytes : List ℕ) → read_of bytes ≡ Unknown → IsUnknown bytes

@@ -22,7 +22,7 @@ use Rattle.x86_decode.specs.declared.reader.Map.TheVariants.{OneByte, TwoByte}
 use Rattle.x86_decode.specs.OpcodeTable.{OpcodeRow, Always}
 use Rattle.x86_decode.specs.Meaning.{layout_stands, row_stands, when_stands}
 use Rattle.x86_decode.specs.Grid.{entry_at, entry_rows, group_rows, slots_from, when_at}
-use Rattle.x86_decode.specs.Reader.{asks_form, chosen, picked, picked_at, place_in, tested}
+use Rattle.x86_decode.specs.Reader.{asks_form, chosen, picked, picked_at, place_in_group, tested}
 use Rattle.x86_decode.proofs.Rows.{IsIn, at_group, is_plain, reads_modrm, row_by, tested_some, when_of_place}
 
 -- a ModRM byte of the form that a layout asks for, with this reg
@@ -172,7 +172,7 @@ slot_example by first k prefixes op shape small is plain stands =
       more = plain;
     }
 
-missed_slot : (by : Selector) (first k : ℕ) (prefixes : Prefixes) (modrm : Option ℕ) → place_in by prefixes modrm ≡ Some k → (here : Slot) → slice_index_or (slots_from first) k slot.Empty ≡ here → picked here modrm ≡ choice.Missing → Missed (entry.Many by first) prefixes modrm
+missed_slot : (by : Selector) (first k : ℕ) (prefixes : Prefixes) (modrm : Option ℕ) → place_in_group by prefixes modrm ≡ Some k → (here : Slot) → slice_index_or (slots_from first) k slot.Empty ≡ here → picked here modrm ≡ choice.Missing → Missed (entry.Many by first) prefixes modrm
 missed_slot by first k prefixes modrm place slot.Empty is h = absurd (absent_missing h)
 missed_slot by first k prefixes modrm place (slot.Row op shape) is h =
     let t : (modrm ≡ None) × (asks_form shape.layout ≡ true) = missed_test op shape modrm h in
@@ -205,7 +205,7 @@ missed_digit first prefixes regular =
     slot_example selector.Digit first r.place prefixes r.op r.shape small r.is plain
     (eq-eqb (reg_field (example r.shape.layout r.place)) r.place (example_reg r.shape.layout r.place small))
 
-missed_place : (by : Selector) (first : ℕ) (prefixes : Prefixes) (modrm : Option ℕ) → is_regular (entry.Many by first) ≡ true → (place : Option ℕ) → place_in by prefixes modrm ≡ place → picked_at (slots_from first) place modrm ≡ choice.Missing → Missed (entry.Many by first) prefixes modrm
+missed_place : (by : Selector) (first : ℕ) (prefixes : Prefixes) (modrm : Option ℕ) → is_regular (entry.Many by first) ≡ true → (place : Option ℕ) → place_in_group by prefixes modrm ≡ place → picked_at (slots_from first) place modrm ≡ choice.Missing → Missed (entry.Many by first) prefixes modrm
 missed_place by first prefixes modrm regular (Some k) is h = missed_slot by first k prefixes modrm is (slice_index_or (slots_from first) k slot.Empty) refl h
 missed_place selector.Digit first prefixes None regular None is h = record { none = refl; example = missed_digit first prefixes regular }
 missed_place selector.Digit first prefixes (Some m) regular None is h = absurd (some_none (reg_field m) is)
@@ -228,4 +228,4 @@ missing (entry.One op shape) prefixes modrm regular h =
         more = not_plain shape.layout t.1;
       };
     }
-missing (entry.Many by first) prefixes modrm regular h = missed_place by first prefixes modrm regular (place_in by prefixes modrm) refl h
+missing (entry.Many by first) prefixes modrm regular h = missed_place by first prefixes modrm regular (place_in_group by prefixes modrm) refl h

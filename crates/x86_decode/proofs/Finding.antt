@@ -17,7 +17,7 @@ use Rattle.x86_decode.specs.RowForms.{alone}
 use Rattle.x86_decode.specs.OpcodeTable.{OpcodeRow, Always, one_byte_table, rows_at, two_byte_table}
 use Rattle.x86_decode.specs.Meaning.{instr_of}
 use Rattle.x86_decode.specs.Reader.{read_escaped, read_of, read_rest, read_row}
-use Rattle.x86_decode.specs.Spelling.{AreBytes, IsCut, Parts, Spells, opcode_bytes}
+use Rattle.x86_decode.specs.Spelling.{AreBytes, IsCutOff, Parts, Spells, opcode_bytes}
 use Rattle.std.proofs.lemmas.List.Elements.{All-take}
 use Rattle.x86_decode.proofs.Bytes.{both_are, one_is}
 use Rattle.x86_decode.proofs.Reading.{code_length, code_length-is, parts_more, read_one}
@@ -83,7 +83,7 @@ read_front laws bytes instr size are reads = sound_split laws bytes (prefix_byte
 some_more : (more : List ℕ) → 1 ≤ length more → more ≢ []
 some_more more some e = absurd (omega (arith, ap length e))
 
-found_cut : (where_from : Map) (bytes front : List ℕ) (opcode : ℕ) (operands : List ℕ) → AreBytes bytes → list_all is_prefix front ≡ true → bytes ≡ front ++ (opcode_bytes where_from opcode ++ operands) → RowCut where_from (prefixes_of front) opcode operands → IsCut bytes
+found_cut : (where_from : Map) (bytes front : List ℕ) (opcode : ℕ) (operands : List ℕ) → AreBytes bytes → list_all is_prefix front ≡ true → bytes ≡ front ++ (opcode_bytes where_from opcode ++ operands) → RowCut where_from (prefixes_of front) opcode operands → IsCutOff bytes
 found_cut where_from bytes front opcode operands are all split r = record {
   more = r.more;
   some = some_more r.more r.some;
@@ -106,7 +106,7 @@ unfolding two_byte_table
 undefined_listed = (0, omega arith, refl)
 
 -- prefix bytes go on to HLT
-front_cut : (bytes front : List ℕ) → AreBytes bytes → list_all is_prefix front ≡ true → bytes ≡ front ++ [] → IsCut bytes
+front_cut : (bytes front : List ℕ) → AreBytes bytes → list_all is_prefix front ≡ true → bytes ≡ front ++ [] → IsCutOff bytes
 front_cut bytes front are all split = record {
   more = 0xF4 ∷ [];
   some = some_more (0xF4 ∷ []) (omega arith);
@@ -121,7 +121,7 @@ front_cut bytes front are all split = record {
 }
 
 -- 0F goes on to UD2
-escape_cut : (bytes front : List ℕ) → AreBytes bytes → list_all is_prefix front ≡ true → bytes ≡ front ++ (0x0F ∷ []) → IsCut bytes
+escape_cut : (bytes front : List ℕ) → AreBytes bytes → list_all is_prefix front ≡ true → bytes ≡ front ++ (0x0F ∷ []) → IsCutOff bytes
 escape_cut bytes front are all split = record {
   more = 0x0B ∷ [];
   some = some_more (0x0B ∷ []) (omega arith);
@@ -135,12 +135,12 @@ escape_cut bytes front are all split = record {
   };
 }
 
-escaped_cut : (bytes front rest : List ℕ) → AreBytes bytes → list_all is_prefix front ≡ true → bytes ≡ front ++ (0x0F ∷ rest) → read_escaped (prefixes_of front) rest (length front + 1) ≡ Short → IsCut bytes
+escaped_cut : (bytes front rest : List ℕ) → AreBytes bytes → list_all is_prefix front ≡ true → bytes ≡ front ++ (0x0F ∷ rest) → read_escaped (prefixes_of front) rest (length front + 1) ≡ Short → IsCutOff bytes
 escaped_cut bytes front [] are all split reads = escape_cut bytes front are all split
 escaped_cut bytes front (opcode ∷ operands) are all split reads =
     found_cut TwoByte bytes front opcode operands are all split (read_row_short TwoByte (prefixes_of front) opcode operands (length front + 1 + 1) reads)
 
-short_split : (bytes front rest : List ℕ) → AreBytes bytes → Splits bytes front rest → read_rest (prefixes_of front) rest (length front) ≡ Short → IsCut bytes
+short_split : (bytes front rest : List ℕ) → AreBytes bytes → Splits bytes front rest → read_rest (prefixes_of front) rest (length front) ≡ Short → IsCutOff bytes
 short_split bytes front [] are split reads = front_cut bytes front are split.front_all split.parts
 short_split bytes front (first ∷ rest) are split reads = elim (cases_Bool (nat_eq first 0x0F)) [
   | inl escape ↦
@@ -154,5 +154,5 @@ short_split bytes front (first ∷ rest) are split reads = elim (cases_Bool (nat
 ]
 
 -- what is read as cut begins a spelling that goes on
-pub short_cut : (laws : FieldLaws) (bytes : List ℕ) → AreBytes bytes → read_of bytes ≡ Short → IsCut bytes
+pub short_cut : (laws : FieldLaws) (bytes : List ℕ) → AreBytes bytes → read_of bytes ≡ Short → IsCutOff bytes
 short_cut laws bytes are reads = short_split bytes (prefix_bytes bytes) (drop (length (prefix_bytes bytes)) bytes) are (splits-rest laws bytes) reads

@@ -25,7 +25,7 @@ use Rattle.x86_decode.specs.declared.shape.Width.TheVariants as width
 use Rattle.x86_decode.specs.declared.reader.Map.{Map}
 use Rattle.x86_decode.specs.declared.reader.Map.TheVariants.{OneByte, TwoByte}
 use Rattle.x86_decode.specs.Grid.{entry_at, entry_rows, slots_from}
-use Rattle.x86_decode.specs.Meaning.{byte_place, byte_register, fields_of, opcode_register, operand_place, operand_size, rex_number, width_of}
+use Rattle.x86_decode.specs.Meaning.{place_of_byte, byte_register, fields_of, opcode_register, operand_place, operand_size, rex_number, width_of}
 use Rattle.x86_decode.specs.Spelling.{Parts, Spells}
 use Rattle.x86_decode.specs.OpcodeTable.{OpcodeRow}
 use Rattle.x86_decode.specs.WellFormed.{HasCondition, IsWellFormed, extends_byte}
@@ -102,7 +102,7 @@ byte_register_ok rex number wide low = elim (cases_Bool (is_none rex && nat_le 4
   | inr plain ↦ subst IsPlace (sym (cond-false (is_none rex && nat_le 4 number) (High (number - 4)) (Reg number) plain)) wide
 ]
 
-byte_place_ok : (rex : Option ℕ) (place : Place) → IsPlace place → (rex ≡ None → IsLow place) → IsPlace (byte_place rex place)
+byte_place_ok : (rex : Option ℕ) (place : Place) → IsPlace place → (rex ≡ None → IsLow place) → IsPlace (place_of_byte rex place)
 byte_place_ok rex Nothing ok low = ok
 byte_place_ok rex (Reg number) ok low = byte_register_ok rex number ok low
 byte_place_ok rex (High number) ok low = ok

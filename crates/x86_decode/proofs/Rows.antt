@@ -18,7 +18,7 @@ use Rattle.x86_decode.specs.declared.choice.Choice.TheVariants as choice
 use Rattle.x86_decode.specs.OpcodeTable.{OpcodeRow, When, Always, Digit, AtSize, AtRexB}
 use Rattle.x86_decode.specs.Meaning.{layout_stands, operand_size, rex_number, row_stands, when_stands}
 use Rattle.x86_decode.specs.Grid.{entry_rows, group_rows, size_at, slots_from, when_at}
-use Rattle.x86_decode.specs.Reader.{asks_form, chosen, picked, picked_at, place_in, tested}
+use Rattle.x86_decode.specs.Reader.{asks_form, chosen, picked, picked_at, place_in_group, tested}
 
 -- membership by recursion
 abbrev pub IsIn : OpcodeRow → List OpcodeRow → Type 0
@@ -116,8 +116,8 @@ is_plain layout.Register = false
 is_plain layout.Ignored = false
 
 -- the place of a group that a row's condition names is the one that prefixes and ModRM give
-group_place : (by : Selector) (k : ℕ) (prefixes : Prefixes) (operands : List ℕ) (modrm : Option ℕ) → when_stands (when_at by k) prefixes operands ≡ true → (reads_modrm (when_at by k) ≡ true → modrm ≡ Some (modrm_byte operands)) → place_in by prefixes modrm ≡ Some k
-group_place selector.Digit k prefixes operands modrm stands known = ap (place_in selector.Digit prefixes) (known refl) ∙ ap (λ (n : ℕ). Some n) (eqb-true _ _ stands)
+group_place : (by : Selector) (k : ℕ) (prefixes : Prefixes) (operands : List ℕ) (modrm : Option ℕ) → when_stands (when_at by k) prefixes operands ≡ true → (reads_modrm (when_at by k) ≡ true → modrm ≡ Some (modrm_byte operands)) → place_in_group by prefixes modrm ≡ Some k
+group_place selector.Digit k prefixes operands modrm stands known = ap (place_in_group selector.Digit prefixes) (known refl) ∙ ap (λ (n : ℕ). Some n) (eqb-true _ _ stands)
 group_place selector.Size k prefixes operands modrm stands known = ap (λ (n : ℕ). Some n) (size_place (operand_size prefixes) k (size_cases prefixes) (eqb-true _ _ stands))
 group_place selector.RexB k prefixes operands modrm stands known = ap (λ (n : ℕ). Some n) (eqb-true _ _ stands)
 
@@ -219,7 +219,7 @@ tested_row op' shape' (Some modrm) op shape h = elim (cases_Bool (layout_stands 
   | inr fails ↦ absurd (absent_row op shape (sym (cond-false (layout_stands shape'.layout (modrm ∷ [])) (choice.Row op' shape') choice.Absent fails) ∙ h))
 ]
 
-pub when_of_place : (by : Selector) (k : ℕ) (prefixes : Prefixes) (modrm : Option ℕ) (operands : List ℕ) → place_in by prefixes modrm ≡ Some k → IsFirst modrm operands → when_stands (when_at by k) prefixes operands ≡ true
+pub when_of_place : (by : Selector) (k : ℕ) (prefixes : Prefixes) (modrm : Option ℕ) (operands : List ℕ) → place_in_group by prefixes modrm ≡ Some k → IsFirst modrm operands → when_stands (when_at by k) prefixes operands ≡ true
 when_of_place selector.Digit k prefixes None operands at first = absurd (none_some k at)
 when_of_place selector.Digit k prefixes (Some modrm) operands at (inl none) = absurd (some_none modrm none)
 when_of_place selector.Digit k prefixes (Some modrm) operands at (inr some) =
@@ -240,7 +240,7 @@ pub record Found (entry : OpcodeEntry) (prefixes : Prefixes) (modrm : Option ℕ
   pub shape_same : row.shape ≡ shape
   pub stands : (operands : List ℕ) → IsFirst modrm operands → row_stands row prefixes operands ≡ true
 
-found_slot : (by : Selector) (first k : ℕ) (prefixes : Prefixes) (modrm : Option ℕ) (op : Op) (shape : Shape) → place_in by prefixes modrm ≡ Some k → (here : Slot) → slice_index_or (slots_from first) k slot.Empty ≡ here → picked here modrm ≡ choice.Row op shape → Found (entry.Many by first) prefixes modrm op shape
+found_slot : (by : Selector) (first k : ℕ) (prefixes : Prefixes) (modrm : Option ℕ) (op : Op) (shape : Shape) → place_in_group by prefixes modrm ≡ Some k → (here : Slot) → slice_index_or (slots_from first) k slot.Empty ≡ here → picked here modrm ≡ choice.Row op shape → Found (entry.Many by first) prefixes modrm op shape
 found_slot by first k prefixes modrm op shape place slot.Empty is h = absurd (absent_row op shape h)
 found_slot by first k prefixes modrm op shape place (slot.Row op' shape') is h =
     let t : Tested op op' shape shape' modrm = tested_row op' shape' modrm op shape h in
@@ -254,7 +254,7 @@ found_slot by first k prefixes modrm op shape place (slot.Row op' shape') is h =
       stands = λ operands first_byte. and_from _ _ (when_of_place by k prefixes modrm operands place first_byte) (t.form operands first_byte);
     }
 
-found_place : (by : Selector) (first : ℕ) (prefixes : Prefixes) (modrm : Option ℕ) (op : Op) (shape : Shape) → (place : Option ℕ) → place_in by prefixes modrm ≡ place → picked_at (slots_from first) place modrm ≡ choice.Row op shape → Found (entry.Many by first) prefixes modrm op shape
+found_place : (by : Selector) (first : ℕ) (prefixes : Prefixes) (modrm : Option ℕ) (op : Op) (shape : Shape) → (place : Option ℕ) → place_in_group by prefixes modrm ≡ place → picked_at (slots_from first) place modrm ≡ choice.Row op shape → Found (entry.Many by first) prefixes modrm op shape
 found_place by first prefixes modrm op shape None is h = absurd (missing_row op shape h)
 found_place by first prefixes modrm op shape (Some k) is h = found_slot by first k prefixes modrm op shape is (slice_index_or (slots_from first) k slot.Empty) refl h
 
@@ -269,4 +269,4 @@ found (entry.One op' shape') prefixes modrm op shape h =
       shape_same = t.shape_same;
       stands = λ operands first. t.form operands first;
     }
-found (entry.Many by first) prefixes modrm op shape h = found_place by first prefixes modrm op shape (place_in by prefixes modrm) refl h
+found (entry.Many by first) prefixes modrm op shape h = found_place by first prefixes modrm op shape (place_in_group by prefixes modrm) refl h

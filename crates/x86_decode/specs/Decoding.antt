@@ -5,7 +5,7 @@ use Rattle.decode_fields.specs.Protected.{is_protected_at}
 use Rattle.x86_decode.specs.declared.instruction.Instr.{Instr}
 use Rattle.x86_decode.specs.declared.instruction.Decoded.{Decoded}
 use Rattle.x86_decode.specs.declared.instruction.Decoded.TheVariants.{Whole, Short, TooLong, Unknown}
-use Rattle.x86_decode.specs.Spelling.{IsCut, IsLawful}
+use Rattle.x86_decode.specs.Spelling.{IsCutOff, IsLawful}
 
 -- the first bytes, this many, are a lawful spelling of the instruction
 pub record IsFront (instr : Instr) (bytes : List ℕ) (size : ℕ) : Type 0 where
@@ -15,13 +15,13 @@ pub record IsFront (instr : Instr) (bytes : List ℕ) (size : ℕ) : Type 0 wher
 -- no lawful spelling is in front, and the bytes begin no spelling
 pub record IsUnknown (bytes : List ℕ) : Type 0 where
   pub no_front : (instr : Instr) (size : ℕ) → IsFront instr bytes size → ⊥
-  pub no_cut : IsCut bytes → ⊥
+  pub no_cut : IsCutOff bytes → ⊥
 
 -- an answer is right
 abbrev pub Decodes : List ℕ → Decoded → Type 0
 Decodes bytes (Whole instr size) = IsFront instr bytes size
-Decodes bytes Short = IsCut bytes × (length bytes < 15)
-Decodes bytes TooLong = IsCut bytes × (15 ≤ length bytes)
+Decodes bytes Short = IsCutOff bytes × (length bytes < 15)
+Decodes bytes TooLong = IsCutOff bytes × (15 ≤ length bytes)
 Decodes bytes Unknown = IsUnknown bytes
 
 -- a fact of the instruction, where there is one

@@ -116,12 +116,12 @@ number_value Cn width reg bytes = reg
 abbrev pub byte_register : Option ℕ → ℕ → Place
 byte_register rex number = if is_none rex && nat_le 4 number then High (number - 4) else Reg number
 
-abbrev pub byte_place : Option ℕ → Place → Place
-byte_place rex (Reg number) = byte_register rex number
-byte_place rex Nothing = Nothing
-byte_place rex (High number) = High number
-byte_place rex (Mem address) = Mem address
-byte_place rex Value = Value
+abbrev pub place_of_byte : Option ℕ → Place → Place
+place_of_byte rex (Reg number) = byte_register rex number
+place_of_byte rex Nothing = Nothing
+place_of_byte rex (High number) = High number
+place_of_byte rex (Mem address) = Mem address
+place_of_byte rex Value = Value
 
 -- a register by the opcode's low bits
 abbrev pub opcode_register : Prefixes → ℕ → ℕ
@@ -130,7 +130,7 @@ opcode_register prefixes opcode = opcode % 8 + 8 * rex_b (rex_number prefixes)
 -- where an operand stands
 abbrev pub operand_place : Operand → Prefixes → ℕ → ModRm → Place
 operand_place Absent prefixes opcode fields = Nothing
-operand_place Eb prefixes opcode fields = byte_place prefixes.rex fields.place
+operand_place Eb prefixes opcode fields = place_of_byte prefixes.rex fields.place
 operand_place Ev prefixes opcode fields = fields.place
 operand_place Gb prefixes opcode fields = byte_register prefixes.rex fields.reg
 operand_place Gv prefixes opcode fields = Reg fields.reg

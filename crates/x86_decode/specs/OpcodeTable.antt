@@ -6,7 +6,7 @@ use Rattle.x86_decode.specs.declared.operation.Op.TheVariants.{Add, Or, Adc, Sbb
 use Rattle.x86_decode.specs.declared.reader.Map.{Map}
 use Rattle.x86_decode.specs.declared.reader.Map.TheVariants.{OneByte, TwoByte}
 use Rattle.x86_decode.specs.declared.shape.Shape.{Shape}
-use Rattle.x86_decode.specs.RowForms.{alone, alone_stack, alone_b, alone_v, no_access, fence, eb, ev, eb_gb, ev_gv, gb_eb, gv_ev, gv_eb, gv_m, rv_gv, gv_ev_ib, gv_ev_iz, eb_ib, ev_ib, ev_iz, eb_ub, ev_ub, eb_1, ev_1, eb_cl, ev_cl, zb_ib, zv_iv, zv, ax_zv, al_ib, ax_iz, al_ub, ub_al, al_dx, dx_al, push_zv, push_ib, push_iz, push_ev, pop_zv, pop_ev, near_ev, jb, jz, ret_0, ret_uw, int_ub, system_ew, system_m, rq_cn, cn_rq}
+use Rattle.x86_decode.specs.RowForms.{alone, alone_stack, alone_b, alone_v, shape_without_access, fence, eb, ev, eb_gb, ev_gv, gb_eb, gv_ev, gv_eb, gv_m, rv_gv, gv_ev_ib, gv_ev_iz, eb_ib, ev_ib, ev_iz, eb_ub, ev_ub, eb_1, ev_1, eb_cl, ev_cl, zb_ib, zv_iv, zv, ax_zv, al_ib, ax_iz, al_ub, ub_al, al_dx, dx_al, push_zv, push_ib, push_iz, push_ev, pop_zv, pop_ev, near_ev, jb, jz, ret_0, ret_uw, int_ub, system_ew, system_m, rq_cn, cn_rq}
 
 -- what a row asks for besides its opcode: nothing; reg of ModRM (/0 to /7); an operand size; REX.B clear or set
 pub data When : Type 0 where
@@ -182,7 +182,7 @@ two_byte_table = all_of (
     digit 0x01 6 Lmsw system_ew ∷
     digit 0x01 7 Invlpg system_m ∷
     at 0x0B Ud2 alone ∷
-    line 0x1E 0x1F Always Nop no_access ∷
+    line 0x1E 0x1F Always Nop shape_without_access ∷
     at 0x20 Movfc rq_cn ∷
     at 0x22 Movtc cn_rq ∷
     at 0x23 Movtd cn_rq ∷
@@ -216,18 +216,18 @@ two_byte_table = all_of (
     line 0xC8 0xCF (AtSize 64) Bswap zv ∷
     [])
 
-abbrev pub table_of : Map → List OpcodeLine
-table_of OneByte = one_byte_table
-table_of TwoByte = two_byte_table
+abbrev pub lines_of_map : Map → List OpcodeLine
+lines_of_map OneByte = one_byte_table
+lines_of_map TwoByte = two_byte_table
 
 -- the line stands at this opcode
-abbrev pub covers : ℕ → OpcodeLine → Bool
-covers opcode it = nat_le it.first opcode && nat_le opcode it.last
+abbrev pub stands_at : ℕ → OpcodeLine → Bool
+stands_at opcode it = nat_le it.first opcode && nat_le opcode it.last
 
 -- the rows of a table at an opcode
 abbrev pub rows_of : List OpcodeLine → ℕ → List OpcodeRow
-rows_of lines opcode = map (λ it. it.row) (filter (covers opcode) lines)
+rows_of lines opcode = map (λ it. it.row) (filter (stands_at opcode) lines)
 
 -- the rows at an opcode of a map
 abbrev pub rows_at : Map → ℕ → List OpcodeRow
-rows_at where_from opcode = rows_of (table_of where_from) opcode
+rows_at where_from opcode = rows_of (lines_of_map where_from) opcode

@@ -41,11 +41,11 @@ picked slot.Empty modrm = Absent
 picked (slot.Row op shape) modrm = tested op shape modrm
 
 -- the place in a group
-abbrev pub place_in : Selector → Prefixes → Option ℕ → Option ℕ
-place_in Digit prefixes None = None
-place_in Digit prefixes (Some modrm) = Some (reg_field modrm)
-place_in Size prefixes modrm = Some (operand_size prefixes / 32)
-place_in RexB prefixes modrm = Some (rex_b (rex_number prefixes))
+abbrev pub place_in_group : Selector → Prefixes → Option ℕ → Option ℕ
+place_in_group Digit prefixes None = None
+place_in_group Digit prefixes (Some modrm) = Some (reg_field modrm)
+place_in_group Size prefixes modrm = Some (operand_size prefixes / 32)
+place_in_group RexB prefixes modrm = Some (rex_b (rex_number prefixes))
 
 abbrev pub picked_at : List Slot → Option ℕ → Option ℕ → Choice
 picked_at slots None modrm = Missing
@@ -55,7 +55,7 @@ picked_at slots (Some place) modrm = picked (slice_index_or slots place slot.Emp
 abbrev pub chosen : OpcodeEntry → Prefixes → Option ℕ → Choice
 chosen entry.Absent prefixes modrm = Absent
 chosen (entry.One op shape) prefixes modrm = tested op shape modrm
-chosen (entry.Many by first) prefixes modrm = picked_at (slots_from first) (place_in by prefixes modrm) modrm
+chosen (entry.Many by first) prefixes modrm = picked_at (slots_from first) (place_in_group by prefixes modrm) modrm
 
 -- a row and the bytes behind its opcode, of which there are enough or not; the bytes in front are counted
 abbrev pub finished : Op → Shape → Prefixes → ℕ → List ℕ → ℕ → Decoded

@@ -29,8 +29,8 @@ alone_b = shape Plain Absent Absent Zero Byte
 abbrev pub alone_v : Shape
 alone_v = shape Plain Absent Absent Zero Variable
 
-abbrev pub no_access : Shape
-no_access = shape AnyForm Absent Absent Zero Quad
+abbrev pub shape_without_access : Shape
+shape_without_access = shape AnyForm Absent Absent Zero Quad
 
 abbrev pub fence : Shape
 fence = shape Register Absent Absent Zero Quad

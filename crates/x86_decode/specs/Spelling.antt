@@ -52,7 +52,7 @@ pub record IsLawful (instr : Instr) (bytes : List ℕ) : Type 0 where
   pub few : length bytes ≤ 15
 
 -- the bytes are cut off: a spelling begins with them and goes on
-pub record IsCut (bytes : List ℕ) : Type 0 where
+pub record IsCutOff (bytes : List ℕ) : Type 0 where
   pub more : List ℕ
   pub some : more ≢ []
   pub instr : Instr

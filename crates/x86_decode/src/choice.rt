@@ -4,7 +4,7 @@ ghost use Rattle.std.specs.Prelude.{◌≡◌, ◌<◌, ◌∷◌, [], slice_ind
 ghost use Rattle.decode_fields.specs.ModRm.{is_register, reg_field, rex_b, rex_w};
 ghost use Rattle.x86_decode.specs.Grid.{slots_from};
 ghost use Rattle.x86_decode.specs.Meaning.{layout_stands, operand_size, rex_number};
-ghost use Rattle.x86_decode.specs.Reader.{asks_form, chosen, picked, picked_at, place_in, tested};
+ghost use Rattle.x86_decode.specs.Reader.{asks_form, chosen, picked, picked_at, place_in_group, tested};
 
 use crate::entry::{GROUPS, OpcodeEntry, Selector, Slot};
 use crate::operation::Op;
@@ -89,7 +89,7 @@ fn pick(slot: Slot, modrm: Option<u8>) -> Choice
 
 /// The place in a group of the row that stands.
 fn place(by: Selector, prefixes: &Prefixes, modrm: Option<u8>) -> Option<usize>
-    ensures value { result ≡ place_in by prefixes.now modrm }
+    ensures value { result ≡ place_in_group by prefixes.now modrm }
     ensures small { IfSome result (λ place. place < 8) }
 {
     match by {

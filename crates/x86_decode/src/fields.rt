@@ -3,7 +3,7 @@
 ghost use Rattle.std.specs.Prelude.{◌≡◌, ◌<◌, ◌≤◌, ◌+◌, ◌^◌, ◌*◌, ◌%◌, ◌⊎◌, length, drop, IfNone, IfSome};
 ghost use Rattle.decode_fields.specs.ModRm.{IsRex, modrm_byte, modrm_length, place_of, reg_of};
 ghost use Rattle.decode_fields.specs.Widths.{IsWidth};
-ghost use Rattle.x86_decode.specs.Meaning.{byte_place, byte_register, cut_number, fields_in, instr_by, is_string, layout_length, number_size, number_value, opcode_register, operand_place, rep_by, width_of};
+ghost use Rattle.x86_decode.specs.Meaning.{place_of_byte, byte_register, cut_number, fields_in, instr_by, is_string, layout_length, number_size, number_value, opcode_register, operand_place, rep_by, width_of};
 
 use crate::choice::{rex, size};
 use crate::instruction::Instr;
@@ -95,7 +95,7 @@ fn register_of_byte(rex: Option<u8>, number: u8) -> Place
 }
 
 fn place_of_byte(rex: Option<u8>, place: Place) -> Place
-    ensures { result ≡ byte_place rex place }
+    ensures { result ≡ place_of_byte rex place }
 {
     match place {
         Place::Reg(number) => register_of_byte(rex, number),

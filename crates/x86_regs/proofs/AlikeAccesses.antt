@@ -9,15 +9,15 @@ use Rattle.nk_bits.specs.declared.fault.AccessFault.{AccessFault}
 use Rattle.nk_bits.specs.declared.leaf.Leaf.{Leaf}
 use Rattle.nk_bits.specs.declared.leaf.Target.{Target}
 use Rattle.nk_bits.specs.Paging.{is_canonical, page_of, walk, walk_below}
-use Rattle.nk_bits.specs.UpperEntries.{KeptEntry, covers, walk_by}
+use Rattle.nk_bits.specs.UpperEntries.{KeptEntry, serves_page, walk_by}
 use Rattle.nk_bits.specs.Translations.{Translations, fill_walked, look, or_walked}
 use Rattle.nk_bits.specs.Claims.{AllPass, Claim}
 use Rattle.nk_bits.specs.Outcomes.{Outcome, and_then, answered, outcome_of, then_by}
 use Rattle.nk_bits.specs.Accesses.{IsAccessSize, IsWalked, Serves, View, accessed, completed, crosses, first_part, has_canonical_bytes, judged, kept_after, next_page, reached}
 use Rattle.phys_mem.specs.Memory.{byte_at, entry_in, number_at}
-use Rattle.page_walk.specs.declared.plan.Plan.{Plan}
-use Rattle.page_walk.specs.declared.plan.Source.{Source}
-use Rattle.page_walk.specs.declared.plan.Source.TheVariants.{Is, At}
+use Rattle.page_walk.specs.declared.plan.AccessPlan.{AccessPlan}
+use Rattle.page_walk.specs.declared.plan.Origin.{Origin}
+use Rattle.page_walk.specs.declared.plan.Origin.TheVariants.{Is, At}
 use Rattle.page_walk.specs.declared.plan.Span.{Span}
 use Rattle.page_walk.specs.MemoryAccess.{fetched, loaded, value_at, view_of}
 use Rattle.page_walk.specs.AccessPlans.{checked, gathered, in_span, taken}
@@ -32,7 +32,7 @@ pub record AlikeLaws : Type 0 where
       → AllPass test (reached view access tlb va).tlb
   pub first : (va width : ℕ) → va < 2 ^ 64 → 1 ≤ width → has_canonical_bytes va width ≡ true → is_canonical va ≡ true
   pub walk_by_same : (t u : ℕ → ℕ → ℕ) (frames root other page : ℕ) (test : Claim) (tlb : Translations)
-      → AllPass test tlb → ((entry : KeptEntry) → test.upper entry ≡ true → covers page entry ≡ true
+      → AllPass test tlb → ((entry : KeptEntry) → test.upper entry ≡ true → serves_page page entry ≡ true
       → walk_below t frames page entry.0 entry.2 ≡ walk_below u frames page entry.0 entry.2)
       → walk t frames root page ≡ walk u frames other page
       → walk_by t frames root tlb.upper page ≡ walk_by u frames other tlb.upper page
@@ -81,8 +81,8 @@ module _ (laws : AlikeLaws) (test : Claim) (control : Control) (cpl : ℕ) (m n 
       ≡ walk_by (entry_in n) (length n / 4096) control.root tlb.upper page
   walks_same tlb page pass =
       laws.walk_by_same (entry_in m) (entry_in n) (length m / 4096) control.root control.root page test tlb pass
-      (λ entry passes covers.
-      alike.below entry page passes covers
+      (λ entry passes serves_page.
+      alike.below entry page passes serves_page
       ∙ ap (λ frames. walk_below (entry_in n) frames page entry.0 entry.2) (sym frames_same))
       (alike.walks page ∙ ap (λ frames. walk (entry_in n) frames control.root page) (sym frames_same))
       ∙ ap (λ frames. walk_by (entry_in n) frames control.root tlb.upper page) frames_same
@@ -192,13 +192,13 @@ module _ (laws : AlikeLaws) (test : Claim) (control : Control) (cpl : ℕ) (m n 
       ap (λ (o : Outcome AccessFault Target). and_then (in_span span o) (λ target after. answered (Some target) after))
       (accessed_same Write tlb span.va span.width is.address (size_some span.width is.sized) pass)
 
-  pub taken_same : (source : Source) (tlb : Translations) → IsSpanOf source → AllPass test tlb →
+  pub taken_same : (source : Origin) (tlb : Translations) → IsSpanOf source → AllPass test tlb →
       taken m here source tlb ≡ taken n there source tlb
   taken_same (Is value) tlb is pass = refl
   taken_same (At span) tlb is pass =
       ap (λ (o : Outcome AccessFault ℕ). in_span span o) (loaded_same tlb span.va span.width is.address is.sized pass)
 
-  pub gathered_same : (plan : Plan) (tlb : Translations) → IsPlanned plan → AllPass test tlb →
+  pub gathered_same : (plan : AccessPlan) (tlb : Translations) → IsPlanned plan → AllPass test tlb →
       gathered m here plan tlb ≡ gathered n there plan tlb
   unfolding gathered
   gathered_same plan tlb is pass =

@@ -9,8 +9,8 @@ use Rattle.nk_bits.specs.Claims.{AllPass, Claim}
 use Rattle.nk_bits.specs.Outcomes.{Outcome}
 use Rattle.nk_bits.specs.Translations.{Translations}
 use Rattle.page_walk.specs.declared.plan.Gathered.{Gathered}
-use Rattle.page_walk.specs.declared.plan.Plan.{Plan}
-use Rattle.page_walk.specs.declared.plan.Source.TheVariants.{At}
+use Rattle.page_walk.specs.declared.plan.AccessPlan.{AccessPlan}
+use Rattle.page_walk.specs.declared.plan.Origin.TheVariants.{At}
 use Rattle.page_walk.specs.declared.plan.Span.{Span}
 use Rattle.page_walk.specs.declared.plan.SpanFault.{SpanFault}
 use Rattle.page_walk.specs.MemoryAccess.{view_of}
@@ -70,7 +70,7 @@ module _ (laws : AlikeLaws) (test : Claim) (control : Control) (regs : Regs) (m 
       (λ _ _. same_on old_rsp (popped n other regs 3 flags.tlb) _ _ (popped_same 3 flags.tlb kept_flags)
       (λ _ _. same_on ss (popped n other regs 4 old_rsp.tlb) _ _ (popped_same 4 old_rsp.tlb kept_rsp) (λ _ _. refl)))))
 
-  concluded_same : (plan : Plan) (found : Gathered) (outcome : Result Change Fault) (tlb : Translations) →
+  concluded_same : (plan : AccessPlan) (found : Gathered) (outcome : Result Change Fault) (tlb : Translations) →
       IfSome plan.last IsSpan → AllPass test tlb →
       concluded one plan found outcome tlb ≡ concluded other plan found outcome tlb
   concluded_same plan found (Err fault) tlb is pass = refl

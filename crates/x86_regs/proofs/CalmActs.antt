@@ -13,7 +13,7 @@ use Rattle.nk_bits.specs.Paging.{is_canonical}
 use Rattle.nk_bits.specs.Translations.{Translations}
 use Rattle.nk_bits.specs.Outcomes.{Outcome}
 use Rattle.page_walk.specs.declared.plan.Gathered.{Gathered}
-use Rattle.page_walk.specs.declared.plan.Plan.{Plan}
+use Rattle.page_walk.specs.declared.plan.AccessPlan.{AccessPlan}
 use Rattle.page_walk.specs.MemoryAccess.{view_of}
 use Rattle.page_walk.specs.AccessPlans.{checked, gathered}
 use Rattle.x86_alu.specs.Flags.{zero_flag}
@@ -31,7 +31,7 @@ use Rattle.x86_regs.specs.OperationForms.{form_of}
 use Rattle.x86_regs.specs.Combinations.{interrupt_flag}
 use Rattle.x86_regs.specs.Operands.{next_of, rax, rcx, wrapped}
 use Rattle.x86_regs.specs.OperandPlans.{instr_form, is_idle, is_imul, is_nothing, plan_by}
-use Rattle.x86_regs.specs.OperandOutcomes.{branched, change, count_after, count_taken, flag_act, is_signed, is_taken, outcome_by, page_dropped, string_turn, target_by, unless_idle_turn, upper_half}
+use Rattle.x86_regs.specs.OperandOutcomes.{branched, change, count_after, is_taken_by_count, flag_act, is_signed, is_taken, outcome_by, page_dropped, string_turn, target_by, unless_idle_turn, upper_half}
 use Rattle.x86_regs.specs.EffectsKept.{LoadsNothing}
 use Rattle.x86_regs.specs.Effects.{concluded, effect_by, effect_of, frame_popped, in_faults, is_locked_wrongly, is_undefined, is_undefined_at_cpl_0, names_no_register, planned_effect, refusal, unless_refused}
 use Rattle.x86_regs.proofs.EffectLaws.{either, then_ok}
@@ -92,7 +92,7 @@ module _ (regs : Regs) where
     outcome_calm form.Call _ = branched_calm next _ true (target_by i.from next found.from) _
     outcome_calm form.Return _ = branched_calm next _ true (cut 64 found.to) _
     outcome_calm form.CountDown _ =
-        let taken = count_taken i.op (slice_index (count_after i.op regs.general) rcx) (bit regs.flags zero_flag) in
+        let taken = is_taken_by_count i.op (slice_index (count_after i.op regs.general) rcx) (bit regs.flags zero_flag) in
         branched_calm next _ taken (wrapped (next + i.value)) _
     outcome_calm form.ChangeFlag _ = flag_act_calm i.op regs.flags
     outcome_calm form.DropPage _ = page_dropped_calm (cut 64 found.from)
@@ -100,7 +100,7 @@ module _ (regs : Regs) where
     outcome_calm form.LoadTable loads = absurd loads
     outcome_calm _ _ = tt
 
-concluded_calm : (view : View) (plan : Plan) (found : Gathered) (outcome : Result Change Fault) (tlb : Translations) →
+concluded_calm : (view : View) (plan : AccessPlan) (found : Gathered) (outcome : Result Change Fault) (tlb : Translations) →
     GivesCalm outcome → IfOk (concluded view plan found outcome tlb).answer IsCalmEffect
 concluded_calm view plan found (Err fault) tlb calm = tt
 concluded_calm view plan found (Ok change) tlb calm =

@@ -12,7 +12,7 @@ use Rattle.nk_bits.specs.Accesses.{View}
 use Rattle.nk_bits.specs.Paging.{is_canonical}
 use Rattle.nk_bits.specs.Translations.{Translations}
 use Rattle.nk_bits.specs.Outcomes.{Outcome, then_by}
-use Rattle.page_walk.specs.declared.plan.Plan.{Plan}
+use Rattle.page_walk.specs.declared.plan.AccessPlan.{AccessPlan}
 use Rattle.page_walk.specs.declared.plan.Gathered.{Gathered}
 use Rattle.page_walk.specs.MemoryAccess.{view_of}
 use Rattle.page_walk.specs.AccessPlans.{checked, gathered}
@@ -31,7 +31,7 @@ use Rattle.x86_regs.specs.Registers.{held}
 use Rattle.x86_regs.specs.Combinations.{interrupt_flag}
 use Rattle.x86_regs.specs.Operands.{next_of, rax, rcx, wrapped}
 use Rattle.x86_regs.specs.OperandPlans.{instr_form, is_idle, plan_by}
-use Rattle.x86_regs.specs.OperandOutcomes.{branched, change, control_act, control_loaded, count_after, count_taken, flag_act, going_on, is_cr0, is_cr3, is_cr4, is_signed, is_taken, outcome_by, page_dropped, string_turn, target_by, unless_idle_turn, upper_half}
+use Rattle.x86_regs.specs.OperandOutcomes.{branched, change, control_act, control_loaded, count_after, is_taken_by_count, flag_act, going_on, is_cr0, is_cr3, is_cr4, is_signed, is_taken, outcome_by, page_dropped, string_turn, target_by, unless_idle_turn, upper_half}
 use Rattle.x86_regs.specs.Effects.{IfDelivered, LeavesToDelivery, LoadsFrameIn, concluded, effect_by, effect_of, frame_popped, in_faults, planned_effect, refusal, unless_refused}
 
 -- what the law says of an effect, over a memory of so many bytes
@@ -136,7 +136,7 @@ module _ (size frames : ℕ) (whole : frames ≡ size / 4096) (regs : Regs) wher
     outcome_calm form.Call _ = branched_calm next _ true (target_by i.from next found.from) _
     outcome_calm form.Return _ = branched_calm next _ true (cut 64 found.to) _
     outcome_calm form.CountDown _ =
-        branched_calm next _ (count_taken i.op (slice_index (count_after i.op regs.general) rcx) (bit regs.flags zero_flag)) (wrapped (next + i.value)) _
+        branched_calm next _ (is_taken_by_count i.op (slice_index (count_after i.op regs.general) rcx) (bit regs.flags zero_flag)) (wrapped (next + i.value)) _
     outcome_calm form.ChangeFlag _ = calm _ _ _ _ _ (flag_act_calm size i.op regs.flags)
     outcome_calm form.ToControl _ = loaded_calm i.value next (cut 64 found.from)
     outcome_calm form.DropPage _ = calm _ _ _ _ _ (page_dropped_calm size (cut 64 found.from))
@@ -144,7 +144,7 @@ module _ (size frames : ℕ) (whole : frames ≡ size / 4096) (regs : Regs) wher
     outcome_calm _ _ = record { cpl_stays = refl; ss_stays = refl; calm = record { loads = tt; delivers_none = tt } }
 
 -- the effect of such a change, whatever the check of its write finds
-concluded_keeps : (size : ℕ) (regs : Regs) (view : View) (plan : Plan) (found : Gathered) (outcome : Result Change Fault) (tlb : Translations) →
+concluded_keeps : (size : ℕ) (regs : Regs) (view : View) (plan : AccessPlan) (found : Gathered) (outcome : Result Change Fault) (tlb : Translations) →
     IfOk outcome (IsCalm size regs) → IfOk (concluded view plan found outcome tlb).answer (Keeps size regs)
 concluded_keeps size regs view plan found (Err fault) tlb it = tt
 concluded_keeps size regs view plan found (Ok change) tlb it =

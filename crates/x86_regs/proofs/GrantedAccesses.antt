@@ -14,12 +14,12 @@ use Rattle.nk_bits.specs.Claims.{AllPass, Claim, lies_in}
 use Rattle.nk_bits.specs.Outcomes.{Outcome, and_then, answered, then_by, then_on}
 use Rattle.nk_bits.specs.Accesses.{IsAccessSize, IsTarget, IsWalked, Serves, View, accessed, completed, crosses, first_part, has_canonical_bytes, next_page, reached}
 use Rattle.page_walk.specs.declared.plan.Gathered.{Gathered}
-use Rattle.page_walk.specs.declared.plan.Plan.{Plan}
-use Rattle.page_walk.specs.declared.plan.Source.{Source}
-use Rattle.page_walk.specs.declared.plan.Source.TheVariants.{Is, At}
+use Rattle.page_walk.specs.declared.plan.AccessPlan.{AccessPlan}
+use Rattle.page_walk.specs.declared.plan.Origin.{Origin}
+use Rattle.page_walk.specs.declared.plan.Origin.TheVariants.{Is, At}
 use Rattle.page_walk.specs.declared.plan.Span.{Span}
 use Rattle.page_walk.specs.MemoryAccess.{value_at}
-use Rattle.page_walk.specs.AccessPlans.{checked, gathered, in_span, marked, taken}
+use Rattle.page_walk.specs.AccessPlans.{checked, gathered, in_span, with_stack, taken}
 use Rattle.x86_regs.specs.declared.effects.Write.{Write as Stored}
 use Rattle.x86_regs.specs.EffectsKept.{IsGranted}
 use Rattle.x86_regs.specs.Effects.{write_at}
@@ -41,12 +41,12 @@ pub record IsSpan (span : Span) : Type 0 where
   pub address : span.va < 2 ^ 64
   pub sized : IsAccessSize span.width
 
-abbrev pub IsSpanOf : Source → Type 0
+abbrev pub IsSpanOf : Origin → Type 0
 IsSpanOf (Is value) = ⊤
 IsSpanOf (At span) = IsSpan span
 
 -- so have those of each access of a plan
-pub record IsPlanned (plan : Plan) : Type 0 where
+pub record IsPlanned (plan : AccessPlan) : Type 0 where
   pub both : IfSome plan.both IsSpan
   pub to : IsSpanOf plan.to
   pub from : IsSpanOf plan.from
@@ -162,7 +162,7 @@ module _ (laws : AccessLaws) (view : View) where
         kept_on test (in_span span (accessed view Write tlb span.va span.width))
         (λ target after. answered (Some target) after) kept (λ target. kept)
 
-    pub taken_kept : (m : List ℕ) (source : Source) (tlb : Translations) → IsSpanOf source → AllPass test tlb →
+    pub taken_kept : (m : List ℕ) (source : Origin) (tlb : Translations) → IsSpanOf source → AllPass test tlb →
         AllPass test (taken m view source tlb).tlb
     taken_kept m (Is value) tlb is pass = pass
     taken_kept m (At span) tlb is pass =
@@ -170,7 +170,7 @@ module _ (laws : AccessLaws) (view : View) where
         kept_on test (accessed view Read tlb span.va span.width)
         (λ target after. answered (value_at m span.va span.width target) after) kept (λ target. kept)
 
-    pub gathered_kept : (m : List ℕ) (plan : Plan) (tlb : Translations) → IsPlanned plan → AllPass test tlb →
+    pub gathered_kept : (m : List ℕ) (plan : AccessPlan) (tlb : Translations) → IsPlanned plan → AllPass test tlb →
         AllPass test (gathered m view plan tlb).tlb
     unfolding gathered
     gathered_kept m plan tlb is pass =
@@ -211,8 +211,8 @@ module _ (laws : AccessLaws) (view : View) where
             second = serves.1;
           }
 
-      -- the answer of an access, before its fault is marked
-      marked_ok : (span : Span) (answer : Result Target AccessFault) (target : Target) → marked span answer ≡ Ok target →
+      -- the answer of an access, before its fault is with_stack
+      marked_ok : (span : Span) (answer : Result Target AccessFault) (target : Target) → with_stack span answer ≡ Ok target →
           answer ≡ Ok target
       marked_ok span (Ok place) target is = cc
       marked_ok span (Err fault) target is = cc
@@ -225,7 +225,7 @@ module _ (laws : AccessLaws) (view : View) where
           (λ target after. answered (Some target) after)
           (λ target found. target_grants span tlb is pass lie target (marked_ok span _ target found))
 
-      pub gathered_grants : (m : List ℕ) (plan : Plan) (tlb : Translations) → IsPlanned plan → AllPass test tlb →
+      pub gathered_grants : (m : List ℕ) (plan : AccessPlan) (tlb : Translations) → IsPlanned plan → AllPass test tlb →
           AllPass (lies_in size) tlb → IfOk (gathered m view plan tlb).answer (λ found. Grants plan.both found.both)
       unfolding gathered
       gathered_grants m plan tlb is pass lie =

@@ -10,8 +10,8 @@ use Rattle.nk_bits.specs.Claims.{AllPass, Claim, lies_in}
 use Rattle.nk_bits.specs.Outcomes.{Outcome}
 use Rattle.nk_bits.specs.Translations.{NamesFramesIn, Translations}
 use Rattle.page_walk.specs.declared.plan.Gathered.{Gathered}
-use Rattle.page_walk.specs.declared.plan.Plan.{Plan}
-use Rattle.page_walk.specs.declared.plan.Source.TheVariants.{At}
+use Rattle.page_walk.specs.declared.plan.AccessPlan.{AccessPlan}
+use Rattle.page_walk.specs.declared.plan.Origin.TheVariants.{At}
 use Rattle.page_walk.specs.declared.plan.SpanFault.{SpanFault}
 use Rattle.page_walk.specs.MemoryAccess.{view_of}
 use Rattle.page_walk.specs.AccessPlans.{checked, gathered}
@@ -36,7 +36,7 @@ raised_ok (Ok answer) x is = cc
 raised_ok (Err fault) x is = cc
 
 module _ (laws : AccessLaws) (view : View) (test : Claim) (walked : IsWalked view test) where
-  concluded_kept : (plan : Plan) (found : Gathered) (outcome : Result Change Fault) (tlb : Translations) →
+  concluded_kept : (plan : AccessPlan) (found : Gathered) (outcome : Result Change Fault) (tlb : Translations) →
       IfSome plan.last IsSpan → AllPass test tlb → AllPass test (concluded view plan found outcome tlb).tlb
   concluded_kept plan found (Err fault) tlb is pass = pass
   concluded_kept plan found (Ok change) tlb is pass =
@@ -92,7 +92,7 @@ module _ (laws : AccessLaws) (view : View) (test : Claim) (walked : IsWalked vie
     abbrev Granted : Effect → Type 0
     Granted effect = IfSome effect.write (IsGranted view test size)
 
-    concluded_granted : (plan : Plan) (found : Gathered) (outcome : Result Change Fault) (tlb : Translations) →
+    concluded_granted : (plan : AccessPlan) (found : Gathered) (outcome : Result Change Fault) (tlb : Translations) →
         IfSome plan.last IsSpan → AllPass test tlb → AllPass (lies_in size) tlb →
         Grants laws view test walked size whole frames plan.both found.both →
         IfOk (concluded view plan found outcome tlb).answer Granted

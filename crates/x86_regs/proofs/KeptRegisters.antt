@@ -12,7 +12,7 @@ use Rattle.nk_bits.specs.Accesses.{View}
 use Rattle.nk_bits.specs.Paging.{is_canonical}
 use Rattle.nk_bits.specs.Translations.{Translations}
 use Rattle.page_walk.specs.declared.plan.Gathered.{Gathered}
-use Rattle.page_walk.specs.declared.plan.Plan.{Plan}
+use Rattle.page_walk.specs.declared.plan.AccessPlan.{AccessPlan}
 use Rattle.page_walk.specs.MemoryAccess.{view_of}
 use Rattle.page_walk.specs.AccessPlans.{checked, gathered}
 use Rattle.x86_alu.specs.Flags.{zero_flag}
@@ -29,7 +29,7 @@ use Rattle.x86_regs.specs.declared.form.Form.TheVariants as form
 use Rattle.x86_regs.specs.Registers.{held, high_written, low_written, written}
 use Rattle.x86_regs.specs.Operands.{next_of, rax, rbp, rcx, rdi, rdx, rsi, rsp, with_register}
 use Rattle.x86_regs.specs.OperandPlans.{instr_form, is_idle, is_repeated, plan_by, risen}
-use Rattle.x86_regs.specs.OperandOutcomes.{branched, change, control_act, control_loaded, count_after, count_taken, counted, counts_down, fallen, going_on, halves_written, is_again, is_cr0, is_cr3, is_cr4, is_signed, is_taken, outcome_by, pointer_moved, string_turn, target_by, unless_idle_turn, upper_half, upper_place}
+use Rattle.x86_regs.specs.OperandOutcomes.{branched, change, control_act, control_loaded, count_after, is_taken_by_count, counted, counts_down, fallen, going_on, halves_written, is_again, is_cr0, is_cr3, is_cr4, is_signed, is_taken, outcome_by, pointer_moved, string_turn, target_by, unless_idle_turn, upper_half, upper_place}
 use Rattle.x86_regs.specs.EffectsKept.{AreRegisters}
 use Rattle.x86_regs.specs.Effects.{concluded, effect_by, effect_of, frame_popped, in_faults, planned_effect, refusal}
 use Rattle.x86_regs.proofs.CalmActs.{unless_refused_ok}
@@ -186,7 +186,7 @@ module _ (regs : Regs) (are : AreRegisters regs) where
     outcome_kept form.Return =
         branched_kept next _ true _ _ (register_general regs.general rsp _ general_are) below (below_64 found.to)
     outcome_kept form.CountDown =
-        let taken = count_taken i.op (slice_index (count_after i.op regs.general) rcx) (bit regs.flags zero_flag) in
+        let taken = is_taken_by_count i.op (slice_index (count_after i.op regs.general) rcx) (bit regs.flags zero_flag) in
         branched_kept next _ taken _ _ (count_general i.op regs.general general_are) below (below_64 (next + i.value))
     outcome_kept form.FromControl = next_kept _ _ (written_general regs.general i.to 64 _ width_64 general_are)
     outcome_kept form.ToControl = loaded_kept i.value next frames (cut 64 found.from) below
@@ -195,7 +195,7 @@ module _ (regs : Regs) (are : AreRegisters regs) where
 abbrev KeepsRegisters : Effect → Type 0
 KeepsRegisters effect = AreRegisters effect.regs
 
-concluded_registers : (view : View) (plan : Plan) (found : Gathered) (outcome : Result Change Fault) (tlb : Translations) →
+concluded_registers : (view : View) (plan : AccessPlan) (found : Gathered) (outcome : Result Change Fault) (tlb : Translations) →
     GivesRegisters outcome → IfOk (concluded view plan found outcome tlb).answer KeepsRegisters
 concluded_registers view plan found (Err fault) tlb are = tt
 concluded_registers view plan found (Ok change) tlb are =

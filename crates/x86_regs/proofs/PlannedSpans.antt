@@ -9,7 +9,7 @@ use Rattle.x86_decode.specs.declared.instruction.Instr.{Instr}
 use Rattle.x86_decode.specs.declared.operation.Op.{Op}
 use Rattle.x86_decode.specs.declared.operation.Op.TheVariants as op
 use Rattle.nk_bits.specs.Accesses.{IsAccessSize}
-use Rattle.page_walk.specs.declared.plan.Plan.{Plan}
+use Rattle.page_walk.specs.declared.plan.AccessPlan.{AccessPlan}
 use Rattle.page_walk.specs.declared.plan.Span.{Span}
 use Rattle.x86_regs.specs.declared.registers.Regs.{Regs}
 use Rattle.x86_regs.specs.declared.form.Form.{Form}
@@ -111,7 +111,7 @@ module _ (i : Instr) (size : ℕ) (regs : Regs) (formed : IsWellFormed i) (regis
   rdi_is : IsSpan (rdi_span i regs)
   rdi_is = record { address = registers.bounds rdi; sized = width_bytes i.width formed.width }
 
-  unless_idle_planned : (accesses : Plan) → IsPlanned accesses → IsPlanned (unless_idle i regs accesses)
+  unless_idle_planned : (accesses : AccessPlan) → IsPlanned accesses → IsPlanned (unless_idle i regs accesses)
   unless_idle_planned accesses is = by_count (is_idle i regs)
     where
       by_count : (b : Bool) → IsPlanned (if b then no_access else accesses)

@@ -11,7 +11,7 @@ use Rattle.nk_bits.specs.Accesses.{View}
 use Rattle.nk_bits.specs.Paging.{is_canonical}
 use Rattle.nk_bits.specs.Translations.{Translations}
 use Rattle.page_walk.specs.declared.plan.Gathered.{Gathered}
-use Rattle.page_walk.specs.declared.plan.Plan.{Plan}
+use Rattle.page_walk.specs.declared.plan.AccessPlan.{AccessPlan}
 use Rattle.page_walk.specs.MemoryAccess.{view_of}
 use Rattle.page_walk.specs.AccessPlans.{checked, gathered, taken}
 use Rattle.x86_alu.specs.Flags.{zero_flag}
@@ -29,7 +29,7 @@ use Rattle.x86_regs.specs.Registers.{held}
 use Rattle.x86_regs.specs.Combinations.{interrupt_flag}
 use Rattle.x86_regs.specs.Operands.{next_of, rax, rcx, wrapped}
 use Rattle.x86_regs.specs.OperandPlans.{instr_form, is_idle, plan_by}
-use Rattle.x86_regs.specs.OperandOutcomes.{branched, control_act, control_loaded, count_after, count_taken, flag_act, is_cr0, is_cr3, is_cr4, is_signed, is_taken, outcome_by, page_dropped, string_turn, target_by, unless_idle_turn, upper_half, vector_of}
+use Rattle.x86_regs.specs.OperandOutcomes.{branched, control_act, control_loaded, count_after, is_taken_by_count, flag_act, is_cr0, is_cr3, is_cr4, is_signed, is_taken, outcome_by, page_dropped, string_turn, target_by, unless_idle_turn, upper_half, interrupt_vector}
 use Rattle.x86_regs.specs.EffectsKept.{IsSmallAct, IsSmallFault}
 use Rattle.x86_regs.specs.Effects.{concluded, effect_by, effect_of, frame_popped, in_faults, planned_effect, refusal}
 use Rattle.x86_regs.proofs.CalmActs.{unless_refused_ok}
@@ -44,7 +44,7 @@ IsSmall (Err fault) = IsSmallFault fault
 pub none_small : 0 < 2 ^ 64
 none_small = lit< tt
 
-vector_few : (operation : Op) (n : ℕ) → vector_of operation n < 256
+vector_few : (operation : Op) (n : ℕ) → interrupt_vector operation n < 256
 vector_few op.Int3 n = lit< tt
 vector_few _ n = mod-lt n (lit< tt)
 
@@ -92,7 +92,7 @@ module _ (regs : Regs) where
     outcome_small form.Call = branched_small next _ true (target_by i.from next found.from) _
     outcome_small form.Return = branched_small next _ true (cut 64 found.to) _
     outcome_small form.CountDown =
-        let taken = count_taken i.op (slice_index (count_after i.op regs.general) rcx) (bit regs.flags zero_flag) in
+        let taken = is_taken_by_count i.op (slice_index (count_after i.op regs.general) rcx) (bit regs.flags zero_flag) in
         branched_small next _ taken (wrapped (next + i.value)) _
     outcome_small form.Trap = vector_few i.op i.value
     outcome_small form.ChangeFlag = flag_act_small i.op regs.flags
@@ -105,7 +105,7 @@ module _ (regs : Regs) where
 abbrev IsSmallEffect : Effect → Type 0
 IsSmallEffect effect = IsSmallAct effect.act
 
-concluded_act : (view : View) (plan : Plan) (found : Gathered) (outcome : Result Change Fault) (tlb : Translations) →
+concluded_act : (view : View) (plan : AccessPlan) (found : Gathered) (outcome : Result Change Fault) (tlb : Translations) →
     IsSmall outcome → IfOk (concluded view plan found outcome tlb).answer IsSmallEffect
 concluded_act view plan found (Err fault) tlb small = tt
 concluded_act view plan found (Ok change) tlb small =

@@ -14,13 +14,13 @@ use Rattle.nk_bits.specs.Accesses.{IsSmallAccessFault, View, accessed}
 use Rattle.nk_bits.specs.Outcomes.{Outcome, answered, then_by}
 use Rattle.nk_bits.specs.Translations.{Translations}
 use Rattle.page_walk.specs.declared.plan.Gathered.{Gathered}
-use Rattle.page_walk.specs.declared.plan.Plan.{Plan}
-use Rattle.page_walk.specs.declared.plan.Source.{Source}
-use Rattle.page_walk.specs.declared.plan.Source.TheVariants.{Is, At}
+use Rattle.page_walk.specs.declared.plan.AccessPlan.{AccessPlan}
+use Rattle.page_walk.specs.declared.plan.Origin.{Origin}
+use Rattle.page_walk.specs.declared.plan.Origin.TheVariants.{Is, At}
 use Rattle.page_walk.specs.declared.plan.Span.{Span}
 use Rattle.page_walk.specs.declared.plan.SpanFault.{SpanFault}
 use Rattle.page_walk.specs.MemoryAccess.{value_at, view_of}
-use Rattle.page_walk.specs.AccessPlans.{checked, gathered, marked, taken}
+use Rattle.page_walk.specs.AccessPlans.{checked, gathered, with_stack, taken}
 use Rattle.x86_regs.specs.declared.registers.Regs.{Regs}
 use Rattle.x86_regs.specs.declared.effects.Change.{Change}
 use Rattle.x86_regs.specs.declared.effects.Effect.{Effect}
@@ -30,7 +30,7 @@ use Rattle.x86_regs.specs.declared.form.Form.TheVariants as form
 use Rattle.x86_regs.specs.Operands.{next_of, rsp, stack_span, wrapped}
 use Rattle.x86_regs.specs.OperandPlans.{instr_form, plan_by}
 use Rattle.x86_regs.specs.EffectsKept.{AreRegisters, IsSmallFault}
-use Rattle.x86_regs.specs.Effects.{concluded, effect_by, effect_of, frame_popped, is_locked_wrongly, is_undefined, is_undefined_at_cpl_0, names_no_register, planned_effect, popped, raised, raised_by, refusal, unless_refused}
+use Rattle.x86_regs.specs.Effects.{concluded, effect_by, effect_of, frame_popped, is_locked_wrongly, is_undefined, is_undefined_at_cpl_0, names_no_register, planned_effect, popped, access_raised, raised_by, refusal, unless_refused}
 use Rattle.x86_regs.proofs.EffectLaws.{either}
 use Rattle.x86_regs.proofs.GrantedAccesses.{IsPlanned, IsSpan, IsSpanOf}
 use Rattle.x86_regs.proofs.SmallActs.{IsSmall, none_small, outcome_small}
@@ -47,7 +47,7 @@ abbrev IsSmallSpanFault : SpanFault → Type 0
 IsSmallSpanFault it = IsSmallAccessFault it.fault
 
 marked_small : {A : Type 0} (span : Span) (answer : Result A AccessFault) → IfErr answer IsSmallAccessFault →
-    IfErr (marked span answer) IsSmallSpanFault
+    IfErr (with_stack span answer) IsSmallSpanFault
 marked_small span (Ok x) small = tt
 marked_small span (Err fault) small = small
 
@@ -55,7 +55,7 @@ marked_small span (Err fault) small = small
 wide : (code : ℕ) → code < 2 ^ 5 → code < 2 ^ 64
 wide code few = omega arith
 
-pub raised_small : (stack : Bool) (it : AccessFault) → IsSmallAccessFault it → IsSmallFault (raised stack it)
+pub raised_small : (stack : Bool) (it : AccessFault) → IsSmallAccessFault it → IsSmallFault (access_raised stack it)
 raised_small stack (access_fault.Page code address) small = (wide code small.0, small.1)
 raised_small true access_fault.NonCanonical small = tt
 raised_small false access_fault.NonCanonical small = none_small
@@ -89,10 +89,10 @@ module _ (law : FaultLaw) (view : View) where
   checked_small None tlb is = tt
   checked_small (Some span) tlb is =
       let access : Outcome AccessFault Target = accessed view Write tlb span.va span.width in
-      then_err IsSmallSpanFault (marked span access.answer) access.tlb (λ target after. answered (Some target) after)
+      then_err IsSmallSpanFault (with_stack span access.answer) access.tlb (λ target after. answered (Some target) after)
       (marked_small span access.answer (law view Write tlb span.va span.width is.address)) (λ target. tt)
 
-  taken_small : (m : List ℕ) (source : Source) (tlb : Translations) → IsSpanOf source →
+  taken_small : (m : List ℕ) (source : Origin) (tlb : Translations) → IsSpanOf source →
       IfErr (taken m view source tlb).answer IsSmallSpanFault
   taken_small m (Is value) tlb is = tt
   taken_small m (At span) tlb is =
@@ -102,7 +102,7 @@ module _ (law : FaultLaw) (view : View) where
       (λ target after. answered (value_at m span.va span.width target) after)
       (law view Read tlb span.va span.width is.address) (λ target. tt))
 
-  gathered_small : (m : List ℕ) (plan : Plan) (tlb : Translations) → IsPlanned plan →
+  gathered_small : (m : List ℕ) (plan : AccessPlan) (tlb : Translations) → IsPlanned plan →
       IfErr (gathered m view plan tlb).answer IsSmallSpanFault
   unfolding gathered
   gathered_small m plan tlb is =
@@ -136,7 +136,7 @@ module _ (law : FaultLaw) (view : View) where
       (λ _. then_err IsSmallFault old_rsp.answer old_rsp.tlb _ (popped_small m regs 3 flags.tlb)
       (λ _. then_err IsSmallFault ss.answer ss.tlb _ (popped_small m regs 4 old_rsp.tlb) (λ _. tt)))))
 
-  concluded_small : (plan : Plan) (found : Gathered) (outcome : Result Change Fault) (tlb : Translations) →
+  concluded_small : (plan : AccessPlan) (found : Gathered) (outcome : Result Change Fault) (tlb : Translations) →
       IfSome plan.last IsSpan → IsSmall outcome → IfErr (concluded view plan found outcome tlb).answer IsSmallFault
   concluded_small plan found (Err fault) tlb is small = small
   concluded_small plan found (Ok change) tlb is small =

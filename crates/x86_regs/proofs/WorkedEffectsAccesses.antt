@@ -13,9 +13,9 @@ use Rattle.nk_bits.specs.Translations.{Translations, flushed}
 use Rattle.nk_bits.specs.UpperEntries.{span_of, walk_by}
 use Rattle.nk_bits.specs.Accesses.{accessed, completed, reached, crosses, first_part, next_page, has_canonical_bytes, wp_of, smep_of}
 use Rattle.phys_mem.specs.Memory.{entry_in, number_at}
-use Rattle.page_walk.specs.declared.plan.Plan.{Plan}
+use Rattle.page_walk.specs.declared.plan.AccessPlan.{AccessPlan}
 use Rattle.page_walk.specs.declared.plan.Span.{Span}
-use Rattle.page_walk.specs.declared.plan.Source.TheVariants.{Is, At}
+use Rattle.page_walk.specs.declared.plan.Origin.TheVariants.{Is, At}
 use Rattle.page_walk.specs.AccessPlans.{gathered}
 use Rattle.x86_alu.specs.Flags.{with_flag}
 use Rattle.x86_regs.specs.declared.effects.Act.TheVariants as act
@@ -26,7 +26,7 @@ use Rattle.x86_regs.specs.Effects.{effect_of, frame_popped}
 use Rattle.x86_regs.proofs.WorkedState.{at, control, effect, effect_at, general, instr, memory, quiet, regs_at, three, writing}
 
 -- the accesses of an instruction with RAX 1234567812345678, RCX 321 and RDX 7
-accesses : Instr → Plan
+accesses : Instr → AccessPlan
 accesses i = plan_by (instr_form i) i 3 (regs_at 0x1000 (three 0x1234567812345678 0x321 7) 2 0)
 
 -- so many bytes, addressed by the stack's registers or pushed and popped, or not

@@ -2,7 +2,7 @@
 use Rattle.std.specs.Prelude.{◌≡◌, ℕ, ◌+◌, ◌*◌, ◌/◌, ◌<◌, true, List, length}
 use Rattle.nk_bits.specs.declared.leaf.Leaf.{Leaf}
 use Rattle.nk_bits.specs.Paging.{walk, walk_below}
-use Rattle.nk_bits.specs.UpperEntries.{KeptEntry, covers}
+use Rattle.nk_bits.specs.UpperEntries.{KeptEntry, serves_page}
 use Rattle.nk_bits.specs.Claims.{Claim}
 use Rattle.phys_mem.specs.Memory.{byte_at, entry_in}
 
@@ -11,7 +11,7 @@ use Rattle.phys_mem.specs.Memory.{byte_at, entry_in}
 pub record AreAlike (test : Claim) (root : ℕ) (m n : List ℕ) : Type 0 where
   pub size : length m ≡ length n
   pub walks : (page : ℕ) → walk (entry_in m) (length m / 4096) root page ≡ walk (entry_in n) (length n / 4096) root page
-  pub below : (entry : KeptEntry) (page : ℕ) → test.upper entry ≡ true → covers page entry ≡ true
+  pub below : (entry : KeptEntry) (page : ℕ) → test.upper entry ≡ true → serves_page page entry ≡ true
       → walk_below (entry_in m) (length m / 4096) page entry.0 entry.2
       ≡ walk_below (entry_in n) (length n / 4096) page entry.0 entry.2
   pub bytes : (pair : ℕ × Leaf) (o : ℕ) → test.pair pair ≡ true → o < 4096

@@ -17,9 +17,9 @@ use Rattle.nk_bits.specs.declared.leaf.Target.{Target}
 use Rattle.nk_bits.specs.Translations.{Translations}
 use Rattle.nk_bits.specs.Outcomes.{Outcome, outcome_of, answered, refused, and_then}
 use Rattle.nk_bits.specs.Accesses.{View, IsAccessSize, IsTarget}
-use Rattle.page_walk.specs.declared.plan.Plan.{Plan}
+use Rattle.page_walk.specs.declared.plan.AccessPlan.{AccessPlan}
 use Rattle.page_walk.specs.declared.plan.Span.{Span}
-use Rattle.page_walk.specs.declared.plan.Source.TheVariants.{At}
+use Rattle.page_walk.specs.declared.plan.Origin.TheVariants.{At}
 use Rattle.page_walk.specs.declared.plan.Gathered.{Gathered}
 use Rattle.page_walk.specs.declared.plan.SpanFault.{SpanFault}
 use Rattle.phys_mem.specs.Memory.{stored}
@@ -89,14 +89,14 @@ refusal i cpl =
 
 -- the fault of an access: a page fault, or by an address that isn't canonical #SS where the stack is addressed and #GP
 -- elsewhere
-abbrev pub raised : Bool → AccessFault → Fault
-raised stack (access_fault.Page code address) = fault.Page code address
-raised true access_fault.NonCanonical = fault.Stack
-raised false access_fault.NonCanonical = fault.General 0
+abbrev pub access_raised : Bool → AccessFault → Fault
+access_raised stack (access_fault.Page code address) = fault.Page code address
+access_raised true access_fault.NonCanonical = fault.Stack
+access_raised false access_fault.NonCanonical = fault.General 0
 
 abbrev pub raised_by : {A : Type 0} → Result A SpanFault → Result A Fault
 raised_by (Ok answer) = Ok answer
-raised_by (Err it) = Err (raised it.stack it.fault)
+raised_by (Err it) = Err (access_raised it.stack it.fault)
 
 abbrev pub in_faults : {A : Type 0} → Outcome SpanFault A → Outcome Fault A
 in_faults outcome = outcome_of (raised_by outcome.answer) outcome.tlb
@@ -130,11 +130,11 @@ IfDelivered _ P = ⊤
 abbrev pub LeavesToDelivery : Regs → Effect → Type 0
 LeavesToDelivery regs effect = IfDelivered effect.act ((effect.regs ≡ record regs { rip = effect.regs.rip }) × (effect.write ≡ None))
 
-abbrev pub write_of : Plan → Gathered → Option Target → ℕ → Option Write
+abbrev pub write_of : AccessPlan → Gathered → Option Target → ℕ → Option Write
 write_of plan found last value = write_at plan.last last value (write_at plan.both found.both value None)
 
 -- the outcome's fault, or its change once its write is checked
-abbrev pub concluded : View → Plan → Gathered → Result Change Fault → Translations → Outcome Fault Effect
+abbrev pub concluded : View → AccessPlan → Gathered → Result Change Fault → Translations → Outcome Fault Effect
 concluded view plan found (Err fault) tlb = refused fault tlb
 concluded view plan found (Ok change) tlb =
     and_then (in_faults (checked view plan.last tlb)) (λ last after.

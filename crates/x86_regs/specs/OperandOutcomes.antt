@@ -175,17 +175,17 @@ abbrev pub count_after : Op → List ℕ → List ℕ
 count_after operation general =
     if counts_down operation then with_register general rcx (lowered (slice_index general rcx) 1) else general
 
-abbrev pub count_taken : Op → ℕ → Bool → Bool
-count_taken op.Loop count zero = not (count == 0)
-count_taken op.Loope count zero = not (count == 0) && zero
-count_taken op.Loopne count zero = not (count == 0) && not zero
-count_taken op.Jrcxz count zero = count == 0
-count_taken _ count zero = false
+abbrev pub is_taken_by_count : Op → ℕ → Bool → Bool
+is_taken_by_count op.Loop count zero = not (count == 0)
+is_taken_by_count op.Loope count zero = not (count == 0) && zero
+is_taken_by_count op.Loopne count zero = not (count == 0) && not zero
+is_taken_by_count op.Jrcxz count zero = count == 0
+is_taken_by_count _ count zero = false
 
 -- the vector of INT3 and of INT n
-abbrev pub vector_of : Op → ℕ → ℕ
-vector_of op.Int3 n = 3
-vector_of _ n = n % 256
+abbrev pub interrupt_vector : Op → ℕ → ℕ
+interrupt_vector op.Int3 n = 3
+interrupt_vector _ n = n % 256
 
 -- the flags after CMC, CLC, STC, CLI, STI, CLD, STD
 abbrev pub flags_changed : Op → ℕ → ℕ
@@ -290,9 +290,9 @@ outcome_by Return i next regs control frames found =
     branched regs next (with_register regs.general rsp (wrapped (slice_index regs.general rsp + 8 + i.value))) true (cut 64 found.to) 0
 outcome_by CountDown i next regs control frames found =
     let general = count_after i.op regs.general in
-    branched regs next general (count_taken i.op (slice_index general rcx) (bit regs.flags zero_flag)) (wrapped (next + i.value)) 0
+    branched regs next general (is_taken_by_count i.op (slice_index general rcx) (bit regs.flags zero_flag)) (wrapped (next + i.value)) 0
 outcome_by Trap i next regs control frames found =
-    change (going_on regs regs.general regs.flags next) 0 (act.Interrupt (vector_of i.op i.value))
+    change (going_on regs regs.general regs.flags next) 0 (act.Interrupt (interrupt_vector i.op i.value))
 outcome_by TrapReturn i next regs control frames found = quietly (going_on regs regs.general regs.flags next)
 outcome_by ChangeFlag i next regs control frames found =
     change (going_on regs regs.general (flags_changed i.op regs.flags) next) 0 (flag_act i.op regs.flags)

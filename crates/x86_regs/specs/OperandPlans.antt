@@ -7,10 +7,10 @@ use Rattle.decode_fields.specs.declared.parts.Rep.TheVariants.{No, WhileEqual, W
 use Rattle.x86_decode.specs.declared.instruction.Instr.{Instr}
 use Rattle.x86_decode.specs.declared.operation.Op.{Op}
 use Rattle.x86_decode.specs.declared.operation.Op.TheVariants as op
-use Rattle.page_walk.specs.declared.plan.Plan.{Plan}
+use Rattle.page_walk.specs.declared.plan.AccessPlan.{AccessPlan}
 use Rattle.page_walk.specs.declared.plan.Span.{Span}
-use Rattle.page_walk.specs.declared.plan.Source.{Source}
-use Rattle.page_walk.specs.declared.plan.Source.TheVariants.{Is, At}
+use Rattle.page_walk.specs.declared.plan.Origin.{Origin}
+use Rattle.page_walk.specs.declared.plan.Origin.TheVariants.{Is, At}
 use Rattle.x86_regs.specs.declared.registers.Regs.{Regs}
 use Rattle.x86_regs.specs.Operands.{lowered, next_of, place_address, place_span, rbp, rcx, rdi, rsi, rsp, source_by, stack_span, string_span, with_register, wrapped}
 use Rattle.x86_regs.specs.Combinations.{source_width}
@@ -40,17 +40,17 @@ is_repeated WhileNot = true
 abbrev pub is_idle : Instr → Regs → Bool
 is_idle i regs = is_repeated i.rep && slice_index regs.general rcx == 0
 
-abbrev pub plan : Option Span → Source → Source → Option Span → Plan
+abbrev pub plan : Option Span → Origin → Origin → Option Span → AccessPlan
 plan both to from last = record { both = both; to = to; from = from; last = last }
 
-abbrev pub no_access : Plan
+abbrev pub no_access : AccessPlan
 no_access = plan None (Is 0) (Is 0) None
 
 -- the first operand, the second, and the bytes of the first, each at a width
-abbrev pub to_source : Instr → ℕ → Regs → ℕ → Source
+abbrev pub to_source : Instr → ℕ → Regs → ℕ → Origin
 to_source i size regs w = source_by regs.general (next_of regs size) w i.value i.to
 
-abbrev pub from_source : Instr → ℕ → Regs → ℕ → Source
+abbrev pub from_source : Instr → ℕ → Regs → ℕ → Origin
 from_source i size regs w = source_by regs.general (next_of regs size) w i.value i.from
 
 abbrev pub to_span : Instr → ℕ → Regs → Option Span
@@ -64,7 +64,7 @@ from_address i size regs = place_address regs.general (next_of regs size) i.from
 abbrev pub push_span : Regs → ℕ → Span
 push_span regs w = stack_span (lowered (slice_index regs.general rsp) (w / 8)) w
 
-abbrev pub pop_source : Regs → ℕ → Source
+abbrev pub pop_source : Regs → ℕ → Origin
 pop_source regs w = At (stack_span (slice_index regs.general rsp) w)
 
 -- the general registers after RSP rose by so many bits
@@ -79,18 +79,18 @@ abbrev pub rdi_span : Instr → Regs → Span
 rdi_span i regs = string_span (slice_index regs.general rdi) i.width
 
 -- the accesses of a repeated instruction's turn, unless its count is 0
-abbrev pub unless_idle : Instr → Regs → Plan → Plan
+abbrev pub unless_idle : Instr → Regs → AccessPlan → AccessPlan
 unless_idle i regs accesses = if is_idle i regs then no_access else accesses
 
 -- the eight bytes of a table's base, behind the two of its limit (SDM volume 2, LGDT/LIDT)
 abbrev pub base_span : Span → Span
 base_span limit = record { va = wrapped (limit.va + 2); width = 8; stack = limit.stack }
 
-abbrev pub table_plan : Option Span → Plan
+abbrev pub table_plan : Option Span → AccessPlan
 table_plan None = no_access
 table_plan (Some limit) = plan None (At limit) (At (base_span limit)) None
 
-abbrev pub plan_by : Form → Instr → ℕ → Regs → Plan
+abbrev pub plan_by : Form → Instr → ℕ → Regs → AccessPlan
 plan_by Combine i size regs = plan (to_span i size regs) (to_source i size regs i.width) (from_source i size regs (source_width i.op i.width)) None
 plan_by Compare i size regs = plan None (to_source i size regs i.width) (from_source i size regs i.width) None
 plan_by Move i size regs = plan None (Is 0) (from_source i size regs (source_width i.op i.width)) (to_span i size regs)

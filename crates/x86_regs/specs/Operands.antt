@@ -5,8 +5,8 @@ use Rattle.decode_fields.specs.declared.place.Address.{Address}
 use Rattle.decode_fields.specs.declared.place.Place.{Place}
 use Rattle.decode_fields.specs.declared.place.Place.TheVariants.{Nothing, Reg, High, Mem, Value}
 use Rattle.page_walk.specs.declared.plan.Span.{Span}
-use Rattle.page_walk.specs.declared.plan.Source.{Source}
-use Rattle.page_walk.specs.declared.plan.Source.TheVariants.{Is, At}
+use Rattle.page_walk.specs.declared.plan.Origin.{Origin}
+use Rattle.page_walk.specs.declared.plan.Origin.TheVariants.{Is, At}
 use Rattle.x86_regs.specs.declared.registers.Regs.{Regs}
 use Rattle.x86_regs.specs.Registers.{held, written}
 
@@ -73,7 +73,7 @@ abbrev pub string_span : ℕ → ℕ → Span
 string_span va w = record { va = va; width = w / 8; stack = false }
 
 -- where the value of an operand comes from; `value` is the instruction's number
-abbrev pub source_by : List ℕ → ℕ → ℕ → ℕ → Place → Source
+abbrev pub source_by : List ℕ → ℕ → ℕ → ℕ → Place → Origin
 source_by general next w value Nothing = Is 0
 source_by general next w value (Reg n) = Is (held general (Reg n) w)
 source_by general next w value (High n) = Is (held general (High n) w)

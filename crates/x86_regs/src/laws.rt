@@ -12,7 +12,7 @@ ghost use Rattle.nk_bits.specs.Claims.{AllPass, Claim};
 ghost use Rattle.nk_bits.specs.Translations.{NamesFramesIn, Translations};
 ghost use Rattle.page_walk.specs.MemoryAccess.{fetched, loaded, view_of};
 ghost use Rattle.x86_regs.specs.declared.registers.Regs.{Regs};
-ghost use Rattle.x86_regs.specs.Effects.{LeavesToDelivery, LoadsFrameIn, effect_of, raised};
+ghost use Rattle.x86_regs.specs.Effects.{LeavesToDelivery, LoadsFrameIn, effect_of, access_raised};
 ghost use Rattle.x86_regs.specs.EffectsKept.{AreRegisters, IsGranted, IsSmallAct, IsSmallFault, LoadsNothing};
 ghost use Rattle.x86_regs.specs.AlikeMemories.{AreAlike};
 
@@ -66,7 +66,7 @@ pub fn bound_law()
         → IsWellFormed i → AreRegisters regs → IfErr (effect_of i size regs control m tlb).answer IsSmallFault }
     ensures act { (i : Instr) (size : ℕ) (regs : Regs) (control : Control) (m : List ℕ) (tlb : Translations)
         → IfOk (effect_of i size regs control m tlb).answer (λ effect. IsSmallAct effect.act) }
-    ensures raised { (stack : Bool) (it : AccessFault) → IsSmallAccessFault it → IsSmallFault (raised stack it) }
+    ensures raised { (stack : Bool) (it : AccessFault) → IsSmallAccessFault it → IsSmallFault (access_raised stack it) }
 {
     access_law();
 }

@@ -13,7 +13,7 @@ ghost use Rattle.x86_regs.specs.OperandOutcomes.{fallen, going_on};
 
 use crate::registers::{Regs, held, with_register};
 use decode_fields::{Address, Place};
-use page_walk::{Source, Span};
+use page_walk::{Origin, Span};
 use x86_decode::Instr;
 
 /// The number of RAX.
@@ -153,17 +153,17 @@ pub fn string_span(va: u64, width: u8) -> Span
 
 /// Where the value of an operand comes from; `value` is the instruction's number, and `next` the next instruction's
 /// address.
-fn source_by(general: &[u64; 16], next: u64, width: u8, value: u64, place: &Place) -> Source
+fn source_by(general: &[u64; 16], next: u64, width: u8, value: u64, place: &Place) -> Origin
     requires width { IsWidth width }
     requires place { IsPlace place.now }
     ensures source { result ≡ source_by general.now next width value place.now }
     ensures size { IsSource result }
 {
     match place {
-        Place::Nothing => Source::Is(0),
-        Place::Reg(_) | Place::High(_) => Source::Is(held(general, place, width)),
-        Place::Mem(address) => Source::At(span_by(general, next, width, address)),
-        Place::Value => Source::Is(value),
+        Place::Nothing => Origin::Is(0),
+        Place::Reg(_) | Place::High(_) => Origin::Is(held(general, place, width)),
+        Place::Mem(address) => Origin::At(span_by(general, next, width, address)),
+        Place::Value => Origin::Is(value),
     }
 }
 
@@ -206,12 +206,12 @@ pub fn push_span(regs: &Regs, width: u8) -> Span
 }
 
 /// The bytes that a pop of this width reads.
-pub fn pop_source(regs: &Regs, width: u8) -> Source
+pub fn pop_source(regs: &Regs, width: u8) -> Origin
     requires { IsWidth width }
     ensures source { result ≡ pop_source regs.now width }
     ensures size { IsSource result }
 {
-    Source::At(stack_span(regs.general[RSP as usize], width))
+    Origin::At(stack_span(regs.general[RSP as usize], width))
 }
 
 /// The general registers after a pop of this width raised RSP.
@@ -233,7 +233,7 @@ pub fn fallen(regs: &Regs, width: u8) -> [u64; 16]
 }
 
 /// Where the value of an instruction's first operand comes from, at a width in bits. The instruction has `size` bytes.
-pub fn to_source(instr: &Instr, size: u8, regs: &Regs, width: u8) -> Source
+pub fn to_source(instr: &Instr, size: u8, regs: &Regs, width: u8) -> Origin
     requires formed { IsWellFormed instr.now }
     requires width { IsWidth width }
     ensures source { result ≡ to_source instr.now size regs.now width }
@@ -249,7 +249,7 @@ pub fn to_source(instr: &Instr, size: u8, regs: &Regs, width: u8) -> Source
 }
 
 /// Where the value of its second operand comes from.
-pub fn from_source(instr: &Instr, size: u8, regs: &Regs, width: u8) -> Source
+pub fn from_source(instr: &Instr, size: u8, regs: &Regs, width: u8) -> Origin
     requires formed { IsWellFormed instr.now }
     requires width { IsWidth width }
     ensures source { result ≡ from_source instr.now size regs.now width }

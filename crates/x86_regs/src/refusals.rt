@@ -4,7 +4,7 @@ ghost use Rattle.std.specs.Prelude.{◌≡◌, ℕ, None, false, true};
 ghost use Rattle.x86_decode.specs.declared.conditions.UndefinedWhere.TheVariants.{AtWidth16, Nowhere};
 ghost use Rattle.x86_decode.specs.declared.operation.Op.TheVariants.{Bswap};
 ghost use Rattle.x86_decode.specs.Conditions.{conditions_of};
-ghost use Rattle.x86_regs.specs.Effects.{is_control_register, is_locked_wrongly, is_memory, is_undefined, is_undefined_at_cpl_0, names_no_register, raised, refusal, refusal_by_cpl};
+ghost use Rattle.x86_regs.specs.Effects.{is_control_register, is_locked_wrongly, is_memory, is_undefined, is_undefined_at_cpl_0, names_no_register, access_raised, refusal, refusal_by_cpl};
 
 use crate::faults::Fault;
 use decode_fields::Place;
@@ -142,7 +142,7 @@ fn is_control_register(number: u64) -> bool
 /// The fault of an access: a page fault, or by an address that isn't canonical #SS where the stack is addressed and #GP
 /// elsewhere.
 pub fn raised(it: SpanFault) -> Fault
-    ensures { result ≡ raised it.stack it.fault }
+    ensures { result ≡ access_raised it.stack it.fault }
 {
     match it.fault {
         AccessFault::Page { code, address } => Fault::Page { code, address },

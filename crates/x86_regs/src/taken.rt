@@ -2,7 +2,7 @@
 
 ghost use Rattle.std.specs.Prelude.{◌≡◌, slice_index};
 ghost use Rattle.x86_regs.specs.Operands.{rcx};
-ghost use Rattle.x86_regs.specs.OperandOutcomes.{count_after, count_taken, counts_down, is_taken};
+ghost use Rattle.x86_regs.specs.OperandOutcomes.{count_after, is_taken_by_count, counts_down, is_taken};
 
 use crate::conditions::condition_stands;
 use crate::operands::{RCX, lowered};
@@ -53,7 +53,7 @@ pub fn set_count(op: Op, count: u64, regs: &mut Regs)
 /// Whether a branch by the count in RCX is taken, where the count has gone down already, by ZF.
 #[inline(always)]
 pub fn count_taken(op: Op, count: u64, zero: bool) -> bool
-    ensures { result ≡ count_taken op count zero }
+    ensures { result ≡ is_taken_by_count op count zero }
 {
     match op {
         Op::Loop => count != 0,

@@ -6,10 +6,15 @@ ghost use Rattle.x86_regs.specs.Effects.{FitsIn, HasAccessSize, write_at, write_
 
 use crate::effects::Write;
 use nk_bits::Target;
-use page_walk::{Gathered, Plan, Span};
+use page_walk::{AccessPlan, Gathered, Span};
 
 /// The write of a value: to the place that was checked last, or to the operand that is read and written.
-pub fn write_of(plan: &Plan, found: &Gathered, last: Option<Target>, value: u64) -> Option<Write>
+pub fn write_of(
+    plan: &AccessPlan,
+    found: &Gathered,
+    last: Option<Target>,
+    value: u64,
+) -> Option<Write>
     ensures write { result ≡ write_of plan.now found.now last value }
     ensures fits { (size : ℕ) → IsChecked size plan.now.both found.now.both
         → IsChecked size plan.now.last last → FitsIn size result }

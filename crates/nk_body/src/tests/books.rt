@@ -5,7 +5,7 @@ ghost use Rattle.std.specs.Prelude.{◌≤◌};
 
 use super::{DECLARED, ONCE, PAGE, POOL, Row, TAIL, load, open, play};
 use phys_mem::PhysMem;
-use region_book::Region;
+use region_book::ShownRegion;
 use std::alloc::Global;
 
 const SLOTS: u32 = 0x3_C000;
@@ -129,7 +129,7 @@ fn records_after_calls(rt: HostRuntime) {
 }
 
 /// A live region by its place in the order.
-fn nth(alloc: Global, rows: &[(Row, u64)], i: usize) -> Option<Region> {
+fn nth(alloc: Global, rows: &[(Row, u64)], i: usize) -> Option<ShownRegion> {
     let Some(mut it) = open(alloc, 512) else {
         return None;
     };
@@ -143,7 +143,7 @@ fn nth(alloc: Global, rows: &[(Row, u64)], i: usize) -> Option<Region> {
 
 #[test]
 fn regions_in_order(rt: HostRuntime) {
-    let first = Region {
+    let first = ShownRegion {
         id: 256,
         policy: 2,
         place: POOL,
@@ -151,7 +151,7 @@ fn regions_in_order(rt: HostRuntime) {
         tail: 8,
         pooled: true,
     };
-    let second = Region {
+    let second = ShownRegion {
         id: 257,
         policy: 3,
         place: POOL + 16,

@@ -12,7 +12,7 @@ ghost use Rattle.phys_mem.specs.Memory.{byte_at, entry_in};
 ghost use Rattle.region_book.specs.RegionBytes.{HoldsRegions, book_in};
 ghost use Rattle.region_book.specs.RegionRecords.{IsBook};
 
-use crate::{Region, Regions, held_regions_law};
+use crate::{Regions, ShownRegion, held_regions_law};
 use nk_bits::{Kind, Rule};
 use page_desc::Frames;
 use phys_mem::{NoMemory, PhysMem};
@@ -286,7 +286,7 @@ fn declared_pages_are_guarded(rt: HostRuntime) -> Result<(), Fail> {
     }
     assert_eq!(rt; it.frames.loose(&it.mem, 70), 1);
     let found = it.regions.find(&it.mem, 256);
-    let region = Region {
+    let region = ShownRegion {
         id: 256,
         policy: 2,
         place: 4096,

@@ -1,11 +1,11 @@
 use Rattle.phys_mem.specs.Memory.{entry_in}
-use Rattle.boot_map.specs.KernelSlot.{HoldsSlot, HoldsTables}
+use Rattle.boot_map.specs.KernelSlot.{HoldsSlot, HoldsOpeningTables}
 use Rattle.nk_body.proofs.OpeningSound.{OpeningLaws, opening_kept, opening_sound}
 use Rattle.nk_body.proofs.laws.opening_sound_law.Goals as goal
 
 pub returns-clause-sound : goal.returns-clause-sound
 returns-clause-sound c b m frames layout pages opening =
-    let tables : HoldsTables b frames (entry_in m) = c.held_law.ensures.opening b m frames opening layout in
+    let tables : HoldsOpeningTables b frames (entry_in m) = c.held_law.ensures.opening b m frames opening layout in
     let slot : HoldsSlot b frames (entry_in m) = c.held_law.ensures.slot b frames (entry_in m) tables in
     let fixed = c.opening_kinds_law.ensures.fixed b frames in
     let laws : OpeningLaws b m frames = record {

@@ -19,7 +19,7 @@ pub returns-in-Err : goal.returns-in-Err
 returns-in-Err g c = λ shelf same. record {
   status = _;
   text = _;
-  says = inr (make_wants _ c.args.number c.requires.asked shelf _ _ c.want.ensures);
+  says = inr (make_wants _ c.args.number c.requires.asked shelf _ _ c.no_memory.ensures);
   written = c.write.ensures.written;
   files_stay = same;
 }

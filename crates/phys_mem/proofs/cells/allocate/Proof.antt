@@ -48,7 +48,7 @@ use denote.Triple.Clauses.{lasts}
 use denote.Triple.Spec.{triple_of}
 use denote.Triple.Table.{framed}
 use denote.Triple.Walked.{Stays, walk_of, says, stay_dropped, Goes-dropped, ends_at}
-use Rattle.phys_mem.specs.Ownership.{row_of}
+use Rattle.phys_mem.specs.Ownership.{bytes_row}
 use Rattle.phys_mem.specs.declared.cells.Cells.{Cells}
 use Rattle.phys_mem.specs.contracts.cells.Cells.{the_row as R, the_type}
 use Rattle.phys_mem.specs.contracts.cells.allocate as f
@@ -103,7 +103,7 @@ allocate_spec 𝓤 𝓛 𝓜 𝓡 wired =
     let κ = κs.0 in let q = qs.0 in let alloc = a.0 in let len = a.1.0 in
     let vss : List Val × (List Val × Unit {0}) = (shr_vals alloc, (uint_vals w64 len, tt)) in
     let y : W.Ghost = ((κs, qs, bounds, a, vss), tt) in
-    let fits : len < 2 ^ 64 = are.1.0.1 in let τ = row_of len in
+    let fits : len < 2 ^ 64 = are.1.0.1 in let τ = bytes_row len in
     let G = triple_of 𝓛 g.signature (g.spec 𝓛 𝓜.mem 𝓡.returns) in
     let z : G.Ghost = ((κs, qs, tt, (alloc, (len, (1, tt))), (shr_vals alloc, (vint w64 len ∷ [], (vint w64 1 ∷ [], tt)))), τ) in
     let laid : (capped (size τ) ≡ len) × (capped (align τ) ≡ 1) = (capped_is (size τ) (omega arith) ∙ omega arith, capped_is 1 (lit< tt)) in
@@ -132,7 +132,7 @@ allocate_spec 𝓤 𝓛 𝓜 𝓡 wired =
     sets ! (of_opd ! (get_in ! (vrt ! refl (fld ! refl (stop !))) (in_variant ! 0 0 refl refl (whole !)))) refl (tt, tt) $ sets ! (agg ! (no_more !)) refl (tt, tt) $
     sets ! (agg ! (and_then ! (get ! refl) (and_then ! (get ! refl) (no_more !)))) refl typed $ sets_last ! (agg ! (and_then ! (lit ! tt) (and_then ! (get ! refl) (no_more !)))) refl good $
     exec ! 𝓣.C 𝓣.Λ (En l) (after 2 (code.function).body) (at_ret (En l) (W.post y)) $ sets ! (of_opd ! (get ! refl)) refl good $
-    rewrite ! 0 (λ (k : ℕ). ‵ (froom τ b k)) {x = 0 + o} (omega arith) refl $ rewrite ! 1 (λ (k : ℕ). ‵ (ghosts.dealloc_token alloc.now (row_of k) p)) {x = 0 + len} (omega arith) refl $ fjoin ! $
+    rewrite ! 0 (λ (k : ℕ). ‵ (froom τ b k)) {x = 0 + o} (omega arith) refl $ rewrite ! 1 (λ (k : ℕ). ‵ (ghosts.dealloc_token alloc.now (bytes_row k) p)) {x = 0 + len} (omega arith) refl $ fjoin ! $
     nothing ! $ fjoin ! $ flt_i ! (0 + len) (2 ^ 63) (omega arith) $ fjoin ! $
     owned ! Fields (Is Fields) (Struct-Makes 𝓛 (shape the_type) tt) tt (vstruct vnil ∷ []) (tt, (refl, tt)) $ fjoin ! $
     feq_i ! (List Val) (vptr b o ∷ []) (vptr b o ∷ []) refl $ use2 𝓛 (‵ (Pair.own_val (p, cells) (made ∷ []))) (pair_of 𝓛 p cells (vptr b o) (vstruct vnil)) $

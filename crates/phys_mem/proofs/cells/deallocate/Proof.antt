@@ -33,7 +33,7 @@ use denote.Triple.Clauses.{lasts}
 use denote.Triple.Spec.{triple_of}
 use denote.Triple.Table.{framed}
 use denote.Triple.Walked.{Stays, walk_of, stay_dropped, Goes-dropped, ends_at}
-use Rattle.phys_mem.specs.Ownership.{row_of, cells_own}
+use Rattle.phys_mem.specs.Ownership.{bytes_row, cells_own}
 use Rattle.phys_mem.specs.declared.cells.Cells.{Cells}
 use Rattle.phys_mem.specs.contracts.cells.Cells.{the_row as R}
 use Rattle.phys_mem.specs.contracts.cells.deallocate as f
@@ -57,7 +57,7 @@ deallocate_spec 𝓤 𝓛 𝓜 𝓡 wired =
     let κ = κs.0 in let q = qs.0 in let alloc = a.0 in let start = a.1.0 in let len = a.1.1.0 in let cells = a.1.1.1.0 in
     let vss : List Val × (List Val × (List Val × (List Val × Unit {0}))) = (shr_vals alloc, (rawptr_vals start, (uint_vals w64 len, (spelt cells, tt)))) in
     let y : W.Ghost = ((κs, qs, bounds, a, vss), tt) in
-    let fits : len < 2 ^ 64 = are.1.1.0.1 in let τ = row_of len in
+    let fits : len < 2 ^ 64 = are.1.1.0.1 in let τ = bytes_row len in
     let G = triple_of 𝓛 g.signature (g.spec 𝓛 𝓜.mem 𝓡.returns) in
     let laid : (capped (size τ) ≡ len) × (capped (align τ) ≡ 1) = (capped_is (size τ) (omega arith) ∙ omega arith, capped_is 1 (lit< tt)) in
     qed 𝓛 (((‵ (flft κ q) ⊛ ‵ ftrue) ⊛ ‵ (owns (ShrRef (named 0) κ HP.the_row ∷ RawPtr ∷ usize ∷ R ∷ []) a vss))
@@ -69,8 +69,8 @@ deallocate_spec 𝓤 𝓛 𝓜 𝓡 wired =
     let p : Ptr = block_ptr b o in let whole : length cells.bytes + cells.spare ≡ len = omega (arith, asked.2, asked.3) in
     let z : G.Ghost = ((κs, qs, tt, (alloc, (p, (len, (1, tt)))), (shr_vals alloc, (vptr b o ∷ [], (vint w64 len ∷ [], (vint w64 1 ∷ [], tt))))), τ) in
     take_at ! 2 $ rewrite ! 0 (λ (r : Ptr). ‵ (fat full_share ty_ptr (l 2) 0 (ptr_val r))) (sym asked.1 ∙ e) refl $ give_at ! 2 $ first ! $ blocks ! $
-    use1 𝓛 (‵ (froom (row_of (length cells.bytes)) b o)) (to_room 𝓛 b cells.bytes o) $ rewrite ! 0 (λ (k : ℕ). ‵ (froom (row_of k) b o)) asked.2 refl $
-    move ! (1 ∷ []) $ fsplit ! $ drop ! $ rewrite ! 0 (λ (k : ℕ). ‵ (ghosts.dealloc_token cells.heap (row_of k) p)) whole refl $ move ! (1 ∷ 0 ∷ []) $ fjoin ! $
+    use1 𝓛 (‵ (froom (bytes_row (length cells.bytes)) b o)) (to_room 𝓛 b cells.bytes o) $ rewrite ! 0 (λ (k : ℕ). ‵ (froom (bytes_row k) b o)) asked.2 refl $
+    move ! (1 ∷ []) $ fsplit ! $ drop ! $ rewrite ! 0 (λ (k : ℕ). ‵ (ghosts.dealloc_token cells.heap (bytes_row k) p)) whole refl $ move ! (1 ∷ 0 ∷ []) $ fjoin ! $
     use0 𝓛 (raw (fact 𝓤 ((capped (size τ) ≡ len) × (capped (align τ) ≡ 1)))) (fact_i 𝓤 _ (emp 𝓤) laid) $ join ! $
     -- [the `requires`; the `&` to the handle; the token of κ; the locals]
     nothing ! $ flt_i ! 1 (2 ^ 64) (lit< tt) $ feq_i ! (List Val) (vint w64 1 ∷ []) (vint w64 1 ∷ []) refl $ fjoin ! $ fjoin ! $

@@ -3,7 +3,7 @@ use Rattle.std.specs.Option.{option_map}
 use Rattle.region_book.specs.RegionCalls.{fits_in}
 use Rattle.region_book.specs.RegionBytes.{book_in}
 use Rattle.write_log.specs.LogBytes.{log_in}
-use Rattle.region_book.specs.RegionRecords.{region_of, shown}
+use Rattle.region_book.specs.RegionRecords.{region_of, shown_region}
 use Rattle.policy_book.specs.PolicyRules.{policy_of}
 use Rattle.policy_book.proofs.FoundRegions.{found_id}
 use Rattle.policy_book.proofs.Writes.{within_rule}
@@ -11,8 +11,8 @@ use Rattle.policy_book.proofs.policy.judge.Goals as goal
 
 pub judge_policy-requires-clause-found : goal.judge_policy-requires-clause-found
 judge_policy-requires-clause-found c =
-    let found : option_map shown (region_of (book_in c.args.regions.now c.args.mem.now) c.args.id) ≡ Some c.in-Some.region = sym c.find.ensures ∙ c.in-Some.is in
-    subst (λ id. option_map shown (region_of (book_in c.args.regions.now c.args.mem.now) id) ≡ Some c.in-Some.region) (sym (found_id (book_in c.args.regions.now c.args.mem.now) c.args.id c.in-Some.region found)) found
+    let found : option_map shown_region (region_of (book_in c.args.regions.now c.args.mem.now) c.args.id) ≡ Some c.in-Some.region = sym c.find.ensures ∙ c.in-Some.is in
+    subst (λ id. option_map shown_region (region_of (book_in c.args.regions.now c.args.mem.now) id) ≡ Some c.in-Some.region) (sym (found_id (book_in c.args.regions.now c.args.mem.now) c.args.id c.in-Some.region found)) found
 
 pub judge_policy-requires-clause-fits : goal.judge_policy-requires-clause-fits
 judge_policy-requires-clause-fits c =

@@ -2,7 +2,7 @@ use Rattle.std.proofs.Common.{◌+◌, ◌*◌, ◌≤◌, ◌++◌, All, ap, le
 use Rattle.std.specs.List.{range_with_len}
 use Rattle.hex.specs.Hex.{encode_lower}
 use Rattle.phys_mem.specs.Memory.{byte_at}
-use Rattle.region_book.specs.declared.regions.Region.{Region as ShownRegion}
+use Rattle.region_book.specs.declared.regions.ShownRegion.{ShownRegion}
 use Rattle.region_book.specs.RegionBytes.{book_in}
 use Rattle.region_book.specs.RegionRecords.{Region, byte_place}
 use Rattle.report_text.proofs.LedgerLines.{place_of, shown_at}

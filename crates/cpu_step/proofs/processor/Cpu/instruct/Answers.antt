@@ -4,7 +4,7 @@ use Rattle.x86_regs.specs.declared.effects.Asked.{Asked}
 use Rattle.x86_regs.specs.declared.faults.Fault.{Fault}
 use Rattle.x86_regs.specs.Effects.{LeavesToDelivery, effect_with, memory_after}
 use Rattle.cpu_step.specs.Processor.{Processor}
-use Rattle.cpu_step.specs.Turns.{acted, is_at_body, raised}
+use Rattle.cpu_step.specs.Turns.{acted, is_at_body, fault_raised}
 use Rattle.cpu_step.proofs.TurnLemmas.{instructed_at_body, turned_by_act, turned_by_fault}
 use Rattle.cpu_step.proofs.processor.Cpu.instruct.Goals as goal
 
@@ -37,7 +37,7 @@ returns-in-Err-clause-instructed c =
     let tlb = c.make.new.self.tlb in
     let at : is_at_body self.regs ≡ false = ap (λ (p : Processor). is_at_body p.regs) (sym c.self.view_is) ∙ sym c.if-is_at_body.ensures in
     c.raise.ensures.raised
-    ∙ ap (λ (q : Processor). raised c.in-Err.fault q c.args.mem.now) c.make.ensures.rest
+    ∙ ap (λ (q : Processor). fault_raised c.in-Err.fault q c.args.mem.now) c.make.ensures.rest
     ∙ sym (turned_by_fault self c.args.mem.now c.in-Err.fault regs tlb at
     (ap (λ (it : Result Asked Fault). outcome_of (effect_with it regs) tlb) (sym c.in-Err.is) ∙ c.make.ensures.outcome)
     (subst (λ (it : Result Asked Fault). OnErr it (regs ≡ self.regs)) c.in-Err.is c.make.ensures.kept))

@@ -6,7 +6,7 @@ use Rattle.cpu_step.specs.Turns.{ran, turned}
 use Rattle.cpu_step.proofs.QuickTurnLemmas.{not_at_body, quick_turned}
 use Rattle.nk_bits.specs.Outcomes.{answered}
 use Rattle.page_walk.specs.MemoryAccess.{view_of}
-use Rattle.exec_quick.specs.QuickForms.{instr_of, is_slow}
+use Rattle.exec_quick.specs.QuickForms.{instruction_of, is_slow}
 use Rattle.cpu_step.specs.InstructionFetch.{instruction_at}
 use Rattle.cpu_step.proofs.processor.Cpu.quick_turn.Goals as goal
 
@@ -39,5 +39,5 @@ returns-in-Some-clause-turned c = λ made.
     (ap (λ (x : Processor). x.pending) c.self.view_is ∙ c.requires.pending)
     (ap (λ (x : Processor). x.shielded) c.self.view_is ∙ c.requires.shielded)
     (not_at_body (length c.args.mem.now) p c.args.code.now c.args.ahead kept c.requires.ahead here) (c.in-Some.ensures.form quick) (c.in-Some.ensures.lawful quick p.regs.cpl) (subst (λ at. instruction_at c.args.mem.now (view_of c.args.mem.now p.control p.regs.cpl) at p.tlb
-    ≡ answered (record { instr = instr_of c.in-Some.quick.now; size = c.in-Some.quick.now.size }) p.tlb) here (c.in-Some.ensures.fetched quick p.control p.regs.cpl p.tlb kept))
+    ≡ answered (record { instr = instruction_of c.in-Some.quick.now; size = c.in-Some.quick.now.size }) p.tlb) here (c.in-Some.ensures.fetched quick p.control p.regs.cpl p.tlb kept))
     (c.make.ensures.made made))

@@ -8,7 +8,7 @@ use Rattle.nk_body.specs.CallRules.{IsSourceOf, Sourced, bytes_read, wants}
 use Rattle.nk_body.specs.SourceWords.{sourced_of}
 use Rattle.gate_state.specs.MachineStates.{MachineState, Opening}
 use Rattle.gate_state.specs.MachineSteps.{call_in, called_in, source_of, took_by}
-use Rattle.gate_state.specs.SourceBytes.{source_by}
+use Rattle.gate_state.specs.SourceBytes.{source_through}
 use Rattle.gate_state.specs.WholeMachine.{WholeState, served_whole}
 use Rattle.gate_state.proofs.SourceReads.{source_is}
 use Rattle.gate_state.proofs.SourceWants.{wants_most}
@@ -31,7 +31,7 @@ pub serve-answer-requires-clause-source : goal.serve-answer-requires-clause-sour
 serve-answer-requires-clause-source c =
     let o : Opening = record { image = c.self.inside.image.now; frames = c.self.inside.layout.now.frames } in
     let s : MachineState = state_by c.self.inside.cpu c.self.inside.mem c.self.inside.kernel c.self.inside.turns c.self.inside.taken in
-    let read : Sourced = source_by s.memory s.processor.control.root s.processor.tlb c.call_in-call.result.c c.wants-wanted.result in
+    let read : Sourced = source_through s.memory s.processor.control.root s.processor.tlb c.call_in-call.result.c c.wants-wanted.result in
     let alike = source_seen c.mask_law.ensures.length o s c.self.inside.kernel c.self.inside.mem c.self.invariant.0
     (λ m va count. c.steps_law.ensures.masked_source o s m va count c.self.invariant.0.admitted c.self.invariant.0.guarded) c.call_in-call.result.c c.wants-wanted.result in
     let is : sourced_of c.sourced-source.result ≡ read =
@@ -47,7 +47,7 @@ invariant_of-self c =
     let o : Opening = record { image = c.self.inside.image.now; frames = c.self.inside.layout.now.frames } in
     let s : MachineState = state_by c.self.inside.cpu c.self.inside.mem c.self.inside.kernel c.self.inside.turns c.self.inside.taken in
     let at : enters_body s.processor ≡ true = subst (λ (w : WholeState). enters_body w.state.processor ≡ true) (sym c.self.view_is) c.requires.body in
-    let read : Sourced = source_by s.memory s.processor.control.root s.processor.tlb c.call_in-call.result.c c.wants-wanted.result in
+    let read : Sourced = source_through s.memory s.processor.control.root s.processor.tlb c.call_in-call.result.c c.wants-wanted.result in
     let alike = source_seen c.mask_law.ensures.length o s c.self.inside.kernel c.self.inside.mem c.self.invariant.0
     (λ m va count. c.steps_law.ensures.masked_source o s m va count c.self.invariant.0.admitted c.self.invariant.0.guarded) c.call_in-call.result.c c.wants-wanted.result in
     let is : sourced_of c.sourced-source.result ≡ read =
@@ -73,7 +73,7 @@ pub returns-clause-served : goal.returns-clause-served
 returns-clause-served c =
     let o : Opening = record { image = c.self.inside.image.now; frames = c.self.inside.layout.now.frames } in
     let s : MachineState = state_by c.self.inside.cpu c.self.inside.mem c.self.inside.kernel c.self.inside.turns c.self.inside.taken in
-    let read : Sourced = source_by s.memory s.processor.control.root s.processor.tlb c.call_in-call.result.c c.wants-wanted.result in
+    let read : Sourced = source_through s.memory s.processor.control.root s.processor.tlb c.call_in-call.result.c c.wants-wanted.result in
     let alike = source_seen c.mask_law.ensures.length o s c.self.inside.kernel c.self.inside.mem c.self.invariant.0
     (λ m va count. c.steps_law.ensures.masked_source o s m va count c.self.invariant.0.admitted c.self.invariant.0.guarded) c.call_in-call.result.c c.wants-wanted.result in
     let is : sourced_of c.sourced-source.result ≡ read =
@@ -97,7 +97,7 @@ pub returns-clause-called : goal.returns-clause-called
 returns-clause-called c =
     let o : Opening = record { image = c.self.inside.image.now; frames = c.self.inside.layout.now.frames } in
     let s : MachineState = state_by c.self.inside.cpu c.self.inside.mem c.self.inside.kernel c.self.inside.turns c.self.inside.taken in
-    let read : Sourced = source_by s.memory s.processor.control.root s.processor.tlb c.call_in-call.result.c c.wants-wanted.result in
+    let read : Sourced = source_through s.memory s.processor.control.root s.processor.tlb c.call_in-call.result.c c.wants-wanted.result in
     let alike = source_seen c.mask_law.ensures.length o s c.self.inside.kernel c.self.inside.mem c.self.invariant.0
     (λ m va count. c.steps_law.ensures.masked_source o s m va count c.self.invariant.0.admitted c.self.invariant.0.guarded) c.call_in-call.result.c c.wants-wanted.result in
     let is : sourced_of c.sourced-source.result ≡ read =

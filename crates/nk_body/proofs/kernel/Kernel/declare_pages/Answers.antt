@@ -4,7 +4,7 @@ use Rattle.nk_bits.specs.Kinds.{is_data}
 use Rattle.nk_bits.specs.Rules.{rule_of}
 use Rattle.page_desc.specs.DescriptorBytes.{descriptors_in, kinds_in}
 use Rattle.phys_mem.specs.MaskedMemory.{seen}
-use Rattle.region_book.specs.RegionCalls.{added, declare_rule, frames_from, guarded, page_region}
+use Rattle.region_book.specs.RegionCalls.{with_one_more, pages_rule, frames_from, guarded, page_region}
 use Rattle.region_book.specs.RegionBytes.{book_in}
 use Rattle.write_log.specs.LogBytes.{log_in}
 use Rattle.write_log.specs.LogRecords.{LogRecord}
@@ -64,11 +64,11 @@ returns-clause-made c source =
     (pages_made guard walks c.page_tables_law.ensures.loose (descriptors_in m) (descriptors_in later) before.root before.trap
     (book_in before.regions m) (book_in c.declare.new.self later) (log_in before.log m) (seen m) c.args.call.now source held.books c.requires.number
     c.declare.result
-    (c.declare.ensures.judged ∙ ap (λ at. declare_rule (book_in before.regions m) (kinds_in m) (slice_index (descriptors_in m).loose) at
+    (c.declare.ensures.judged ∙ ap (λ at. pages_rule (book_in before.regions m) (kinds_in m) (slice_index (descriptors_in m).loose) at
     c.args.call.now.a c.args.call.now.b c.args.call.now.c) map)
     (err_with (λ same. (λ i. book_in (same.0 i) (same.1 i), ap descriptors_in same.1)) c.declare.result c.declare.ensures.refused)
     (subst (λ at. OnOk c.declare.result (IfSome (frames_from at (c.args.call.now.a / 4096) (c.args.call.now.b / 4096))
-    (λ fs. (book_in c.declare.new.self later ≡ added (book_in before.regions m)
+    (λ fs. (book_in c.declare.new.self later ≡ with_one_more (book_in before.regions m)
     (page_region (book_in before.regions m) c.args.call.now.a c.args.call.now.b c.args.call.now.c fs) (length fs))
     × (descriptors_in later ≡ record (descriptors_in m) { kinds = guarded (kinds_in m) fs })))) map c.declare.ensures.region)))
 

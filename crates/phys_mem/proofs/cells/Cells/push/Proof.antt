@@ -24,7 +24,7 @@ use denote.Ref.{MutRef, mut_vals, mut_Tells}
 use denote.Signature.{plain}
 use denote.Steps.{nothing, heard, opens, closes}
 use denote.Triple.Walked.{Stays, walk_of, says, stay_ref, stay_dropped, Goes-ref, Goes-dropped, ends_at}
-use Rattle.phys_mem.specs.Ownership.{row_of, cells_own}
+use Rattle.phys_mem.specs.Ownership.{bytes_row, cells_own}
 use Rattle.phys_mem.specs.declared.cells.Cells.{Cells}
 use Rattle.phys_mem.specs.contracts.cells.Cells.{the_row as R}
 use Rattle.phys_mem.specs.contracts.cells.Cells.push as f
@@ -58,8 +58,8 @@ push_spec 𝓤 𝓛 𝓜 𝓡 wired =
     let one_more : cells.spare ≡ suc left = omega (arith, asked.2) in
     let long : length bytes ≡ length cells.bytes + 1 = length-append cells.bytes (value ∷ []) in
     let new : Cells = record { heap = cells.heap; at = cells.at; bytes = bytes; spare = left } in
-    rewrite ! 0 (λ (k : ℕ). ‵ (froom (row_of k) b end)) one_more refl $
-    use1 𝓛 (‵ (froom (ty_int w8) b end) ⊛ ‵ (froom (row_of left) b (end + 1))) (𝓛.laws.room_uncons (ty_int w8) left b end) $ split ! $
+    rewrite ! 0 (λ (k : ℕ). ‵ (froom (bytes_row k) b end)) one_more refl $
+    use1 𝓛 (‵ (froom (ty_int w8) b end) ⊛ ‵ (froom (bytes_row left) b (end + 1))) (𝓛.laws.room_uncons (ty_int w8) left b end) $ split ! $
     rewrite ! 0 (λ (k : ℕ). ‵ (froom (ty_int w8) b (k + o))) (sym asked.1) refl $
     take_at ! 2 $ rewrite ! 0 (λ (p : Ptr). ‵ (fat full_share ty_ptr (l 2) 0 (ptr_val p))) (asked.0 ∙ e) refl $ give_at ! 2 $
     first ! $ blocks ! $ sets ! (bin ! (get ! refl) (get ! refl) tt) refl (tt, tt) $
@@ -68,8 +68,8 @@ push_spec 𝓤 𝓛 𝓜 𝓡 wired =
     -- [the byte; the room after it; the right to free; the bytes before it; ..]
     use1 𝓛 (‵ (part_at u8 full_share value b (at + o))) (uint_in 𝓛 full_share w8 value b (at + o)) $ nothing ! $ move ! (1 ∷ 0 ∷ []) $ fjoin ! $
     move ! (3 ∷ 0 ∷ []) $ use2 𝓛 (‵ (Row 𝓛 b o bytes)) (glue 𝓛 b cells.bytes (value ∷ []) o (at + o) (ap (λ k. k + o) asked.1)) $
-    rewrite ! 1 (λ (k : ℕ). ‵ (froom (row_of left) b k)) {x = length bytes + o} (omega arith) refl $
-    rewrite ! 2 (λ (k : ℕ). ‵ (ghosts.dealloc_token cells.heap (row_of k) (block_ptr b o))) {x = length bytes + left} (omega arith) refl $
+    rewrite ! 1 (λ (k : ℕ). ‵ (froom (bytes_row left) b k)) {x = length bytes + o} (omega arith) refl $
+    rewrite ! 2 (λ (k : ℕ). ‵ (ghosts.dealloc_token cells.heap (bytes_row k) (block_ptr b o))) {x = length bytes + left} (omega arith) refl $
     move ! (1 ∷ 2 ∷ 0 ∷ []) $ fjoin ! $ move ! (1 ∷ 0 ∷ []) $ fjoin ! $ flt_i ! (length bytes + left) (2 ^ 63) (omega arith) $ fjoin ! $
     rewrite ! 0 (λ (p : Ptr). ‵ (cells_own cells.heap p bytes left)) (sym e) refl $ move ! (1 ∷ 0 ∷ []) $ fjoin ! $ move ! (1 ∷ 0 ∷ []) $ closes ! tt R new vs rb ro $
     returns ! (look_at ! 0 refl) $ free_all ! refl $ keep ! (0 ∷ 1 ∷ 2 ∷ []) $

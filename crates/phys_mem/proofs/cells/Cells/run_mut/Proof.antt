@@ -32,7 +32,7 @@ use denote.Steps.{nothing, heard, opens}
 use denote.Struct.Struct.{Struct}
 use denote.Struct.Owning.{shape}
 use denote.Triple.Walked.{Stays, walk_of, says, stay_dropped, Goes-dropped, Goes-spent_ref, ends_at}
-use Rattle.phys_mem.specs.Ownership.{row_of, cells_own}
+use Rattle.phys_mem.specs.Ownership.{bytes_row, cells_own}
 use Rattle.phys_mem.specs.Runs.{run_at, with_run}
 use Rattle.phys_mem.specs.CellsLends.{with_bytes}
 use Rattle.phys_mem.specs.declared.cells.Cells.{Cells}
@@ -56,7 +56,7 @@ module _ {M : Type 1} {𝓤 : Ura M} (𝓛 : Logic 𝓤) (rb ro : ℕ) (cells : 
 
   -- the room past k bytes, and the right to free all
   abbrev Tail : ℕ → Fml
-  Tail k = fsep (froom (row_of cells.spare) b (k + o)) (ghosts.dealloc_token cells.heap (row_of (k + cells.spare)) (block_ptr b o))
+  Tail k = fsep (froom (bytes_row cells.spare) b (k + o)) (ghosts.dealloc_token cells.heap (bytes_row (k + cells.spare)) (block_ptr b o))
 
   -- all but the run
   abbrev Rest : Fml

@@ -2,9 +2,9 @@ use Rattle.std.proofs.Common.{◌≡◌, ◌-◌, ◌<◌, false, arith, refl, s
 use Rattle.std.specs.Prelude.{Some}
 use Rattle.std.proofs.lemmas.List.{length-map}
 use Rattle.region_book.specs.RegionBytes.{bits_in, book_in, row_in}
-use Rattle.region_book.specs.RegionCalls.{added, is_taken, pool_region}
+use Rattle.region_book.specs.RegionCalls.{with_one_more, is_range_taken, pool_region}
 use Rattle.region_book.specs.RegionRecords.{Book, IsBook, Region, pool_start}
-use Rattle.region_book.specs.RegionRows.{new_region, region_at}
+use Rattle.region_book.specs.RegionRows.{region_of_row, region_at}
 use Rattle.region_book.proofs.PoolRegions.{pool_added, pool_aside, pool_places, room_free, zeros_are}
 use Rattle.region_book.proofs.SeenStores.{book_stays, held_stays}
 use Rattle.region_book.proofs.regions.Regions.alloc.Goals as goal
@@ -32,27 +32,27 @@ admit-requires-clause-pooled c = λ pooled.
     book_stays c.args.mem.now c.put_zeros.new.mem c.put_zeros.ensures.length c.put_zeros.ensures.others c.args.self.now
     c.requires.held in
     let row = c.pool_row-row.result in
-    let free : is_taken (book_in c.args.self.now c.args.mem.now).regions c.args.size c.in-Ok.place ≡ false =
+    let free : is_range_taken (book_in c.args.self.now c.args.mem.now).regions c.args.size c.in-Ok.place ≡ false =
     room_free (book_in c.args.self.now c.args.mem.now).regions c.args.size c.in-Ok.place c.in-Ok.ensures.room in
     let place : row.first - pool_start ≡ c.in-Ok.place = omega (arith, c.pool_row-row.ensures.first) in (
       omega (arith, c.pool_row-row.ensures.first),
       omega (arith, c.pool_row-row.ensures.first, c.in-Ok.ensures.within, c.pool_row-row.ensures.row.0),
-      ap (λ (book : Book). is_taken book.regions row.size (row.first - pool_start)) same
-          ∙ ap (is_taken (book_in c.args.self.now c.args.mem.now).regions row.size) place
-          ∙ ap (λ size. is_taken (book_in c.args.self.now c.args.mem.now).regions size c.in-Ok.place) c.pool_row-row.ensures.row.0
+      ap (λ (book : Book). is_range_taken book.regions row.size (row.first - pool_start)) same
+          ∙ ap (is_range_taken (book_in c.args.self.now c.args.mem.now).regions row.size) place
+          ∙ ap (λ size. is_range_taken (book_in c.args.self.now c.args.mem.now).regions size c.in-Ok.place) c.pool_row-row.ensures.row.0
           ∙ free,
     )
 
 -- the book that admit leaves is that of the memory before, with the region of the pool behind
-book_after : (c : goal.After-admit) → book_in c.admit.new.self c.admit.new.mem ≡ added (book_in c.args.self.now c.args.mem.now)
+book_after : (c : goal.After-admit) → book_in c.admit.new.self c.admit.new.mem ≡ with_one_more (book_in c.args.self.now c.args.mem.now)
     (pool_region (book_in c.args.self.now c.args.mem.now) c.args.size c.args.policy c.in-Ok.place) 0
 book_after c =
     let same : book_in c.args.self.now c.put_zeros.new.mem ≡ book_in c.args.self.now c.args.mem.now =
     book_stays c.args.mem.now c.put_zeros.new.mem c.put_zeros.ensures.length c.put_zeros.ensures.others c.args.self.now
     c.requires.held in
     c.admit.ensures.added
-    ∙ ap (λ book. added book (new_region c.pool_row-row.result) 0) same
-    ∙ ap (λ (r : Region). added (book_in c.args.self.now c.args.mem.now) r 0)
+    ∙ ap (λ book. with_one_more book (region_of_row c.pool_row-row.result) 0) same
+    ∙ ap (λ (r : Region). with_one_more (book_in c.args.self.now c.args.mem.now) r 0)
     (c.pool_row-row.ensures.region (book_in c.args.self.now c.args.mem.now) refl)
 
 pub returns-in-Ok-clause-granted : goal.returns-in-Ok-clause-granted
@@ -68,7 +68,7 @@ returns-in-Ok-clause-granted c =
 pub returns-in-Ok-clause-allocated : goal.returns-in-Ok-clause-allocated
 returns-in-Ok-clause-allocated c =
     book_after c
-    ∙ ap (λ p. added (book_in c.args.self.now c.args.mem.now)
+    ∙ ap (λ p. with_one_more (book_in c.args.self.now c.args.mem.now)
     (pool_region (book_in c.args.self.now c.args.mem.now) c.args.size c.args.policy p) 0) (omega (arith, c.pool_row-row.ensures.first))
 
 pub returns-in-Ok-clause-memory : goal.returns-in-Ok-clause-memory

@@ -2,9 +2,9 @@ use Rattle.std.proofs.Common.{◌≡◌, ◌<◌, ap, arith, refl, inl, inr, len
 use Rattle.std.proofs.lemmas.List.{length-map}
 use Rattle.page_desc.specs.DescriptorBytes.{kinds_in}
 use Rattle.region_book.specs.RegionBytes.{bits_in, book_in, row_in}
-use Rattle.region_book.specs.RegionCalls.{added, page_region}
+use Rattle.region_book.specs.RegionCalls.{with_one_more, page_region}
 use Rattle.region_book.specs.RegionRecords.{IsBook, Region}
-use Rattle.region_book.specs.RegionRows.{new_region, region_at}
+use Rattle.region_book.specs.RegionRows.{region_of_row, region_at}
 use Rattle.region_book.proofs.DeclaredRegions.{page_added}
 use Rattle.region_book.proofs.Found.{for_some}
 use Rattle.region_book.proofs.regions.Regions.declare.Goals as goal
@@ -18,7 +18,7 @@ admit-requires-clause-held c =
 count_is : (c : goal.After-admit) → length (take c.in-Ok.pages.count c.in-Ok.pages.frames) ≡ c.in-Ok.pages.count
 count_is c = length-take-le c.in-Ok.pages.count c.in-Ok.pages.frames (omega (arith, c.in-Ok.ensures.size))
 
-book_after : (c : goal.After-admit) → book_in c.admit.new.self c.admit.new.mem ≡ added (book_in c.args.self.now c.args.mem.now)
+book_after : (c : goal.After-admit) → book_in c.admit.new.self c.admit.new.mem ≡ with_one_more (book_in c.args.self.now c.args.mem.now)
     (page_region (book_in c.args.self.now c.args.mem.now) c.args.va c.args.size c.args.policy
     (take c.in-Ok.pages.count c.in-Ok.pages.frames)) (length (take c.in-Ok.pages.count c.in-Ok.pages.frames))
 book_after c =
@@ -27,10 +27,10 @@ book_after c =
     (c.held_regions_law.ensures.agree c.args.self.now c.args.mem.now c.guard.new.mem c.requires.held
     c.guard.ensures.elsewhere.size (λ p low high. c.guard.ensures.elsewhere.elsewhere p (inl high))).0 in
     c.admit.ensures.added
-    ∙ ap (λ book. added book (new_region c.page_row-row.result) c.in-Ok.pages.count) same
-    ∙ ap (λ (r : Region). added (book_in c.args.self.now c.args.mem.now) r c.in-Ok.pages.count)
+    ∙ ap (λ book. with_one_more book (region_of_row c.page_row-row.result) c.in-Ok.pages.count) same
+    ∙ ap (λ (r : Region). with_one_more (book_in c.args.self.now c.args.mem.now) r c.in-Ok.pages.count)
     (c.page_row-row.ensures.region (book_in c.args.self.now c.args.mem.now) refl)
-    ∙ ap (added (book_in c.args.self.now c.args.mem.now) (page_region (book_in c.args.self.now c.args.mem.now) c.args.va
+    ∙ ap (with_one_more (book_in c.args.self.now c.args.mem.now) (page_region (book_in c.args.self.now c.args.mem.now) c.args.va
     c.args.size c.args.policy (take c.in-Ok.pages.count c.in-Ok.pages.frames))) (sym (count_is c))
 
 pub returns-in-Ok-clause-region : goal.returns-in-Ok-clause-region

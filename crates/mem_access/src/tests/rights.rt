@@ -3,8 +3,8 @@
 ghost use Rattle.std.specs.Prelude.{◌≡◌, ◌*◌, ◌<◌, ◌⊎◌, length};
 ghost use Rattle.nk_bits.specs.Translations.{NamesFramesIn};
 
-use super::Control;
-use super::tests::{fetch_byte, load, memory, store};
+use super::{fetch_byte, load, memory, store};
+use crate::Control;
 use nk_bits::Access;
 use phys_mem::PhysMem;
 use std::alloc::Global;

@@ -2,8 +2,8 @@
 
 ghost use Rattle.nk_bits.specs.Translations.{NamesFramesIn};
 
-use super::AccessFault;
-use super::tests::{ALL, CONTROL, load, memory, store};
+use super::{ALL, CONTROL, load, memory, store};
+use crate::AccessFault;
 use nk_bits::{Rights, Upper, named_law};
 use std::test::Fail;
 use tlb_model::Tlb;

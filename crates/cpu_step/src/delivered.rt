@@ -2,7 +2,7 @@
 
 ghost use Rattle.std.specs.Prelude.{◌≡◌, length};
 ghost use Rattle.cpu_step.specs.Processor.{IsSound};
-ghost use Rattle.cpu_step.specs.Turns.{code_of, control_after, delivery_of, raised, shown_by, trapped, vector_of};
+ghost use Rattle.cpu_step.specs.Turns.{error_code_of, control_after, delivery_of, fault_raised, stepped_by, trapped, vector_of};
 
 use crate::processor::Cpu;
 use crate::stepped::Stepped;
@@ -59,7 +59,7 @@ impl Cpu {
     pub(crate) fn raise(&mut self, fault: Fault, mem: &mut PhysMem) -> Stepped
         requires sound { IsSound (length mem.old) self.old }
         ensures raised { record { processor = self.new; memory = mem.new; stepped = result }
-            ≡ raised fault self.old mem.old }
+            ≡ fault_raised fault self.old mem.old }
         ensures sound { IsSound (length mem.new) self.new }
         ensures length { length mem.new ≡ length mem.old }
     {
@@ -79,7 +79,7 @@ impl Cpu {
 
 /// What a turn shows whose delivery was made or shut the machine down.
 fn shown_by(answer: &Result<(), Shut>, shown: Delivery) -> Stepped
-    ensures { result ≡ shown_by answer.now shown }
+    ensures { result ≡ stepped_by answer.now shown }
 {
     match answer {
         Ok(()) => Stepped::Delivered(shown),
@@ -102,7 +102,7 @@ fn vector_of(fault: Fault) -> u8
 
 /// The error code that a fault pushes, if it pushes one.
 fn code_of(fault: Fault) -> Option<u64>
-    ensures { result ≡ code_of fault }
+    ensures { result ≡ error_code_of fault }
 {
     match fault {
         Fault::Divide | Fault::Opcode => None,

@@ -3,10 +3,12 @@
 
 ghost use Rattle.std.specs.Prelude.{◌≡◌, IfSome};
 ghost use Rattle.nk_bits.specs.Accesses.{IsAccessSize};
-ghost use Rattle.page_walk.specs.AccessPlans.{IsSource, IsSized, IsPlan};
+ghost use Rattle.page_walk.specs.AccessPlans.{IsSource, IsSized, IsAccessPlan};
 
-use super::tests::{ALL, CONTROL, READ_ONLY, memory};
-use super::{AccessFault, Gathered, Plan, Source, Span, SpanFault, Target, check_span, gather};
+use super::{ALL, CONTROL, READ_ONLY, memory};
+use crate::{
+    AccessFault, AccessPlan, Gathered, Origin, Span, SpanFault, Target, check_span, gather,
+};
 use std::test::Fail;
 use tlb_model::Tlb;
 
@@ -47,16 +49,16 @@ fn non_canonical<T>(stack: bool) -> Result<T, SpanFault> {
 }
 
 /// A plan whose last check would fault.
-fn plan(both: Span, to: Span, from: Span) -> Plan
+fn plan(both: Span, to: Span, from: Span) -> AccessPlan
     requires both { both.width ≡ 8 }
     requires to { to.width ≡ 8 }
     requires from { from.width ≡ 8 }
-    ensures { IsPlan result }
+    ensures { IsAccessPlan result }
 {
-    Plan {
+    AccessPlan {
         both: Some(both),
-        to: Source::At(to),
-        from: Source::At(from),
+        to: Origin::At(to),
+        from: Origin::At(from),
         last: Some(Span {
             va: 0x4000,
             width: 1,
@@ -193,10 +195,10 @@ fn nothing_is_done_after_a_fault(rt: HostRuntime) -> Result<(), Fail> {
 fn plan_may_ask_nothing_of_memory(rt: HostRuntime) -> Result<(), Fail> {
     let mem = memory(rt.alloc(), ALL, READ_ONLY)?;
     let mut tlb = Tlb::new(rt.alloc())?;
-    let plan = Plan {
+    let plan = AccessPlan {
         both: None,
-        to: Source::Is(u64::MAX),
-        from: Source::Is(7),
+        to: Origin::Is(u64::MAX),
+        from: Origin::Is(7),
         last: None,
     };
     let found = Gathered {
@@ -254,14 +256,14 @@ fn each_read_has_its_own_width(rt: HostRuntime) -> Result<(), Fail> {
     let mut tlb = Tlb::new(rt.alloc())?;
     mem.store64(0x8FF8, 0x8877_6655_4433_2211);
     mem.store64(0x9000, 0xFFEE_DDCC_BBAA_9900);
-    let plan = Plan {
+    let plan = AccessPlan {
         both: None,
-        to: Source::At(Span {
+        to: Origin::At(Span {
             va: 0xFFE,
             width: 4,
             stack: true,
         }),
-        from: Source::At(Span {
+        from: Origin::At(Span {
             va: 0xFF9,
             width: 1,
             stack: false,

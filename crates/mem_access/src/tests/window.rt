@@ -4,8 +4,8 @@ ghost use Rattle.std.specs.Prelude.{◌<◌, ◌≤◌, length};
 ghost use Rattle.nk_bits.specs.Translations.{NamesFramesIn};
 ghost use Rattle.mem_access.specs.Windows.{IsWindow};
 
-use super::tests::{ALL, CONTROL, READ_ONLY, load, memory};
-use super::{Window, kept_frame, kept_number, put_kept};
+use super::{ALL, CONTROL, READ_ONLY, load, memory};
+use crate::{Window, kept_frame, kept_number, put_kept};
 use nk_bits::{Access, Control, Leaf, Rights, named_law};
 use phys_mem::PhysMem;
 use std::test::Fail;

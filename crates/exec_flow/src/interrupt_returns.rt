@@ -5,7 +5,7 @@ ghost use Rattle.nk_bits.specs.Translations.{NamesFramesIn};
 ghost use Rattle.nk_bits.specs.Outcomes.{outcome_of};
 ghost use Rattle.page_walk.specs.MemoryAccess.{view_of};
 ghost use Rattle.x86_regs.specs.Effects.{frame_popped, popped, return_effect};
-ghost use Rattle.x86_regs.specs.OperandOutcomes.{change, going_on, vector_of};
+ghost use Rattle.x86_regs.specs.OperandOutcomes.{change, going_on, interrupt_vector};
 
 use mem_access::load;
 use nk_bits::Control;
@@ -18,7 +18,7 @@ use x86_regs::{Act, Change, Effect, Fault, Frame, RSP, Regs, going_on, raised};
 /// INT3, and INT of a vector; the trap itself is left to a delivery.
 pub(crate) fn trap(op: Op, value: u64, next: u64, regs: &Regs) -> Change
     ensures { Ok result ≡ change (going_on regs.now regs.now.general regs.now.flags next) 0
-        (Act.Interrupt (vector_of op value)) }
+        (Act.Interrupt (interrupt_vector op value)) }
 {
     Change {
         regs: going_on(regs, regs.general, regs.flags, next),
@@ -28,7 +28,7 @@ pub(crate) fn trap(op: Op, value: u64, next: u64, regs: &Regs) -> Change
 }
 
 fn vector_of(op: Op, value: u64) -> u8
-    ensures { result ≡ vector_of op value }
+    ensures { result ≡ interrupt_vector op value }
 {
     match op {
         Op::Int3 => 3,
