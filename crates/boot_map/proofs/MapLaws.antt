@@ -11,7 +11,7 @@ use Rattle.nk_bits.specs.Paging.{all_rights, is_canonical_page, page_index, walk
 use Rattle.elf_image.specs.Pages.{IsPageList, is_executable, is_writable, pages_of}
 use Rattle.boot_map.specs.declared.part.Part.{Part}
 use Rattle.boot_map.specs.declared.part.Part.TheVariants.{WriteLog, WrittenBits, RegionBook, Descriptors, ImagePage, Free}
-use Rattle.boot_map.specs.FixedFrames.{opening_root}
+use Rattle.nk_bits.specs.KernelLayout.{opening_root}
 use Rattle.boot_map.specs.Division.{Division, IsLayout, division_of, free_start, map_start, map_tables}
 use Rattle.boot_map.specs.Parts.{part_at}
 use Rattle.boot_map.specs.OpeningKinds.{kind_of_part, kinds}

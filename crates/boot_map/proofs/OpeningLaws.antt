@@ -10,7 +10,7 @@ use Rattle.gate_text.specs.Listing.{gate_byte}
 use Rattle.elf_image.specs.Pages.{byte_of, page_count, pages_of}
 use Rattle.boot_map.specs.declared.part.Part.{Part}
 use Rattle.boot_map.specs.declared.part.Part.TheVariants.{GateText, ImagePage}
-use Rattle.boot_map.specs.FixedFrames.{area_directory, area_table, gate_text, handler_slot, idt_and_tss, image_directory, nested_stack, opening_root, slot_table}
+use Rattle.nk_bits.specs.KernelLayout.{area_directory, area_table, gate_text, handler_slot, idt_and_tss, image_directory, nested_stack, opening_root, slot_table}
 use Rattle.boot_map.specs.Division.{Division, IsLayout, division_of, free_start, pages_start}
 use Rattle.boot_map.specs.Parts.{part_at}
 use Rattle.boot_map.specs.OpeningKinds.{kind_at, kind_of_part, kinds}

@@ -12,7 +12,7 @@ use Rattle.nk_bits.specs.Kinds.{kind_of}
 use Rattle.nk_bits.specs.Paging.{frame_of, is_present, page_index}
 use Rattle.nk_bits.specs.Paging.{grants_writes}
 use Rattle.elf_image.specs.Pages.{IsPageList, is_executable, is_writable, pages_of}
-use Rattle.boot_map.specs.FixedFrames.{area_table, handler_slot, image_directory, opening_root, slot_table, trap_stack}
+use Rattle.nk_bits.specs.KernelLayout.{area_table, handler_slot, image_directory, opening_root, slot_table, trap_stack}
 use Rattle.boot_map.specs.Division.{Division, IsLayout, division_of, free_start, page_in, pages_start, ranges_of, tables_start}
 use Rattle.boot_map.specs.Parts.{part_at}
 use Rattle.boot_map.specs.OpeningKinds.{kind_of_part, kinds}

@@ -15,7 +15,7 @@ use Rattle.elf_image.specs.Pages.{IsPageList, is_page, pages_of}
 use Rattle.boot_map.specs.Division.{Division, IsLayout, division_of, free_start, is_touched, page_in, pages_start, ranges_of, tables_start}
 use Rattle.boot_map.specs.Parts.{part_at}
 use Rattle.boot_map.specs.OpeningEntries.{area_entry, opening_entry, entry_of_part, fetch_leaf, leaf, link, page_entry, placed_leaf, range_entry, range_link, read_leaf, slot_entry, write_leaf}
-use Rattle.boot_map.specs.FixedFrames.{opening_root, slot_table}
+use Rattle.nk_bits.specs.KernelLayout.{opening_root, slot_table}
 use Rattle.boot_map.specs.KernelSlot.{area_leaf, fetchable, image_leaf, readable, slot_leaf, slot_start, writable}
 use Rattle.boot_map.proofs.WalkSchema.{walk_by_level}
 use Rattle.boot_map.proofs.WalkLaws.{entry_within, frame_of_link, missing_zero, index_small, range_table_part}

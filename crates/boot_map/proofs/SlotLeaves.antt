@@ -9,7 +9,7 @@ use Rattle.nk_bits.specs.declared.kind.Kind.TheVariants.{Data, Code, Trap}
 use Rattle.nk_bits.specs.Kinds.{is_storable}
 use Rattle.elf_image.specs.Pages.{is_executable, is_writable, pages_of}
 use Rattle.boot_map.specs.declared.part.Part.TheVariants.{ImagePage}
-use Rattle.boot_map.specs.FixedFrames.{gate_text, handler_slot, idt_and_tss, nested_stack, trap_stack}
+use Rattle.nk_bits.specs.KernelLayout.{gate_text, handler_slot, idt_and_tss, nested_stack, trap_stack}
 use Rattle.boot_map.specs.Division.{Division, IsLayout, division_of, free_start, map_start, pages_start, tables_start}
 use Rattle.boot_map.specs.Parts.{part_at}
 use Rattle.boot_map.specs.OpeningKinds.{kind_at, kind_of_part}

@@ -3,7 +3,7 @@
 use Rattle.std.proofs.Common.{◌≡◌, ◌==◌, ◌⊎◌, ℕ, ◌<◌, ◌≤◌, true, if◌then◌else◌, List, refl, sym, subst, ◌∙◌, arith, inl, inr}
 use Rattle.std.proofs.lemmas.Bool.{cond_both}
 use Rattle.nk_bits.specs.Paging.{frame_of, is_present}
-use Rattle.boot_map.specs.FixedFrames.{area_directory, area_table, image_directory, slot_table}
+use Rattle.nk_bits.specs.KernelLayout.{area_directory, area_table, image_directory, slot_table}
 use Rattle.boot_map.specs.Division.{IsLayout, division_of}
 use Rattle.boot_map.specs.Parts.{part_at}
 use Rattle.boot_map.specs.OpeningEntries.{link, slot_entry}

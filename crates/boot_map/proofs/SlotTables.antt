@@ -10,7 +10,7 @@ use Rattle.nk_bits.specs.Paging.{all_rights, common, frame_of, is_missing, page_
 use Rattle.elf_image.specs.Pages.{IsPageList, pages_of}
 use Rattle.boot_map.specs.declared.part.Part.{Part}
 use Rattle.boot_map.specs.declared.part.Part.TheVariants.{SlotTable, AreaDirectory, AreaTable, ImageDirectory, RangeTable}
-use Rattle.boot_map.specs.FixedFrames.{area_directory, area_table, image_directory, opening_root, slot_table}
+use Rattle.nk_bits.specs.KernelLayout.{area_directory, area_table, image_directory, opening_root, slot_table}
 use Rattle.boot_map.specs.Division.{Division, IsLayout, division_of, free_start, tables_start}
 use Rattle.boot_map.specs.Parts.{part_at}
 use Rattle.boot_map.specs.OpeningEntries.{opening_entry, entry_of_part, link, range_link, table_level}

@@ -7,7 +7,7 @@ use Rattle.nk_bits.specs.declared.leaf.Rights.{Rights}
 use Rattle.nk_bits.specs.declared.leaf.Upper.{Upper}
 use Rattle.nk_bits.specs.Paging.{all_rights, page_index, slot_value, upper_from, upper_walk, walk_below, walk_from}
 use Rattle.elf_image.specs.Pages.{IsPageList, pages_of}
-use Rattle.boot_map.specs.FixedFrames.{opening_root, slot_table}
+use Rattle.nk_bits.specs.KernelLayout.{opening_root, slot_table}
 use Rattle.boot_map.specs.Division.{IsLayout, division_of, free_start}
 use Rattle.boot_map.specs.OpeningEntries.{link, opening_entry}
 use Rattle.boot_map.specs.KernelSlot.{HoldsSlot, slot_leaf, slot_start, slot_upper}

@@ -12,7 +12,7 @@ use Rattle.boot_map.specs.Division.{Division, IsLayout, division_of, free_start,
 use Rattle.boot_map.specs.Parts.{part_at, sized_part}
 use Rattle.boot_map.specs.OpeningEntries.{opening_entry, entry_of_part, link, map_directory_entry, range_entry, range_link, table_level}
 use Rattle.boot_map.specs.Opening.{IsOpening}
-use Rattle.boot_map.specs.FixedFrames.{opening_root}
+use Rattle.nk_bits.specs.KernelLayout.{opening_root}
 use Rattle.boot_map.specs.KernelSlot.{HoldsSlot, HoldsOpeningTables, is_slot_table}
 use Rattle.boot_map.specs.OpeningKinds.{kind_at, kind_of_part}
 use Rattle.nk_bits.specs.Kinds.{is_storable}

@@ -4,19 +4,18 @@ use Rattle.std.specs.Prelude.{◌≡◌, ◌⊎◌, ℕ, ◌+◌, ◌-◌, ◌/�
 use Rattle.std.specs.List.{position}
 use Rattle.nk_bits.specs.declared.leaf.Leaf.{Leaf}
 use Rattle.nk_bits.specs.declared.leaf.Upper.{Upper}
-use Rattle.nk_bits.specs.Paging.{frame_of, is_present, upper_walk}
-use Rattle.nk_bits.specs.Paging.{grants_writes}
+use Rattle.nk_bits.specs.Paging.{frame_of, grants_writes, is_present, upper_walk}
 use Rattle.elf_image.specs.Pages.{is_executable, is_writable, page_count, pages_of}
 use Rattle.boot_map.specs.declared.part.Part.{Part}
 use Rattle.boot_map.specs.declared.part.Part.TheVariants.{SlotTable, AreaDirectory, AreaTable, ImageDirectory, RangeTable}
-use Rattle.boot_map.specs.FixedFrames.{area_table, gate_text, handler_slot, idt_and_tss, image_directory, nested_stack, opening_root, trap_stack}
+use Rattle.nk_bits.specs.KernelLayout.{area_start, area_table, gate_text, handler_slot, idt_and_tss, image_directory, nested_stack, opening_root, pool_frame, trap_stack}
 use Rattle.boot_map.specs.Division.{division_of, pages_start}
 use Rattle.boot_map.specs.Parts.{part_at}
 use Rattle.boot_map.specs.OpeningEntries.{opening_entry, table_level}
 
--- the slot's first page, at FFFFFF8000000000, which is the nested area's first too
+-- the slot's first page, which is the nested area's first too
 abbrev pub slot_start : ℕ
-slot_start = 0xFFFFFF8000000000 / 4096
+slot_start = area_start / 4096
 
 -- a leaf of frame f that CPL 0 may read; read and write; read and fetch
 abbrev pub readable : ℕ → Leaf
@@ -36,7 +35,7 @@ area_leaf n =
     else if n == 2 then Some (readable handler_slot)
     else if n == 3 then Some (writable trap_stack)
     else if n == 4 then Some (readable nested_stack)
-    else if nat_le 16 n && nat_lt n 32 then Some (readable (10 + (n - 16)))
+    else if nat_le 16 n && nat_lt n 32 then Some (readable (pool_frame + (n - 16)))
     else None
 
 -- the leaf of page n, by its place among the image's pages, the first of which stands in frame first

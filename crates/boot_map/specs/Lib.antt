@@ -1,5 +1,4 @@
 -- What a reader must believe.
-pub mod FixedFrames
 pub mod Division
 pub mod Parts
 pub mod OpeningKinds

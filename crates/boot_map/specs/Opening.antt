@@ -2,7 +2,8 @@
 use Rattle.std.specs.Prelude.{◌≡◌, ℕ, ◌+◌, ◌-◌, ◌*◌, ◌/◌, ◌%◌, ◌^◌, ◌<◌, ◌==◌, ◌&&◌, ◌||◌, nat_le, nat_lt, if◌then◌else◌, List, [], ◌∷◌, length, slice_index}
 use Rattle.phys_mem.specs.Memory.{byte_at}
 use Rattle.elf_image.specs.Pages.{byte_of, pages_of}
-use Rattle.gate_text.specs.Listing.{gate_address, gate_byte}
+use Rattle.nk_bits.specs.KernelLayout.{gate_address, trap_stack_top}
+use Rattle.gate_text.specs.Listing.{gate_byte}
 use Rattle.boot_map.specs.declared.part.Part.{Part}
 use Rattle.boot_map.specs.declared.part.Part.TheVariants.{IdtAndTss, GateText, HandlerSlot, ImagePage}
 use Rattle.boot_map.specs.Division.{Division, division_of}
@@ -30,10 +31,6 @@ gate_of v =
     0x01 ∷ gate_type v ∷ byte_of_number at 2 ∷ byte_of_number at 3 ∷
     byte_of_number at 4 ∷ byte_of_number at 5 ∷ byte_of_number at 6 ∷ byte_of_number at 7 ∷
     0x00 ∷ 0x00 ∷ 0x00 ∷ 0x00 ∷ []
-
--- the top of the trap stack, which is IST1
-abbrev pub trap_stack_top : ℕ
-trap_stack_top = 0xFFFFFF8000004000
 
 -- byte o of the frame of the IDT and the TSS: 48 gates, and from 1,024 on the task-state segment with IST1 from its
 -- byte 36 on: SDM volume 3, 7.7

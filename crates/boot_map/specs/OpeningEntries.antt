@@ -4,7 +4,7 @@ use Rattle.std.specs.List.{position}
 use Rattle.elf_image.specs.Pages.{is_executable, is_writable, pages_of}
 use Rattle.boot_map.specs.declared.part.Part.{Part}
 use Rattle.boot_map.specs.declared.part.Part.TheVariants.{Root, SlotTable, AreaDirectory, AreaTable, ImageDirectory, WriteLog, WrittenBits, RegionBook, Descriptors, RangeTable, ImagePage, MapRoot, MapDirectory, MapTable, Free}
-use Rattle.boot_map.specs.FixedFrames.{area_directory, area_table, gate_text, handler_slot, idt_and_tss, image_directory, nested_stack, slot_table, trap_stack}
+use Rattle.nk_bits.specs.KernelLayout.{area_directory, area_table, gate_text, handler_slot, idt_and_tss, image_directory, nested_stack, pool_frame, slot_table, trap_stack}
 use Rattle.boot_map.specs.Division.{Division, division_of, page_in, tables_start, pages_start, map_start, map_tables}
 use Rattle.boot_map.specs.Parts.{part_at}
 
@@ -44,7 +44,7 @@ area_entry i =
     else if i == 2 then read_leaf handler_slot
     else if i == 3 then write_leaf trap_stack
     else if i == 4 then read_leaf nested_stack
-    else if nat_le 16 i && nat_lt i 32 then read_leaf (10 + (i - 16))
+    else if nat_le 16 i && nat_lt i 32 then read_leaf (pool_frame + (i - 16))
     else 0
 
 -- the link to the level 1 table of the range with this place among the ranges that the image touches

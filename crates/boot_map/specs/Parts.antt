@@ -2,7 +2,7 @@
 use Rattle.std.specs.Prelude.{ℕ, ◌+◌, ◌-◌, ◌<◌, ◌==◌, nat_lt, if◌then◌else◌, length}
 use Rattle.boot_map.specs.declared.part.Part.{Part}
 use Rattle.boot_map.specs.declared.part.Part.TheVariants.{IdtAndTss, GateText, HandlerSlot, TrapStack, NestedStack, Root, SlotTable, AreaDirectory, AreaTable, ImageDirectory, Pool, WriteLog, WrittenBits, RegionBook, Descriptors, RangeTable, ImagePage, MapRoot, MapDirectory, MapTable, Free}
-use Rattle.boot_map.specs.FixedFrames.{area_directory, area_table, gate_text, handler_slot, idt_and_tss, image_directory, nested_stack, opening_root, slot_table, trap_stack}
+use Rattle.nk_bits.specs.KernelLayout.{area_directory, area_table, gate_text, handler_slot, idt_and_tss, image_directory, nested_stack, opening_root, pool_end, slot_table, trap_stack}
 use Rattle.boot_map.specs.Division.{Division, map_tables, tables_start, pages_start, map_start, free_start}
 
 -- the 64 frames that every opening has alike
@@ -18,7 +18,7 @@ common_part f =
     else if f == area_directory then AreaDirectory
     else if f == area_table then AreaTable
     else if f == image_directory then ImageDirectory
-    else if nat_lt f 26 then Pool
+    else if nat_lt f pool_end then Pool
     else if nat_lt f 42 then WriteLog
     else if nat_lt f 60 then WrittenBits
     else RegionBook

@@ -5,14 +5,14 @@ ghost use Rattle.boot_map.specs.Division.{IsLayout};
 ghost use Rattle.boot_map.specs.OpeningEntries.{area_entry, opening_entry, entry_of_part, fetch_leaf, link, map_directory_entry, map_entry, mapped_leaf, page_entry, page_leaf, range_entry, read_leaf, root_entry, slot_entry, write_leaf};
 ghost use Rattle.boot_map.specs.Parts.{IsPartOf};
 
-use crate::fixed_frames::{
-    AREA_DIRECTORY, AREA_TABLE, GATE_TEXT, HANDLER_FRAME, IDT_AND_TSS, IMAGE_DIRECTORY,
-    NESTED_STACK, SLOT_TABLE, TRAP_STACK,
-};
 use crate::image_pages::{page_in, place_of};
 use crate::layout::Layout;
 use crate::part::Part;
 use elf_image::{Image, PageInfo};
+use nk_bits::{
+    AREA_DIRECTORY, AREA_TABLE, GATE_TEXT, HANDLER_FRAME, IDT_AND_TSS, IMAGE_DIRECTORY,
+    NESTED_STACK, SLOT_TABLE, TRAP_STACK,
+};
 
 /// P, R/W, U/S and A: what an entry that names a table grants.
 const LINK: u64 = 0x027;

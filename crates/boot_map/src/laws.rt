@@ -10,7 +10,7 @@ ghost use Rattle.nk_bits.specs.Kinds.{allows, is_storable, kind_of, level_of};
 ghost use Rattle.nk_bits.specs.Paging.{frame_of, is_canonical_page, grants_fetches, is_present, is_slot_entry, is_user, grants_writes, rights_of, slot_value, upper_walk, walk, walk_below};
 ghost use Rattle.gate_text.specs.Listing.{gate_byte};
 ghost use Rattle.elf_image.specs.Pages.{IsPageList, byte_of, page_count, pages_of};
-ghost use Rattle.boot_map.specs.FixedFrames.{area_directory, area_table, gate_text, handler_slot, idt_and_tss, image_directory, nested_stack, opening_root, slot_table, trap_stack};
+ghost use Rattle.nk_bits.specs.KernelLayout.{area_directory, area_table, gate_text, handler_slot, idt_and_tss, image_directory, nested_stack, opening_root, slot_table, trap_stack};
 ghost use Rattle.boot_map.specs.Division.{IsLayout, division_of, pages_start};
 ghost use Rattle.boot_map.specs.OpeningKinds.{kind_at, kinds};
 ghost use Rattle.boot_map.specs.OpeningEntries.{opening_entry, link, table_level};

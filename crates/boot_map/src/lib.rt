@@ -6,8 +6,7 @@
 
 #![tactic(auto)]
 
-// The image's pages, and the part of each frame, some of which stand at one place.
-mod fixed_frames;
+// The image's pages, and the part of each frame.
 mod image_pages;
 mod layout;
 mod part;
@@ -21,10 +20,6 @@ mod trap_frames;
 mod laws;
 mod opening;
 
-pub use fixed_frames::{
-    AREA_DIRECTORY, AREA_TABLE, GATE_TEXT, HANDLER_FRAME, IDT_AND_TSS, IMAGE_DIRECTORY,
-    NESTED_STACK, OPENING_ROOT, SLOT_TABLE, TRAP_STACK, fixed_frames_law,
-};
 pub use laws::{
     held_law, opening_bytes_law, opening_entries_law, opening_kinds_law, opening_respects_law,
     slot_law, slot_leaf_law, slot_upper_law, tables_law,

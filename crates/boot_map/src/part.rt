@@ -3,7 +3,7 @@
 ghost use Rattle.std.specs.Prelude.{◌≡◌, ◌<◌};
 ghost use Rattle.boot_map.specs.Parts.{common_part};
 
-use crate::fixed_frames::{
+use nk_bits::{
     AREA_DIRECTORY, AREA_TABLE, GATE_TEXT, HANDLER_FRAME, IDT_AND_TSS, IMAGE_DIRECTORY,
     NESTED_STACK, OPENING_ROOT, SLOT_TABLE, TRAP_STACK,
 };

@@ -4,7 +4,7 @@
 ghost use Rattle.std.specs.Prelude.{◌≡◌, ◌<◌};
 ghost use Rattle.boot_map.specs.Opening.{byte_of_number, gate_of, gate_type, handler_byte, idt_and_tss_byte};
 
-use gate_text::GATE;
+use nk_bits::{GATE, TRAP_STACK_TOP};
 
 /// The number of bytes that the 48 gates take, 16 each.
 const GATES_END: usize = 48 * 16;
@@ -16,9 +16,6 @@ const IST1_END: usize = IST1 + 8;
 
 /// The linear address of the first vector's stub in the gates' text; the stubs of the others follow, 8 bytes each.
 const STUBS: u64 = GATE + 64;
-
-/// The linear address of the trap stack's end, where every delivery begins to push.
-const TRAP_STACK_TOP: u64 = 0xFFFF_FF80_0000_4000;
 
 /// The linear address of the halt loop in the gates' text.
 const HALT_LOOP: u64 = GATE + 474;

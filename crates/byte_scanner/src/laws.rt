@@ -3,7 +3,7 @@
 ghost use Rattle.std.specs.Prelude.{◌≡◌, ℕ, ◌+◌, ◌*◌, ◌<◌, ◌≤◌, List, [], length, slice_index, Option, None, Some, true, false, MatchOption};
 ghost use Rattle.elf_image.specs.Home.{page_size};
 ghost use Rattle.elf_image.specs.Pages.{IsBytesOfPage, IsPageList, is_executable, page_count, pages_of};
-ghost use Rattle.byte_scanner.specs.declared.encoding.Found.{Found as FoundValue};
+ghost use Rattle.byte_scanner.specs.declared.encoding.Found.{Found};
 ghost use Rattle.byte_scanner.specs.FirstFound.{first_found};
 ghost use Rattle.byte_scanner.specs.ImageCode.{code_at};
 ghost use Rattle.byte_scanner.specs.LeastPlace.{IsNowhere};
@@ -35,7 +35,7 @@ pub fn clean_image_law(image: &Image)
 /// least address of all code; behind the last piece there is none.
 pub fn pieces_law()
     ensures nothing { (b : List ℕ) (s : Scanned) → IsBehind s 0 [] → HasScanned b s 0 }
-    ensures fed { (b : List ℕ) (s after : Scanned) (upto at : ℕ) (piece : List ℕ) (found : Option FoundValue)
+    ensures fed { (b : List ℕ) (s after : Scanned) (upto at : ℕ) (piece : List ℕ) (found : Option Found)
         → IsPageList b (pages_of b) → HasScanned b s upto → upto ≤ at → NoCode b upto at
         → IsCode b at piece → Feeds s after at piece found
         → MatchOption found (HasScanned b after (at + length piece)) (λ it. first_found b ≡ Some it) }
@@ -50,7 +50,7 @@ pub fn page_pieces_law()
         → s.end ≤ page_size * slice_index (pages_of b) i }
     ensures passed { (b : List ℕ) (s : Scanned) (i : ℕ) → HasWalked b s i
         → is_executable b (slice_index (pages_of b) i) ≡ false → HasWalked b s (i + 1) }
-    ensures fed { (b : List ℕ) (s after : Scanned) (i : ℕ) (bytes : List ℕ) (found : Option FoundValue)
+    ensures fed { (b : List ℕ) (s after : Scanned) (i : ℕ) (bytes : List ℕ) (found : Option Found)
         → IsPageList b (pages_of b) → HasWalked b s i → i < page_count b
         → is_executable b (slice_index (pages_of b) i) ≡ true
         → IsBytesOfPage b (slice_index (pages_of b) i) bytes

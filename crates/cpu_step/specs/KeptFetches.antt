@@ -5,6 +5,7 @@ use Rattle.nk_bits.specs.declared.control.Control.{Control}
 use Rattle.nk_bits.specs.Translations.{Translations}
 use Rattle.nk_bits.specs.Outcomes.{answered}
 use Rattle.nk_bits.specs.Accesses.{accessed}
+use Rattle.nk_bits.specs.KernelLayout.{body_address}
 use Rattle.page_walk.specs.MemoryAccess.{view_of}
 use Rattle.cpu_step.specs.declared.kept_code.KeptCode.{KeptCode}
 
@@ -14,7 +15,7 @@ pub record IsKeptCode (size : ℕ) (control : Control) (cpl : ℕ) (tlb : Transl
   pub page : code.start % 4096 + code.last ≤ 4080
   pub bound : code.start < 2 ^ 64
   pub inside : code.base + code.last + 16 ≤ size
-  pub elsewhere : cpl ≡ 0 → (code.start + code.last < 0xFFFFFF800000101B) ⊎ (0xFFFFFF800000101B < code.start)
+  pub elsewhere : cpl ≡ 0 → (code.start + code.last < body_address) ⊎ (body_address < code.start)
   pub slots : code.slot + code.last < 16384
   pub fetched : (m : List ℕ) (ahead : ℕ) → ahead ≤ code.last →
       answered (record { first = code.base + ahead; second = 0 }) tlb

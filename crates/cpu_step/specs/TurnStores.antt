@@ -1,8 +1,9 @@
 -- What a turn stores: the bytes of its instruction's one write, and then those of the delivery that it ends in, by the same
 -- cases as the turn. A place is listed with the byte that goes there, whether or not that byte stood there before.
-use Rattle.std.specs.Prelude.{ℕ, ◌+◌, ◌*◌, Bool, true, false, if◌then◌else◌, List, [], ◌++◌, Option, Some, None, Result, Ok, Err}
+use Rattle.std.specs.Prelude.{ℕ, ◌+◌, ◌*◌, Bool, true, false, if◌then◌else◌, List, [], ◌++◌, Option, Some, None, Result, Ok, Err, ◌-◌, ◌/◌}
 use Rattle.nk_bits.specs.Outcomes.{Outcome}
 use Rattle.nk_bits.specs.Translations.{Translations, faulted}
+use Rattle.nk_bits.specs.KernelLayout.{nested_stack_top}
 use Rattle.page_walk.specs.MemoryAccess.{stores_at}
 use Rattle.x86_regs.specs.declared.effects.Act.{Act}
 use Rattle.x86_regs.specs.declared.effects.Act.TheVariants as act
@@ -29,7 +30,7 @@ fault_stores it p m = trap_stores (vector_of it) (error_code_of it) (record p { 
 
 -- the page fault at the body's place
 abbrev pub body_stores : Processor → List ℕ → List (ℕ × ℕ)
-body_stores p m = fault_stores (fault.Page 3 0xFFFFFF8000004FF8) (record p { tlb = faulted p.tlb 0xFFFFFF8000004 }) m
+body_stores p m = fault_stores (fault.Page 3 (nested_stack_top - 8)) (record p { tlb = faulted p.tlb (nested_stack_top / 4096 - 1) }) m
 
 -- the one write of an instruction
 abbrev pub write_stores : Option Write → List (ℕ × ℕ)

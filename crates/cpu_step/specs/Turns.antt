@@ -6,6 +6,7 @@ use Rattle.nk_bits.specs.declared.control.Control.{Control}
 use Rattle.nk_bits.specs.Translations.{Translations, faulted, flushed, invalidated}
 use Rattle.nk_bits.specs.Outcomes.{Outcome, and_then}
 use Rattle.nk_bits.specs.Accesses.{wp_of}
+use Rattle.nk_bits.specs.KernelLayout.{body_address, nested_stack_top}
 use Rattle.page_walk.specs.MemoryAccess.{view_of}
 use Rattle.port_bus.specs.PortWords.{port_byte, console_byte, input_after}
 use Rattle.x86_alu.specs.Flags.{with_flag}
@@ -86,14 +87,14 @@ woken vector p = record p { pending = with_flag (vector - 32) false p.pending; h
 
 -- the supervisor stands at the body's place, offset 27 of the gates' text
 abbrev pub is_at_body : Regs → Bool
-is_at_body regs = regs.cpl == 0 && regs.rip == 0xFFFFFF800000101B
+is_at_body regs = regs.cpl == 0 && regs.rip == body_address
 
 -- the body is to run there where WP is clear; with WP set its first push is a page fault on the nested stack
 abbrev pub enters_body : Processor → Bool
 enters_body p = is_at_body p.regs && not (wp_of p.control.cr0)
 
 abbrev pub refused_body : Processor → List ℕ → Turned
-refused_body p m = fault_raised (fault.Page 3 0xFFFFFF8000004FF8) (record p { tlb = faulted p.tlb 0xFFFFFF8000004 }) m
+refused_body p m = fault_raised (fault.Page 3 (nested_stack_top - 8)) (record p { tlb = faulted p.tlb (nested_stack_top / 4096 - 1) }) m
 
 -- CR0 keeps PE (0), WP (16), NW (29), CD (30) and PG (31); other bits are lost
 abbrev pub kept_in_cr0 : ℕ → ℕ

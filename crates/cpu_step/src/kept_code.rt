@@ -5,6 +5,7 @@ ghost use Rattle.std.specs.Prelude.{◌≡◌, ◌≢◌, ◌⊎◌, ◌+◌, �
 ghost use Rattle.nk_bits.specs.declared.control.Control.{Control};
 ghost use Rattle.nk_bits.specs.Translations.{NamesFramesIn, Translations};
 ghost use Rattle.nk_bits.specs.Outcomes.{refused};
+ghost use Rattle.nk_bits.specs.KernelLayout.{body_address};
 ghost use Rattle.page_walk.specs.MemoryAccess.{view_of};
 ghost use Rattle.x86_decode.specs.Reader.{decoded_of};
 ghost use Rattle.x86_regs.specs.declared.faults.Fault.TheVariants.{General};
@@ -14,9 +15,9 @@ ghost use Rattle.cpu_step.specs.KeptFetches.{IsKeptCode};
 
 use crate::fetch::{LAST_ON_PAGE, is_on_page};
 use crate::memo::form_slot;
-use crate::turn::{BODY, is_at_body};
+use crate::turn::is_at_body;
 use mem_access::kept_frame;
-use nk_bits::{Access, Control, access_law};
+use nk_bits::{Access, BODY, Control, access_law};
 use phys_mem::PhysMem;
 use tlb_model::Tlb;
 use x86_decode::decoding_law;
@@ -67,10 +68,10 @@ pub(crate) fn kept_code(
 /// with one more: on RIP's side of the body's place where that is on the page.
 fn around(rip: u64, cpl: u8) -> (u64, u64)
     requires page { rip % 4096 ≤ 4080 }
-    requires elsewhere { cpl ≡ 0 → rip ≢ 0xFFFFFF800000101B }
+    requires elsewhere { cpl ≡ 0 → rip ≢ body_address }
     ensures page { result.0 / 4096 ≡ rip / 4096 }
     ensures last { result.0 % 4096 + result.1 ≤ 4080 }
-    ensures elsewhere { cpl ≡ 0 → (result.0 + result.1 < 0xFFFFFF800000101B) ⊎ (0xFFFFFF800000101B < result.0) }
+    ensures elsewhere { cpl ≡ 0 → (result.0 + result.1 < body_address) ⊎ (body_address < result.0) }
 {
     let start = rip - rip % 4096;
     let offset = BODY % 4096;

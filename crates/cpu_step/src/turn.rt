@@ -13,16 +13,13 @@ use crate::fetch::{code_on_page, fetch_by_pages, is_on_page};
 use crate::processor::Cpu;
 use crate::stepped::Stepped;
 use mem_access::commit;
-use nk_bits::named_law;
+use nk_bits::{BODY, NESTED_STACK_TOP, named_law};
 use phys_mem::PhysMem;
 use x86_decode::Decoded;
 use x86_regs::{ASKED_NOTHING, Asked, Fault, Regs, Write, bit};
 
-/// Offset 27 of the gates' text, where the nested kernel's body stands.
-pub(crate) const BODY: u64 = 0xFFFF_FF80_0000_101B;
-
 /// Where the body's first push lies, on the nested stack, which isn't writable.
-const BODY_STACK: u64 = 0xFFFF_FF80_0000_4FF8;
+const BODY_STACK: u64 = NESTED_STACK_TOP - 8;
 
 /// Bit 16 of CR0: the supervisor's writes need a writable page (SDM volume 3, 2.5).
 const WP: u8 = 16;

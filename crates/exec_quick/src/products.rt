@@ -19,7 +19,6 @@ use mem_access::Window;
 use nk_bits::Control;
 use phys_mem::PhysMem;
 use tlb_model::Tlb;
-use x86_alu::{divide as quotient_of, multiply as product_of};
 use x86_decode::Op;
 use x86_regs::{RAX, RDX, Regs, next_of, set_place};
 
@@ -77,8 +76,8 @@ fn multiply_by(quick: &Quick, next: u64, regs: &mut Regs, by: u64)
 {
     let signed = is_signed(quick.op);
     let accumulator = regs.general[usize::from(RAX)];
-    let low = product_of(signed, false, quick.width, accumulator, by, regs.flags);
-    let high = product_of(signed, true, quick.width, accumulator, by, regs.flags);
+    let low = x86_alu::multiply(signed, false, quick.width, accumulator, by, regs.flags);
+    let high = x86_alu::multiply(signed, true, quick.width, accumulator, by, regs.flags);
     set_halves(&mut regs.general, quick.width, low.value, high.value);
     regs.flags = low.flags;
     regs.rip = next;
@@ -98,7 +97,7 @@ fn divide_by(quick: &Quick, next: u64, regs: &mut Regs, by: u64) -> bool
     let signed = is_signed(quick.op);
     let high = upper_half(&regs.general, quick.width);
     let low = regs.general[usize::from(RAX)];
-    let Ok(it) = quotient_of(signed, quick.width, high, low, by) else {
+    let Ok(it) = x86_alu::divide(signed, quick.width, high, low, by) else {
         return false;
     };
     set_halves(&mut regs.general, quick.width, it.value, it.rest);

@@ -11,7 +11,7 @@ use Rattle.x86_regs.specs.Operands.{next_of, rax, rsp, with_register, wrapped}
 use Rattle.x86_regs.specs.OperandOutcomes.{going_on}
 use Rattle.x86_regs.specs.Registers.{held}
 use Rattle.nk_body.specs.NestedRecord.{Nested}
-use Rattle.gate_text.specs.Listing.{gate_address}
+use Rattle.nk_bits.specs.KernelLayout.{gate_address}
 use Rattle.gate_state.specs.MachineStates.{MachineState, Opening, nested_of}
 use Rattle.gate_state.proofs.CallThroughStages.{HoldsAt, IsAt, IsGoing, Stage, offset_of, turns_of}
 use Rattle.gate_state.proofs.CallThroughTurn.{IsTurned}

@@ -8,7 +8,7 @@ use Rattle.nk_bits.specs.Outcomes.{Outcome, then_by}
 use Rattle.nk_bits.specs.Translations.{Translations}
 use Rattle.page_walk.specs.MemoryAccess.{view_of}
 use Rattle.gate_text.specs.GatePoints.{instruction_bytes}
-use Rattle.gate_text.specs.Listing.{gate_address}
+use Rattle.nk_bits.specs.KernelLayout.{gate_address}
 use Rattle.x86_alu.specs.SignedNumbers.{bit}
 use Rattle.x86_decode.specs.Reader.{decoded_of}
 use Rattle.x86_decode.specs.declared.instruction.Decoded.TheVariants.{Whole}

@@ -29,7 +29,7 @@ use Rattle.gate_state.proofs.Scene.{AreStores, IsScene, SceneLaws}
 use Rattle.gate_state.proofs.SceneProofsWalks.{kind_is}
 use Rattle.gate_state.proofs.DeliveryGates.{gate_leads, laid_gate, number_from, number_held, stack_is}
 use Rattle.gate_state.proofs.DeliveryReads.{Gives, read_gives, then_gives}
-use Rattle.gate_state.proofs.DeliveryPushes.{IsPushed, pushes_give, stores_kept as kept_by}
+use Rattle.gate_state.proofs.DeliveryPushes.{IsPushed, pushes_give, pushes_kept}
 
 pub record IsDelivery (o : Opening) (ks : List Kind) (m : List ℕ) (regs : Regs) (vector : ℕ) (code : Option ℕ)
     (it : Delivered) (ws : List (ℕ × ℕ)) : Type 0 where
@@ -204,7 +204,7 @@ module _ (laws : LowerLaws) (o : Opening) (ks : List Kind) (scenes : SceneLaws o
   -- stores on the trap stack leave what is guarded
   pub stores_kept : (m : List ℕ) (control : Control) (ws : List (ℕ × ℕ)) → All (λ w. w.0 / 4096 ≡ 3) ws
       → All (λ w. w.1 < 256) ws → IsScene o ks m control → AreStores ks ws
-  stores_kept = kept_by laws o ks scenes
+  stores_kept = pushes_kept laws o ks scenes
 
   pub delivers : (m : List ℕ) (control : Control) (tables : Tables) (regs : Regs) (vector : ℕ) (code : Option ℕ)
       (tlb : Translations)

@@ -13,7 +13,7 @@ use Rattle.nk_bits.specs.Kinds.{is_storable, kind_of}
 use Rattle.nk_bits.specs.Paging.{page_of}
 use Rattle.nk_bits.specs.Translations.{Translations}
 use Rattle.phys_mem.specs.Memory.{stored, stores}
-use Rattle.boot_map.specs.FixedFrames.{trap_stack}
+use Rattle.nk_bits.specs.KernelLayout.{trap_stack}
 use Rattle.boot_map.specs.KernelSlot.{slot_leaf, slot_start, writable}
 use Rattle.page_walk.specs.MemoryAccess.{stores_at, view_of, bytes_written}
 use Rattle.x86_regs.specs.Operands.{lowered}
@@ -61,9 +61,9 @@ module _ (laws : LowerLaws) (o : Opening) (ks : List Kind) (scenes : SceneLaws o
       ap is_storable (kind_is laws o ks scene.admitted scene.kinds_are 3 Trap (omega arith)
       (laws.opening.trap o.image o.frames) refl)
 
-  pub stores_kept : (m : List ℕ) (control : Control) (ws : List (ℕ × ℕ)) → All (λ w. w.0 / 4096 ≡ 3) ws
+  pub pushes_kept : (m : List ℕ) (control : Control) (ws : List (ℕ × ℕ)) → All (λ w. w.0 / 4096 ≡ 3) ws
       → All (λ w. w.1 < 256) ws → IsScene o ks m control → AreStores ks ws
-  stores_kept m control ws places bytes scene = record {
+  pushes_kept m control ws places bytes scene = record {
     places = All-weaker (λ w. w.0 / 4096 ≡ 3) (λ w. is_storable (kind_of ks (w.0 / 4096)) ≡ true)
         (λ w is. ap (λ f. is_storable (kind_of ks f)) is ∙ trap_storable m control scene) ws places;
     bytes = bytes;
@@ -109,7 +109,7 @@ module _ (laws : LowerLaws) (o : Opening) (ks : List Kind) (scenes : SceneLaws o
       → IsPushed o ks m last it ws → IsScene o ks it.memory control
   pushed_scene m control last it ws scene done =
       subst (λ l. IsScene o ks l control) (sym done.memory_is)
-      (scene_stored o ks scenes m control ws scene (stores_kept m control ws done.places done.bytes scene))
+      (scene_stored o ks scenes m control ws scene (pushes_kept m control ws done.places done.bytes scene))
 
   -- pushes after a push
   push_on : (m : List ℕ) (middle last : ℕ) (first : Pushed) (next : ℕ → List ℕ → Translations → Pushed)

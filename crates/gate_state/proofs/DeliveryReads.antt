@@ -12,7 +12,7 @@ use Rattle.nk_bits.specs.Outcomes.{Outcome, and_then, answered, then_by}
 use Rattle.nk_bits.specs.Paging.{page_of}
 use Rattle.nk_bits.specs.Translations.{Translations}
 use Rattle.phys_mem.specs.Memory.{number_at}
-use Rattle.boot_map.specs.FixedFrames.{idt_and_tss, trap_stack}
+use Rattle.nk_bits.specs.KernelLayout.{idt_and_tss, trap_stack}
 use Rattle.boot_map.specs.KernelSlot.{readable, slot_leaf, slot_start, writable}
 use Rattle.page_walk.specs.MemoryAccess.{loaded, value_at, view_of}
 use Rattle.trap_unit.specs.declared.shutdown.Shut.{Shut}

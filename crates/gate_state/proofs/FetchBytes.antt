@@ -21,7 +21,7 @@ use Rattle.page_walk.specs.MemoryAccess.{view_of}
 use Rattle.elf_image.specs.Pages.{IsPageList, byte_of, is_executable, pages_of}
 use Rattle.byte_scanner.specs.ImageCode.{code_at}
 use Rattle.gate_text.specs.Listing.{gate_byte}
-use Rattle.boot_map.specs.FixedFrames.{gate_text}
+use Rattle.nk_bits.specs.KernelLayout.{gate_text}
 use Rattle.boot_map.specs.KernelSlot.{IsCodePage, slot_leaf, slot_start}
 use Rattle.cpu_step.specs.InstructionFetch.{byte_fetched, raised_by_fetch}
 use Rattle.gate_state.specs.GuardedStates.{IsAdmitted}

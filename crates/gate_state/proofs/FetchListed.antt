@@ -18,8 +18,8 @@ use Rattle.x86_decode.specs.declared.instruction.Decoded.TheVariants.{Whole}
 use Rattle.x86_decode.specs.Reader.{decoded_of}
 use Rattle.x86_regs.specs.Operands.{wrapped}
 use Rattle.gate_text.specs.GatePoints.{instruction_bytes, is_point}
-use Rattle.gate_text.specs.Listing.{gate_address, gate_byte}
-use Rattle.boot_map.specs.FixedFrames.{gate_text}
+use Rattle.nk_bits.specs.KernelLayout.{gate_address, gate_text}
+use Rattle.gate_text.specs.Listing.{gate_byte}
 use Rattle.boot_map.specs.KernelSlot.{fetchable, slot_leaf}
 use Rattle.cpu_step.specs.declared.fetch.Fetched.{Fetched}
 use Rattle.cpu_step.specs.InstructionFetch.{byte_fetched, instruction_at, raised_by_fetch}

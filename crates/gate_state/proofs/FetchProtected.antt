@@ -18,7 +18,8 @@ use Rattle.x86_decode.specs.Reader.{decoded_of}
 use Rattle.x86_decode.specs.Spelling.{AreBytes}
 use Rattle.x86_regs.specs.declared.faults.Fault.{Fault}
 use Rattle.x86_regs.specs.Operands.{wrapped}
-use Rattle.gate_text.specs.Listing.{gate_address, gate_byte}
+use Rattle.nk_bits.specs.KernelLayout.{gate_address}
+use Rattle.gate_text.specs.Listing.{gate_byte}
 use Rattle.cpu_step.specs.declared.fetch.Fetched.{Fetched}
 use Rattle.cpu_step.specs.InstructionFetch.{instruction_at}
 use Rattle.gate_state.specs.GuardedStates.{IsAdmitted}

@@ -6,7 +6,7 @@ use Rattle.std.proofs.lemmas.Bool.{and_from, cases_eq, eq-eqb, false≢true, or_
 use Rattle.nk_bits.specs.declared.kind.Kind.{Kind}
 use Rattle.nk_bits.specs.Kinds.{kind_of, level_of}
 use Rattle.nk_bits.specs.Paging.{frame_of, is_present}
-use Rattle.boot_map.specs.FixedFrames.{area_table, image_directory}
+use Rattle.nk_bits.specs.KernelLayout.{area_table, image_directory}
 use Rattle.boot_map.specs.KernelSlot.{IsNamedIn, IsWrittenInSlot}
 use Rattle.page_desc.specs.FrameCounts.{holds_leaves, is_link_to, is_slot_leaf_table, loose_in}
 use Rattle.gate_state.proofs.LowerLaws.{LowerLaws}

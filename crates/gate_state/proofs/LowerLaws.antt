@@ -33,7 +33,7 @@ use Rattle.elf_image.specs.Pages.{IsPageList, byte_of, page_count, pages_of}
 use Rattle.gate_text.specs.GatePoints.{instruction_bytes, is_point}
 use Rattle.gate_text.specs.Listing.{cr0_loads, gate_at, gate_byte}
 use Rattle.boot_map.specs.Division.{IsLayout, division_of, pages_start}
-use Rattle.boot_map.specs.FixedFrames.{area_directory, area_table, gate_text, handler_slot, idt_and_tss, image_directory, nested_stack, slot_table, trap_stack}
+use Rattle.nk_bits.specs.KernelLayout.{area_directory, area_table, gate_text, handler_slot, idt_and_tss, image_directory, nested_stack, slot_table, trap_stack}
 use Rattle.boot_map.specs.KernelSlot.{HoldsSlot, IsCodePage, IsWrittenInSlot, slot_leaf, slot_start, slot_upper}
 use Rattle.boot_map.specs.Opening.{IsOpening}
 use Rattle.boot_map.specs.OpeningKinds.{kind_at, kinds}

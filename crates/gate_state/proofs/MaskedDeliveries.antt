@@ -25,7 +25,7 @@ use Rattle.gate_state.specs.MachineStates.{Opening}
 use Rattle.gate_state.specs.RespectedKinds.{respecting}
 use Rattle.gate_state.proofs.Delivery.{entry_gives}
 use Rattle.gate_state.proofs.DeliveryGates.{laid_gate, number_from, stack_is}
-use Rattle.gate_state.proofs.DeliveryPushes.{IsPushed, push_gives, stores_kept}
+use Rattle.gate_state.proofs.DeliveryPushes.{IsPushed, push_gives, pushes_kept}
 use Rattle.gate_state.proofs.LowerLaws.{LowerLaws}
 use Rattle.gate_state.proofs.MaskLaws.{MaskLaws}
 use Rattle.gate_state.proofs.MaskedScenes.{IsSeen, alike, seen_stored}
@@ -104,7 +104,7 @@ module _ (laws : LowerLaws) (masks : MaskLaws) (o : Opening) (ks : List Kind) (s
       → IsSeen o ks m n control → IsPushed o ks n last one ws → IsFirst m one other ws vs
       → IsSeen o ks other.memory one.memory control
   first_seen control m n last one other ws vs seen done first =
-      let are : AreStores ks ws = stores_kept laws o ks scenes n control ws done.places done.bytes seen.scene in
+      let are : AreStores ks ws = pushes_kept laws o ks scenes n control ws done.places done.bytes seen.scene in
       subst (λ (x : List ℕ). IsSeen o ks x one.memory control) (sym first.memory)
       (subst (λ (x : List ℕ). IsSeen o ks (stored m ws) x control) (sym done.memory_is)
       (seen_stored laws masks o ks m n control seen scenes ws are))

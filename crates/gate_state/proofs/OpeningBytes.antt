@@ -9,7 +9,8 @@ use Rattle.elf_image.specs.Segments.{loads}
 use Rattle.boot_map.specs.declared.part.Part.{Part}
 use Rattle.boot_map.specs.declared.part.Part.TheVariants.{IdtAndTss, GateText, HandlerSlot, ImagePage}
 use Rattle.boot_map.specs.Division.{Division, division_of}
-use Rattle.boot_map.specs.Opening.{division_byte, byte_of_number, byte_of_part, entry_byte, gate_of, gate_target, gate_type, halt_loop, handler_byte, idt_and_tss_byte, trap_stack_top}
+use Rattle.nk_bits.specs.KernelLayout.{trap_stack_top}
+use Rattle.boot_map.specs.Opening.{division_byte, byte_of_number, byte_of_part, entry_byte, gate_of, gate_target, gate_type, halt_loop, handler_byte, idt_and_tss_byte}
 use Rattle.boot_map.specs.OpeningEntries.{entry_of_part, table_level}
 use Rattle.boot_map.specs.Parts.{part_at}
 use Rattle.gate_state.proofs.LowerLaws.{CodeLaws}

@@ -10,7 +10,7 @@ use Rattle.nk_bits.specs.Kinds.{allows, is_storable, kind_of}
 use Rattle.nk_bits.specs.Paging.{is_slot_page}
 use Rattle.elf_image.specs.Pages.{is_executable, is_writable, pages_of}
 use Rattle.boot_map.specs.Division.{division_of, pages_start}
-use Rattle.boot_map.specs.FixedFrames.{gate_text, handler_slot, idt_and_tss, nested_stack, trap_stack}
+use Rattle.nk_bits.specs.KernelLayout.{gate_text, handler_slot, idt_and_tss, nested_stack, trap_stack}
 use Rattle.boot_map.specs.KernelSlot.{area_leaf, fetchable, image_leaf, readable, slot_leaf, slot_start, writable}
 use Rattle.gate_state.specs.GuardedStates.{IsCr0}
 use Rattle.gate_state.specs.MachineStates.{Opening}

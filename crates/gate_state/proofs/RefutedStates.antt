@@ -20,7 +20,7 @@ use Rattle.cpu_step.specs.TurnStores.{turn_stores}
 use Rattle.cpu_step.specs.Turns.{trapped, turned}
 use Rattle.nk_body.specs.NestedRecord.{Ledger}
 use Rattle.gate_text.specs.GatePoints.{is_point}
-use Rattle.gate_text.specs.Listing.{gate_address}
+use Rattle.nk_bits.specs.KernelLayout.{gate_address}
 use Rattle.gate_state.specs.GuardedStates.{IsGuarded}
 use Rattle.gate_state.specs.MachineStates.{MachineState, Opening}
 use Rattle.gate_state.specs.RespectedKinds.{respecting}

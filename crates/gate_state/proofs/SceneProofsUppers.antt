@@ -15,7 +15,7 @@ use Rattle.nk_bits.specs.Paging.{has_all, is_canonical, is_slot_page, page_of, u
 use Rattle.nk_bits.specs.Translations.{Translations}
 use Rattle.nk_bits.specs.UpperEntries.{KeptEntry, first_of_span, span_of}
 use Rattle.phys_mem.specs.Memory.{entry_in}
-use Rattle.boot_map.specs.FixedFrames.{opening_root}
+use Rattle.nk_bits.specs.KernelLayout.{opening_root}
 use Rattle.boot_map.specs.KernelSlot.{slot_leaf, slot_upper}
 use Rattle.boot_map.specs.OpeningEntries.{opening_entry}
 use Rattle.page_desc.specs.PageTables.{HoldsSoundTables}

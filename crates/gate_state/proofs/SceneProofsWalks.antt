@@ -15,7 +15,7 @@ use Rattle.nk_bits.specs.Paging.{is_canonical, is_slot_page, page_of, walk, walk
 use Rattle.nk_bits.specs.Translations.{NamesFramesIn, Translations}
 use Rattle.nk_bits.specs.UpperEntries.{KeptEntry, serves_page, span_of}
 use Rattle.phys_mem.specs.Memory.{entry_in}
-use Rattle.boot_map.specs.FixedFrames.{gate_text}
+use Rattle.nk_bits.specs.KernelLayout.{gate_text}
 use Rattle.boot_map.specs.KernelSlot.{IsCodePage, slot_leaf, slot_start}
 use Rattle.boot_map.specs.OpeningKinds.{kind_at, kinds}
 use Rattle.page_desc.specs.PageTables.{HoldsSoundTables}

@@ -5,7 +5,7 @@ use Rattle.std.proofs.lemmas.Bool.{and_parts, eqb-true, false≢true}
 use Rattle.nk_bits.specs.Accesses.{wp_of}
 use Rattle.cpu_step.specs.Processor.{Processor}
 use Rattle.cpu_step.specs.Turns.{enters_body, is_at_body}
-use Rattle.gate_text.specs.Listing.{gate_address}
+use Rattle.nk_bits.specs.KernelLayout.{gate_address}
 use Rattle.gate_state.specs.GateWindow.{IsAtPoint, IsGatePoint}
 use Rattle.gate_state.specs.MachineOf.{IsAtBody, IsInGates}
 use Rattle.gate_state.proofs.BodyKept.{body_stands}

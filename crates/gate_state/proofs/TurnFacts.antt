@@ -8,7 +8,7 @@ use Rattle.nk_bits.specs.Claims.{AllPass}
 use Rattle.nk_bits.specs.Translations.{Translations}
 use Rattle.page_walk.specs.MemoryAccess.{view_of}
 use Rattle.gate_text.specs.GatePoints.{instruction_bytes, is_point}
-use Rattle.gate_text.specs.Listing.{gate_address}
+use Rattle.nk_bits.specs.KernelLayout.{gate_address}
 use Rattle.trap_unit.specs.DeliveryStores.{delivery_stores}
 use Rattle.trap_unit.specs.TrapDelivery.{at_handler, delivered, interrupt_allowed}
 use Rattle.x86_decode.specs.Conditions.{is_protected}

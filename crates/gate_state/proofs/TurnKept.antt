@@ -10,7 +10,7 @@ use Rattle.nk_bits.specs.Kinds.{is_storable, kind_of}
 use Rattle.nk_bits.specs.Outcomes.{Outcome, then_by}
 use Rattle.nk_bits.specs.Translations.{faulted}
 use Rattle.page_walk.specs.MemoryAccess.{view_of}
-use Rattle.gate_text.specs.Listing.{gate_address}
+use Rattle.nk_bits.specs.KernelLayout.{gate_address}
 use Rattle.x86_decode.specs.WellFormed.{IsWellFormed}
 use Rattle.x86_regs.specs.declared.effects.Effect.{Effect}
 use Rattle.x86_regs.specs.declared.faults.Fault.{Fault}

@@ -10,7 +10,7 @@ use Rattle.nk_bits.specs.Kinds.{is_storable, kind_of}
 use Rattle.nk_bits.specs.Outcomes.{Outcome}
 use Rattle.page_walk.specs.MemoryAccess.{view_of}
 use Rattle.gate_text.specs.GatePoints.{is_point}
-use Rattle.gate_text.specs.Listing.{gate_address}
+use Rattle.nk_bits.specs.KernelLayout.{gate_address}
 use Rattle.trap_unit.specs.TrapDelivery.{at_handler, codes_of, delivered}
 use Rattle.x86_alu.specs.SignedNumbers.{bit}
 use Rattle.x86_regs.specs.Combinations.{interrupt_flag}

@@ -20,8 +20,7 @@ use Rattle.cpu_step.specs.Turns.{Turned, enters_body, turned}
 use Rattle.gate_state.specs.declared.moves.Move.{Move}
 use Rattle.gate_state.specs.GuardedStates.{IsGuarded}
 use Rattle.gate_state.specs.MachineStates.{MachineState, Opening, nested_of}
-use Rattle.gate_state.specs.MachineSteps.{after_event, after_reading, after_turn, answer_in, answered_with, call_in, move_of, nested_after, next, next_by, served, source_of, turn_of}
-use Rattle.gate_state.specs.MachineSteps.{wanted as wanted_in}
+use Rattle.gate_state.specs.MachineSteps.{after_event, after_reading, after_turn, answer_in, answered_with, call_in, move_of, nested_after, next, next_by, served, source_of, turn_of, wanted}
 use Rattle.gate_state.specs.SourceBytes.{SourceRead, source_through, source_read, source_with, tlb_by}
 use Rattle.gate_state.specs.WholeMachine.{IsWhole}
 
@@ -70,15 +69,15 @@ module _ (keep : KeepLength) (o : Opening) (s : MachineState) (own : OwnState) (
   module _ (read : (m : List ℕ) (va count : ℕ) → masked (is_book_frame o.frames) m ≡ s.memory
       → source_read m s.processor.control.root s.processor.tlb va count
       ≡ source_read s.memory s.processor.control.root s.processor.tlb va count) where
-    pub source_seen : (va : ℕ) (wanted : Option ℕ)
-        → source_through m s.processor.control.root s.processor.tlb va wanted
-        ≡ source_through s.memory s.processor.control.root s.processor.tlb va wanted
+    pub source_seen : (va : ℕ) (asked_for : Option ℕ)
+        → source_through m s.processor.control.root s.processor.tlb va asked_for
+        ≡ source_through s.memory s.processor.control.root s.processor.tlb va asked_for
     source_seen va None = refl
     source_seen va (Some count) = ap (λ (it : SourceRead). source_with it.bytes) (read m va count masked_is)
 
-    pub tlb_seen : (va : ℕ) (wanted : Option ℕ)
-        → tlb_by m s.processor.control.root s.processor.tlb va wanted
-        ≡ tlb_by s.memory s.processor.control.root s.processor.tlb va wanted
+    pub tlb_seen : (va : ℕ) (asked_for : Option ℕ)
+        → tlb_by m s.processor.control.root s.processor.tlb va asked_for
+        ≡ tlb_by s.memory s.processor.control.root s.processor.tlb va asked_for
     tlb_seen va None = refl
     tlb_seen va (Some count) = ap (λ (it : SourceRead). it.tlb) (read m va count masked_is)
 
@@ -167,12 +166,12 @@ module _ (keep : KeepLength) (o : Opening) (was : Processor) (m : List ℕ) (own
   }
 
 -- the state after the body
-module _ (s : MachineState) (books after : Books) (m : List ℕ) (call : CallWords) (wanted : Option ℕ) (source : Sourced) (answer : Answer) (root : ℕ)
+module _ (s : MachineState) (books after : Books) (m : List ℕ) (call : CallWords) (asked_for : Option ℕ) (source : Sourced) (answer : Answer) (root : ℕ)
     (read p : Processor)
     (kinds_are : books.frames.kinds ≡ s.kinds) (root_is : books.root ≡ s.processor.control.root) (ledger_is : books.ledger ≡ s.ledger)
-    (call_is : call ≡ call_in s.processor.regs) (wanted_is : wanted ≡ wants books.ledger.book call)
-    (source_is : source ≡ source_through s.memory s.processor.control.root s.processor.tlb call.c wanted)
-    (read_is : read ≡ record s.processor { tlb = tlb_by s.memory s.processor.control.root s.processor.tlb call.c wanted })
+    (call_is : call ≡ call_in s.processor.regs) (wanted_is : asked_for ≡ wants books.ledger.book call)
+    (source_is : source ≡ source_through s.memory s.processor.control.root s.processor.tlb call.c asked_for)
+    (read_is : read ≡ record s.processor { tlb = tlb_by s.memory s.processor.control.root s.processor.tlb call.c asked_for })
     (answer_is : answer ≡ answer_to (nested_by books s.memory) call source)
     (record_is : nested_by after m ≡ after_call (nested_by books s.memory) call source (stand_of (nested_by books s.memory) call s.memory))
     (memory_is : m ≡ memory_after_call (nested_by books s.memory) call source s.memory)
@@ -180,7 +179,7 @@ module _ (s : MachineState) (books after : Books) (m : List ℕ) (call : CallWor
   before : nested_by books s.memory ≡ nested_of s
   before = λ i. nested_in (kinds_are i) (root_is i) (ledger_is i) s.memory
 
-  wanted_now : wanted ≡ wanted_in s
+  wanted_now : asked_for ≡ wanted s
   wanted_now = wanted_is ∙ (λ i. wants (ledger_is i).book (call_is i))
 
   pub source_now : source ≡ source_of s

@@ -26,7 +26,7 @@ use Rattle.cpu_step.specs.declared.fetch.Fetched.{Fetched}
 use Rattle.cpu_step.specs.Processor.{Processor}
 use Rattle.cpu_step.specs.Turns.{kept_in_cr0}
 use Rattle.gate_text.specs.GatePoints.{instruction_bytes, is_point}
-use Rattle.gate_text.specs.Listing.{gate_address}
+use Rattle.nk_bits.specs.KernelLayout.{gate_address}
 use Rattle.gate_state.specs.GateWindow.{IsAtPoint, IsGatePoint, holds_at}
 use Rattle.gate_state.specs.GuardedStates.{IsControlled, IsCr0}
 use Rattle.gate_state.specs.MachineStates.{Opening}

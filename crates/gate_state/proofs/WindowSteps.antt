@@ -17,7 +17,7 @@ use Rattle.x86_regs.specs.Registers.{held, written}
 use Rattle.cpu_step.specs.Processor.{Processor}
 use Rattle.cpu_step.specs.Turns.{kept_in_cr0}
 use Rattle.gate_text.specs.GatePoints.{is_point}
-use Rattle.gate_text.specs.Listing.{gate_address}
+use Rattle.nk_bits.specs.KernelLayout.{gate_address}
 use Rattle.gate_state.specs.GateWindow.{IsAtPoint, has_rax, holds_at}
 use Rattle.gate_state.specs.GuardedStates.{IsControlled}
 use Rattle.gate_state.specs.WindowLeft.{left, left_at}

@@ -7,7 +7,7 @@ use Rattle.x86_regs.specs.Operands.{rax, rdx, rsp}
 use Rattle.irq_plan.specs.declared.event.Event.{Event}
 use Rattle.cpu_step.specs.Processor.{Processor}
 use Rattle.cpu_step.specs.Turns.{enters_body}
-use Rattle.gate_text.specs.Listing.{gate_address}
+use Rattle.nk_bits.specs.KernelLayout.{gate_address}
 use Rattle.gate_state.specs.MachineStates.{MachineState, nested_of}
 use Rattle.gate_state.specs.MachineSteps.{answer_in, call_in, move_of, state}
 use Rattle.gate_state.specs.WholeMachine.{is_rest}

@@ -2,6 +2,7 @@
 use Rattle.std.specs.Prelude.{ℕ, ◌*◌, List, [], ◌∷◌, map}
 use Rattle.std.specs.List.{range_with_len}
 use Rattle.nk_bits.specs.declared.control.Control.{Control}
+use Rattle.nk_bits.specs.KernelLayout.{area_start, opening_root, trap_stack_top, tss_address}
 use Rattle.x86_regs.specs.declared.delivery.Tables.{Tables}
 use Rattle.x86_regs.specs.declared.registers.Regs.{Regs}
 use Rattle.elf_image.specs.Pages.{entry_of}
@@ -19,7 +20,7 @@ opening_memory o = map (division_byte o.image o.frames) (range_with_len 0 (4096 
 -- RSP is the top of the trap stack, RDI the number of the first free frame, RSI the number of frames
 abbrev pub opening_regs : Opening → Regs
 opening_regs o = record {
-  general = 0 ∷ 0 ∷ 0 ∷ 0 ∷ 0xFFFFFF8000004000 ∷ 0 ∷ o.frames ∷ need o.image o.frames
+  general = 0 ∷ 0 ∷ 0 ∷ 0 ∷ trap_stack_top ∷ 0 ∷ o.frames ∷ need o.image o.frames
       ∷ 0 ∷ 0 ∷ 0 ∷ 0 ∷ 0 ∷ 0 ∷ 0 ∷ 0 ∷ [];
   rip = entry_of o.image;
   flags = 2;
@@ -29,11 +30,11 @@ opening_regs o = record {
 
 -- CR0 has PG, WP and PE; CR4 SMEP and PAE; EFER NXE, LMA and LME; the root is the opening's
 abbrev pub opening_control : Control
-opening_control = record { cr0 = 0x80010001; cr2 = 0; root = 5; cr4 = 0x100020; efer = 0xD00 }
+opening_control = record { cr0 = 0x80010001; cr2 = 0; root = opening_root; cr4 = 0x100020; efer = 0xD00 }
 
 -- the interrupt descriptor table with 48 gates, and the task-state segment
 abbrev pub opening_tables : Tables
-opening_tables = record { idt = 0xFFFFFF8000000000; limit = 767; tss = 0xFFFFFF8000000400 }
+opening_tables = record { idt = area_start; limit = 767; tss = tss_address }
 
 -- the machine as a run begins, with these bytes of input
 abbrev pub opening_state : Opening → List ℕ → MachineState

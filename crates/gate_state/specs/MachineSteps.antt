@@ -4,6 +4,7 @@ use Rattle.nk_bits.specs.declared.call.Answer.{Answer}
 use Rattle.nk_bits.specs.declared.call.CallWords.{CallWords}
 use Rattle.nk_bits.specs.declared.rule.Rule.{Rule}
 use Rattle.nk_bits.specs.Translations.{flushed}
+use Rattle.nk_bits.specs.KernelLayout.{exit_address}
 use Rattle.irq_plan.specs.declared.event.Event.{Event}
 use Rattle.irq_plan.specs.declared.event.What.{What}
 use Rattle.x86_regs.specs.declared.registers.Regs.{Regs}
@@ -60,7 +61,7 @@ with_place (Some place) general = with_register general rdx place
 -- go where the answer says so
 abbrev pub answered_with : Answer → ℕ → Processor → Processor
 answered_with answer root p = record p {
-  regs = record p.regs { general = with_place answer.place (with_register p.regs.general 9 answer.value); rip = 0xFFFFFF800000101D };
+  regs = record p.regs { general = with_place answer.place (with_register p.regs.general 9 answer.value); rip = exit_address };
   control = record p.control { root = root };
   tlb = if answer.flush then flushed else p.tlb;
 }

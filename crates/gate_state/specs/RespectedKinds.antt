@@ -9,6 +9,7 @@ use Rattle.nk_bits.specs.Claims.{Claim}
 use Rattle.nk_bits.specs.Kinds.{allows, is_storable, kind_of, level_of}
 use Rattle.nk_bits.specs.Paging.{has_all, is_slot_page}
 use Rattle.nk_bits.specs.UpperEntries.{KeptEntry, first_of_span}
+use Rattle.nk_bits.specs.KernelLayout.{gate_text}
 use Rattle.boot_map.specs.KernelSlot.{slot_leaf, slot_upper}
 use Rattle.gate_state.specs.MachineStates.{Opening}
 
@@ -39,7 +40,7 @@ is_leaf (Some laid) leaf =
 abbrev pub fits_kind : List Kind → Leaf → Bool
 fits_kind kinds leaf =
     (not leaf.rights.can_write || is_storable (kind_of kinds leaf.frame))
-    && (not leaf.rights.exec || (leaf.frame == 1 || is_code (kind_of kinds leaf.frame)))
+    && (not leaf.rights.exec || (leaf.frame == gate_text || is_code (kind_of kinds leaf.frame)))
 
 -- the translation of a page respects the kinds: outside the slot the kind of the frame allows its rights, which a kind does
 -- for frames in memory alone

@@ -5,19 +5,16 @@ ghost use Rattle.boot_map.specs.Division.{IsLayout};
 ghost use Rattle.cpu_step.specs.Processor.{started};
 ghost use Rattle.gate_state.specs.MachineOpening.{opening_control, opening_regs, opening_tables};
 
-use boot_map::{Layout, OPENING_ROOT};
+use boot_map::Layout;
 use cpu_step::Cpu;
 use elf_image::Image;
-use nk_bits::Control;
+use nk_bits::{AREA_START, Control, OPENING_ROOT, TRAP_STACK_TOP, TSS_ADDRESS};
 use std::alloc::Global;
 use x86_regs::{Regs, Tables};
 
 /// There is no room for the processor's translations, or for the bytes that are read for a call.
 #[derive(Clone, Copy, Debug, PartialEq, Eq)]
 pub struct NoMemory;
-
-/// The top of the trap stack.
-const STACK_TOP: u64 = 0xFFFF_FF80_0000_4000;
 
 /// Bit 1 of RFLAGS is always set (SDM volume 1, 3.4.3).
 const FLAGS: u64 = 2;
@@ -34,13 +31,8 @@ const CR4: u64 = 0x10_0020;
 /// NXE, LMA and LME.
 const EFER: u64 = 0xD00;
 
-/// Where the descriptors of traps stand, of 16 bytes each, and the greatest offset of a byte of them.
-const IDT: u64 = 0xFFFF_FF80_0000_0000;
-
+/// The greatest offset of a byte of the descriptors of traps, which are 48 of 16 bytes each.
 const IDT_LIMIT: u16 = 767;
-
-/// Where the task-state segment stands.
-const TSS: u64 = 0xFFFF_FF80_0000_0400;
 
 /// The registers as a run begins: the entry, the trap stack's top, the first free frame and the number of frames.
 fn opening_regs(image: &Image, layout: &Layout) -> Regs
@@ -49,10 +41,9 @@ fn opening_regs(image: &Image, layout: &Layout) -> Regs
 {
     let frames = u64::from(layout.frames());
     let free = u64::from(layout.first_free());
+    let top = TRAP_STACK_TOP;
     Regs {
-        general: [
-            0, 0, 0, 0, STACK_TOP, 0, frames, free, 0, 0, 0, 0, 0, 0, 0, 0,
-        ],
+        general: [0, 0, 0, 0, top, 0, frames, free, 0, 0, 0, 0, 0, 0, 0, 0],
         rip: image.entry(),
         flags: FLAGS,
         cpl: 0,
@@ -78,9 +69,9 @@ fn opening_tables() -> Tables
     ensures { result ≡ opening_tables }
 {
     Tables {
-        idt: IDT,
+        idt: AREA_START,
         limit: IDT_LIMIT,
-        tss: TSS,
+        tss: TSS_ADDRESS,
     }
 }
 

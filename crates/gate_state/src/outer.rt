@@ -1,6 +1,7 @@
 //! The outer kernel's machine: WP is set.
 
 ghost use Rattle.std.specs.Prelude.{◌≡◌, ◌<◌, true, false, IfOk, None, [], length, ◌*◌};
+ghost use Rattle.nk_bits.specs.KernelLayout.{opening_root};
 ghost use Rattle.boot_map.specs.Division.{IsLayout};
 ghost use Rattle.boot_map.specs.Opening.{IsOpening};
 ghost use Rattle.boot_map.specs.OpeningKinds.{kinds};
@@ -68,7 +69,7 @@ impl<'i> OuterMachine<'i> {
         requires layout { IsLayout image.now layout.now }
         requires opening { IsOpening image.now layout.now.frames (seen mem) }
         requires kinds { kinds_in mem ≡ kinds image.now layout.now.frames }
-        requires root { kernel.root ≡ 5 }
+        requires root { kernel.root ≡ opening_root }
         requires ledger { (books_in kernel mem).ledger ≡ opening_ledger }
         requires books { HoldsBooks kernel mem }
         requires clean { first_found image.now ≡ None }

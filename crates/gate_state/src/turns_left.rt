@@ -3,13 +3,11 @@
 ghost use Rattle.std.specs.Prelude.{◌≡◌, ◌-◌};
 ghost use Rattle.x86_alu.specs.SignedNumbers.{bit};
 ghost use Rattle.x86_regs.specs.Combinations.{interrupt_flag};
-ghost use Rattle.gate_text.specs.Listing.{gate_address};
+ghost use Rattle.nk_bits.specs.KernelLayout.{gate_address};
 ghost use Rattle.gate_state.specs.WindowLeft.{left_at, left_with};
 
+use nk_bits::GATE;
 use x86_regs::{Regs, bit};
-
-/// The address of the gates' text.
-const GATES: u64 = 0xFFFF_FF80_0000_1000;
 
 /// Bit 9 of the flags: interrupts are delivered (SDM volume 3, 2.3).
 const IF: u8 = 9;
@@ -18,7 +16,7 @@ const IF: u8 = 9;
 pub(crate) fn left(regs: &Regs) -> u8
     ensures left { result ≡ left_at (regs.now.rip - gate_address) (bit regs.now.flags interrupt_flag) }
 {
-    left_at(regs.rip.saturating_sub(GATES), bit(regs.flags, IF))
+    left_at(regs.rip.saturating_sub(GATE), bit(regs.flags, IF))
 }
 
 /// The row of an offset of the gates' text.

@@ -24,7 +24,7 @@ use boot_map::Layout;
 use cpu_step::{Cpu, Stepped};
 use elf_image::Image;
 use irq_plan::{Event, Plan, What};
-use nk_bits::{Answer, CallWords};
+use nk_bits::{Answer, CallWords, EXIT};
 use nk_body::{Kernel, held_law};
 use phys_mem::{PhysMem, mask_law};
 use std::marker::Model;
@@ -363,9 +363,6 @@ fn call_in(regs: &Regs) -> CallWords
     }
 }
 
-/// Where the exit gate goes on behind the body.
-const BEHIND_BODY: u64 = 0xFFFF_FF80_0000_101D;
-
 /// The processor behind the body: R9 has the answer, RDX the place of a region, if one was placed.
 fn answer_with(cpu: &mut Cpu, answer: &Answer, root: u32)
     ensures { cpu.new ≡ answered_with answer.now root cpu.old }
@@ -374,7 +371,7 @@ fn answer_with(cpu: &mut Cpu, answer: &Answer, root: u32)
     if let Some(place) = answer.place {
         cpu.set_reg(2, place);
     }
-    cpu.set_rip(BEHIND_BODY);
+    cpu.set_rip(EXIT);
     cpu.set_root(root);
     if answer.flush {
         cpu.tlb_mut().flush();

@@ -3,14 +3,6 @@ use Rattle.std.specs.Prelude.{ℕ, ◌+◌, ◌-◌, ◌*◌, Bool, ◌&&◌, na
 use Rattle.std.specs.List.{flat_map, range_with_len}
 use Rattle.std.specs.Int.{to_le_bytes, w32}
 
--- the linear address of the text, at which the outer kernel calls
-abbrev pub gate_address : ℕ
-gate_address = 0xFFFFFF8000001000
-
--- the linear address at which the nested kernel does its work
-abbrev pub body_address : ℕ
-body_address = 0xFFFFFF800000101B
-
 -- a row of the listing: an offset, and the bytes that stand from it on
 pub record ListingRow : Type 0 where
   pub offset : ℕ

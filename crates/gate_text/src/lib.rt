@@ -6,7 +6,7 @@
 
 mod text;
 
-pub use text::{BODY, GATE, byte, is_point, listing_law};
+pub use text::{byte, is_point, listing_law};
 
 #[cfg(test)]
 mod tests;

@@ -24,9 +24,8 @@ fn exit_gate_sets_wp_again(rt: HostRuntime) {
 
 #[test]
 fn body_is_an_instruction_of_its_own(rt: HostRuntime) {
-    let body = (BODY - GATE) as usize;
-    assert_eq!(rt; byte(body), 0x0F);
-    assert_eq!(rt; byte(body + 1), 0x0B);
+    assert_eq!(rt; byte(27), 0x0F);
+    assert_eq!(rt; byte(28), 0x0B);
 }
 
 /// Fourteen in the gates, and two in each of the sixteen stubs of interrupts.

@@ -1,4 +1,5 @@
 -- What a reader must believe.
+pub mod KernelLayout
 pub mod Paging
 pub mod EntryForms
 pub mod Kinds

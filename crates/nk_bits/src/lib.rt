@@ -10,6 +10,9 @@ mod address;
 mod entry;
 mod leaf;
 
+// Where the nested kernel stands.
+mod layout;
+
 // Kinds of frames, and accesses to them.
 mod access;
 mod control;
@@ -35,6 +38,11 @@ pub use kind::Kind;
 pub use laws::{
     access_law, kept_law, kind_law, named_law, span_law, table_law, translation_law, upper_law,
     walk_law,
+};
+pub use layout::{
+    AREA_DIRECTORY, AREA_START, AREA_TABLE, BODY, EXIT, GATE, GATE_TEXT, HANDLER_FRAME,
+    IDT_AND_TSS, IMAGE_DIRECTORY, NESTED_STACK, NESTED_STACK_TOP, OPENING_ROOT, POOL_END,
+    POOL_FRAME, POOL_START, SLOT_TABLE, TRAP_STACK, TRAP_STACK_TOP, TSS_ADDRESS, layout_law,
 };
 pub use leaf::{Leaf, Rights, Target, Upper};
 pub use rule::Rule;

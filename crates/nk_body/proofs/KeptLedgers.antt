@@ -11,7 +11,8 @@ use Rattle.nk_bits.specs.declared.kind.Kind.TheVariants.{Data, Guarded}
 use Rattle.nk_bits.specs.Kinds.{is_data, kind_of}
 use Rattle.policy_book.specs.PolicyRules.{book_by, book_written, log_by, log_written, policy_rule}
 use Rattle.region_book.specs.RegionCalls.{with_one_more, freed, guarded, meets, page_region, pool_region, room}
-use Rattle.region_book.specs.RegionRecords.{IsApart, IsEachOnce, IsRegion, Region, pool_start, region_of}
+use Rattle.nk_bits.specs.KernelLayout.{pool_start}
+use Rattle.region_book.specs.RegionRecords.{IsApart, IsEachOnce, IsRegion, Region, region_of}
 use Rattle.write_log.specs.LogRecords.{log_size, logged}
 use Rattle.nk_body.specs.NestedRecord.{IsLedgerKept, Ledger}
 use Rattle.nk_body.proofs.GuardedFrames.{guarded_stays, guarded_there}

@@ -16,7 +16,7 @@ use Rattle.region_book.specs.RegionRecords.{Book, Region, is_written_in}
 use Rattle.policy_book.specs.PolicyRules.{bounds_of, first_rule, policy_rule}
 use Rattle.write_log.specs.LogRecords.{LogRecord, log_size, logged, room_of}
 use Rattle.nk_body.specs.CallRules.{IsSourceOf, NotTaken, Sourced, Unreadable, source_rule}
-use Rattle.nk_body.specs.CallRules.{Bytes as BytesRead}
+use Rattle.nk_body.specs.CallRules.{Bytes}
 use Rattle.nk_body.proofs.RegionFrames.{found_place}
 
 else_none : (b : Bool) (rule : Rule) (later : Option Rule) → else_rule b rule later ≡ None → (b ≡ false) × (later ≡ None)
@@ -157,10 +157,10 @@ bounds_facts (Some r) offset count is =
 
 -- what was read for it are its bytes
 pub source_facts : (count : ℕ) (source : Sourced) → IsSourceOf (Some count) source → source_rule source ≡ None
-    → (bytes : List ℕ) × (source ≡ BytesRead bytes) × (length bytes ≡ count)
+    → (bytes : List ℕ) × (source ≡ Bytes bytes) × (length bytes ≡ count)
 source_facts count NotTaken is none = absurd is
 source_facts count Unreadable is none = let no : Some BadSource ≡ None = none in cc
-source_facts count (BytesRead bytes) is none = (bytes, refl, is)
+source_facts count (Bytes bytes) is none = (bytes, refl, is)
 
 -- a write that is logged has room in the log
 pub policy_room : (log : List LogRecord) (r : Region) (offset count : ℕ) → policy_rule log r offset count ≡ None → (r.policy == 4) ≡ true

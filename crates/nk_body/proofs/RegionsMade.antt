@@ -14,12 +14,13 @@ use Rattle.page_desc.specs.PageTables.{AreDescribed, is_unguarded}
 use Rattle.policy_book.specs.PolicyRules.{book_written, bounds_of, first_rule, log_written, policy_of, stores_written, write_rule}
 use Rattle.region_book.specs.declared.regions.Granted.{Granted}
 use Rattle.region_book.specs.RegionCalls.{with_one_more, alloc_rule, else_rule, fits_in, fits_region, free_rule, freed, pool_region, room}
-use Rattle.region_book.specs.RegionRecords.{Book, Region, pool_start, region_of, region_stores}
+use Rattle.nk_bits.specs.KernelLayout.{pool_start}
+use Rattle.region_book.specs.RegionRecords.{Book, Region, region_of, region_stores}
 use Rattle.nk_bits.specs.Rules.{rule_of}
 use Rattle.write_log.specs.LogRecords.{LogRecord}
 use Rattle.nk_body.specs.CallMade.{IsMade}
 use Rattle.nk_body.specs.CallRules.{IsSourceOf, NotTaken, Sourced, Unreadable, source_rule, verdict, wants, with_pool, with_write, zeros_of}
-use Rattle.nk_body.specs.CallRules.{Bytes as BytesRead}
+use Rattle.nk_body.specs.CallRules.{Bytes}
 use Rattle.nk_body.specs.NestedRecord.{AreBooks, Books, IsLedgerKept, Nested, nested_by}
 use Rattle.nk_body.proofs.CallNumbers.{made_is, number_7, number_8, number_9, verdict_is, written_7, written_8, written_9}
 use Rattle.nk_body.proofs.CallsMade.{accepted_made, books_of, refused_made}
@@ -103,26 +104,26 @@ module _ (d : Descriptors) (root trap : ℕ) (book after : Book) (log later_log 
   abbrev writing : Nested
   writing = nested_by (books_of d root trap book log) m
 
-  verdict_write : verdict writing call (BytesRead bytes) ≡ write_rule book log call.a call.b (length bytes)
+  verdict_write : verdict writing call (Bytes bytes) ≡ write_rule book log call.a call.b (length bytes)
   verdict_write =
-      verdict_is writing call (BytesRead bytes) ∙ number_9 call.number _ _ _ _ _ _ _ _ _ _ number
+      verdict_is writing call (Bytes bytes) ∙ number_9 call.number _ _ _ _ _ _ _ _ _ _ number
       ∙ ap (λ n. write_rule book log call.a call.b n) (sym count)
 
   pub write_made : DescribedLaw → {A : Type 0} (r : Result A Rule) → rule_of r ≡ write_rule book log call.a call.b (length bytes)
       → OnErr r ((after ≡ book) × (later_log ≡ log) × (later ≡ m)) → OnOk r (after ≡ book_written book call.a call.b (length bytes))
       → OnOk r (later_log ≡ log_written book log call.a call.b bytes)
       → OnOk r (later ≡ stored m (stores_written book call.a call.b bytes))
-      → IsMade (books_of d root trap book log) m call (BytesRead bytes) (rule_of r) (books_of d root trap after later_log) later
+      → IsMade (books_of d root trap book log) m call (Bytes bytes) (rule_of r) (books_of d root trap after later_log) later
   write_made described (Err rule) judged err book_is log_is memory =
-      refused d root trap book after log later_log m later call (BytesRead bytes) are rule (judged ∙ sym verdict_write) err.0 err.1 err.2
+      refused d root trap book after log later_log m later call (Bytes bytes) are rule (judged ∙ sym verdict_write) err.0 err.1 err.2
   write_made described (Ok it) judged err book_is log_is memory =
       let facts = writing_facts (bounds_of (region_of book call.a) call.b (length bytes)) None
       (policy_of log (region_of book call.a) call.b (length bytes)) (sym judged) in
       let live = bounds_facts (region_of book call.a) call.b (length bytes) facts.0 in
       let ws : List (ℕ × ℕ) = stores_written book call.a call.b bytes in
-      accepted_made (books_of d root trap book log) m call (BytesRead bytes) (books_of d root trap after later_log) later
+      accepted_made (books_of d root trap book log) m call (Bytes bytes) (books_of d root trap after later_log) later
       (with_write writing call bytes) (stored m ws) (verdict_write ∙ sym judged)
-      (made_is writing call (BytesRead bytes) _ ∙ number_9 call.number _ _ _ _ _ _ _ _ _ _ number) (written_9 writing call (BytesRead bytes) m number)
+      (made_is writing call (Bytes bytes) _ ∙ number_9 call.number _ _ _ _ _ _ _ _ _ _ number) (written_9 writing call (Bytes bytes) m number)
       refl refl are.trap (λ i. record { book = book_is i; log = log_is i }) memory
       (subst (AreDescribed d root) (sym memory)
       (described d root m ws are.described

@@ -15,7 +15,8 @@ use Rattle.table_rules.specs.ValueRules.{broken}
 use Rattle.vmmu.specs.TableCalls.{declare_rule, declared, entry_rule, entry_written, memory_declared, memory_removed, memory_written, remove_rule, removed, root_loaded, root_rule}
 use Rattle.region_book.specs.RegionCalls.{with_one_more, alloc_rule, fits_in, frames_from, free_rule, freed, guarded, mapped, page_region, pool_region, room}
 use Rattle.region_book.specs.RegionCalls.{pages_rule}
-use Rattle.region_book.specs.RegionRecords.{Book, Region, pool_start, region_of, region_stores}
+use Rattle.nk_bits.specs.KernelLayout.{pool_start}
+use Rattle.region_book.specs.RegionRecords.{Book, Region, region_of, region_stores}
 use Rattle.policy_book.specs.PolicyRules.{book_written, bounds_of, first_rule, log_written, policy_of, stores_written}
 use Rattle.nk_body.specs.NestedRecord.{Ledger, Nested}
 

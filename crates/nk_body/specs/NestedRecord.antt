@@ -5,6 +5,7 @@ use Rattle.phys_mem.specs.Memory.{byte_at, number_at}
 use Rattle.nk_bits.specs.declared.kind.Kind.{Kind}
 use Rattle.nk_bits.specs.declared.kind.Kind.TheVariants.{Guarded, Hidden}
 use Rattle.nk_bits.specs.Kinds.{is_guarded, kind_of}
+use Rattle.nk_bits.specs.KernelLayout.{pool_end, pool_frame}
 use Rattle.page_desc.specs.FrameDescriptors.{Descriptors}
 use Rattle.page_desc.specs.DescriptorBytes.{HoldsDescriptors, descriptors_in, kinds_in}
 use Rattle.page_desc.specs.PageTables.{AreDescribed, Tables, tables_in}
@@ -48,7 +49,7 @@ nested_in kinds root ledger m = record {
 pub record IsLedgerKept (kinds : List Kind) (ledger : Ledger) : Type 0 where
   pub book : IsBook ledger.book
   pub frames : All (λ r. All (λ f. kind_of kinds f ≡ Guarded) r.frames) ledger.book.regions
-  pub pool : (f : ℕ) → 10 ≤ f → f < 26 → kind_of kinds f ≡ Guarded
+  pub pool : (f : ℕ) → pool_frame ≤ f → f < pool_end → kind_of kinds f ≡ Guarded
   pub log : log_size ledger.log ≤ 65536
 
 -- the books of the nested kernel, as plain data

@@ -9,6 +9,7 @@ ghost use Rattle.boot_map.specs.OpeningKinds.{kinds};
 ghost use Rattle.page_desc.specs.DescriptorBytes.{DiffersInDescriptors, HoldsDescriptors, descriptors_in, kinds_in};
 ghost use Rattle.page_desc.specs.FrameDescriptors.{AreCounted};
 ghost use Rattle.nk_bits.specs.Rules.{rule_number, rule_of};
+ghost use Rattle.nk_bits.specs.KernelLayout.{opening_root};
 ghost use Rattle.policy_book.specs.PolicyRules.{bounds_of};
 ghost use Rattle.region_book.specs.RegionCalls.{fits_in};
 ghost use Rattle.region_book.specs.RegionRecords.{region_of};
@@ -19,9 +20,9 @@ ghost use Rattle.nk_body.specs.SourceWords.{opening_ledger, sourced_of};
 
 use crate::laws::{call_law, call_leaves_law, opening_sound_law};
 use crate::source::Source;
-use boot_map::{Layout, OPENING_ROOT, opening_kinds_law};
+use boot_map::{Layout, opening_kinds_law};
 use elf_image::Image;
-use nk_bits::{Answer, CallWords, Kind, Rule, canonical, walk_law};
+use nk_bits::{Answer, CallWords, Kind, OPENING_ROOT, Rule, canonical, walk_law};
 use page_desc::{
     Frames, guarded_law, held_tables_law, page_tables_law, record_walk_law, stored_law,
 };
@@ -107,7 +108,7 @@ impl Kernel {
         ensures seen { seen mem.new ≡ mem.old }
         ensures opening { IsOpening image.now layout.now.frames (seen mem.new) }
         ensures kinds { OnOk result (kinds_in mem.new ≡ kinds image.now layout.now.frames) }
-        ensures root { IfOk result (λ kernel. kernel.root ≡ 5) }
+        ensures root { IfOk result (λ kernel. kernel.root ≡ opening_root) }
         ensures ledger { IfOk result (λ kernel. (books_in kernel mem.new).ledger ≡ opening_ledger) }
         ensures books { IfOk result (λ kernel. HoldsBooks kernel mem.new) }
     {
@@ -515,7 +516,7 @@ fn opened(mem: &mut PhysMem, frames: Frames) -> Kernel
     ensures described { descriptors_in mem.new ≡ descriptors_in mem.old }
     ensures seen { seen mem.new ≡ seen mem.old }
     ensures frames { result.frames ≡ frames }
-    ensures root { result.root ≡ 5 }
+    ensures root { result.root ≡ opening_root }
     ensures trap { result.trap ≡ handler_in (seen mem.new) }
     ensures ledger { (books_in result mem.new).ledger ≡ opening_ledger }
     ensures form { KeepsForm result mem.new }

@@ -7,6 +7,7 @@ ghost use Rattle.nk_bits.specs.declared.call.CallWords.{CallWords};
 ghost use Rattle.nk_bits.specs.declared.kind.Kind.{Kind};
 ghost use Rattle.nk_bits.specs.declared.kind.Kind.TheVariants.{Fixed};
 ghost use Rattle.nk_bits.specs.Kinds.{is_guarded, is_storable, kind_of};
+ghost use Rattle.nk_bits.specs.KernelLayout.{handler_slot};
 ghost use Rattle.elf_image.specs.Pages.{IsPageList, pages_of};
 ghost use Rattle.boot_map.specs.Division.{IsLayout, division_of};
 ghost use Rattle.boot_map.specs.Opening.{IsOpening};
@@ -110,7 +111,7 @@ pub fn call_leaves_law()
 /// Stores in frames that may be stored to leave the record, keep its tables sound, and keep the books.
 pub fn stores_law()
     ensures nested { (kinds : List Kind) (root : ℕ) (ledger : Ledger) (m : List ℕ) (ws : List (ℕ × ℕ))
-        → kind_of kinds 2 ≡ Fixed → All (λ w. is_storable (kind_of kinds (w.0 / 4096)) ≡ true) ws
+        → kind_of kinds handler_slot ≡ Fixed → All (λ w. is_storable (kind_of kinds (w.0 / 4096)) ≡ true) ws
         → nested_in kinds root ledger (stored m ws) ≡ nested_in kinds root ledger m }
     ensures sound { (kinds : List Kind) (root : ℕ) (m : List ℕ) (ws : List (ℕ × ℕ)) → HoldsSoundTables kinds root m
         → All (λ w. is_storable (kind_of kinds (w.0 / 4096)) ≡ true) ws → HoldsSoundTables kinds root (stored m ws) }

@@ -18,7 +18,7 @@ use Rattle.nk_body.specs.CallRules.{Bytes, NotTaken, Sourced, Unreadable, bytes_
 use Rattle.text_lines.specs.Numerals.{numeral}
 use Rattle.text_lines.specs.TextLines.{lines, words}
 use Rattle.report_text.specs.RunLines.{call_line, console_line, delivery_line, ending_line, hex_16, hex_16_word, hex_word, source_word}
-use Rattle.replay_core.specs.JournalLines.{Calls, Ends, Heard, Noted, Passes, call_with, decoded, heard_of, hex_of_16, is_byte, is_code, is_text, is_vector, is_vector_word, least_decimal, least_hex, noted_with, passing, place_of_word, source_of_word}
+use Rattle.replay_core.specs.JournalLines.{Calls, Ends, Heard, Noted, Passes, call_with, decoded, heard_of, hex_of_16, is_byte, is_code_word, is_text, is_vector, is_vector_word, least_decimal, least_hex, noted_with, passing, place_of_word, source_of_word}
 use Rattle.nk_run.proofs.Glyphs.{AreGlyphs, bytes_glyphs, glyphs_digits, glyphs_lower, glyphs_word}
 use Rattle.nk_run.proofs.Splits.{AreWords, IsWord, lines_told, spelled, text_word, told, words_spelled}
 use Rattle.nk_run.proofs.SpelledNumbers.{decimal_back, glyphs_decimal, hex_16_back, hex_16_is, hex_back, hex_digits, numeral_is}
@@ -182,7 +182,7 @@ pub record IsSmallDelivery (it : Delivery) : Type 0 where
   pub rip : it.rip < 2 ^ 64
   pub cr2 : (c : ℕ) × (c < 2 ^ 64) × (it.cr2 ≡ (if it.vector == 14 then Some c else None))
 
-code_back : (code : Option ℕ) → IfSome code (λ code. code < 2 ^ 64) → is_code (hex_word code) ≡ true
+code_back : (code : Option ℕ) → IfSome code (λ code. code < 2 ^ 64) → is_code_word (hex_word code) ≡ true
 code_back None small = refl
 code_back (Some code) small =
     or_right (is_text (codes "-") (digits 16 false code)) (is_some (least_hex (digits 16 false code)))

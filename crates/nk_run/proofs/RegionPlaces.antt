@@ -8,7 +8,8 @@ use Rattle.std.proofs.lemmas.List.Elements.{All-cons, All-nil}
 use Rattle.std.proofs.lemmas.List.Folds.{find_at, list_any_none}
 use Rattle.std.proofs.lemmas.List.FromFn.{get_or-range_with_len}
 use Rattle.std.proofs.lemmas.List.Sums.{passes_at_first}
-use Rattle.region_book.specs.RegionRecords.{Book, IsRegion, Region, byte_place, pool_start, region_of, region_stores}
+use Rattle.nk_bits.specs.KernelLayout.{pool_start}
+use Rattle.region_book.specs.RegionRecords.{Book, IsRegion, Region, byte_place, region_of, region_stores}
 use Rattle.nk_run.proofs.Beside.{frame_at}
 use Rattle.nk_run.proofs.HeldPuts.{hits}
 

@@ -12,7 +12,7 @@ use Rattle.nk_bits.specs.Paging.{page_of, walk}
 use Rattle.irq_plan.specs.declared.event.Event.{Event}
 use Rattle.irq_plan.specs.PlanFile.{plan_of}
 use Rattle.boot_map.specs.Division.{need}
-use Rattle.boot_map.specs.FixedFrames.{opening_root}
+use Rattle.nk_bits.specs.KernelLayout.{opening_root}
 use Rattle.boot_map.specs.OpeningEntries.{opening_entry}
 use Rattle.gate_state.specs.MachineOpening.{opening_memory, opening_state}
 use Rattle.gate_state.specs.MachineStates.{Opening, nested_of}

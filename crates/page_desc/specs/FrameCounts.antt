@@ -8,6 +8,7 @@ use Rattle.nk_bits.specs.declared.kind.Kind.{Kind}
 use Rattle.nk_bits.specs.declared.kind.Kind.TheVariants.{Data, Code, Table, Fixed, Trap, Guarded, Hidden}
 use Rattle.nk_bits.specs.Kinds.{kind_of, level_of}
 use Rattle.nk_bits.specs.Paging.{frame_of, is_present, is_user, grants_writes}
+use Rattle.nk_bits.specs.KernelLayout.{area_table, image_directory}
 
 -- the sum of g over the numbers below n
 unfoldable pub sum_below : ℕ → (ℕ → ℕ) → ℕ
@@ -35,9 +36,10 @@ is_loose e = is_present e && (grants_writes e || is_user e)
 abbrev pub is_loose_leaf : ℕ → ℕ → Bool
 is_loose_leaf frame e = is_loose e && frame_of e == frame
 
--- the frame holds one of the kernel slot's own tables of level 1: it is frame 8, or a present entry of frame 9 names it
+-- the frame holds one of the kernel slot's own tables of level 1: the nested area's, or one that a present entry of the image's
+-- table of level 2 names
 unfoldable pub is_slot_leaf_table : (ℕ → ℕ → ℕ) → ℕ → Bool
-is_slot_leaf_table t frame = frame == 8 || list_any (λ i. is_link_to frame (t 9 i)) (range_with_len 0 512)
+is_slot_leaf_table t frame = frame == area_table || list_any (λ i. is_link_to frame (t image_directory i)) (range_with_len 0 512)
 
 -- the frame holds a table of level 1, whose entries are leaves: it is one by its kind, or one of the kernel slot's own
 unfoldable pub holds_leaves : List Kind → (ℕ → ℕ → ℕ) → ℕ → Bool
@@ -69,9 +71,9 @@ loose_in kinds t frame = count_in (length kinds) 512 (holds_leaves kinds t) (is_
 unfoldable pub links_in : List Kind → (ℕ → ℕ → ℕ) → ℕ → ℕ
 links_in kinds t frame = count_in (length kinds) 512 (holds_links kinds) (is_link_to frame) t
 
--- the kernel slot's tables of level 1 and the table that names them are Fixed: frames 8 and 9, and each frame that a
--- present entry of frame 9 names
+-- the kernel slot's tables of level 1 and the table that names them are Fixed: the nested area's, the image's of level 2, and
+-- each frame that a present entry of this names
 pub record IsSlotFixed (kinds : List Kind) (t : ℕ → ℕ → ℕ) : Type 0 where
-  pub table : kind_of kinds 8 ≡ Fixed
-  pub directory : kind_of kinds 9 ≡ Fixed
-  pub named : (i : ℕ) → i < 512 → is_present (t 9 i) ≡ true → kind_of kinds (frame_of (t 9 i)) ≡ Fixed
+  pub table : kind_of kinds area_table ≡ Fixed
+  pub directory : kind_of kinds image_directory ≡ Fixed
+  pub named : (i : ℕ) → i < 512 → is_present (t image_directory i) ≡ true → kind_of kinds (frame_of (t image_directory i)) ≡ Fixed

@@ -6,6 +6,7 @@ use Rattle.nk_bits.specs.declared.kind.Kind.{Kind}
 use Rattle.nk_bits.specs.declared.kind.Kind.TheVariants.{Data, Code, Table, Fixed, Trap, Guarded, Hidden}
 use Rattle.nk_bits.specs.Kinds.{kind_of, level_of}
 use Rattle.nk_bits.specs.Paging.{frame_of, is_present}
+use Rattle.nk_bits.specs.KernelLayout.{area_directory, area_table, handler_slot, image_directory, slot_table}
 use Rattle.page_desc.specs.FrameCounts.{IsSlotFixed, links_in, loose_in}
 use Rattle.page_desc.specs.FrameDescriptors.{AreCounted, Descriptors}
 use Rattle.page_desc.specs.SoundTables.{AreTables}
@@ -34,7 +35,7 @@ is_unchanging Hidden = false
 
 -- the handler slot: the first eight bytes of frame 2
 abbrev pub is_handler_byte : ℕ → ℕ → Bool
-is_handler_byte f offset = f == 2 && nat_lt offset 8
+is_handler_byte f offset = f == handler_slot && nat_lt offset 8
 
 -- the entries of the frames that are page tables, as memory holds them; 0 for every other frame, and past a table's 512
 -- entries
@@ -80,20 +81,21 @@ is_unguarded kinds place =
 
 -- memory holds sound tables under this root: there is a kind for each frame, no table is of a level above 4, every entry
 -- of every table is lawful, linked or not, the root is of level 4, and the frames of the kernel slot's own tables and of
--- the handler slot are fixed, which is none of these tables; frame 6 leads to frames 7 and 9, and frame 7 to frame 8
+-- the handler slot are fixed, which is none of these tables; the slot's table leads to those of level 2 for the area and for
+-- the image, and the area's table of level 2 to its table of level 1
 pub record HoldsSoundTables (kinds : List Kind) (root : ℕ) (m : List ℕ) : Type 0 where
   pub size : length m ≡ 4096 * length kinds
   pub levels : (f : ℕ) → level_of (kind_of kinds f) ≤ 4
   pub tables : AreTables kinds (entry_in m)
   pub root_level : level_of (kind_of kinds root) ≡ 4
   pub slot : IsSlotFixed kinds (entry_in m)
-  pub handler : kind_of kinds 2 ≡ Fixed
-  pub apart : (i : ℕ) → i < 512 → is_present (entry_in m 9 i) ≡ true → frame_of (entry_in m 9 i) ≢ 2
-  pub slot_root : kind_of kinds 6 ≡ Fixed
-  pub area_root : kind_of kinds 7 ≡ Fixed
-  pub slot_names : (i : ℕ) → i < 512 → is_present (entry_in m 6 i) ≡ true
-      → (frame_of (entry_in m 6 i) ≡ 7) ⊎ (frame_of (entry_in m 6 i) ≡ 9)
-  pub area_names : (i : ℕ) → i < 512 → is_present (entry_in m 7 i) ≡ true → frame_of (entry_in m 7 i) ≡ 8
+  pub handler : kind_of kinds handler_slot ≡ Fixed
+  pub apart : (i : ℕ) → i < 512 → is_present (entry_in m image_directory i) ≡ true → frame_of (entry_in m image_directory i) ≢ handler_slot
+  pub slot_root : kind_of kinds slot_table ≡ Fixed
+  pub area_root : kind_of kinds area_directory ≡ Fixed
+  pub slot_names : (i : ℕ) → i < 512 → is_present (entry_in m slot_table i) ≡ true
+      → (frame_of (entry_in m slot_table i) ≡ area_directory) ⊎ (frame_of (entry_in m slot_table i) ≡ image_directory)
+  pub area_names : (i : ℕ) → i < 512 → is_present (entry_in m area_directory i) ≡ true → frame_of (entry_in m area_directory i) ≡ area_table
 
 -- the descriptors are those of memory's tables: these are sound, and the counts that are carried are counted anew
 pub record AreDescribed (d : Descriptors) (root : ℕ) (m : List ℕ) : Type 0 where

@@ -12,17 +12,11 @@ ghost use Rattle.page_desc.specs.FrameCounts.{holds_leaves, holds_links, is_link
 
 use crate::count::{is_link_level, is_loose, raise};
 use crate::fields::{KIND, LINKS, LOOSE, field, put, word_of};
-use nk_bits::{Entry, Kind};
+use nk_bits::{AREA_TABLE, Entry, IMAGE_DIRECTORY, Kind};
 use phys_mem::PhysMem;
 
 /// The number of entries of a table.
 const ENTRIES: u32 = 512;
-
-/// The kernel slot's table of level 1 for the nested area.
-const AREA_TABLE: u32 = 8;
-
-/// The kernel slot's table of level 2 for the image, whose entries name tables of level 1.
-const IMAGE_DIRECTORY: u32 = 9;
 
 // The level of a table; 0 for every other kind.
 fn level_of(kind: Kind) -> u8

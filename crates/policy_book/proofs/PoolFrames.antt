@@ -8,7 +8,8 @@ use Rattle.std.proofs.lemmas.Bool.{lt-leb}
 use Rattle.std.proofs.lemmas.List.FromFn.{get_or-range_with_len, length-range_with_len}
 use Rattle.std.proofs.lemmas.Option.{same_Some}
 use Rattle.region_book.specs.declared.regions.ShownRegion.{ShownRegion}
-use Rattle.region_book.specs.RegionRecords.{Book, IsBook, IsRegion, Region, pool_frame, pool_start, region_of, shown_region}
+use Rattle.nk_bits.specs.KernelLayout.{pool_frame, pool_start}
+use Rattle.region_book.specs.RegionRecords.{Book, IsBook, IsRegion, Region, region_of, shown_region}
 use Rattle.policy_book.proofs.FoundRegions.{is_sound}
 
 -- every frame of a list is in a memory of so many bytes

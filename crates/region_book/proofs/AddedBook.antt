@@ -3,7 +3,8 @@ use Rattle.std.proofs.Common.{◌≡◌, ℕ, ◌+◌, ◌-◌, ◌*◌, ◌<◌
 use Rattle.std.proofs.lemmas.List.{length-map}
 use Rattle.region_book.specs.declared.row.Row.{Row}
 use Rattle.region_book.specs.RegionCalls.{with_one_more, is_range_taken}
-use Rattle.region_book.specs.RegionRecords.{Book, pool_start}
+use Rattle.nk_bits.specs.KernelLayout.{pool_start}
+use Rattle.region_book.specs.RegionRecords.{Book}
 use Rattle.region_book.specs.RegionRows.{IsHeld, AreRowsKept, bit_in, book_of, first_bit, in_run, region_of_row, region_at}
 use Rattle.region_book.proofs.BookBits.{added_regions}
 use Rattle.region_book.proofs.KeptRows.{IsNew, each_apart, held_more, kept_added, new_held}

@@ -5,7 +5,8 @@ use Rattle.std.proofs.lemmas.Bool.{cases_Bool, cases_order, eq-eqb, eqb-true, ne
 use Rattle.std.proofs.lemmas.List.Elements.{All-cons, All-nil}
 use Rattle.std.proofs.lemmas.List.FromFn.{get_or-range_with_len}
 use Rattle.phys_mem.specs.Memory.{byte_at, stored}
-use Rattle.region_book.specs.RegionRecords.{Book, IsApart, IsBook, IsEachOnce, IsRegion, Region, byte_place, pool_start, region_of, region_stores}
+use Rattle.nk_bits.specs.KernelLayout.{pool_start}
+use Rattle.region_book.specs.RegionRecords.{Book, IsApart, IsBook, IsEachOnce, IsRegion, Region, byte_place, region_of, region_stores}
 use Rattle.region_book.proofs.Found.{find_at, found_place}
 use Rattle.region_book.proofs.RegionReads.{region_sound}
 

@@ -9,7 +9,7 @@ use Rattle.std.proofs.lemmas.List.Quantifiers.{all_pairs_push}
 use Rattle.region_book.specs.declared.row.Row.{Row}
 use Rattle.region_book.specs.RegionBytes.{HasRowForm, HoldsRegions, RegionIndex, bits_in, book_in, row_in}
 use Rattle.region_book.specs.RegionCalls.{with_one_more, is_range_taken}
-use Rattle.region_book.specs.RegionRecords.{pool_start}
+use Rattle.nk_bits.specs.KernelLayout.{pool_start}
 use Rattle.region_book.specs.RegionRows.{AreApart, bit_in, first_bit, in_run, region_of_row, region_at}
 use Rattle.region_book.specs.SlotChanges.{DiffersInSlot}
 use Rattle.region_book.proofs.AddedBook.{added_is, added_kept, new}

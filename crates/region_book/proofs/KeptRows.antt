@@ -9,7 +9,7 @@ use Rattle.std.proofs.lemmas.List.Kept.{AllPairs-filter}
 use Rattle.std.proofs.lemmas.List.Quantifiers.{all_pairs_push}
 use Rattle.std.proofs.lemmas.List.Sums.{count_by-le-length, length-filter}
 use Rattle.region_book.specs.declared.row.Row.{Row}
-use Rattle.region_book.specs.RegionRecords.{pool_start}
+use Rattle.nk_bits.specs.KernelLayout.{pool_start}
 use Rattle.region_book.specs.RegionRows.{AreApart, IsHeld, AreRowsKept, first_bit, moved, row_meets}
 use Rattle.region_book.proofs.Found.{none_any}
 use Rattle.region_book.proofs.ListEdits.{pairs_set}

@@ -8,7 +8,8 @@ use Rattle.std.proofs.lemmas.List.Elements.{All-weaker}
 use Rattle.std.proofs.lemmas.Option.{same_Some}
 use Rattle.phys_mem.specs.MaskedMemory.{is_book_frame}
 use Rattle.region_book.specs.declared.regions.ShownRegion.{ShownRegion}
-use Rattle.region_book.specs.RegionRecords.{Book, IsBook, IsRegion, Region, pool_start, region_of, shown_region}
+use Rattle.nk_bits.specs.KernelLayout.{pool_start}
+use Rattle.region_book.specs.RegionRecords.{Book, IsBook, IsRegion, Region, region_of, shown_region}
 use Rattle.region_book.proofs.Found.{for_some}
 use Rattle.region_book.proofs.RegionReads.{region_sound}
 

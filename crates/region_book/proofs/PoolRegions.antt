@@ -9,7 +9,8 @@ use Rattle.phys_mem.specs.MaskedMemory.{is_book_frame}
 use Rattle.phys_mem.specs.Memory.{stored}
 use Rattle.region_book.specs.declared.row.Row.{Row}
 use Rattle.region_book.specs.RegionCalls.{with_one_more, is_range_taken, meets, pool_region, room}
-use Rattle.region_book.specs.RegionRecords.{Book, IsApart, IsBook, IsRegion, Region, pool_start, region_stores}
+use Rattle.nk_bits.specs.KernelLayout.{pool_start}
+use Rattle.region_book.specs.RegionRecords.{Book, IsApart, IsBook, IsRegion, Region, region_stores}
 use Rattle.region_book.specs.RegionRows.{IsHeld, frames_of_row, region_of_row, row_place, place_of_row, row_stores}
 use Rattle.region_book.proofs.Found.{found_place, none_any}
 use Rattle.region_book.proofs.RowPlaces.{region_stores_is}

@@ -2,7 +2,8 @@
 use Rattle.std.proofs.Common.{◌≡◌, ℕ, ◌+◌, ◌<◌, ◌≤◌, true, false, [], ◌∷◌, length, arith, sym, ◌∙◌, inl, inr}
 use Rattle.std.specs.Prelude.{slice_index}
 use Rattle.std.specs.List.{Contains, sum_by}
-use Rattle.region_book.specs.RegionRecords.{Book, IsBook, IsRegion, Region, pages_of_region, pool_start}
+use Rattle.nk_bits.specs.KernelLayout.{pool_start}
+use Rattle.region_book.specs.RegionRecords.{Book, IsBook, IsRegion, Region, pages_of_region}
 
 pub two_declared_regions_share_no_frame : (one other : Region) (next declared f : ℕ) → one.pooled ≡ false →
     other.pooled ≡ false → Contains one.frames f → Contains other.frames f →

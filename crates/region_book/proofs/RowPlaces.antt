@@ -6,7 +6,8 @@ use Rattle.std.proofs.lemmas.Bool.{cases_Bool}
 use Rattle.std.proofs.lemmas.List.{get_or-take}
 use Rattle.std.proofs.lemmas.List.FromFn.{get_or-range_with_len}
 use Rattle.region_book.specs.declared.row.Row.{Row}
-use Rattle.region_book.specs.RegionRecords.{IsRegion, Region, byte_place, pool_frame, pool_start, region_stores}
+use Rattle.nk_bits.specs.KernelLayout.{pool_frame, pool_start}
+use Rattle.region_book.specs.RegionRecords.{IsRegion, Region, byte_place, region_stores}
 use Rattle.region_book.specs.RegionRows.{IsHeld, frames_of_row, row_place, place_of_row, region_with, row_stores}
 
 -- in the pool the frames follow one another

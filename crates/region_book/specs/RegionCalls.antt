@@ -9,7 +9,8 @@ use Rattle.nk_bits.specs.declared.rule.Rule.{Rule}
 use Rattle.nk_bits.specs.declared.rule.Rule.TheVariants.{BadPolicy, BadRange, BadRegion, NoRoom, NotAllocated, NotData, StillLoose, TooManyRegions}
 use Rattle.nk_bits.specs.Kinds.{is_data, kind_of}
 use Rattle.nk_bits.specs.Paging.{is_canonical, is_canonical_page, walk}
-use Rattle.region_book.specs.RegionRecords.{Book, Region, pool_frame, pool_start, region_of}
+use Rattle.nk_bits.specs.KernelLayout.{pool_frame, pool_start}
+use Rattle.region_book.specs.RegionRecords.{Book, Region, region_of}
 
 -- the rule is the first that is broken, where this is so, and else one of the later rules, if any
 abbrev pub else_rule : Bool → Rule → Option Rule → Option Rule

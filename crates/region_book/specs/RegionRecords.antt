@@ -1,6 +1,7 @@
 -- Protected regions, as plain data: what each is, where its bytes stand, and what a sound book of them is.
 use Rattle.std.specs.Prelude.{◌≡◌, ◌≢◌, ◌⊎◌, ◌<◌, ◌≤◌, ℕ, ◌+◌, ◌-◌, ◌*◌, ◌/◌, ◌%◌, Bool, true, false, ◌&&◌, ◌||◌, ◌==◌, nat_le, nat_lt, if◌then◌else◌, List, [], ◌∷◌, length, map, slice_index, slice_index_or, Option, All, AllPairs}
 use Rattle.std.specs.List.{find, list_any, range_with_len, sum_by}
+use Rattle.nk_bits.specs.KernelLayout.{pool_end, pool_frame, pool_start}
 use Rattle.region_book.specs.declared.regions.ShownRegion.{ShownRegion}
 
 -- a region: its identifier; its policy, 1 to 4; whether it lies in the pool; its first linear address; its size in bytes;
@@ -26,13 +27,6 @@ pub record Book : Type 0 where
   pub regions : List Region
   pub next : ℕ
   pub declared : ℕ
-
--- the pool: 65,536 bytes from this linear address on, in the frames from 10 on
-abbrev pub pool_start : ℕ
-pool_start = 0xFFFFFF8000010000
-
-abbrev pub pool_frame : ℕ
-pool_frame = 10
 
 -- the live region that has an identifier
 abbrev pub region_of : Book → ℕ → Option Region
@@ -67,7 +61,7 @@ abbrev pub IsEachOnce : List ℕ → Type 0
 IsEachOnce frames = AllPairs (λ f g. f ≢ g) frames
 
 -- what holds of each region below a next identifier: it is a range of the pool, in the pool's frames, or whole frames, each
--- once and none of the pool's, which are 10 to 25; written bytes and tail within
+-- once and none of the pool's; written bytes and tail within
 pub record IsRegion (next : ℕ) (r : Region) : Type 0 where
   pub least : 256 ≤ r.id
   pub below : r.id < next
@@ -80,7 +74,7 @@ pub record IsRegion (next : ℕ) (r : Region) : Type 0 where
       × (r.place ≡ (r.first - pool_start) % 4096)
       × (r.frames ≡ range_with_len (pool_frame + (r.first - pool_start) / 4096) ((r.place + r.size + 4095) / 4096))
   pub declared : r.pooled ≡ false → (r.place ≡ 0) × (r.size ≡ 4096 * length r.frames) × IsEachOnce r.frames
-      × All (λ f. (f < 10) ⊎ (26 ≤ f)) r.frames
+      × All (λ f. (f < pool_frame) ⊎ (pool_end ≤ f)) r.frames
 
 -- two regions of the pool don't meet, and two that were declared have no frame in common
 pub record IsApart (one other : Region) : Type 0 where

@@ -3,7 +3,8 @@ use Rattle.std.specs.Prelude.{◌≡◌, ◌⊎◌, ◌≤◌, ℕ, ◌+◌, ◌
 use Rattle.std.specs.List.{find, range_with_len}
 use Rattle.region_book.specs.declared.row.Row.{Row}
 use Rattle.region_book.specs.RegionCalls.{meets}
-use Rattle.region_book.specs.RegionRecords.{Book, Region, pool_frame, pool_start}
+use Rattle.nk_bits.specs.KernelLayout.{pool_frame, pool_start}
+use Rattle.region_book.specs.RegionRecords.{Book, Region}
 
 -- Bits.
 

@@ -3,19 +3,18 @@
 ghost use Rattle.std.specs.Prelude.{◌≡◌, ◌≢◌, ◌==◌, ◌<◌, ◌≤◌, ℕ, ◌+◌, ◌-◌, ◌^◌, Bool, List, IfNone, IfSome, Some, None, length, slice_index_or, false, true};
 ghost use Rattle.std.specs.List.{position};
 ghost use Rattle.region_book.specs.declared.row.Row.{Row};
-ghost use Rattle.region_book.specs.RegionRecords.{pool_start, shown_region};
+ghost use Rattle.nk_bits.specs.KernelLayout.{pool_start};
+ghost use Rattle.region_book.specs.RegionRecords.{shown_region};
 ghost use Rattle.region_book.specs.RegionRows.{IsHeld, first_bit, row_place, region_with, row_meets, row_of};
 
 use crate::regions::ShownRegion;
-
-/// The first linear address of the pool.
-pub(crate) const POOL_START: u64 = 0xFFFF_FF80_0001_0000;
+use nk_bits::{POOL_FRAME, POOL_START};
 
 /// The size of the pool, and of the largest region.
 pub(crate) const POOL_SIZE: u32 = 65536;
 
-/// Where the pool begins in memory: in frame 10.
-const POOL_PLACE: u64 = 0xA000;
+/// Where the pool begins in memory.
+const POOL_PLACE: u64 = 4096 * POOL_FRAME as u64;
 
 /// A region's row.
 #[derive(Clone, Copy)]

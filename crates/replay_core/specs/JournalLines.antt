@@ -70,8 +70,8 @@ abbrev pub is_byte : List ℕ → Bool
 is_byte word = is_lower word && (length word == 2 && is_some (numeral 16 2 word))
 
 -- `i V E RIP CR2`: a vector from 0 to 47; an error code or `-`; an address; and CR2 for vector 14, else `-`
-abbrev pub is_code : List ℕ → Bool
-is_code word = is_text (codes "-") word || is_some (least_hex word)
+abbrev pub is_code_word : List ℕ → Bool
+is_code_word word = is_text (codes "-") word || is_some (least_hex word)
 
 abbrev pub is_vector : ℕ → List ℕ → Bool
 is_vector vector cr2 = nat_le vector 47 && (if vector == 14 then is_some (hex_of_16 cr2) else is_text (codes "-") cr2)
@@ -82,7 +82,7 @@ is_vector_word (Some vector) cr2 = is_vector vector cr2
 
 abbrev pub is_delivery : List ℕ → List ℕ → List ℕ → List ℕ → Bool
 is_delivery vector code rip cr2 =
-    is_vector_word (least_decimal vector) cr2 && (is_code code && is_some (hex_of_16 rip))
+    is_vector_word (least_decimal vector) cr2 && (is_code_word code && is_some (hex_of_16 rip))
 
 -- `k N A B C D`: five numbers
 abbrev pub call_with : Option ℕ → Option ℕ → Option ℕ → Option ℕ → Option ℕ → Option CallWords

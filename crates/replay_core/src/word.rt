@@ -3,7 +3,7 @@
 ghost use Rattle.std.specs.Prelude.{◌≡◌, ◌&&◌, nat_le};
 ghost use Rattle.std.specs.List.{list_any};
 ghost use Rattle.std.specs.Str.{bytes_eq};
-ghost use Rattle.replay_core.specs.JournalLines.{hex_of_16, is_byte, is_code, is_delivery, is_least, is_lower, is_vector_word, least_decimal, least_hex, place_of_word};
+ghost use Rattle.replay_core.specs.JournalLines.{hex_of_16, is_byte, is_code_word, is_delivery, is_least, is_lower, is_vector_word, least_decimal, least_hex, place_of_word};
 
 use text_lines::{decimal, hexadecimal};
 
@@ -94,8 +94,8 @@ pub(crate) fn is_byte(word: &[u8]) -> bool
 }
 
 /// An error code, or none.
-fn is_code(word: &[u8]) -> bool
-    ensures { result ≡ is_code word.now }
+fn is_code_word(word: &[u8]) -> bool
+    ensures { result ≡ is_code_word word.now }
 {
     is_text(word, NOTHING) || least_hex(word).is_some()
 }
@@ -115,5 +115,5 @@ fn is_vector(word: &[u8], cr2: &[u8]) -> bool
 pub(crate) fn is_delivery(vector: &[u8], code: &[u8], rip: &[u8], cr2: &[u8]) -> bool
     ensures { result ≡ is_delivery vector.now code.now rip.now cr2.now }
 {
-    is_vector(vector, cr2) && is_code(code) && hex_of_16(rip).is_some()
+    is_vector(vector, cr2) && is_code_word(code) && hex_of_16(rip).is_some()
 }

@@ -6,7 +6,7 @@ use Rattle.std.proofs.Math.Nat.{min-le_right, min-eq_left}
 use Rattle.std.proofs.lemmas.Bool.{ltb-true, ltb-false, false≢true}
 use Rattle.std.proofs.lemmas.Result.{IfOk-at_ok}
 use Rattle.nk_bits.specs.declared.access.Access.{Access}
-use Rattle.nk_bits.specs.declared.access.Access.TheVariants.{Read, Write}
+use Rattle.nk_bits.specs.declared.access.Access.TheVariants as access
 use Rattle.nk_bits.specs.declared.fault.AccessFault.{AccessFault}
 use Rattle.nk_bits.specs.declared.leaf.Target.{Target}
 use Rattle.nk_bits.specs.Translations.{NamesFramesIn, Translations}
@@ -20,7 +20,7 @@ use Rattle.page_walk.specs.declared.plan.Origin.TheVariants.{Is, At}
 use Rattle.page_walk.specs.declared.plan.Span.{Span}
 use Rattle.page_walk.specs.MemoryAccess.{value_at}
 use Rattle.page_walk.specs.AccessPlans.{checked, gathered, in_span, with_stack, taken}
-use Rattle.x86_regs.specs.declared.effects.Write.{Write as Stored}
+use Rattle.x86_regs.specs.declared.effects.Write.{Write}
 use Rattle.x86_regs.specs.EffectsKept.{IsGranted}
 use Rattle.x86_regs.specs.Effects.{write_at}
 
@@ -141,7 +141,7 @@ module _ (size va width : ℕ) (target : Target) (whole : size % 4096 ≡ 0) (fe
   }
 
 module _ (laws : AccessLaws) (view : View) where
-  named_at : (size va place : ℕ) → Serves view Write (lies_in size) va place → IsNamed size va place
+  named_at : (size va place : ℕ) → Serves view access.Write (lies_in size) va place → IsNamed size va place
   named_at size va place serves = record {
     frame = serves.leaf.frame;
     within = ltb-true (4096 * serves.leaf.frame) size serves.passes;
@@ -158,16 +158,16 @@ module _ (laws : AccessLaws) (view : View) where
         AllPass test (checked view span tlb).tlb
     checked_kept None tlb is pass = pass
     checked_kept (Some span) tlb is pass =
-        let kept = span_kept Write span tlb is pass in
-        kept_on test (in_span span (accessed view Write tlb span.va span.width))
+        let kept = span_kept access.Write span tlb is pass in
+        kept_on test (in_span span (accessed view access.Write tlb span.va span.width))
         (λ target after. answered (Some target) after) kept (λ target. kept)
 
     pub taken_kept : (m : List ℕ) (source : Origin) (tlb : Translations) → IsSpanOf source → AllPass test tlb →
         AllPass test (taken m view source tlb).tlb
     taken_kept m (Is value) tlb is pass = pass
     taken_kept m (At span) tlb is pass =
-        let kept = span_kept Read span tlb is pass in
-        kept_on test (accessed view Read tlb span.va span.width)
+        let kept = span_kept access.Read span tlb is pass in
+        kept_on test (accessed view access.Read tlb span.va span.width)
         (λ target after. answered (value_at m span.va span.width target) after) kept (λ target. kept)
 
     pub gathered_kept : (m : List ℕ) (plan : AccessPlan) (tlb : Translations) → IsPlanned plan → AllPass test tlb →
@@ -191,22 +191,22 @@ module _ (laws : AccessLaws) (view : View) where
           IsGranted view test size (record { va = span.va; width = span.width; value = value; target = target })
 
       target_grants : (span : Span) (tlb : Translations) → IsSpan span → AllPass test tlb → AllPass (lies_in size) tlb →
-          (target : Target) → (accessed view Write tlb span.va span.width).answer ≡ Ok target →
+          (target : Target) → (accessed view access.Write tlb span.va span.width).answer ≡ Ok target →
           Grants (Some span) (Some target)
       target_grants span tlb is pass lie target found value =
           let some = size_some span.width is.sized in
           let few = size_few span.width is.sized in
           let named = laws.lies_walked view size frames in
-          let serve = laws.served view Write test tlb span.va span.width walked is.address some pass in
+          let serve = laws.served view access.Write test tlb span.va span.width walked is.address some pass in
           let serves = IfOk-at_ok _ found serve in
-          let serve_within = laws.served view Write (lies_in size) tlb span.va span.width named is.address some lie in
+          let serve_within = laws.served view access.Write (lies_in size) tlb span.va span.width named is.address some lie in
           let lies = IfOk-at_ok _ found serve_within in
           let first = named_at size span.va target.first lies.0 in
           record {
             sized = is.sized;
             target = target_of size span.va span.width target whole few first
                 (λ two. named_at size (next_page span.va) target.second (lies.1 two))
-                (λ one. IfOk-at_ok _ found (second_none view Write tlb span.va span.width one));
+                (λ one. IfOk-at_ok _ found (second_none view access.Write tlb span.va span.width one));
             first = serves.0;
             second = serves.1;
           }
@@ -221,7 +221,7 @@ module _ (laws : AccessLaws) (view : View) where
           AllPass (lies_in size) tlb → IfOk (checked view span tlb).answer (Grants span)
       checked_grants None tlb is pass lie = tt
       checked_grants (Some span) tlb is pass lie =
-          ok_on (Grants (Some span)) (in_span span (accessed view Write tlb span.va span.width))
+          ok_on (Grants (Some span)) (in_span span (accessed view access.Write tlb span.va span.width))
           (λ target after. answered (Some target) after)
           (λ target found. target_grants span tlb is pass lie target (marked_ok span _ target found))
 
@@ -236,7 +236,7 @@ module _ (laws : AccessLaws) (view : View) where
           (λ _ _. IfOk-at_ok (Grants plan.both) found (checked_grants plan.both tlb is.both pass lie))))
 
       -- the write of an effect, where what was checked is granted
-      pub write_grants : (span : Option Span) (target : Option Target) (value : ℕ) (other : Option Stored) →
+      pub write_grants : (span : Option Span) (target : Option Target) (value : ℕ) (other : Option Write) →
           Grants span target → IfSome other (IsGranted view test size) →
           IfSome (write_at span target value other) (IsGranted view test size)
       write_grants None target value other grants rest = rest

@@ -3,9 +3,8 @@
 
 use super::{HALTS, Ran, interrupt, interrupted_at, run};
 use crate::{Called, Took};
-use gate_text::GATE;
 use irq_plan::Plan;
-use nk_bits::{Answer, CallWords, Delivery};
+use nk_bits::{Answer, CallWords, Delivery, GATE};
 use std::alloc::Global;
 use std::test::Fail;
 

@@ -2,9 +2,8 @@
 //! the halt loop, eleven after a delivery.
 
 use super::{HALTS, Ran, interrupt, interrupted_at, run};
-use gate_text::GATE;
 use irq_plan::Plan;
-use nk_bits::Delivery;
+use nk_bits::{Delivery, GATE};
 use std::process::Abort;
 use std::test::Fail;
 

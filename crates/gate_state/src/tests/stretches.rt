@@ -10,8 +10,8 @@ use super::{NOTHING, admitted, advanced, begun, ended};
 use crate::{Machine, OuterMachine};
 use boot_map::Layout;
 use elf_image::Image;
-use gate_text::GATE;
 use irq_plan::Plan;
+use nk_bits::GATE;
 use std::alloc::Global;
 use std::test::Fail;
 

@@ -17,7 +17,7 @@ use elf_image::Image;
 use gate_state::{Called, Finished, Machine};
 use image_maker::make_image;
 use irq_plan::Plan;
-use nk_bits::{Entry, Kind};
+use nk_bits::{AREA_TABLE, Entry, IMAGE_DIRECTORY, Kind};
 use nk_body::{Kernel, Source};
 use page_desc::Frames;
 use phys_mem::PhysMem;
@@ -31,11 +31,6 @@ const SIZE: u64 = 16;
 
 /// The number of entries of a table.
 const ENTRIES: u32 = 512;
-
-/// The kernel slot's table of level 1 for the nested area, and its table of level 2 for the image, which names others.
-const AREA_TABLE: u32 = 8;
-
-const IMAGE_DIRECTORY: u32 = 9;
 
 /// More turns and steps than a test takes.
 const MOST: u64 = 100_000;

@@ -3,7 +3,8 @@ use Rattle.std.specs.Prelude.{Some}
 use Rattle.std.proofs.lemmas.List.{length-map}
 use Rattle.region_book.specs.RegionBytes.{bits_in, book_in, row_in}
 use Rattle.region_book.specs.RegionCalls.{with_one_more, is_range_taken, pool_region}
-use Rattle.region_book.specs.RegionRecords.{Book, IsBook, Region, pool_start}
+use Rattle.nk_bits.specs.KernelLayout.{pool_start}
+use Rattle.region_book.specs.RegionRecords.{Book, IsBook, Region}
 use Rattle.region_book.specs.RegionRows.{region_of_row, region_at}
 use Rattle.region_book.proofs.PoolRegions.{pool_added, pool_aside, pool_places, room_free, zeros_are}
 use Rattle.region_book.proofs.SeenStores.{book_stays, held_stays}
