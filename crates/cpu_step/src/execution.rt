@@ -10,7 +10,7 @@ use nk_bits::Control;
 use phys_mem::PhysMem;
 use tlb_model::Tlb;
 use x86_decode::Instr;
-use x86_regs::{Asked, Fault, Regs, effect_law, instr_form};
+use x86_regs::{Asked, Fault, Form, Regs, effect_law, instr_form};
 
 /// Makes the effect of an instruction that was fetched on the registers; its write is judged and not made.
 pub(crate) fn execute(
@@ -39,10 +39,12 @@ pub(crate) fn execute(
     ensures sized { IfOk made.new (λ asked. HasAccessSize asked.write) }
 {
     effect_law();
-    let form = instr_form(instr);
-    if exec_data::is_data_form(form) {
-        exec_data::execute(form, instr, size, regs, control, mem, tlb, made);
-    } else {
-        exec_flow::execute(form, instr, size, regs, control, mem, tlb, made);
+    match instr_form(instr) {
+        Form::Data(form) => {
+            exec_data::execute(form, instr, size, regs, control, mem, tlb, made);
+        }
+        Form::Flow(form) => {
+            exec_flow::execute(form, instr, size, regs, control, mem, tlb, made);
+        }
     }
 }

@@ -1,18 +1,18 @@
-//! What the forms of two operands make of the values read.
+//! What the forms of two operands make of the values read, and those of the accumulator and of one flag.
 
 ghost use Rattle.std.specs.Prelude.{◌≡◌, Ok, false};
 ghost use Rattle.x86_decode.specs.WellFormed.{IsWellFormed};
 ghost use Rattle.x86_alu.specs.SignedNumbers.{cut};
 ghost use Rattle.x86_regs.specs.Combinations.{combination, comparison, movement, source_width, sum};
 ghost use Rattle.x86_regs.specs.Registers.{held};
-ghost use Rattle.x86_regs.specs.OperandOutcomes.{bits_scanned, compared, doubled, exchanged, going_on, is_forward, quietly, sum_exchanged, widened, with_result};
+ghost use Rattle.x86_regs.specs.OperandOutcomes.{bits_scanned, compared, doubled, exchanged, flags_changed, going_on, is_forward, quietly, sum_exchanged, widened, with_result};
 
 use decode_fields::Place;
 use x86_alu::{Out, scan_bit};
 use x86_decode::{Instr, Op};
 use x86_regs::{
-    Act, Change, RAX, RDX, Regs, combination, comparison, difference, extended, going_on, held,
-    low, movement, ones, sign, source_width, sum, written,
+    Act, Change, RAX, RDX, Regs, combination, comparison, difference, extended, flags_changed,
+    going_on, held, low, movement, ones, sign, source_width, sum, written,
 };
 
 /// A change of registers alone.
@@ -194,4 +194,12 @@ pub(crate) fn double(instr: &Instr, next: u64, regs: &Regs) -> Change
     let value = if is_negative { ones(instr.width) } else { 0 };
     let general = written(&regs.general, &Place::Reg(RDX), instr.width, value);
     quietly(going_on(regs, general, regs.flags, next))
+}
+
+/// CMC, CLC, STC, CLD and STD.
+pub(crate) fn change_flag(op: Op, next: u64, regs: &Regs) -> Change
+    ensures { Ok result ≡ quietly (going_on regs.now regs.now.general (flags_changed op regs.now.flags) next) }
+{
+    let flags = flags_changed(op, regs.flags);
+    quietly(going_on(regs, regs.general, flags, next))
 }

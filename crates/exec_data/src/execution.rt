@@ -1,17 +1,18 @@
 //! The effect of an instruction: its conditions, its accesses in order, its outcome, and the check of its write.
 
-ghost use Rattle.std.specs.Prelude.{◌≡◌, ◌⊎◌, ◌*◌, ◌<◌, IfOk, IsTrue, OnErr, length, Ok};
+ghost use Rattle.std.specs.Prelude.{◌≡◌, ◌⊎◌, ◌*◌, ◌<◌, IfOk, OnErr, length, Ok};
 ghost use Rattle.nk_bits.specs.Outcomes.{outcome_of};
 ghost use Rattle.nk_bits.specs.Translations.{NamesFramesIn};
 ghost use Rattle.page_walk.specs.MemoryAccess.{view_of};
 ghost use Rattle.page_walk.specs.AccessPlans.{IsChecked, IsSized};
 ghost use Rattle.x86_decode.specs.WellFormed.{IsWellFormed};
+ghost use Rattle.x86_regs.specs.declared.form.Form.TheVariants.{Data};
+ghost use Rattle.x86_regs.specs.OperationForms.{IsData};
 ghost use Rattle.x86_regs.specs.OperandPlans.{instr_form};
 ghost use Rattle.x86_regs.specs.Effects.{FitsIn, HasAccessSize, asked_nothing, concluded, effect_of, effect_with, planned_effect};
-ghost use Rattle.exec_data.specs.DataForms.{is_data_form};
 
-use crate::outcomes::outcome_by;
-use crate::plans::plan_by;
+use crate::outcomes::data_outcome;
+use crate::plans::data_plan;
 use mem_access::{check_span, gather};
 use nk_bits::Control;
 use page_walk::{AccessPlan, Gathered};
@@ -19,24 +20,9 @@ use phys_mem::PhysMem;
 use tlb_model::Tlb;
 use x86_decode::Instr;
 use x86_regs::{
-    Asked, Change, Effect, Fault, Form, Regs, instr_form, next_of, raised, refusal, write_of,
+    Asked, Change, DataForm, Effect, Fault, Form, Regs, instr_form, next_of, raised, refusal,
+    write_of,
 };
-
-/// Whether `execute` takes the instructions of a form.
-pub fn is_data_form(form: Form) -> bool
-    ensures { result ≡ is_data_form form }
-{
-    match form {
-        Form::Combine | Form::Compare | Form::Move | Form::Address => true,
-        Form::Exchange | Form::ExchangeAdd | Form::CompareExchange => true,
-        Form::ScanBits | Form::Widen | Form::Double | Form::Multiply | Form::Divide => true,
-        Form::Push | Form::Pop | Form::Leave => true,
-        Form::MoveString | Form::StoreString | Form::LoadString => true,
-        Form::CompareStrings | Form::ScanString => true,
-        Form::ChangeFlag | Form::Nothing => true,
-        _ => false,
-    }
-}
 
 /// Executes an instruction of `size` bytes that stands at RIP: its registers are changed in place, and its write is
 /// judged and not made. Besides, only the translations kept change.
@@ -44,7 +30,7 @@ pub fn is_data_form(form: Form) -> bool
 /// Fails with the first fault of the instruction, in the order of its conditions, its accesses, its outcome and the
 /// check of its write.
 pub fn execute(
-    form: Form,
+    form: DataForm,
     instr: &Instr,
     size: u8,
     regs: &mut Regs,
@@ -54,9 +40,8 @@ pub fn execute(
     made: &mut Result<Asked, Fault>,
 )
     requires fresh { made.old ≡ Ok asked_nothing }
-    requires form { form ≡ instr_form instr.now }
+    requires form { Data form ≡ instr_form instr.now }
     requires formed { IsWellFormed instr.now }
-    requires row { IsTrue (is_data_form form) }
     requires cpl { (regs.old.cpl ≡ 0) ⊎ (regs.old.cpl ≡ 3) }
     requires root { 4096 * control.now.root < length mem.now }
     requires frames { NamesFramesIn (length mem.now) tlb.old }
@@ -91,7 +76,7 @@ pub fn effect(
     tlb: &mut Tlb,
 ) -> Result<Effect, Fault>
     requires formed { IsWellFormed instr.now }
-    requires row { IsTrue (is_data_form (instr_form instr.now)) }
+    requires row { IsData (instr_form instr.now) }
     requires cpl { (regs.now.cpl ≡ 0) ⊎ (regs.now.cpl ≡ 3) }
     requires root { 4096 * control.now.root < length mem.now }
     requires frames { NamesFramesIn (length mem.now) tlb.old }
@@ -101,13 +86,16 @@ pub fn effect(
     ensures places { IfOk result (λ effect. FitsIn (length mem.now) effect.write) }
     ensures sized { IfOk result (λ effect. HasAccessSize effect.write) }
 {
-    effect_of(instr_form(instr), instr, size, regs, control, mem, tlb)
+    match instr_form(instr) {
+        Form::Data(form) => effect_of(form, instr, size, regs, control, mem, tlb),
+        Form::Flow(_) => unreachable!(),
+    }
 }
 
 /// The effect of an instruction of this form: the fault of its conditions, or what its accesses and its outcome are.
-#[tactic(auto, using(crate::proofs::Forms::data_effect), unfolding(x86_regs::specs::Effects::effect_of))]
+#[tactic(auto, unfolding(x86_regs::specs::Effects::effect_of))]
 fn effect_of(
-    form: Form,
+    form: DataForm,
     instr: &Instr,
     size: u8,
     regs: &Regs,
@@ -115,9 +103,8 @@ fn effect_of(
     mem: &PhysMem,
     tlb: &mut Tlb,
 ) -> Result<Effect, Fault>
-    requires form { form ≡ instr_form instr.now }
+    requires form { Data form ≡ instr_form instr.now }
     requires formed { IsWellFormed instr.now }
-    requires row { IsTrue (is_data_form form) }
     requires cpl { (regs.now.cpl ≡ 0) ⊎ (regs.now.cpl ≡ 3) }
     requires root { 4096 * control.now.root < length mem.now }
     requires frames { NamesFramesIn (length mem.now) tlb.old }
@@ -135,7 +122,7 @@ fn effect_of(
 
 /// The effect of an instruction that its conditions don't refuse.
 fn planned_effect(
-    form: Form,
+    form: DataForm,
     instr: &Instr,
     size: u8,
     regs: &Regs,
@@ -144,23 +131,22 @@ fn planned_effect(
     tlb: &mut Tlb,
 ) -> Result<Effect, Fault>
     requires formed { IsWellFormed instr.now }
-    requires row { IsTrue (is_data_form form) }
     requires cpl { (regs.now.cpl ≡ 0) ⊎ (regs.now.cpl ≡ 3) }
     requires root { 4096 * control.now.root < length mem.now }
     requires frames { NamesFramesIn (length mem.now) tlb.old }
     ensures outcome { outcome_of result tlb.new
-        ≡ planned_effect form instr.now size regs.now control.now mem.now
+        ≡ planned_effect (Data form) instr.now size regs.now control.now mem.now
         (view_of mem.now control.now regs.now.cpl) tlb.old }
     ensures frames { NamesFramesIn (length mem.now) tlb.new }
     ensures places { IfOk result (λ effect. FitsIn (length mem.now) effect.write) }
     ensures sized { IfOk result (λ effect. HasAccessSize effect.write) }
 {
-    let plan = plan_by(form, instr, size, regs);
+    let plan = data_plan(form, instr, size, regs);
     let found = match gather(mem, tlb, control, regs.cpl, &plan) {
         Ok(found) => found,
         Err(it) => return Err(raised(it)),
     };
-    let outcome = outcome_by(form, instr, next_of(regs, size), regs, &found);
+    let outcome = data_outcome(form, instr, next_of(regs, size), regs, &found);
     conclude(mem, tlb, control, regs.cpl, &plan, &found, outcome)
 }
 

@@ -1,6 +1,6 @@
 //! Which accesses each form makes: a function of the registers alone.
 
-ghost use Rattle.std.specs.Prelude.{◌≡◌, IsTrue, None, Some, slice_index};
+ghost use Rattle.std.specs.Prelude.{◌≡◌, None, Some, slice_index};
 ghost use Rattle.decode_fields.specs.Widths.{IsWidth};
 ghost use Rattle.page_walk.specs.declared.plan.Origin.TheVariants.{Is, At};
 ghost use Rattle.page_walk.specs.AccessPlans.{IsAccessPlan, IsSized, IsSource};
@@ -8,14 +8,13 @@ ghost use Rattle.nk_bits.specs.Accesses.{IsAccessSize};
 ghost use Rattle.x86_decode.specs.WellFormed.{IsWellFormed};
 ghost use Rattle.x86_regs.specs.Combinations.{source_width};
 ghost use Rattle.x86_regs.specs.Operands.{next_of, place_span, stack_span};
-ghost use Rattle.x86_regs.specs.OperandPlans.{from_address, from_source, is_idle, no_access, plan, plan_by, pop_source, push_span, rdi_span, risen, rsi_span, to_source, to_span, unless_idle};
-ghost use Rattle.exec_data.specs.DataForms.{is_data_form};
+ghost use Rattle.x86_regs.specs.OperandPlans.{data_plan, from_address, from_source, is_idle, no_access, plan, pop_source, push_span, rdi_span, risen, rsi_span, to_source, to_span, unless_idle};
 
 use crate::strings::is_idle;
 use page_walk::{AccessPlan, Origin, Span};
 use x86_decode::Instr;
 use x86_regs::{
-    Form, RBP, RDI, RSI, Regs, from_address, from_source, next_of, place_span, pop_source,
+    DataForm, RBP, RDI, RSI, Regs, from_address, from_source, next_of, place_span, pop_source,
     push_span, risen, source_width, stack_span, string_span, to_source,
 };
 
@@ -237,34 +236,38 @@ fn scan_string_plan(instr: &Instr, regs: &Regs) -> AccessPlan
 }
 
 /// The accesses of an instruction of `size` bytes.
-pub(crate) fn plan_by(form: Form, instr: &Instr, size: u8, regs: &Regs) -> AccessPlan
+pub(crate) fn data_plan(form: DataForm, instr: &Instr, size: u8, regs: &Regs) -> AccessPlan
     requires formed { IsWellFormed instr.now }
-    requires row { IsTrue (is_data_form form) }
-    ensures plan { result ≡ plan_by form instr.now size regs.now }
+    ensures plan { result ≡ data_plan form instr.now size regs.now }
     ensures sized { IsAccessPlan result }
 {
     match form {
-        Form::Combine => read_and_written(instr, size, regs, source_width(instr.op, instr.width)),
-        Form::Exchange | Form::ExchangeAdd | Form::CompareExchange => {
+        DataForm::Combine => read_and_written(
+            instr,
+            size,
+            regs,
+            source_width(instr.op, instr.width),
+        ),
+        DataForm::Exchange | DataForm::ExchangeAdd | DataForm::CompareExchange => {
             read_and_written(instr, size, regs, instr.width)
         }
-        Form::Compare => compare_plan(instr, size, regs),
-        Form::Move => move_plan(instr, size, regs),
-        Form::Address => address_plan(instr, size, regs),
-        Form::ScanBits => reads(Origin::Is(0), from_source(instr, size, regs, instr.width)),
-        Form::Multiply | Form::Divide => reads(
+        DataForm::Compare => compare_plan(instr, size, regs),
+        DataForm::Move => move_plan(instr, size, regs),
+        DataForm::Address => address_plan(instr, size, regs),
+        DataForm::ScanBits => reads(Origin::Is(0), from_source(instr, size, regs, instr.width)),
+        DataForm::Multiply | DataForm::Divide => reads(
             to_source(instr, size, regs, instr.width),
             Origin::Is(0),
         ),
-        Form::Push => push_plan(instr, size, regs),
-        Form::Pop => pop_plan(instr, size, regs),
-        Form::Leave => leave_plan(regs),
-        Form::MoveString => move_string_plan(instr, regs),
-        Form::StoreString => store_string_plan(instr, regs),
-        Form::LoadString => load_string_plan(instr, regs),
-        Form::CompareStrings => compare_strings_plan(instr, regs),
-        Form::ScanString => scan_string_plan(instr, regs),
-        Form::Widen | Form::Double | Form::ChangeFlag | Form::Nothing => no_access(),
-        _ => unreachable!(),
+        DataForm::Push => push_plan(instr, size, regs),
+        DataForm::Pop => pop_plan(instr, size, regs),
+        DataForm::Leave => leave_plan(regs),
+        DataForm::MoveString => move_string_plan(instr, regs),
+        DataForm::StoreString => store_string_plan(instr, regs),
+        DataForm::LoadString => load_string_plan(instr, regs),
+        DataForm::CompareStrings => compare_strings_plan(instr, regs),
+        DataForm::ScanString => scan_string_plan(instr, regs),
+        DataForm::Widen | DataForm::Double | DataForm::ChangeFlag | DataForm::Nothing =>
+            no_access(),
     }
 }

@@ -9,13 +9,13 @@ mod strings;
 ghost use Rattle.std.specs.Prelude.{◌≡◌, ◌<◌, IfOk, length};
 ghost use Rattle.nk_bits.specs.Translations.{NamesFramesIn};
 
-use crate::{effect, is_data_form};
+use crate::effect;
 use nk_bits::{Control, Target};
 use phys_mem::{NoMemory, PhysMem};
 use std::alloc::Global;
 use tlb_model::Tlb;
 use x86_decode::{Decoded, decode};
-use x86_regs::{Act, Effect, Fault, RAX, Regs, Write, instr_form, with_register};
+use x86_regs::{Act, Effect, Fault, Form, RAX, Regs, Write, instr_form, with_register};
 
 const CONTROL: Control = Control {
     cr0: 0x8001_0011,
@@ -102,10 +102,9 @@ fn run_over(mem: &PhysMem, tlb: &mut Tlb, bytes: &[u8], regs: &Regs) -> Result<E
         return Err(Fault::General(99));
     }
     match decode(bytes) {
-        Decoded::Whole(instr, size) => if is_data_form(instr_form(&instr)) {
-            effect(&instr, size, regs, &CONTROL, mem, tlb)
-        } else {
-            Err(Fault::General(99))
+        Decoded::Whole(instr, size) => match instr_form(&instr) {
+            Form::Data(_) => effect(&instr, size, regs, &CONTROL, mem, tlb),
+            Form::Flow(_) => Err(Fault::General(99)),
         },
         _ => Err(Fault::General(99)),
     }

@@ -1,18 +1,19 @@
 //! The effect of an instruction: its conditions, its accesses in order, its outcome, and the check of its write.
 
-ghost use Rattle.std.specs.Prelude.{◌≡◌, ◌⊎◌, ◌*◌, ◌<◌, IsTrue, IfOk, OnErr, length, Ok};
+ghost use Rattle.std.specs.Prelude.{◌≡◌, ◌⊎◌, ◌*◌, ◌<◌, IfOk, OnErr, length, Ok};
 ghost use Rattle.nk_bits.specs.Translations.{NamesFramesIn};
 ghost use Rattle.nk_bits.specs.Outcomes.{outcome_of};
 ghost use Rattle.page_walk.specs.AccessPlans.{IsChecked, IsAccessPlan};
 ghost use Rattle.page_walk.specs.MemoryAccess.{view_of};
 ghost use Rattle.x86_decode.specs.WellFormed.{IsWellFormed};
+ghost use Rattle.x86_regs.specs.declared.form.Form.TheVariants.{Flow};
+ghost use Rattle.x86_regs.specs.OperationForms.{IsFlow};
 ghost use Rattle.x86_regs.specs.OperandPlans.{instr_form};
 ghost use Rattle.x86_regs.specs.Effects.{FitsIn, HasAccessSize, asked_nothing, concluded, effect_by, effect_of, effect_with, planned_effect};
-ghost use Rattle.exec_flow.specs.FlowForms.{is_flow_form};
 
 use crate::interrupt_returns::return_effect;
-use crate::outcomes::outcome_by;
-use crate::plans::plan_by;
+use crate::outcomes::flow_outcome;
+use crate::plans::flow_plan;
 use mem_access::{check_span, gather};
 use nk_bits::Control;
 use page_walk::{AccessPlan, Gathered};
@@ -20,23 +21,9 @@ use phys_mem::PhysMem;
 use tlb_model::Tlb;
 use x86_decode::Instr;
 use x86_regs::{
-    Asked, Change, Effect, Fault, Form, Regs, instr_form, next_of, raised, refusal, write_of,
+    Asked, Change, Effect, Fault, FlowForm, Form, Regs, instr_form, next_of, raised, refusal,
+    write_of,
 };
-
-/// Whether `effect` takes the instructions of a form.
-pub fn is_flow_form(form: Form) -> bool
-    ensures { result ≡ is_flow_form form }
-{
-    match form {
-        Form::Branch | Form::Call | Form::Return | Form::CountDown => true,
-        Form::Trap | Form::TrapReturn => true,
-        Form::PushFlags | Form::PopFlags | Form::ChangeFlag => true,
-        Form::Halt | Form::Input | Form::Output => true,
-        Form::FromControl | Form::ToControl | Form::LoadTable | Form::DropPage => true,
-        Form::Nothing => true,
-        _ => false,
-    }
-}
 
 /// What an instruction of flow or of the system does, which has this length in bytes: the registers after it, its one
 /// write, whose places are found but not yet written, and what it asks of the processor.
@@ -53,7 +40,7 @@ pub fn effect(
     tlb: &mut Tlb,
 ) -> Result<Effect, Fault>
     requires formed { IsWellFormed instr.now }
-    requires row { IsTrue (is_flow_form (instr_form instr.now)) }
+    requires row { IsFlow (instr_form instr.now) }
     requires cpl { (regs.now.cpl ≡ 0) ⊎ (regs.now.cpl ≡ 3) }
     requires root { 4096 * control.now.root < length mem.now }
     requires frames { NamesFramesIn (length mem.now) tlb.old }
@@ -63,14 +50,17 @@ pub fn effect(
     ensures places { IfOk result (λ effect. FitsIn (length mem.now) effect.write) }
     ensures sized { IfOk result (λ effect. HasAccessSize effect.write) }
 {
-    effect_of(instr_form(instr), instr, size, regs, control, mem, tlb)
+    match instr_form(instr) {
+        Form::Data(_) => unreachable!(),
+        Form::Flow(form) => effect_of(form, instr, size, regs, control, mem, tlb),
+    }
 }
 
 /// As `effect`, but the registers are changed in place: the answer is the write and what the processor is asked for.
 ///
 /// Fails as `effect` does; then the registers stay as they were.
 pub fn execute(
-    form: Form,
+    form: FlowForm,
     instr: &Instr,
     size: u8,
     regs: &mut Regs,
@@ -80,9 +70,8 @@ pub fn execute(
     made: &mut Result<Asked, Fault>,
 )
     requires fresh { made.old ≡ Ok asked_nothing }
-    requires form { form ≡ instr_form instr.now }
+    requires form { Flow form ≡ instr_form instr.now }
     requires formed { IsWellFormed instr.now }
-    requires row { IsTrue (is_flow_form form) }
     requires cpl { (regs.old.cpl ≡ 0) ⊎ (regs.old.cpl ≡ 3) }
     requires root { 4096 * control.now.root < length mem.now }
     requires frames { NamesFramesIn (length mem.now) tlb.old }
@@ -108,7 +97,7 @@ pub fn execute(
 /// The effect of an instruction of this form: the fault of its conditions, or what its form makes.
 #[tactic(auto, unfolding(x86_regs::specs::Effects::effect_of))]
 fn effect_of(
-    form: Form,
+    form: FlowForm,
     instr: &Instr,
     size: u8,
     regs: &Regs,
@@ -116,9 +105,8 @@ fn effect_of(
     mem: &PhysMem,
     tlb: &mut Tlb,
 ) -> Result<Effect, Fault>
-    requires form { form ≡ instr_form instr.now }
+    requires form { Flow form ≡ instr_form instr.now }
     requires formed { IsWellFormed instr.now }
-    requires row { IsTrue (is_flow_form form) }
     requires cpl { (regs.now.cpl ≡ 0) ⊎ (regs.now.cpl ≡ 3) }
     requires root { 4096 * control.now.root < length mem.now }
     requires frames { NamesFramesIn (length mem.now) tlb.old }
@@ -135,7 +123,7 @@ fn effect_of(
 }
 
 fn effect_by(
-    form: Form,
+    form: FlowForm,
     instr: &Instr,
     size: u8,
     regs: &Regs,
@@ -144,25 +132,24 @@ fn effect_by(
     tlb: &mut Tlb,
 ) -> Result<Effect, Fault>
     requires formed { IsWellFormed instr.now }
-    requires row { IsTrue (is_flow_form form) }
     requires cpl { (regs.now.cpl ≡ 0) ⊎ (regs.now.cpl ≡ 3) }
     requires root { 4096 * control.now.root < length mem.now }
     requires frames { NamesFramesIn (length mem.now) tlb.old }
     ensures outcome { outcome_of result tlb.new
-        ≡ effect_by form instr.now size regs.now control.now mem.now
+        ≡ effect_by (Flow form) instr.now size regs.now control.now mem.now
         (view_of mem.now control.now regs.now.cpl) tlb.old }
     ensures frames { NamesFramesIn (length mem.now) tlb.new }
     ensures places { IfOk result (λ effect. FitsIn (length mem.now) effect.write) }
     ensures sized { IfOk result (λ effect. HasAccessSize effect.write) }
 {
     match form {
-        Form::TrapReturn => return_effect(next_of(regs, size), regs, control, mem, tlb),
+        FlowForm::TrapReturn => return_effect(next_of(regs, size), regs, control, mem, tlb),
         _ => planned_effect(form, instr, size, regs, control, mem, tlb),
     }
 }
 
 fn planned_effect(
-    form: Form,
+    form: FlowForm,
     instr: &Instr,
     size: u8,
     regs: &Regs,
@@ -171,24 +158,23 @@ fn planned_effect(
     tlb: &mut Tlb,
 ) -> Result<Effect, Fault>
     requires formed { IsWellFormed instr.now }
-    requires row { IsTrue (is_flow_form form) }
     requires cpl { (regs.now.cpl ≡ 0) ⊎ (regs.now.cpl ≡ 3) }
     requires root { 4096 * control.now.root < length mem.now }
     requires frames { NamesFramesIn (length mem.now) tlb.old }
     ensures outcome { outcome_of result tlb.new
-        ≡ planned_effect form instr.now size regs.now control.now mem.now
+        ≡ planned_effect (Flow form) instr.now size regs.now control.now mem.now
         (view_of mem.now control.now regs.now.cpl) tlb.old }
     ensures frames { NamesFramesIn (length mem.now) tlb.new }
     ensures places { IfOk result (λ effect. FitsIn (length mem.now) effect.write) }
     ensures sized { IfOk result (λ effect. HasAccessSize effect.write) }
 {
-    let plan = plan_by(form, instr, size, regs);
+    let plan = flow_plan(form, instr, size, regs);
     let found = match gather(mem, tlb, control, regs.cpl, &plan) {
         Ok(found) => found,
         Err(fault) => return Err(raised(fault)),
     };
     let next = next_of(regs, size);
-    let change = outcome_by(form, instr, next, regs, control, mem.frames(), &found);
+    let change = flow_outcome(form, instr, next, regs, control, mem.frames(), &found);
     conclude(mem, tlb, control, regs.cpl, &plan, &found, change)
 }
 

@@ -1,6 +1,6 @@
 //! What the instructions of flow and of the system do: branches, calls and returns, traps and their return, the flags
-//! as a whole, single flags, HLT, ports, control registers, tables and pages. It meets the definition of an effect of
-//! `x86_regs` on these forms: the registers after an instruction, its one write and what it asks of the processor, or
+//! as a whole, IF, HLT, ports, control registers, tables and pages. It meets the definition of an effect of `x86_regs`
+//! on these forms (`FlowForm`): the registers after an instruction, its one write and what it asks of the processor, or
 //! its fault. It reads memory and changes the translations kept; it writes no byte and takes no memory. Floor:
 //! processor.
 #![tactic(auto)]
@@ -16,7 +16,7 @@ mod flags;
 mod interrupt_returns;
 mod system;
 
-pub use execution::{effect, execute, is_flow_form};
+pub use execution::{effect, execute};
 
 #[cfg(test)]
 mod tests;

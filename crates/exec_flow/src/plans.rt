@@ -1,47 +1,48 @@
 //! Which accesses an instruction makes: a function of the registers.
 
-ghost use Rattle.std.specs.Prelude.{◌≡◌, IsTrue, None, Some};
+ghost use Rattle.std.specs.Prelude.{◌≡◌, None, Some};
 ghost use Rattle.nk_bits.specs.Accesses.{IsAccessSize};
 ghost use Rattle.page_walk.specs.declared.plan.Origin.TheVariants.{Is};
 ghost use Rattle.page_walk.specs.AccessPlans.{IsAccessPlan, IsSized, IsSource};
 ghost use Rattle.x86_decode.specs.WellFormed.{IsWellFormed};
-ghost use Rattle.x86_regs.specs.OperandPlans.{base_span, from_address, from_source, plan, plan_by, table_plan, to_source};
-ghost use Rattle.exec_flow.specs.FlowForms.{is_flow_form};
+ghost use Rattle.x86_regs.specs.OperandPlans.{base_span, flow_plan, from_address, from_source, plan, table_plan, to_source};
 
 use page_walk::{AccessPlan, Origin, Span};
 use x86_decode::Instr;
 use x86_regs::{
-    Form, Regs, from_address, from_source, next_of, place_span, pop_source, push_span, to_source,
+    FlowForm, Regs, from_address, from_source, next_of, place_span, pop_source, push_span,
+    to_source,
 };
 
 /// The accesses of an instruction of this form, which has this length in bytes.
-pub(crate) fn plan_by(form: Form, instr: &Instr, size: u8, regs: &Regs) -> AccessPlan
+pub(crate) fn flow_plan(form: FlowForm, instr: &Instr, size: u8, regs: &Regs) -> AccessPlan
     requires formed { IsWellFormed instr.now }
-    requires row { IsTrue (is_flow_form form) }
-    ensures plan { result ≡ plan_by form instr.now size regs.now }
+    ensures plan { result ≡ flow_plan form instr.now size regs.now }
     ensures sized { IsAccessPlan result }
 {
     match form {
-        Form::Branch | Form::ToControl => reading(from_source(instr, size, regs, 64)),
-        Form::Call => calling(from_source(instr, size, regs, 64), push_span(regs, 64)),
-        Form::Return => popping(pop_source(regs, 64)),
-        Form::PushFlags => calling(Origin::Is(0), push_span(regs, instr.width)),
-        Form::PopFlags => popping(pop_source(regs, instr.width)),
-        Form::Input => reading(from_source(instr, size, regs, 16)),
-        Form::Output => reading_both(
+        FlowForm::Branch | FlowForm::ToControl => reading(from_source(instr, size, regs, 64)),
+        FlowForm::Call => calling(from_source(instr, size, regs, 64), push_span(regs, 64)),
+        FlowForm::Return => popping(pop_source(regs, 64)),
+        FlowForm::PushFlags => calling(Origin::Is(0), push_span(regs, instr.width)),
+        FlowForm::PopFlags => popping(pop_source(regs, instr.width)),
+        FlowForm::Input => reading(from_source(instr, size, regs, 16)),
+        FlowForm::Output => reading_both(
             to_source(instr, size, regs, 16),
             from_source(instr, size, regs, 8),
         ),
-        Form::LoadTable => table_plan(place_span(
+        FlowForm::LoadTable => table_plan(place_span(
             &regs.general,
             next_of(regs, size),
             16,
             &instr.from,
         )),
-        Form::DropPage => reading(Origin::Is(from_address(instr, size, regs))),
-        Form::CountDown | Form::Trap | Form::TrapReturn | Form::ChangeFlag => no_access(),
-        Form::Halt | Form::FromControl | Form::Nothing => no_access(),
-        _ => unreachable!(),
+        FlowForm::DropPage => reading(Origin::Is(from_address(instr, size, regs))),
+        FlowForm::CountDown
+        | FlowForm::Trap
+        | FlowForm::TrapReturn
+        | FlowForm::ChangeInterruptFlag => no_access(),
+        FlowForm::Halt | FlowForm::FromControl | FlowForm::Refused => no_access(),
     }
 }
 

@@ -8,13 +8,13 @@ mod system;
 ghost use Rattle.std.specs.Prelude.{◌≡◌, ◌⊎◌, ◌<◌, IfOk, length};
 ghost use Rattle.nk_bits.specs.Translations.{NamesFramesIn};
 
-use crate::{effect, is_flow_form};
+use crate::effect;
 use nk_bits::{Control, Target};
 use phys_mem::{NoMemory, PhysMem};
 use std::alloc::Global;
 use tlb_model::Tlb;
 use x86_decode::{Decoded, decode};
-use x86_regs::{Act, Effect, Fault, Regs, Write, instr_form, with_register};
+use x86_regs::{Act, Effect, Fault, Form, Regs, Write, instr_form, with_register};
 
 const CONTROL: Control = Control {
     cr0: 0x8001_0011,
@@ -95,10 +95,9 @@ fn run_over(mem: &PhysMem, tlb: &mut Tlb, bytes: &[u8], regs: &Regs) -> Result<E
         return Err(Fault::Divide);
     }
     match decode(bytes) {
-        Decoded::Whole(instr, size) => if is_flow_form(instr_form(&instr)) {
-            effect(&instr, size, &with_cpl(regs), &CONTROL, mem, tlb)
-        } else {
-            Err(Fault::Divide)
+        Decoded::Whole(instr, size) => match instr_form(&instr) {
+            Form::Data(_) => Err(Fault::Divide),
+            Form::Flow(_) => effect(&instr, size, &with_cpl(regs), &CONTROL, mem, tlb),
         },
         _ => Err(Fault::Divide),
     }

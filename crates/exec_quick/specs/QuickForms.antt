@@ -19,7 +19,9 @@ use Rattle.x86_regs.specs.declared.effects.Act.TheVariants.{Quiet}
 use Rattle.x86_regs.specs.declared.effects.Effect.{Effect}
 use Rattle.x86_regs.specs.declared.faults.Fault.{Fault}
 use Rattle.x86_regs.specs.declared.form.Form.{Form}
-use Rattle.x86_regs.specs.declared.form.Form.TheVariants as form
+use Rattle.x86_regs.specs.declared.form.Form.TheVariants.{Data, Flow}
+use Rattle.x86_regs.specs.declared.form.DataForm.TheVariants as data_form
+use Rattle.x86_regs.specs.declared.form.FlowForm.TheVariants as flow_form
 use Rattle.x86_regs.specs.declared.registers.Regs.{Regs}
 use Rattle.x86_regs.specs.Effects.{memory_after, planned_effect, refusal}
 use Rattle.x86_regs.specs.OperandPlans.{instr_form}
@@ -60,79 +62,79 @@ has_memory_second _ = false
 
 -- the form of a kind's instructions
 abbrev pub form_by : Kind → Form
-form_by kind.Slow = form.Nothing
-form_by kind.Combine = form.Combine
-form_by kind.CombineLoad = form.Combine
-form_by kind.CombineStore = form.Combine
-form_by kind.Compare = form.Compare
-form_by kind.CompareLoad = form.Compare
-form_by kind.CompareStore = form.Compare
-form_by kind.Move = form.Move
-form_by kind.MoveLoad = form.Move
-form_by kind.MoveStore = form.Move
-form_by kind.Address = form.Address
-form_by kind.Push = form.Push
-form_by kind.PushLoad = form.Push
-form_by kind.Pop = form.Pop
-form_by kind.Leave = form.Leave
-form_by kind.Branch = form.Branch
-form_by kind.BranchLoad = form.Branch
-form_by kind.Call = form.Call
-form_by kind.CallLoad = form.Call
-form_by kind.Return = form.Return
-form_by kind.CountDown = form.CountDown
-form_by kind.ScanBits = form.ScanBits
-form_by kind.ScanBitsLoad = form.ScanBits
-form_by kind.Multiply = form.Multiply
-form_by kind.MultiplyLoad = form.Multiply
-form_by kind.Divide = form.Divide
-form_by kind.DivideLoad = form.Divide
-form_by kind.Widen = form.Widen
-form_by kind.Double = form.Double
-form_by kind.ChangeFlag = form.ChangeFlag
-form_by kind.Nothing = form.Nothing
-form_by kind.MoveString = form.MoveString
-form_by kind.StoreString = form.StoreString
-form_by kind.LoadString = form.LoadString
-form_by kind.CompareStrings = form.CompareStrings
-form_by kind.ScanString = form.ScanString
-form_by kind.Add64 = form.Combine
-form_by kind.Add32 = form.Combine
-form_by kind.Sub64 = form.Combine
-form_by kind.Sub32 = form.Combine
-form_by kind.And64 = form.Combine
-form_by kind.And32 = form.Combine
-form_by kind.Or64 = form.Combine
-form_by kind.Or32 = form.Combine
-form_by kind.Xor64 = form.Combine
-form_by kind.Xor32 = form.Combine
-form_by kind.Inc64 = form.Combine
-form_by kind.Inc32 = form.Combine
-form_by kind.Dec64 = form.Combine
-form_by kind.Dec32 = form.Combine
-form_by kind.Cmp64 = form.Compare
-form_by kind.Cmp32 = form.Compare
-form_by kind.Test64 = form.Compare
-form_by kind.Test32 = form.Compare
-form_by kind.Mov64 = form.Move
-form_by kind.Mov32 = form.Move
-form_by kind.Load64 = form.Move
-form_by kind.Load32 = form.Move
-form_by kind.LoadByte = form.Move
-form_by kind.Store64 = form.Move
-form_by kind.Store32 = form.Move
-form_by kind.Loop = form.CountDown
-form_by kind.Jump = form.Branch
-form_by kind.JumpZero = form.Branch
-form_by kind.JumpNotZero = form.Branch
-form_by kind.JumpBelow = form.Branch
-form_by kind.JumpNotBelow = form.Branch
-form_by kind.JumpNotAbove = form.Branch
-form_by kind.JumpAbove = form.Branch
-form_by kind.JumpLess = form.Branch
-form_by kind.JumpNotLess = form.Branch
-form_by kind.JumpNotGreater = form.Branch
-form_by kind.JumpGreater = form.Branch
+form_by kind.Slow = Data data_form.Nothing
+form_by kind.Combine = Data data_form.Combine
+form_by kind.CombineLoad = Data data_form.Combine
+form_by kind.CombineStore = Data data_form.Combine
+form_by kind.Compare = Data data_form.Compare
+form_by kind.CompareLoad = Data data_form.Compare
+form_by kind.CompareStore = Data data_form.Compare
+form_by kind.Move = Data data_form.Move
+form_by kind.MoveLoad = Data data_form.Move
+form_by kind.MoveStore = Data data_form.Move
+form_by kind.Address = Data data_form.Address
+form_by kind.Push = Data data_form.Push
+form_by kind.PushLoad = Data data_form.Push
+form_by kind.Pop = Data data_form.Pop
+form_by kind.Leave = Data data_form.Leave
+form_by kind.Branch = Flow flow_form.Branch
+form_by kind.BranchLoad = Flow flow_form.Branch
+form_by kind.Call = Flow flow_form.Call
+form_by kind.CallLoad = Flow flow_form.Call
+form_by kind.Return = Flow flow_form.Return
+form_by kind.CountDown = Flow flow_form.CountDown
+form_by kind.ScanBits = Data data_form.ScanBits
+form_by kind.ScanBitsLoad = Data data_form.ScanBits
+form_by kind.Multiply = Data data_form.Multiply
+form_by kind.MultiplyLoad = Data data_form.Multiply
+form_by kind.Divide = Data data_form.Divide
+form_by kind.DivideLoad = Data data_form.Divide
+form_by kind.Widen = Data data_form.Widen
+form_by kind.Double = Data data_form.Double
+form_by kind.ChangeFlag = Data data_form.ChangeFlag
+form_by kind.Nothing = Data data_form.Nothing
+form_by kind.MoveString = Data data_form.MoveString
+form_by kind.StoreString = Data data_form.StoreString
+form_by kind.LoadString = Data data_form.LoadString
+form_by kind.CompareStrings = Data data_form.CompareStrings
+form_by kind.ScanString = Data data_form.ScanString
+form_by kind.Add64 = Data data_form.Combine
+form_by kind.Add32 = Data data_form.Combine
+form_by kind.Sub64 = Data data_form.Combine
+form_by kind.Sub32 = Data data_form.Combine
+form_by kind.And64 = Data data_form.Combine
+form_by kind.And32 = Data data_form.Combine
+form_by kind.Or64 = Data data_form.Combine
+form_by kind.Or32 = Data data_form.Combine
+form_by kind.Xor64 = Data data_form.Combine
+form_by kind.Xor32 = Data data_form.Combine
+form_by kind.Inc64 = Data data_form.Combine
+form_by kind.Inc32 = Data data_form.Combine
+form_by kind.Dec64 = Data data_form.Combine
+form_by kind.Dec32 = Data data_form.Combine
+form_by kind.Cmp64 = Data data_form.Compare
+form_by kind.Cmp32 = Data data_form.Compare
+form_by kind.Test64 = Data data_form.Compare
+form_by kind.Test32 = Data data_form.Compare
+form_by kind.Mov64 = Data data_form.Move
+form_by kind.Mov32 = Data data_form.Move
+form_by kind.Load64 = Data data_form.Move
+form_by kind.Load32 = Data data_form.Move
+form_by kind.LoadByte = Data data_form.Move
+form_by kind.Store64 = Data data_form.Move
+form_by kind.Store32 = Data data_form.Move
+form_by kind.Loop = Flow flow_form.CountDown
+form_by kind.Jump = Flow flow_form.Branch
+form_by kind.JumpZero = Flow flow_form.Branch
+form_by kind.JumpNotZero = Flow flow_form.Branch
+form_by kind.JumpBelow = Flow flow_form.Branch
+form_by kind.JumpNotBelow = Flow flow_form.Branch
+form_by kind.JumpNotAbove = Flow flow_form.Branch
+form_by kind.JumpAbove = Flow flow_form.Branch
+form_by kind.JumpLess = Flow flow_form.Branch
+form_by kind.JumpNotLess = Flow flow_form.Branch
+form_by kind.JumpNotGreater = Flow flow_form.Branch
+form_by kind.JumpGreater = Flow flow_form.Branch
 
 -- the operation of a kind that has one alone, and else the quick form's own
 abbrev pub op_by : Kind → Op → Op

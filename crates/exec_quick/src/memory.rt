@@ -4,7 +4,8 @@
 ghost use Rattle.std.specs.Prelude.{◌≡◌, ◌⊎◌, ◌<◌, true, false, length};
 ghost use Rattle.decode_fields.specs.Widths.{IsWidth};
 ghost use Rattle.nk_bits.specs.Translations.{NamesFramesIn};
-ghost use Rattle.x86_regs.specs.declared.form.Form.TheVariants as Form;
+ghost use Rattle.x86_regs.specs.declared.form.Form.TheVariants.{Data};
+ghost use Rattle.x86_regs.specs.declared.form.DataForm.TheVariants as DataForm;
 ghost use Rattle.exec_quick.specs.declared.quick.Kind.TheVariants as Kind;
 ghost use Rattle.mem_access.specs.Windows.{IsWindow};
 ghost use Rattle.exec_quick.specs.QuickForms.{IsQuick, effect_made, quiet_outcome};
@@ -41,7 +42,7 @@ pub(crate) fn combine_load(
     requires window { IsWindow (length mem.old) control.now regs.old.cpl tlb.now window.old }
     ensures window { IsWindow (length mem.old) control.now regs.old.cpl tlb.now window.new }
     ensures made { result ≡ true → quiet_outcome regs.new mem.new tlb.now
-        ≡ effect_made Form.Combine quick.now regs.old control.now mem.old tlb.now }
+        ≡ effect_made (Data DataForm.Combine) quick.now regs.old control.now mem.old tlb.now }
     ensures left { result ≡ false → (regs.new ≡ regs.old) × (mem.new ≡ mem.old) }
     ensures length { length mem.new ≡ length mem.old }
     ensures privilege { regs.new.cpl ≡ regs.old.cpl }
@@ -84,7 +85,7 @@ pub(crate) fn combine_store(
     requires window { IsWindow (length mem.old) control.now regs.old.cpl tlb.now window.old }
     ensures window { IsWindow (length mem.old) control.now regs.old.cpl tlb.now window.new }
     ensures made { result ≡ true → quiet_outcome regs.new mem.new tlb.now
-        ≡ effect_made Form.Combine quick.now regs.old control.now mem.old tlb.now }
+        ≡ effect_made (Data DataForm.Combine) quick.now regs.old control.now mem.old tlb.now }
     ensures left { result ≡ false → (regs.new ≡ regs.old) × (mem.new ≡ mem.old) }
     ensures length { length mem.new ≡ length mem.old }
     ensures privilege { regs.new.cpl ≡ regs.old.cpl }
@@ -124,7 +125,7 @@ pub(crate) fn compare_load(
     requires window { IsWindow (length mem.old) control.now regs.old.cpl tlb.now window.old }
     ensures window { IsWindow (length mem.old) control.now regs.old.cpl tlb.now window.new }
     ensures made { result ≡ true → quiet_outcome regs.new mem.new tlb.now
-        ≡ effect_made Form.Compare quick.now regs.old control.now mem.old tlb.now }
+        ≡ effect_made (Data DataForm.Compare) quick.now regs.old control.now mem.old tlb.now }
     ensures left { result ≡ false → (regs.new ≡ regs.old) × (mem.new ≡ mem.old) }
     ensures length { length mem.new ≡ length mem.old }
     ensures privilege { regs.new.cpl ≡ regs.old.cpl }
@@ -160,7 +161,7 @@ pub(crate) fn compare_store(
     requires window { IsWindow (length mem.old) control.now regs.old.cpl tlb.now window.old }
     ensures window { IsWindow (length mem.old) control.now regs.old.cpl tlb.now window.new }
     ensures made { result ≡ true → quiet_outcome regs.new mem.new tlb.now
-        ≡ effect_made Form.Compare quick.now regs.old control.now mem.old tlb.now }
+        ≡ effect_made (Data DataForm.Compare) quick.now regs.old control.now mem.old tlb.now }
     ensures left { result ≡ false → (regs.new ≡ regs.old) × (mem.new ≡ mem.old) }
     ensures length { length mem.new ≡ length mem.old }
     ensures privilege { regs.new.cpl ≡ regs.old.cpl }
@@ -199,8 +200,8 @@ pub(crate) fn move_load(
     requires window { IsWindow (length mem.old) control.now regs.old.cpl tlb.now window.old }
     ensures window { IsWindow (length mem.old) control.now regs.old.cpl tlb.now window.new }
     ensures made { result ≡ true → quiet_outcome regs.new mem.new tlb.now
-        ≡ effect_made Form.Move (record quick.now { kind = Kind.MoveLoad; op = op; width = width }) regs.old
-        control.now mem.old tlb.now }
+        ≡ effect_made (Data DataForm.Move)
+        (record quick.now { kind = Kind.MoveLoad; op = op; width = width }) regs.old control.now mem.old tlb.now }
     ensures left { result ≡ false → (regs.new ≡ regs.old) × (mem.new ≡ mem.old) }
     ensures length { length mem.new ≡ length mem.old }
     ensures privilege { regs.new.cpl ≡ regs.old.cpl }
@@ -239,8 +240,8 @@ pub(crate) fn move_store(
     requires window { IsWindow (length mem.old) control.now regs.old.cpl tlb.now window.old }
     ensures window { IsWindow (length mem.old) control.now regs.old.cpl tlb.now window.new }
     ensures made { result ≡ true → quiet_outcome regs.new mem.new tlb.now
-        ≡ effect_made Form.Move (record quick.now { kind = Kind.MoveStore; op = op; width = width }) regs.old
-        control.now mem.old tlb.now }
+        ≡ effect_made (Data DataForm.Move)
+        (record quick.now { kind = Kind.MoveStore; op = op; width = width }) regs.old control.now mem.old tlb.now }
     ensures left { result ≡ false → (regs.new ≡ regs.old) × (mem.new ≡ mem.old) }
     ensures length { length mem.new ≡ length mem.old }
     ensures privilege { regs.new.cpl ≡ regs.old.cpl }

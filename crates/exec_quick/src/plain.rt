@@ -1,12 +1,11 @@
 //! Kinds without an operand, over registers and flags alone.
 
-ghost use Rattle.std.specs.Prelude.{◌≡◌, ◌⊎◌, ◌-◌, ◌^◌, if◌then◌else◌, IfSome, true, false, length};
+ghost use Rattle.std.specs.Prelude.{◌≡◌, ◌⊎◌, ◌-◌, ◌^◌, if◌then◌else◌, true, false, length};
 ghost use Rattle.decode_fields.specs.Widths.{IsWidth};
 ghost use Rattle.nk_bits.specs.Translations.{NamesFramesIn};
 ghost use Rattle.x86_alu.specs.SignedNumbers.{cut, sign};
-ghost use Rattle.x86_regs.specs.declared.effects.Act.TheVariants.{Quiet};
-ghost use Rattle.x86_regs.specs.declared.form.Form.TheVariants as Form;
-ghost use Rattle.x86_regs.specs.OperandOutcomes.{flag_act, flags_changed};
+ghost use Rattle.x86_regs.specs.declared.form.Form.TheVariants.{Data};
+ghost use Rattle.x86_regs.specs.declared.form.DataForm.TheVariants as DataForm;
 ghost use Rattle.exec_quick.specs.declared.quick.Kind.TheVariants as Kind;
 ghost use Rattle.exec_quick.specs.QuickForms.{IsQuick, effect_made, quiet_outcome};
 
@@ -15,10 +14,8 @@ use decode_fields::Place;
 use nk_bits::Control;
 use phys_mem::PhysMem;
 use tlb_model::Tlb;
-use x86_alu::{CF, with_flag};
-use x86_decode::Op;
 use x86_regs::{
-    DF, RAX, RDX, Regs, bit, extended, low, next_of, ones, set_place, sign, source_width,
+    RAX, RDX, Regs, extended, flags_changed, low, next_of, ones, set_place, sign, source_width,
 };
 
 /// NOP.
@@ -36,7 +33,7 @@ pub(crate) fn nothing(
     requires cpl { (regs.old.cpl ≡ 0) ⊎ (regs.old.cpl ≡ 3) }
     requires frames { NamesFramesIn (length mem.old) tlb.now }
     ensures made { result ≡ true → quiet_outcome regs.new mem.new tlb.now
-        ≡ effect_made Form.Nothing quick.now regs.old control.now mem.old tlb.now }
+        ≡ effect_made (Data DataForm.Nothing) quick.now regs.old control.now mem.old tlb.now }
     ensures left { result ≡ false → (regs.new ≡ regs.old) × (mem.new ≡ mem.old) }
     ensures length { length mem.new ≡ length mem.old }
     ensures privilege { regs.new.cpl ≡ regs.old.cpl }
@@ -60,7 +57,7 @@ pub(crate) fn widen(
     requires cpl { (regs.old.cpl ≡ 0) ⊎ (regs.old.cpl ≡ 3) }
     requires frames { NamesFramesIn (length mem.old) tlb.now }
     ensures made { result ≡ true → quiet_outcome regs.new mem.new tlb.now
-        ≡ effect_made Form.Widen quick.now regs.old control.now mem.old tlb.now }
+        ≡ effect_made (Data DataForm.Widen) quick.now regs.old control.now mem.old tlb.now }
     ensures left { result ≡ false → (regs.new ≡ regs.old) × (mem.new ≡ mem.old) }
     ensures length { length mem.new ≡ length mem.old }
     ensures privilege { regs.new.cpl ≡ regs.old.cpl }
@@ -89,7 +86,7 @@ pub(crate) fn double(
     requires cpl { (regs.old.cpl ≡ 0) ⊎ (regs.old.cpl ≡ 3) }
     requires frames { NamesFramesIn (length mem.old) tlb.now }
     ensures made { result ≡ true → quiet_outcome regs.new mem.new tlb.now
-        ≡ effect_made Form.Double quick.now regs.old control.now mem.old tlb.now }
+        ≡ effect_made (Data DataForm.Double) quick.now regs.old control.now mem.old tlb.now }
     ensures left { result ≡ false → (regs.new ≡ regs.old) × (mem.new ≡ mem.old) }
     ensures length { length mem.new ≡ length mem.old }
     ensures privilege { regs.new.cpl ≡ regs.old.cpl }
@@ -129,32 +126,13 @@ pub(crate) fn change_flag(
     requires cpl { (regs.old.cpl ≡ 0) ⊎ (regs.old.cpl ≡ 3) }
     requires frames { NamesFramesIn (length mem.old) tlb.now }
     ensures made { result ≡ true → quiet_outcome regs.new mem.new tlb.now
-        ≡ effect_made Form.ChangeFlag quick.now regs.old control.now mem.old tlb.now }
+        ≡ effect_made (Data DataForm.ChangeFlag) quick.now regs.old control.now mem.old tlb.now }
     ensures left { result ≡ false → (regs.new ≡ regs.old) × (mem.new ≡ mem.old) }
     ensures length { length mem.new ≡ length mem.old }
     ensures privilege { regs.new.cpl ≡ regs.old.cpl }
 {
     let next = next_of(regs, quick.size);
-    let Some(flags) = changed(quick.op, regs.flags) else {
-        return false;
-    };
-    regs.flags = flags;
+    regs.flags = flags_changed(quick.op, regs.flags);
     regs.rip = next;
     true
-}
-
-/// The flags after CF or DF is changed, or None for another operation.
-#[inline(always)]
-fn changed(op: Op, flags: u64) -> Option<u64>
-    ensures flags { IfSome result (λ after. after ≡ flags_changed op flags) }
-    ensures act { IfSome result (λ after. flag_act op flags ≡ Quiet) }
-{
-    match op {
-        Op::Cmc => Some(with_flag(flags, CF, !bit(flags, CF))),
-        Op::Clc => Some(with_flag(flags, CF, false)),
-        Op::Stc => Some(with_flag(flags, CF, true)),
-        Op::Cld => Some(with_flag(flags, DF, false)),
-        Op::Std => Some(with_flag(flags, DF, true)),
-        _ => None,
-    }
 }

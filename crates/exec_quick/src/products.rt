@@ -4,7 +4,8 @@ ghost use Rattle.std.specs.Prelude.{◌≡◌, ◌⊎◌, true, false, length};
 ghost use Rattle.decode_fields.specs.Widths.{IsWidth};
 ghost use Rattle.nk_bits.specs.Translations.{NamesFramesIn};
 ghost use Rattle.x86_alu.specs.SignedNumbers.{cut};
-ghost use Rattle.x86_regs.specs.declared.form.Form.TheVariants as Form;
+ghost use Rattle.x86_regs.specs.declared.form.Form.TheVariants.{Data};
+ghost use Rattle.x86_regs.specs.declared.form.DataForm.TheVariants as DataForm;
 ghost use Rattle.x86_regs.specs.Registers.{written};
 ghost use Rattle.x86_regs.specs.OperandOutcomes.{divided, halves_written, is_signed, multiplied_wide, quietly, upper_half, upper_place};
 ghost use Rattle.exec_quick.specs.declared.quick.Kind.TheVariants as Kind;
@@ -120,7 +121,7 @@ pub(crate) fn multiply(
     requires cpl { (regs.old.cpl ≡ 0) ⊎ (regs.old.cpl ≡ 3) }
     requires frames { NamesFramesIn (length mem.old) tlb.now }
     ensures made { result ≡ true → quiet_outcome regs.new mem.new tlb.now
-        ≡ effect_made Form.Multiply quick.now regs.old control.now mem.old tlb.now }
+        ≡ effect_made (Data DataForm.Multiply) quick.now regs.old control.now mem.old tlb.now }
     ensures left { result ≡ false → (regs.new ≡ regs.old) × (mem.new ≡ mem.old) }
     ensures length { length mem.new ≡ length mem.old }
     ensures privilege { regs.new.cpl ≡ regs.old.cpl }
@@ -149,7 +150,7 @@ pub(crate) fn multiply_load(
     requires window { IsWindow (length mem.old) control.now regs.old.cpl tlb.now window.old }
     ensures window { IsWindow (length mem.old) control.now regs.old.cpl tlb.now window.new }
     ensures made { result ≡ true → quiet_outcome regs.new mem.new tlb.now
-        ≡ effect_made Form.Multiply quick.now regs.old control.now mem.old tlb.now }
+        ≡ effect_made (Data DataForm.Multiply) quick.now regs.old control.now mem.old tlb.now }
     ensures left { result ≡ false → (regs.new ≡ regs.old) × (mem.new ≡ mem.old) }
     ensures length { length mem.new ≡ length mem.old }
     ensures privilege { regs.new.cpl ≡ regs.old.cpl }
@@ -180,7 +181,7 @@ pub(crate) fn divide(
     requires cpl { (regs.old.cpl ≡ 0) ⊎ (regs.old.cpl ≡ 3) }
     requires frames { NamesFramesIn (length mem.old) tlb.now }
     ensures made { result ≡ true → quiet_outcome regs.new mem.new tlb.now
-        ≡ effect_made Form.Divide quick.now regs.old control.now mem.old tlb.now }
+        ≡ effect_made (Data DataForm.Divide) quick.now regs.old control.now mem.old tlb.now }
     ensures left { result ≡ false → (regs.new ≡ regs.old) × (mem.new ≡ mem.old) }
     ensures length { length mem.new ≡ length mem.old }
     ensures privilege { regs.new.cpl ≡ regs.old.cpl }
@@ -208,7 +209,7 @@ pub(crate) fn divide_load(
     requires window { IsWindow (length mem.old) control.now regs.old.cpl tlb.now window.old }
     ensures window { IsWindow (length mem.old) control.now regs.old.cpl tlb.now window.new }
     ensures made { result ≡ true → quiet_outcome regs.new mem.new tlb.now
-        ≡ effect_made Form.Divide quick.now regs.old control.now mem.old tlb.now }
+        ≡ effect_made (Data DataForm.Divide) quick.now regs.old control.now mem.old tlb.now }
     ensures left { result ≡ false → (regs.new ≡ regs.old) × (mem.new ≡ mem.old) }
     ensures length { length mem.new ≡ length mem.old }
     ensures privilege { regs.new.cpl ≡ regs.old.cpl }

@@ -3,7 +3,8 @@
 ghost use Rattle.std.specs.Prelude.{◌≡◌, ◌⊎◌, ◌<◌, true, false, length};
 ghost use Rattle.nk_bits.specs.Translations.{NamesFramesIn};
 ghost use Rattle.x86_alu.specs.SignedNumbers.{cut};
-ghost use Rattle.x86_regs.specs.declared.form.Form.TheVariants as Form;
+ghost use Rattle.x86_regs.specs.declared.form.Form.TheVariants.{Data};
+ghost use Rattle.x86_regs.specs.declared.form.DataForm.TheVariants as DataForm;
 ghost use Rattle.x86_regs.specs.OperandOutcomes.{bits_scanned, is_forward, quietly};
 ghost use Rattle.exec_quick.specs.declared.quick.Kind.TheVariants as Kind;
 ghost use Rattle.mem_access.specs.Windows.{IsWindow};
@@ -69,7 +70,7 @@ pub(crate) fn scan_bits(
     requires cpl { (regs.old.cpl ≡ 0) ⊎ (regs.old.cpl ≡ 3) }
     requires frames { NamesFramesIn (length mem.old) tlb.now }
     ensures made { result ≡ true → quiet_outcome regs.new mem.new tlb.now
-        ≡ effect_made Form.ScanBits quick.now regs.old control.now mem.old tlb.now }
+        ≡ effect_made (Data DataForm.ScanBits) quick.now regs.old control.now mem.old tlb.now }
     ensures left { result ≡ false → (regs.new ≡ regs.old) × (mem.new ≡ mem.old) }
     ensures length { length mem.new ≡ length mem.old }
     ensures privilege { regs.new.cpl ≡ regs.old.cpl }
@@ -99,7 +100,7 @@ pub(crate) fn scan_bits_load(
     requires window { IsWindow (length mem.old) control.now regs.old.cpl tlb.now window.old }
     ensures window { IsWindow (length mem.old) control.now regs.old.cpl tlb.now window.new }
     ensures made { result ≡ true → quiet_outcome regs.new mem.new tlb.now
-        ≡ effect_made Form.ScanBits quick.now regs.old control.now mem.old tlb.now }
+        ≡ effect_made (Data DataForm.ScanBits) quick.now regs.old control.now mem.old tlb.now }
     ensures left { result ≡ false → (regs.new ≡ regs.old) × (mem.new ≡ mem.old) }
     ensures length { length mem.new ≡ length mem.old }
     ensures privilege { regs.new.cpl ≡ regs.old.cpl }

@@ -4,7 +4,8 @@
 ghost use Rattle.std.specs.Prelude.{◌≡◌, ◌⊎◌, ◌<◌, if◌then◌else◌, true, false, length};
 ghost use Rattle.decode_fields.specs.Widths.{IsWidth};
 ghost use Rattle.nk_bits.specs.Translations.{NamesFramesIn};
-ghost use Rattle.x86_regs.specs.declared.form.Form.TheVariants as Form;
+ghost use Rattle.x86_regs.specs.declared.form.Form.TheVariants.{Data};
+ghost use Rattle.x86_regs.specs.declared.form.DataForm.TheVariants as DataForm;
 ghost use Rattle.x86_regs.specs.OperandPlans.{is_idle, is_repeated};
 ghost use Rattle.x86_regs.specs.OperandOutcomes.{counted, is_again, is_asked, pointer_moved};
 ghost use Rattle.exec_quick.specs.declared.quick.Kind.TheVariants as Kind;
@@ -115,7 +116,7 @@ pub(crate) fn move_string(
     requires window { IsWindow (length mem.old) control.now regs.old.cpl tlb.now window.old }
     ensures window { IsWindow (length mem.old) control.now regs.old.cpl tlb.now window.new }
     ensures made { result ≡ true → quiet_outcome regs.new mem.new tlb.now
-        ≡ effect_made Form.MoveString quick.now regs.old control.now mem.old tlb.now }
+        ≡ effect_made (Data DataForm.MoveString) quick.now regs.old control.now mem.old tlb.now }
     ensures left { result ≡ false → (regs.new ≡ regs.old) × (mem.new ≡ mem.old) }
     ensures length { length mem.new ≡ length mem.old }
     ensures privilege { regs.new.cpl ≡ regs.old.cpl }
@@ -160,7 +161,7 @@ pub(crate) fn store_string(
     requires window { IsWindow (length mem.old) control.now regs.old.cpl tlb.now window.old }
     ensures window { IsWindow (length mem.old) control.now regs.old.cpl tlb.now window.new }
     ensures made { result ≡ true → quiet_outcome regs.new mem.new tlb.now
-        ≡ effect_made Form.StoreString quick.now regs.old control.now mem.old tlb.now }
+        ≡ effect_made (Data DataForm.StoreString) quick.now regs.old control.now mem.old tlb.now }
     ensures left { result ≡ false → (regs.new ≡ regs.old) × (mem.new ≡ mem.old) }
     ensures length { length mem.new ≡ length mem.old }
     ensures privilege { regs.new.cpl ≡ regs.old.cpl }
@@ -200,7 +201,7 @@ pub(crate) fn load_string(
     requires window { IsWindow (length mem.old) control.now regs.old.cpl tlb.now window.old }
     ensures window { IsWindow (length mem.old) control.now regs.old.cpl tlb.now window.new }
     ensures made { result ≡ true → quiet_outcome regs.new mem.new tlb.now
-        ≡ effect_made Form.LoadString quick.now regs.old control.now mem.old tlb.now }
+        ≡ effect_made (Data DataForm.LoadString) quick.now regs.old control.now mem.old tlb.now }
     ensures left { result ≡ false → (regs.new ≡ regs.old) × (mem.new ≡ mem.old) }
     ensures length { length mem.new ≡ length mem.old }
     ensures privilege { regs.new.cpl ≡ regs.old.cpl }
@@ -240,7 +241,7 @@ pub(crate) fn compare_strings(
     requires window { IsWindow (length mem.old) control.now regs.old.cpl tlb.now window.old }
     ensures window { IsWindow (length mem.old) control.now regs.old.cpl tlb.now window.new }
     ensures made { result ≡ true → quiet_outcome regs.new mem.new tlb.now
-        ≡ effect_made Form.CompareStrings quick.now regs.old control.now mem.old tlb.now }
+        ≡ effect_made (Data DataForm.CompareStrings) quick.now regs.old control.now mem.old tlb.now }
     ensures left { result ≡ false → (regs.new ≡ regs.old) × (mem.new ≡ mem.old) }
     ensures length { length mem.new ≡ length mem.old }
     ensures privilege { regs.new.cpl ≡ regs.old.cpl }
@@ -286,7 +287,7 @@ pub(crate) fn scan_string(
     requires window { IsWindow (length mem.old) control.now regs.old.cpl tlb.now window.old }
     ensures window { IsWindow (length mem.old) control.now regs.old.cpl tlb.now window.new }
     ensures made { result ≡ true → quiet_outcome regs.new mem.new tlb.now
-        ≡ effect_made Form.ScanString quick.now regs.old control.now mem.old tlb.now }
+        ≡ effect_made (Data DataForm.ScanString) quick.now regs.old control.now mem.old tlb.now }
     ensures left { result ≡ false → (regs.new ≡ regs.old) × (mem.new ≡ mem.old) }
     ensures length { length mem.new ≡ length mem.old }
     ensures privilege { regs.new.cpl ≡ regs.old.cpl }

@@ -4,7 +4,9 @@ ghost use Rattle.std.specs.Prelude.{◌≡◌, ◌<◌, ◌≤◌, IfSome, false
 ghost use Rattle.decode_fields.specs.Bounds.{IsAddress, IsPlace};
 ghost use Rattle.x86_decode.specs.declared.instruction.Decoded.TheVariants.{Whole};
 ghost use Rattle.x86_decode.specs.WellFormed.{IsWellFormed};
-ghost use Rattle.x86_regs.specs.declared.form.Form.TheVariants as Form;
+ghost use Rattle.x86_regs.specs.declared.form.Form.TheVariants.{Data, Flow};
+ghost use Rattle.x86_regs.specs.declared.form.DataForm.TheVariants as DataForm;
+ghost use Rattle.x86_regs.specs.declared.form.FlowForm.TheVariants as FlowForm;
 ghost use Rattle.x86_regs.specs.OperandPlans.{instr_form};
 ghost use Rattle.exec_quick.specs.QuickForms.{StandsFor, form_by, has_memory_first, has_memory_second, has_register_first, is_slow, op_by, operand_of, register_of, width_by};
 ghost use Rattle.exec_quick.specs.QuickParts.{HasParts};
@@ -13,7 +15,7 @@ use crate::kinds::of_its_kind;
 use crate::quick::{Kind, Quick, SLOW};
 use decode_fields::{Address, Place};
 use x86_decode::Instr;
-use x86_regs::{Form, instr_form, is_unconditional};
+use x86_regs::{DataForm, FlowForm, Form, instr_form, is_unconditional};
 
 /// The quick form of an instruction of so many bytes, or `SLOW`.
 pub fn quick_of(instr: &Instr, size: u8) -> Quick
@@ -34,29 +36,52 @@ fn by_form(instr: &Instr, size: u8) -> Quick
     ensures form { is_slow result.kind ≡ false → instr_form instr.now ≡ form_by result.kind }
 {
     match instr_form(instr) {
-        Form::Combine => combining(instr, size),
-        Form::Compare => comparing(instr, size),
-        Form::Move => moving(instr, size),
-        Form::Address => loading(Kind::Address, instr, size),
-        Form::Pop => with_register(Kind::Pop, instr, size),
-        Form::Push => pushing(instr, size),
-        Form::Branch => branching(instr, size),
-        Form::Call => calling(instr, size),
-        Form::Return => without_register(Kind::Return, instr, size),
-        Form::CountDown => without_register(Kind::CountDown, instr, size),
-        Form::Leave => without_register(Kind::Leave, instr, size),
-        Form::ScanBits => scanning(instr, size),
-        Form::Multiply => multiplying(instr, size),
-        Form::Divide => dividing(instr, size),
-        Form::Widen => without_register(Kind::Widen, instr, size),
-        Form::Double => without_register(Kind::Double, instr, size),
-        Form::ChangeFlag => without_register(Kind::ChangeFlag, instr, size),
-        Form::Nothing => without_register(Kind::Nothing, instr, size),
-        Form::MoveString => without_register(Kind::MoveString, instr, size),
-        Form::StoreString => without_register(Kind::StoreString, instr, size),
-        Form::LoadString => without_register(Kind::LoadString, instr, size),
-        Form::CompareStrings => without_register(Kind::CompareStrings, instr, size),
-        Form::ScanString => without_register(Kind::ScanString, instr, size),
+        Form::Data(form) => by_data_form(form, instr, size),
+        Form::Flow(form) => by_flow_form(form, instr, size),
+    }
+}
+
+fn by_data_form(form: DataForm, instr: &Instr, size: u8) -> Quick
+    requires formed { IsWellFormed instr.now }
+    requires lock { instr.now.lock ≡ false }
+    ensures parts { is_slow result.kind ≡ false → HasParts result instr.now size }
+    ensures form { is_slow result.kind ≡ false → form_by result.kind ≡ Data form }
+{
+    match form {
+        DataForm::Combine => combining(instr, size),
+        DataForm::Compare => comparing(instr, size),
+        DataForm::Move => moving(instr, size),
+        DataForm::Address => loading(Kind::Address, instr, size),
+        DataForm::Exchange | DataForm::ExchangeAdd | DataForm::CompareExchange => SLOW,
+        DataForm::ScanBits => scanning(instr, size),
+        DataForm::Widen => without_register(Kind::Widen, instr, size),
+        DataForm::Double => without_register(Kind::Double, instr, size),
+        DataForm::Multiply => multiplying(instr, size),
+        DataForm::Divide => dividing(instr, size),
+        DataForm::Push => pushing(instr, size),
+        DataForm::Pop => with_register(Kind::Pop, instr, size),
+        DataForm::Leave => without_register(Kind::Leave, instr, size),
+        DataForm::MoveString => without_register(Kind::MoveString, instr, size),
+        DataForm::StoreString => without_register(Kind::StoreString, instr, size),
+        DataForm::LoadString => without_register(Kind::LoadString, instr, size),
+        DataForm::CompareStrings => without_register(Kind::CompareStrings, instr, size),
+        DataForm::ScanString => without_register(Kind::ScanString, instr, size),
+        DataForm::ChangeFlag => without_register(Kind::ChangeFlag, instr, size),
+        DataForm::Nothing => without_register(Kind::Nothing, instr, size),
+    }
+}
+
+fn by_flow_form(form: FlowForm, instr: &Instr, size: u8) -> Quick
+    requires formed { IsWellFormed instr.now }
+    requires lock { instr.now.lock ≡ false }
+    ensures parts { is_slow result.kind ≡ false → HasParts result instr.now size }
+    ensures form { is_slow result.kind ≡ false → form_by result.kind ≡ Flow form }
+{
+    match form {
+        FlowForm::Branch => branching(instr, size),
+        FlowForm::Call => calling(instr, size),
+        FlowForm::Return => without_register(Kind::Return, instr, size),
+        FlowForm::CountDown => without_register(Kind::CountDown, instr, size),
         _ => SLOW,
     }
 }
@@ -65,7 +90,7 @@ fn combining(instr: &Instr, size: u8) -> Quick
     requires formed { IsWellFormed instr.now }
     requires lock { instr.now.lock ≡ false }
     ensures parts { is_slow result.kind ≡ false → HasParts result instr.now size }
-    ensures form { is_slow result.kind ≡ false → form_by result.kind ≡ Form.Combine }
+    ensures form { is_slow result.kind ≡ false → form_by result.kind ≡ Data DataForm.Combine }
 {
     match (&instr.to, &instr.from) {
         (Place::Mem(_), _) => storing(Kind::CombineStore, instr, size),
@@ -78,7 +103,7 @@ fn comparing(instr: &Instr, size: u8) -> Quick
     requires formed { IsWellFormed instr.now }
     requires lock { instr.now.lock ≡ false }
     ensures parts { is_slow result.kind ≡ false → HasParts result instr.now size }
-    ensures form { is_slow result.kind ≡ false → form_by result.kind ≡ Form.Compare }
+    ensures form { is_slow result.kind ≡ false → form_by result.kind ≡ Data DataForm.Compare }
 {
     match (&instr.to, &instr.from) {
         (Place::Mem(_), _) => storing(Kind::CompareStore, instr, size),
@@ -91,7 +116,7 @@ fn moving(instr: &Instr, size: u8) -> Quick
     requires formed { IsWellFormed instr.now }
     requires lock { instr.now.lock ≡ false }
     ensures parts { is_slow result.kind ≡ false → HasParts result instr.now size }
-    ensures form { is_slow result.kind ≡ false → form_by result.kind ≡ Form.Move }
+    ensures form { is_slow result.kind ≡ false → form_by result.kind ≡ Data DataForm.Move }
 {
     match (&instr.to, &instr.from) {
         (Place::Mem(_), _) => storing(Kind::MoveStore, instr, size),
@@ -104,7 +129,7 @@ fn pushing(instr: &Instr, size: u8) -> Quick
     requires formed { IsWellFormed instr.now }
     requires lock { instr.now.lock ≡ false }
     ensures parts { is_slow result.kind ≡ false → HasParts result instr.now size }
-    ensures form { is_slow result.kind ≡ false → form_by result.kind ≡ Form.Push }
+    ensures form { is_slow result.kind ≡ false → form_by result.kind ≡ Data DataForm.Push }
 {
     match &instr.from {
         Place::Mem(_) => reading(Kind::PushLoad, instr, size),
@@ -116,7 +141,7 @@ fn branching(instr: &Instr, size: u8) -> Quick
     requires formed { IsWellFormed instr.now }
     requires lock { instr.now.lock ≡ false }
     ensures parts { is_slow result.kind ≡ false → HasParts result instr.now size }
-    ensures form { is_slow result.kind ≡ false → form_by result.kind ≡ Form.Branch }
+    ensures form { is_slow result.kind ≡ false → form_by result.kind ≡ Flow FlowForm.Branch }
 {
     match &instr.from {
         Place::Mem(_) => reading(Kind::BranchLoad, instr, size),
@@ -128,7 +153,7 @@ fn calling(instr: &Instr, size: u8) -> Quick
     requires formed { IsWellFormed instr.now }
     requires lock { instr.now.lock ≡ false }
     ensures parts { is_slow result.kind ≡ false → HasParts result instr.now size }
-    ensures form { is_slow result.kind ≡ false → form_by result.kind ≡ Form.Call }
+    ensures form { is_slow result.kind ≡ false → form_by result.kind ≡ Flow FlowForm.Call }
 {
     match &instr.from {
         Place::Mem(_) => reading(Kind::CallLoad, instr, size),
@@ -140,7 +165,7 @@ fn scanning(instr: &Instr, size: u8) -> Quick
     requires formed { IsWellFormed instr.now }
     requires lock { instr.now.lock ≡ false }
     ensures parts { is_slow result.kind ≡ false → HasParts result instr.now size }
-    ensures form { is_slow result.kind ≡ false → form_by result.kind ≡ Form.ScanBits }
+    ensures form { is_slow result.kind ≡ false → form_by result.kind ≡ Data DataForm.ScanBits }
 {
     match &instr.from {
         Place::Mem(_) => loading(Kind::ScanBitsLoad, instr, size),
@@ -152,7 +177,7 @@ fn multiplying(instr: &Instr, size: u8) -> Quick
     requires formed { IsWellFormed instr.now }
     requires lock { instr.now.lock ≡ false }
     ensures parts { is_slow result.kind ≡ false → HasParts result instr.now size }
-    ensures form { is_slow result.kind ≡ false → form_by result.kind ≡ Form.Multiply }
+    ensures form { is_slow result.kind ≡ false → form_by result.kind ≡ Data DataForm.Multiply }
 {
     match &instr.to {
         Place::Mem(_) => storing(Kind::MultiplyLoad, instr, size),
@@ -164,7 +189,7 @@ fn dividing(instr: &Instr, size: u8) -> Quick
     requires formed { IsWellFormed instr.now }
     requires lock { instr.now.lock ≡ false }
     ensures parts { is_slow result.kind ≡ false → HasParts result instr.now size }
-    ensures form { is_slow result.kind ≡ false → form_by result.kind ≡ Form.Divide }
+    ensures form { is_slow result.kind ≡ false → form_by result.kind ≡ Data DataForm.Divide }
 {
     match &instr.to {
         Place::Mem(_) => storing(Kind::DivideLoad, instr, size),

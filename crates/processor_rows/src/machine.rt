@@ -12,7 +12,7 @@ use phys_mem::PhysMem;
 use std::alloc::Global;
 use tlb_model::Tlb;
 use x86_decode::{Decoded, Instr, decode};
-use x86_regs::{Effect, Fault, Regs, instr_form};
+use x86_regs::{Effect, Fault, Form, Regs, instr_form};
 
 /// What the bytes of a row did.
 #[derive(Clone, Copy)]
@@ -112,9 +112,8 @@ fn user_effect(
     ensures sized { IfOk result (λ effect. HasAccessSize effect.write) }
 {
     let regs = Regs { cpl: 3, ..*before };
-    if exec_data::is_data_form(instr_form(instr)) {
-        exec_data::effect(instr, size, &regs, &CONTROL, mem, tlb)
-    } else {
-        exec_flow::effect(instr, size, &regs, &CONTROL, mem, tlb)
+    match instr_form(instr) {
+        Form::Data(_) => exec_data::effect(instr, size, &regs, &CONTROL, mem, tlb),
+        Form::Flow(_) => exec_flow::effect(instr, size, &regs, &CONTROL, mem, tlb),
     }
 }

@@ -20,7 +20,8 @@ use Rattle.x86_regs.specs.declared.effects.Change.{Change}
 use Rattle.x86_regs.specs.declared.effects.Effect.{Effect}
 use Rattle.x86_regs.specs.declared.faults.Fault.{Fault}
 use Rattle.x86_regs.specs.declared.form.Form.{Form}
-use Rattle.x86_regs.specs.declared.form.Form.TheVariants as form
+use Rattle.x86_regs.specs.declared.form.Form.TheVariants.{Flow}
+use Rattle.x86_regs.specs.declared.form.FlowForm.TheVariants as flow_form
 use Rattle.x86_regs.specs.Operands.{next_of, rsp, stack_span, wrapped}
 use Rattle.x86_regs.specs.OperandPlans.{instr_form, plan_by}
 use Rattle.x86_regs.specs.OperandOutcomes.{outcome_by}
@@ -97,7 +98,7 @@ module _ (laws : AlikeLaws) (test : Claim) (control : Control) (regs : Regs) (m 
 
     form_same : (by : Form) →
         effect_by by i size regs control m one tlb ≡ effect_by by i size regs control n other tlb
-    form_same form.TrapReturn =
+    form_same (Flow flow_form.TrapReturn) =
         same_on (frame_popped m one regs tlb) (frame_popped n other regs tlb) _ _ (frame_same tlb pass) (λ _ _. refl)
     form_same by = planned_same by
 

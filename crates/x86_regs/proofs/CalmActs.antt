@@ -25,7 +25,9 @@ use Rattle.x86_regs.specs.declared.effects.Effect.{Effect}
 use Rattle.x86_regs.specs.declared.faults.Fault.{Fault}
 use Rattle.x86_regs.specs.declared.faults.Fault.TheVariants as fault
 use Rattle.x86_regs.specs.declared.form.Form.{Form}
-use Rattle.x86_regs.specs.declared.form.Form.TheVariants as form
+use Rattle.x86_regs.specs.declared.form.Form.TheVariants.{Data, Flow}
+use Rattle.x86_regs.specs.declared.form.DataForm.TheVariants as data_form
+use Rattle.x86_regs.specs.declared.form.FlowForm.TheVariants as flow_form
 use Rattle.x86_regs.specs.Registers.{held}
 use Rattle.x86_regs.specs.OperationForms.{form_of}
 use Rattle.x86_regs.specs.Combinations.{interrupt_flag}
@@ -38,8 +40,8 @@ use Rattle.x86_regs.proofs.EffectLaws.{either, then_ok}
 
 -- every form but that of MOV to a control register and of LIDT
 abbrev LoadsNoControl : Form → Type 0
-LoadsNoControl form.ToControl = ⊥
-LoadsNoControl form.LoadTable = ⊥
+LoadsNoControl (Flow flow_form.ToControl) = ⊥
+LoadsNoControl (Flow flow_form.LoadTable) = ⊥
 LoadsNoControl _ = ⊤
 
 -- an operation that isn't protected has such a form
@@ -77,27 +79,27 @@ module _ (regs : Regs) where
 
   module _ (i : Instr) (next : ℕ) (control : Control) (frames : ℕ) (found : Gathered) where
     outcome_calm : (by : Form) → LoadsNoControl by → GivesCalm (outcome_by by i next regs control frames found)
-    outcome_calm form.CompareExchange _ =
+    outcome_calm (Data data_form.CompareExchange) _ =
         either GivesCalm (held regs.general (place.Reg rax) i.width == cut i.width found.to) _ _ tt tt
-    outcome_calm form.ScanBits _ = either GivesCalm (cut i.width found.from == 0) _ _ tt tt
-    outcome_calm form.Divide _ =
+    outcome_calm (Data data_form.ScanBits) _ = either GivesCalm (cut i.width found.from == 0) _ _ tt tt
+    outcome_calm (Data data_form.Divide) _ =
         let dividend = joined i.width (upper_half regs.general i.width) (held regs.general (place.Reg rax) i.width) in
         either GivesCalm (is_refused (is_signed i.op) i.width dividend (cut i.width found.to)) _ _ tt tt
-    outcome_calm form.MoveString _ = turn_calm i _ _ _ _ _
-    outcome_calm form.StoreString _ = turn_calm i _ _ _ _ _
-    outcome_calm form.LoadString _ = turn_calm i _ _ _ _ _
-    outcome_calm form.CompareStrings _ = turn_calm i _ _ _ _ _
-    outcome_calm form.ScanString _ = turn_calm i _ _ _ _ _
-    outcome_calm form.Branch _ = branched_calm next _ (is_taken i.op regs.flags) (target_by i.from next found.from) _
-    outcome_calm form.Call _ = branched_calm next _ true (target_by i.from next found.from) _
-    outcome_calm form.Return _ = branched_calm next _ true (cut 64 found.to) _
-    outcome_calm form.CountDown _ =
+    outcome_calm (Data data_form.MoveString) _ = turn_calm i _ _ _ _ _
+    outcome_calm (Data data_form.StoreString) _ = turn_calm i _ _ _ _ _
+    outcome_calm (Data data_form.LoadString) _ = turn_calm i _ _ _ _ _
+    outcome_calm (Data data_form.CompareStrings) _ = turn_calm i _ _ _ _ _
+    outcome_calm (Data data_form.ScanString) _ = turn_calm i _ _ _ _ _
+    outcome_calm (Flow flow_form.Branch) _ = branched_calm next _ (is_taken i.op regs.flags) (target_by i.from next found.from) _
+    outcome_calm (Flow flow_form.Call) _ = branched_calm next _ true (target_by i.from next found.from) _
+    outcome_calm (Flow flow_form.Return) _ = branched_calm next _ true (cut 64 found.to) _
+    outcome_calm (Flow flow_form.CountDown) _ =
         let taken = is_taken_by_count i.op (slice_index (count_after i.op regs.general) rcx) (bit regs.flags zero_flag) in
         branched_calm next _ taken (wrapped (next + i.value)) _
-    outcome_calm form.ChangeFlag _ = flag_act_calm i.op regs.flags
-    outcome_calm form.DropPage _ = page_dropped_calm (cut 64 found.from)
-    outcome_calm form.ToControl loads = absurd loads
-    outcome_calm form.LoadTable loads = absurd loads
+    outcome_calm (Flow flow_form.ChangeInterruptFlag) _ = flag_act_calm i.op regs.flags
+    outcome_calm (Flow flow_form.DropPage) _ = page_dropped_calm (cut 64 found.from)
+    outcome_calm (Flow flow_form.ToControl) loads = absurd loads
+    outcome_calm (Flow flow_form.LoadTable) loads = absurd loads
     outcome_calm _ _ = tt
 
 concluded_calm : (view : View) (plan : AccessPlan) (found : Gathered) (outcome : Result Change Fault) (tlb : Translations) →
@@ -116,7 +118,7 @@ module _ (i : Instr) (size : ℕ) (regs : Regs) (control : Control) (m : List �
       (outcome_calm regs i (next_of regs size) control view.frames found by calm))
 
   effect_calm : (by : Form) → LoadsNoControl by → IfOk (effect_by by i size regs control m view tlb).answer IsCalmEffect
-  effect_calm form.TrapReturn calm = then_ok IsCalmEffect (frame_popped m view regs tlb).answer _ _ (λ frame. tt)
+  effect_calm (Flow flow_form.TrapReturn) calm = then_ok IsCalmEffect (frame_popped m view regs tlb).answer _ _ (λ frame. tt)
   effect_calm by calm = planned_calm by calm
 
 -- what holds of the effect holds where nothing is refused

@@ -26,7 +26,9 @@ use Rattle.x86_regs.specs.declared.effects.Change.{Change}
 use Rattle.x86_regs.specs.declared.effects.Effect.{Effect}
 use Rattle.x86_regs.specs.declared.faults.Fault.{Fault}
 use Rattle.x86_regs.specs.declared.form.Form.{Form}
-use Rattle.x86_regs.specs.declared.form.Form.TheVariants as form
+use Rattle.x86_regs.specs.declared.form.Form.TheVariants.{Data, Flow}
+use Rattle.x86_regs.specs.declared.form.DataForm.TheVariants as data_form
+use Rattle.x86_regs.specs.declared.form.FlowForm.TheVariants as flow_form
 use Rattle.x86_regs.specs.Registers.{held}
 use Rattle.x86_regs.specs.Combinations.{interrupt_flag}
 use Rattle.x86_regs.specs.Operands.{next_of, rax, rcx, wrapped}
@@ -65,7 +67,7 @@ then_ok Q (Err fault) tlb next later = tt
 
 -- every form but that of INT3 and INT
 abbrev IsNoTrap : Form → Type 0
-IsNoTrap form.Trap = ⊥
+IsNoTrap (Flow flow_form.Trap) = ⊥
 IsNoTrap _ = ⊤
 
 -- where nothing is delivered, all that is to hold before a delivery holds
@@ -121,26 +123,26 @@ module _ (size frames : ℕ) (whole : frames ≡ size / 4096) (regs : Regs) wher
   module _ (i : Instr) (next : ℕ) (control : Control) (found : Gathered) where
     -- the outcome of each such form: that of IRETQ isn't used, since its effect is a return's
     outcome_calm : (by : Form) → IsNoTrap by → GivesCalm (outcome_by by i next regs control frames found)
-    outcome_calm form.CompareExchange _ =
+    outcome_calm (Data data_form.CompareExchange) _ =
         either GivesCalm (held regs.general (place.Reg rax) i.width == cut i.width found.to) _ _ (quiet _ _ _ _) (quiet _ _ _ _)
-    outcome_calm form.ScanBits _ = either GivesCalm (cut i.width found.from == 0) _ _ (quiet _ _ _ _) (quiet _ _ _ _)
-    outcome_calm form.Divide _ =
+    outcome_calm (Data data_form.ScanBits) _ = either GivesCalm (cut i.width found.from == 0) _ _ (quiet _ _ _ _) (quiet _ _ _ _)
+    outcome_calm (Data data_form.Divide) _ =
         let dividend = joined i.width (upper_half regs.general i.width) (held regs.general (place.Reg rax) i.width) in
         either GivesCalm (is_refused (is_signed i.op) i.width dividend (cut i.width found.to)) _ _ tt (quiet _ _ _ _)
-    outcome_calm form.MoveString _ = turn_calm i _ _ _ _ _
-    outcome_calm form.StoreString _ = turn_calm i _ _ _ _ _
-    outcome_calm form.LoadString _ = turn_calm i _ _ _ _ _
-    outcome_calm form.CompareStrings _ = turn_calm i _ _ _ _ _
-    outcome_calm form.ScanString _ = turn_calm i _ _ _ _ _
-    outcome_calm form.Branch _ = branched_calm next _ (is_taken i.op regs.flags) (target_by i.from next found.from) _
-    outcome_calm form.Call _ = branched_calm next _ true (target_by i.from next found.from) _
-    outcome_calm form.Return _ = branched_calm next _ true (cut 64 found.to) _
-    outcome_calm form.CountDown _ =
+    outcome_calm (Data data_form.MoveString) _ = turn_calm i _ _ _ _ _
+    outcome_calm (Data data_form.StoreString) _ = turn_calm i _ _ _ _ _
+    outcome_calm (Data data_form.LoadString) _ = turn_calm i _ _ _ _ _
+    outcome_calm (Data data_form.CompareStrings) _ = turn_calm i _ _ _ _ _
+    outcome_calm (Data data_form.ScanString) _ = turn_calm i _ _ _ _ _
+    outcome_calm (Flow flow_form.Branch) _ = branched_calm next _ (is_taken i.op regs.flags) (target_by i.from next found.from) _
+    outcome_calm (Flow flow_form.Call) _ = branched_calm next _ true (target_by i.from next found.from) _
+    outcome_calm (Flow flow_form.Return) _ = branched_calm next _ true (cut 64 found.to) _
+    outcome_calm (Flow flow_form.CountDown) _ =
         branched_calm next _ (is_taken_by_count i.op (slice_index (count_after i.op regs.general) rcx) (bit regs.flags zero_flag)) (wrapped (next + i.value)) _
-    outcome_calm form.ChangeFlag _ = calm _ _ _ _ _ (flag_act_calm size i.op regs.flags)
-    outcome_calm form.ToControl _ = loaded_calm i.value next (cut 64 found.from)
-    outcome_calm form.DropPage _ = calm _ _ _ _ _ (page_dropped_calm size (cut 64 found.from))
-    outcome_calm form.Trap other = absurd other
+    outcome_calm (Flow flow_form.ChangeInterruptFlag) _ = calm _ _ _ _ _ (flag_act_calm size i.op regs.flags)
+    outcome_calm (Flow flow_form.ToControl) _ = loaded_calm i.value next (cut 64 found.from)
+    outcome_calm (Flow flow_form.DropPage) _ = calm _ _ _ _ _ (page_dropped_calm size (cut 64 found.from))
+    outcome_calm (Flow flow_form.Trap) other = absurd other
     outcome_calm _ _ = record { cpl_stays = refl; ss_stays = refl; calm = record { loads = tt; delivers_none = tt } }
 
 -- the effect of such a change, whatever the check of its write finds
@@ -160,11 +162,11 @@ module _ (i : Instr) (count : ℕ) (regs : Regs) (control : Control) (m : List �
 
   -- INT3, INT and IRETQ change RIP alone, and write nothing
   form_keeps : (by : Form) → IfOk (effect_by by i count regs control m view tlb).answer (Keeps (length m) regs)
-  form_keeps form.TrapReturn =
+  form_keeps (Flow flow_form.TrapReturn) =
       then_ok (Keeps (length m) regs) (frame_popped m view regs tlb).answer _ _
       (λ frame. record { cpl_stays = refl; ss_stays = refl; loads = tt; leaves = (refl, refl) })
-  form_keeps form.Trap =
-      then_ok (Keeps (length m) regs) (in_faults (gathered m view (plan_by form.Trap i count regs) tlb)).answer _ _
+  form_keeps (Flow flow_form.Trap) =
+      then_ok (Keeps (length m) regs) (in_faults (gathered m view (plan_by (Flow flow_form.Trap) i count regs) tlb)).answer _ _
       (λ found. record { cpl_stays = refl; ss_stays = refl; loads = tt; leaves = (refl, refl) })
   form_keeps by = planned_keeps by tt
 

@@ -20,7 +20,8 @@ use Rattle.x86_regs.specs.declared.effects.Change.{Change}
 use Rattle.x86_regs.specs.declared.effects.Effect.{Effect}
 use Rattle.x86_regs.specs.declared.faults.Fault.{Fault}
 use Rattle.x86_regs.specs.declared.form.Form.{Form}
-use Rattle.x86_regs.specs.declared.form.Form.TheVariants as form
+use Rattle.x86_regs.specs.declared.form.Form.TheVariants.{Flow}
+use Rattle.x86_regs.specs.declared.form.FlowForm.TheVariants as flow_form
 use Rattle.x86_regs.specs.Operands.{next_of, rsp, stack_span, wrapped}
 use Rattle.x86_regs.specs.OperandPlans.{instr_form, plan_by}
 use Rattle.x86_regs.specs.OperandOutcomes.{outcome_by}
@@ -79,7 +80,7 @@ module _ (laws : AccessLaws) (view : View) (test : Claim) (walked : IsWalked vie
         concluded_kept accesses found (outcome_by by i (next_of regs count) regs control view.frames found) _ is.last kept)
 
     form_kept : (by : Form) → AllPass test (effect_by by i count regs control m view tlb).tlb
-    form_kept form.TrapReturn =
+    form_kept (Flow flow_form.TrapReturn) =
         let kept = frame_kept m regs tlb pass in kept_on test (frame_popped m view regs tlb) _ kept (λ frame. kept)
     form_kept by = planned_kept by
 
@@ -122,7 +123,7 @@ module _ (laws : AccessLaws) (view : View) (test : Claim) (walked : IsWalked vie
 
       -- IRETQ writes nothing
       form_granted : (by : Form) → IfOk (effect_by by i count regs control m view tlb).answer Granted
-      form_granted form.TrapReturn = ok_on Granted (frame_popped m view regs tlb) _ (λ frame _. tt)
+      form_granted (Flow flow_form.TrapReturn) = ok_on Granted (frame_popped m view regs tlb) _ (λ frame _. tt)
       form_granted by = planned_granted by
 
 module _ (laws : AccessLaws) (i : Instr) (size : ℕ) (regs : Regs) (control : Control) (m : List ℕ) (tlb : Translations)

@@ -25,7 +25,9 @@ use Rattle.x86_regs.specs.declared.effects.Change.{Change}
 use Rattle.x86_regs.specs.declared.effects.Effect.{Effect}
 use Rattle.x86_regs.specs.declared.faults.Fault.{Fault}
 use Rattle.x86_regs.specs.declared.form.Form.{Form}
-use Rattle.x86_regs.specs.declared.form.Form.TheVariants as form
+use Rattle.x86_regs.specs.declared.form.Form.TheVariants.{Data, Flow}
+use Rattle.x86_regs.specs.declared.form.DataForm.TheVariants as data_form
+use Rattle.x86_regs.specs.declared.form.FlowForm.TheVariants as flow_form
 use Rattle.x86_regs.specs.Registers.{held, high_written, low_written, written}
 use Rattle.x86_regs.specs.Operands.{next_of, rax, rbp, rcx, rdi, rdx, rsi, rsp, with_register}
 use Rattle.x86_regs.specs.OperandPlans.{instr_form, is_idle, is_repeated, plan_by, risen}
@@ -147,49 +149,49 @@ module _ (regs : Regs) (are : AreRegisters regs) where
     next_kept general flags fit = kept general flags next fit below
 
     outcome_kept : (by : Form) → GivesRegisters (outcome_by by i next regs control frames found)
-    outcome_kept form.Combine = next_kept _ _ (place_general i.to _ _ general_are)
-    outcome_kept form.Move = next_kept _ _ (place_general i.to _ _ general_are)
-    outcome_kept form.Address = next_kept _ _ (place_general i.to _ _ general_are)
-    outcome_kept form.Exchange = next_kept _ _ (place_general i.from _ _ (place_general i.to _ _ general_are))
-    outcome_kept form.ExchangeAdd = next_kept _ _ (place_general i.to _ _ (place_general i.from _ _ general_are))
-    outcome_kept form.CompareExchange =
+    outcome_kept (Data data_form.Combine) = next_kept _ _ (place_general i.to _ _ general_are)
+    outcome_kept (Data data_form.Move) = next_kept _ _ (place_general i.to _ _ general_are)
+    outcome_kept (Data data_form.Address) = next_kept _ _ (place_general i.to _ _ general_are)
+    outcome_kept (Data data_form.Exchange) = next_kept _ _ (place_general i.from _ _ (place_general i.to _ _ general_are))
+    outcome_kept (Data data_form.ExchangeAdd) = next_kept _ _ (place_general i.to _ _ (place_general i.from _ _ general_are))
+    outcome_kept (Data data_form.CompareExchange) =
         either GivesRegisters (held regs.general (place.Reg rax) i.width == cut i.width found.to) _ _
         (next_kept _ _ (place_general i.to _ _ general_are))
         (next_kept _ _ (place_general i.to _ _ (place_general (place.Reg rax) _ _ general_are)))
-    outcome_kept form.ScanBits =
+    outcome_kept (Data data_form.ScanBits) =
         either GivesRegisters (cut i.width found.from == 0) _ _ (next_kept _ _ general_are)
         (next_kept _ _ (place_general i.to _ _ general_are))
-    outcome_kept form.Widen = next_kept _ _ (place_general (place.Reg rax) _ _ general_are)
-    outcome_kept form.Double = next_kept _ _ (place_general (place.Reg rdx) _ _ general_are)
-    outcome_kept form.Multiply = next_kept _ _ (halves_general regs.general i.width _ _ formed.width general_are)
-    outcome_kept form.Divide =
+    outcome_kept (Data data_form.Widen) = next_kept _ _ (place_general (place.Reg rax) _ _ general_are)
+    outcome_kept (Data data_form.Double) = next_kept _ _ (place_general (place.Reg rdx) _ _ general_are)
+    outcome_kept (Data data_form.Multiply) = next_kept _ _ (halves_general regs.general i.width _ _ formed.width general_are)
+    outcome_kept (Data data_form.Divide) =
         let dividend = joined i.width (upper_half regs.general i.width) (held regs.general (place.Reg rax) i.width) in
         either GivesRegisters (is_refused (is_signed i.op) i.width dividend (cut i.width found.to)) _ _ tt
         (next_kept _ _ (halves_general regs.general i.width _ _ formed.width general_are))
-    outcome_kept form.Push = next_kept _ _ (fallen_general i.width)
-    outcome_kept form.PushFlags = next_kept _ _ (fallen_general i.width)
-    outcome_kept form.Pop = next_kept _ _ (place_general i.to _ _ (risen_general i.width))
-    outcome_kept form.PopFlags = next_kept _ _ (risen_general i.width)
-    outcome_kept form.Leave = next_kept _ _ (register_general _ rbp _ (register_general regs.general rsp _ general_are))
-    outcome_kept form.MoveString =
+    outcome_kept (Data data_form.Push) = next_kept _ _ (fallen_general i.width)
+    outcome_kept (Data data_form.Pop) = next_kept _ _ (place_general i.to _ _ (risen_general i.width))
+    outcome_kept (Data data_form.Leave) = next_kept _ _ (register_general _ rbp _ (register_general regs.general rsp _ general_are))
+    outcome_kept (Data data_form.MoveString) =
         turn_kept i next _ _ _ _ (moved_general i.width rdi _ (moved_general i.width rsi _ general_are)) below
-    outcome_kept form.StoreString = turn_kept i next _ _ _ _ (moved_general i.width rdi _ general_are) below
-    outcome_kept form.LoadString =
+    outcome_kept (Data data_form.StoreString) = turn_kept i next _ _ _ _ (moved_general i.width rdi _ general_are) below
+    outcome_kept (Data data_form.LoadString) =
         turn_kept i next _ _ _ _ (place_general (place.Reg rax) _ _ (moved_general i.width rsi _ general_are)) below
-    outcome_kept form.CompareStrings =
+    outcome_kept (Data data_form.CompareStrings) =
         turn_kept i next _ _ _ _ (moved_general i.width rdi _ (moved_general i.width rsi _ general_are)) below
-    outcome_kept form.ScanString = turn_kept i next _ _ _ _ (moved_general i.width rdi _ general_are) below
-    outcome_kept form.Branch =
+    outcome_kept (Data data_form.ScanString) = turn_kept i next _ _ _ _ (moved_general i.width rdi _ general_are) below
+    outcome_kept (Flow flow_form.Branch) =
         branched_kept next _ (is_taken i.op regs.flags) _ _ general_are below (target_below i.from next found.from)
-    outcome_kept form.Call =
+    outcome_kept (Flow flow_form.Call) =
         branched_kept next _ true _ _ (fallen_general 64) below (target_below i.from next found.from)
-    outcome_kept form.Return =
+    outcome_kept (Flow flow_form.Return) =
         branched_kept next _ true _ _ (register_general regs.general rsp _ general_are) below (below_64 found.to)
-    outcome_kept form.CountDown =
+    outcome_kept (Flow flow_form.CountDown) =
         let taken = is_taken_by_count i.op (slice_index (count_after i.op regs.general) rcx) (bit regs.flags zero_flag) in
         branched_kept next _ taken _ _ (count_general i.op regs.general general_are) below (below_64 (next + i.value))
-    outcome_kept form.FromControl = next_kept _ _ (written_general regs.general i.to 64 _ width_64 general_are)
-    outcome_kept form.ToControl = loaded_kept i.value next frames (cut 64 found.from) below
+    outcome_kept (Flow flow_form.PushFlags) = next_kept _ _ (fallen_general i.width)
+    outcome_kept (Flow flow_form.PopFlags) = next_kept _ _ (risen_general i.width)
+    outcome_kept (Flow flow_form.FromControl) = next_kept _ _ (written_general regs.general i.to 64 _ width_64 general_are)
+    outcome_kept (Flow flow_form.ToControl) = loaded_kept i.value next frames (cut 64 found.from) below
     outcome_kept _ = record { count = are.count; bounds = are.bounds; rip = below }
 
 abbrev KeepsRegisters : Effect → Type 0
@@ -214,7 +216,7 @@ module _ (i : Instr) (size : ℕ) (regs : Regs) (control : Control) (m : List �
       (outcome_kept regs are i formed (next_of regs size) next_below control view.frames found by))
 
   form_registers : (by : Form) → IfOk (effect_by by i size regs control m view tlb).answer KeepsRegisters
-  form_registers form.TrapReturn =
+  form_registers (Flow flow_form.TrapReturn) =
       then_ok KeepsRegisters (frame_popped m view regs tlb).answer _ _
       (λ frame. record { count = are.count; bounds = are.bounds; rip = next_below })
   form_registers by = planned_registers by

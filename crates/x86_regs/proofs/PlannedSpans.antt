@@ -13,7 +13,9 @@ use Rattle.page_walk.specs.declared.plan.AccessPlan.{AccessPlan}
 use Rattle.page_walk.specs.declared.plan.Span.{Span}
 use Rattle.x86_regs.specs.declared.registers.Regs.{Regs}
 use Rattle.x86_regs.specs.declared.form.Form.{Form}
-use Rattle.x86_regs.specs.declared.form.Form.TheVariants as form
+use Rattle.x86_regs.specs.declared.form.Form.TheVariants.{Data, Flow}
+use Rattle.x86_regs.specs.declared.form.DataForm.TheVariants as data_form
+use Rattle.x86_regs.specs.declared.form.FlowForm.TheVariants as flow_form
 use Rattle.x86_regs.specs.Combinations.{source_width}
 use Rattle.x86_regs.specs.Operands.{next_of, place_span, rbp, rdi, rsi, rsp, source_by, stack_span, wrapped}
 use Rattle.x86_regs.specs.OperandPlans.{from_source, is_idle, no_access, plan_by, push_span, rdi_span, risen, rsi_span, table_plan, to_source, to_span, unless_idle}
@@ -119,35 +121,35 @@ module _ (i : Instr) (size : ℕ) (regs : Regs) (formed : IsWellFormed i) (regis
       by_count false = is
 
   pub planned : (by : Form) → IsPlanned (plan_by by i size regs)
-  planned form.Combine = record { both = both_spans; to = to_whole; from = from_part; last = tt }
-  planned form.Compare = record { both = tt; to = to_whole; from = from_whole; last = tt }
-  planned form.Move = record { both = tt; to = tt; from = from_part; last = both_spans }
-  planned form.Exchange = record { both = both_spans; to = to_whole; from = from_whole; last = tt }
-  planned form.ExchangeAdd = record { both = both_spans; to = to_whole; from = from_whole; last = tt }
-  planned form.CompareExchange = record { both = both_spans; to = to_whole; from = from_whole; last = tt }
-  planned form.ScanBits = record { both = tt; to = tt; from = from_whole; last = tt }
-  planned form.Multiply = record { both = tt; to = to_whole; from = tt; last = tt }
-  planned form.Divide = record { both = tt; to = to_whole; from = tt; last = tt }
-  planned form.Push = record { both = tt; to = tt; from = from_whole; last = pushed i.width formed.width }
-  planned form.PushFlags = record { both = tt; to = tt; from = tt; last = pushed i.width formed.width }
-  planned form.Pop = record {
+  planned (Data data_form.Combine) = record { both = both_spans; to = to_whole; from = from_part; last = tt }
+  planned (Data data_form.Compare) = record { both = tt; to = to_whole; from = from_whole; last = tt }
+  planned (Data data_form.Move) = record { both = tt; to = tt; from = from_part; last = both_spans }
+  planned (Data data_form.Exchange) = record { both = both_spans; to = to_whole; from = from_whole; last = tt }
+  planned (Data data_form.ExchangeAdd) = record { both = both_spans; to = to_whole; from = from_whole; last = tt }
+  planned (Data data_form.CompareExchange) = record { both = both_spans; to = to_whole; from = from_whole; last = tt }
+  planned (Data data_form.ScanBits) = record { both = tt; to = tt; from = from_whole; last = tt }
+  planned (Data data_form.Multiply) = record { both = tt; to = to_whole; from = tt; last = tt }
+  planned (Data data_form.Divide) = record { both = tt; to = to_whole; from = tt; last = tt }
+  planned (Data data_form.Push) = record { both = tt; to = tt; from = from_whole; last = pushed i.width formed.width }
+  planned (Data data_form.Pop) = record {
     both = tt;
     to = register_span rsp i.width formed.width;
     from = tt;
     last = place_spans (risen regs i.width) (next_of regs size) i.width i.to formed.width;
   }
-  planned form.PopFlags = record { both = tt; to = register_span rsp i.width formed.width; from = tt; last = tt }
-  planned form.Leave = record { both = tt; to = register_span rbp 64 width_64; from = tt; last = tt }
-  planned form.MoveString = unless_idle_planned _ (record { both = tt; to = tt; from = rsi_is; last = rdi_is })
-  planned form.StoreString = unless_idle_planned _ (record { both = tt; to = tt; from = tt; last = rdi_is })
-  planned form.LoadString = unless_idle_planned _ (record { both = tt; to = tt; from = rsi_is; last = tt })
-  planned form.CompareStrings = unless_idle_planned _ (record { both = tt; to = rsi_is; from = rdi_is; last = tt })
-  planned form.ScanString = unless_idle_planned _ (record { both = tt; to = tt; from = rdi_is; last = tt })
-  planned form.Branch = record { both = tt; to = tt; from = from_spans 64 width_64; last = tt }
-  planned form.Call = record { both = tt; to = tt; from = from_spans 64 width_64; last = pushed 64 width_64 }
-  planned form.Return = record { both = tt; to = register_span rsp 64 width_64; from = tt; last = tt }
-  planned form.Input = record { both = tt; to = tt; from = from_spans 16 width_16; last = tt }
-  planned form.Output = record { both = tt; to = to_spans 16 width_16; from = from_spans 8 width_8; last = tt }
-  planned form.ToControl = record { both = tt; to = tt; from = from_spans 64 width_64; last = tt }
-  planned form.LoadTable = table_planned _ (place_spans regs.general (next_of regs size) 16 i.from width_16)
+  planned (Data data_form.Leave) = record { both = tt; to = register_span rbp 64 width_64; from = tt; last = tt }
+  planned (Data data_form.MoveString) = unless_idle_planned _ (record { both = tt; to = tt; from = rsi_is; last = rdi_is })
+  planned (Data data_form.StoreString) = unless_idle_planned _ (record { both = tt; to = tt; from = tt; last = rdi_is })
+  planned (Data data_form.LoadString) = unless_idle_planned _ (record { both = tt; to = tt; from = rsi_is; last = tt })
+  planned (Data data_form.CompareStrings) = unless_idle_planned _ (record { both = tt; to = rsi_is; from = rdi_is; last = tt })
+  planned (Data data_form.ScanString) = unless_idle_planned _ (record { both = tt; to = tt; from = rdi_is; last = tt })
+  planned (Flow flow_form.Branch) = record { both = tt; to = tt; from = from_spans 64 width_64; last = tt }
+  planned (Flow flow_form.Call) = record { both = tt; to = tt; from = from_spans 64 width_64; last = pushed 64 width_64 }
+  planned (Flow flow_form.Return) = record { both = tt; to = register_span rsp 64 width_64; from = tt; last = tt }
+  planned (Flow flow_form.PushFlags) = record { both = tt; to = tt; from = tt; last = pushed i.width formed.width }
+  planned (Flow flow_form.PopFlags) = record { both = tt; to = register_span rsp i.width formed.width; from = tt; last = tt }
+  planned (Flow flow_form.Input) = record { both = tt; to = tt; from = from_spans 16 width_16; last = tt }
+  planned (Flow flow_form.Output) = record { both = tt; to = to_spans 16 width_16; from = from_spans 8 width_8; last = tt }
+  planned (Flow flow_form.ToControl) = record { both = tt; to = tt; from = from_spans 64 width_64; last = tt }
+  planned (Flow flow_form.LoadTable) = table_planned _ (place_spans regs.general (next_of regs size) 16 i.from width_16)
   planned _ = record { both = tt; to = tt; from = tt; last = tt }

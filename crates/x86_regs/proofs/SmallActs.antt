@@ -24,7 +24,9 @@ use Rattle.x86_regs.specs.declared.effects.Change.{Change}
 use Rattle.x86_regs.specs.declared.effects.Effect.{Effect}
 use Rattle.x86_regs.specs.declared.faults.Fault.{Fault}
 use Rattle.x86_regs.specs.declared.form.Form.{Form}
-use Rattle.x86_regs.specs.declared.form.Form.TheVariants as form
+use Rattle.x86_regs.specs.declared.form.Form.TheVariants.{Data, Flow}
+use Rattle.x86_regs.specs.declared.form.DataForm.TheVariants as data_form
+use Rattle.x86_regs.specs.declared.form.FlowForm.TheVariants as flow_form
 use Rattle.x86_regs.specs.Registers.{held}
 use Rattle.x86_regs.specs.Combinations.{interrupt_flag}
 use Rattle.x86_regs.specs.Operands.{next_of, rax, rcx, wrapped}
@@ -77,28 +79,28 @@ module _ (regs : Regs) where
 
   module _ (i : Instr) (next : ℕ) (control : Control) (frames : ℕ) (found : Gathered) where
     pub outcome_small : (by : Form) → IsSmall (outcome_by by i next regs control frames found)
-    outcome_small form.CompareExchange =
+    outcome_small (Data data_form.CompareExchange) =
         either IsSmall (held regs.general (place.Reg rax) i.width == cut i.width found.to) _ _ tt tt
-    outcome_small form.ScanBits = either IsSmall (cut i.width found.from == 0) _ _ tt tt
-    outcome_small form.Divide =
+    outcome_small (Data data_form.ScanBits) = either IsSmall (cut i.width found.from == 0) _ _ tt tt
+    outcome_small (Data data_form.Divide) =
         let dividend = joined i.width (upper_half regs.general i.width) (held regs.general (place.Reg rax) i.width) in
         either IsSmall (is_refused (is_signed i.op) i.width dividend (cut i.width found.to)) _ _ tt tt
-    outcome_small form.MoveString = turn_small i _ _ _ _ _
-    outcome_small form.StoreString = turn_small i _ _ _ _ _
-    outcome_small form.LoadString = turn_small i _ _ _ _ _
-    outcome_small form.CompareStrings = turn_small i _ _ _ _ _
-    outcome_small form.ScanString = turn_small i _ _ _ _ _
-    outcome_small form.Branch = branched_small next _ (is_taken i.op regs.flags) (target_by i.from next found.from) _
-    outcome_small form.Call = branched_small next _ true (target_by i.from next found.from) _
-    outcome_small form.Return = branched_small next _ true (cut 64 found.to) _
-    outcome_small form.CountDown =
+    outcome_small (Data data_form.MoveString) = turn_small i _ _ _ _ _
+    outcome_small (Data data_form.StoreString) = turn_small i _ _ _ _ _
+    outcome_small (Data data_form.LoadString) = turn_small i _ _ _ _ _
+    outcome_small (Data data_form.CompareStrings) = turn_small i _ _ _ _ _
+    outcome_small (Data data_form.ScanString) = turn_small i _ _ _ _ _
+    outcome_small (Flow flow_form.Branch) = branched_small next _ (is_taken i.op regs.flags) (target_by i.from next found.from) _
+    outcome_small (Flow flow_form.Call) = branched_small next _ true (target_by i.from next found.from) _
+    outcome_small (Flow flow_form.Return) = branched_small next _ true (cut 64 found.to) _
+    outcome_small (Flow flow_form.CountDown) =
         let taken = is_taken_by_count i.op (slice_index (count_after i.op regs.general) rcx) (bit regs.flags zero_flag) in
         branched_small next _ taken (wrapped (next + i.value)) _
-    outcome_small form.Trap = vector_few i.op i.value
-    outcome_small form.ChangeFlag = flag_act_small i.op regs.flags
-    outcome_small form.Output = mod-lt found.from (lit< tt)
-    outcome_small form.ToControl = loaded_small i.value next frames (cut 64 found.from) (below_64 found.from)
-    outcome_small form.DropPage = page_dropped_small (cut 64 found.from)
+    outcome_small (Flow flow_form.Trap) = vector_few i.op i.value
+    outcome_small (Flow flow_form.ChangeInterruptFlag) = flag_act_small i.op regs.flags
+    outcome_small (Flow flow_form.Output) = mod-lt found.from (lit< tt)
+    outcome_small (Flow flow_form.ToControl) = loaded_small i.value next frames (cut 64 found.from) (below_64 found.from)
+    outcome_small (Flow flow_form.DropPage) = page_dropped_small (cut 64 found.from)
     outcome_small _ = tt
 
 -- the act of an effect
@@ -120,7 +122,7 @@ module _ (i : Instr) (size : ℕ) (regs : Regs) (control : Control) (m : List �
       (outcome_small regs i (next_of regs size) control view.frames found by))
 
   form_act : (by : Form) → IfOk (effect_by by i size regs control m view tlb).answer IsSmallEffect
-  form_act form.TrapReturn = then_ok IsSmallEffect (frame_popped m view regs tlb).answer _ _ (λ frame. tt)
+  form_act (Flow flow_form.TrapReturn) = then_ok IsSmallEffect (frame_popped m view regs tlb).answer _ _ (λ frame. tt)
   form_act by = planned_act by
 
 pub acts_small : (i : Instr) (size : ℕ) (regs : Regs) (control : Control) (m : List ℕ) (tlb : Translations) →

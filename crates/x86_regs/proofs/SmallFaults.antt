@@ -26,7 +26,8 @@ use Rattle.x86_regs.specs.declared.effects.Change.{Change}
 use Rattle.x86_regs.specs.declared.effects.Effect.{Effect}
 use Rattle.x86_regs.specs.declared.faults.Fault.{Fault}
 use Rattle.x86_regs.specs.declared.form.Form.{Form}
-use Rattle.x86_regs.specs.declared.form.Form.TheVariants as form
+use Rattle.x86_regs.specs.declared.form.Form.TheVariants.{Flow}
+use Rattle.x86_regs.specs.declared.form.FlowForm.TheVariants as flow_form
 use Rattle.x86_regs.specs.Operands.{next_of, rsp, stack_span, wrapped}
 use Rattle.x86_regs.specs.OperandPlans.{instr_form, plan_by}
 use Rattle.x86_regs.specs.EffectsKept.{AreRegisters, IsSmallFault}
@@ -158,7 +159,7 @@ module _ (law : FaultLaw) (view : View) where
         (outcome_small regs i (next_of regs size) control view.frames values by))
 
     form_small : (by : Form) → IfErr (effect_by by i size regs control m view tlb).answer IsSmallFault
-    form_small form.TrapReturn =
+    form_small (Flow flow_form.TrapReturn) =
         let frame = frame_popped m view regs tlb in
         then_err IsSmallFault frame.answer frame.tlb _ (frame_small m regs tlb) (λ _. tt)
     form_small by = planned_small by

@@ -36,7 +36,8 @@ use Rattle.x86_regs.specs.declared.faults.Fault.{Fault}
 use Rattle.x86_regs.specs.declared.faults.Fault.TheVariants as fault
 use Rattle.x86_regs.specs.Operands.{next_of, rsp, stack_span, wrapped}
 use Rattle.x86_regs.specs.declared.form.Form.{Form}
-use Rattle.x86_regs.specs.declared.form.Form.TheVariants.{TrapReturn}
+use Rattle.x86_regs.specs.declared.form.Form.TheVariants.{Flow}
+use Rattle.x86_regs.specs.declared.form.FlowForm.TheVariants.{TrapReturn}
 use Rattle.x86_regs.specs.OperandPlans.{instr_form, plan_by}
 use Rattle.x86_regs.specs.declared.effects.Change.{Change}
 use Rattle.x86_regs.specs.OperandOutcomes.{going_on, outcome_by}
@@ -169,7 +170,7 @@ planned_effect form i size regs control m view tlb =
 
 -- the effect by its form
 abbrev pub effect_by : Form → Instr → ℕ → Regs → Control → List ℕ → View → Translations → Outcome Fault Effect
-effect_by TrapReturn i size regs control m view tlb = return_effect m view regs (next_of regs size) tlb
+effect_by (Flow TrapReturn) i size regs control m view tlb = return_effect m view regs (next_of regs size) tlb
 effect_by form i size regs control m view tlb = planned_effect form i size regs control m view tlb
 
 abbrev pub unless_refused : Option Fault → Translations → Outcome Fault Effect → Outcome Fault Effect

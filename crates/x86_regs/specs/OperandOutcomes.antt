@@ -28,7 +28,11 @@ use Rattle.x86_regs.specs.Registers.{held, written}
 use Rattle.x86_regs.specs.Operands.{lowered, rax, rbp, rcx, rdi, rdx, rsi, rsp, with_register, wrapped}
 use Rattle.x86_regs.specs.Combinations.{combination, comparison, condition_stands, direction_flag, extended, flags_popped, interrupt_flag, movement, source_width, sum}
 use Rattle.x86_regs.specs.declared.form.Form.{Form}
-use Rattle.x86_regs.specs.declared.form.Form.TheVariants.{Combine, Compare, Move, Address, Exchange, ExchangeAdd, CompareExchange, ScanBits, Widen, Double, Multiply, Divide, Push, PushFlags, Pop, PopFlags, Leave, MoveString, StoreString, LoadString, CompareStrings, ScanString, Branch, Call, Return, CountDown, Trap, TrapReturn, ChangeFlag, Halt, Input, Output, FromControl, ToControl, LoadTable, DropPage, Nothing}
+use Rattle.x86_regs.specs.declared.form.Form.TheVariants.{Data, Flow}
+use Rattle.x86_regs.specs.declared.form.DataForm.{DataForm}
+use Rattle.x86_regs.specs.declared.form.DataForm.TheVariants.{Combine, Compare, Move, Address, Exchange, ExchangeAdd, CompareExchange, ScanBits, Widen, Double, Multiply, Divide, Push, Pop, Leave, MoveString, StoreString, LoadString, CompareStrings, ScanString, ChangeFlag, Nothing}
+use Rattle.x86_regs.specs.declared.form.FlowForm.{FlowForm}
+use Rattle.x86_regs.specs.declared.form.FlowForm.TheVariants.{Branch, Call, Return, CountDown, Trap, TrapReturn, PushFlags, PopFlags, ChangeInterruptFlag, Halt, Input, Output, FromControl, ToControl, LoadTable, DropPage, Refused}
 use Rattle.x86_regs.specs.OperandPlans.{is_idle, is_repeated, risen}
 
 -- with these general registers and flags, at this address
@@ -187,16 +191,20 @@ abbrev pub interrupt_vector : Op → ℕ → ℕ
 interrupt_vector op.Int3 n = 3
 interrupt_vector _ n = n % 256
 
--- the flags after CMC, CLC, STC, CLI, STI, CLD, STD
+-- the flags after CMC, CLC, STC, CLD and STD
 abbrev pub flags_changed : Op → ℕ → ℕ
 flags_changed op.Cmc flags = with_flag carry_flag (not (bit flags carry_flag)) flags
 flags_changed op.Clc flags = with_flag carry_flag false flags
 flags_changed op.Stc flags = with_flag carry_flag true flags
-flags_changed op.Cli flags = with_flag interrupt_flag false flags
-flags_changed op.Sti flags = with_flag interrupt_flag true flags
 flags_changed op.Cld flags = with_flag direction_flag false flags
 flags_changed op.Std flags = with_flag direction_flag true flags
 flags_changed _ flags = flags
+
+-- the flags after CLI and STI
+abbrev pub interrupt_flag_changed : Op → ℕ → ℕ
+interrupt_flag_changed op.Cli flags = with_flag interrupt_flag false flags
+interrupt_flag_changed op.Sti flags = with_flag interrupt_flag true flags
+interrupt_flag_changed _ flags = flags
 
 -- STI that turns IF from 0 to 1 shields the next instruction
 abbrev pub flag_act : Op → ℕ → Act
@@ -236,75 +244,85 @@ control_loaded n regs next frames value =
 abbrev pub page_dropped : ℕ → Act
 page_dropped va = if is_canonical va then act.DropPage (page_of va) else act.Quiet
 
-abbrev pub outcome_by : Form → Instr → ℕ → Regs → Control → ℕ → Gathered → Result Change Fault
-outcome_by Combine i next regs control frames found =
+-- the outcomes of the forms of arithmetic, moves, the stack and strings
+abbrev pub data_outcome : DataForm → Instr → ℕ → Regs → Gathered → Result Change Fault
+data_outcome Combine i next regs found =
     with_result i regs next (combination i.op i.width (cut i.width found.to) (cut (source_width i.op i.width) found.from) i.value regs.flags)
-outcome_by Compare i next regs control frames found =
+data_outcome Compare i next regs found =
     quietly (going_on regs regs.general (comparison i.op i.width (cut i.width found.to) (cut i.width found.from) regs.flags) next)
-outcome_by Move i next regs control frames found =
+data_outcome Move i next regs found =
     with_result i regs next (record { value = movement i.op i.width (cut (source_width i.op i.width) found.from) regs.flags; flags = regs.flags })
-outcome_by Address i next regs control frames found =
+data_outcome Address i next regs found =
     with_result i regs next (record { value = cut i.width found.from; flags = regs.flags })
-outcome_by Exchange i next regs control frames found = exchanged i regs next (cut i.width found.to) (cut i.width found.from)
-outcome_by ExchangeAdd i next regs control frames found =
+data_outcome Exchange i next regs found = exchanged i regs next (cut i.width found.to) (cut i.width found.from)
+data_outcome ExchangeAdd i next regs found =
     sum_exchanged i regs next (cut i.width found.to) (sum i.width (cut i.width found.to) (cut i.width found.from) false regs.flags)
-outcome_by CompareExchange i next regs control frames found =
+data_outcome CompareExchange i next regs found =
     compared i regs next (held regs.general (place.Reg rax) i.width) (cut i.width found.to) (cut i.width found.from)
-outcome_by ScanBits i next regs control frames found = bits_scanned i regs next (is_forward i.op) (cut i.width found.from)
-outcome_by Widen i next regs control frames found = quietly (going_on regs (widened i regs) regs.flags next)
-outcome_by Double i next regs control frames found = quietly (going_on regs (doubled i regs) regs.flags next)
-outcome_by Multiply i next regs control frames found = multiplied_wide i regs next (is_signed i.op) (cut i.width found.to)
-outcome_by Divide i next regs control frames found = divided i regs next (is_signed i.op) (cut i.width found.to)
-outcome_by Push i next regs control frames found =
+data_outcome ScanBits i next regs found = bits_scanned i regs next (is_forward i.op) (cut i.width found.from)
+data_outcome Widen i next regs found = quietly (going_on regs (widened i regs) regs.flags next)
+data_outcome Double i next regs found = quietly (going_on regs (doubled i regs) regs.flags next)
+data_outcome Multiply i next regs found = multiplied_wide i regs next (is_signed i.op) (cut i.width found.to)
+data_outcome Divide i next regs found = divided i regs next (is_signed i.op) (cut i.width found.to)
+data_outcome Push i next regs found =
     change (going_on regs (fallen regs i.width) regs.flags next) (cut i.width found.from) act.Quiet
-outcome_by PushFlags i next regs control frames found =
-    change (going_on regs (fallen regs i.width) regs.flags next) (cut i.width regs.flags) act.Quiet
-outcome_by Pop i next regs control frames found =
+data_outcome Pop i next regs found =
     change (going_on regs (written (risen regs i.width) i.to i.width (cut i.width found.to)) regs.flags next) (cut i.width found.to) act.Quiet
-outcome_by PopFlags i next regs control frames found =
-    quietly (going_on regs (risen regs i.width) (flags_popped regs.cpl regs.flags (cut i.width found.to)) next)
-outcome_by Leave i next regs control frames found =
+data_outcome Leave i next regs found =
     quietly (going_on regs
     (with_register (with_register regs.general rsp (wrapped (slice_index regs.general rbp + 8))) rbp (cut 64 found.to)) regs.flags next)
-outcome_by MoveString i next regs control frames found =
+data_outcome MoveString i next regs found =
     unless_idle_turn i regs next
     (string_turn i regs next (pointer_moved regs i.width rdi (pointer_moved regs i.width rsi regs.general)) regs.flags true (cut i.width found.from))
-outcome_by StoreString i next regs control frames found =
+data_outcome StoreString i next regs found =
     unless_idle_turn i regs next
     (string_turn i regs next (pointer_moved regs i.width rdi regs.general) regs.flags true (held regs.general (place.Reg rax) i.width))
-outcome_by LoadString i next regs control frames found =
+data_outcome LoadString i next regs found =
     unless_idle_turn i regs next
     (string_turn i regs next (written (pointer_moved regs i.width rsi regs.general) (place.Reg rax) i.width (cut i.width found.from)) regs.flags true 0)
-outcome_by CompareStrings i next regs control frames found =
+data_outcome CompareStrings i next regs found =
     let flags = difference_flags i.width (cut i.width found.to) (cut i.width found.from) false regs.flags in
     unless_idle_turn i regs next
     (string_turn i regs next (pointer_moved regs i.width rdi (pointer_moved regs i.width rsi regs.general)) flags (is_asked i.rep (bit flags zero_flag)) 0)
-outcome_by ScanString i next regs control frames found =
+data_outcome ScanString i next regs found =
     let flags = difference_flags i.width (held regs.general (place.Reg rax) i.width) (cut i.width found.from) false regs.flags in
     unless_idle_turn i regs next
     (string_turn i regs next (pointer_moved regs i.width rdi regs.general) flags (is_asked i.rep (bit flags zero_flag)) 0)
-outcome_by Branch i next regs control frames found =
+data_outcome ChangeFlag i next regs found = quietly (going_on regs regs.general (flags_changed i.op regs.flags) next)
+data_outcome Nothing i next regs found = quietly (going_on regs regs.general regs.flags next)
+
+-- those of the forms of branches, traps, the flags as a whole, IF, ports and the system
+abbrev pub flow_outcome : FlowForm → Instr → ℕ → Regs → Control → ℕ → Gathered → Result Change Fault
+flow_outcome Branch i next regs control frames found =
     branched regs next regs.general (is_taken i.op regs.flags) (target_by i.from next found.from) 0
-outcome_by Call i next regs control frames found = branched regs next (fallen regs 64) true (target_by i.from next found.from) next
-outcome_by Return i next regs control frames found =
+flow_outcome Call i next regs control frames found = branched regs next (fallen regs 64) true (target_by i.from next found.from) next
+flow_outcome Return i next regs control frames found =
     branched regs next (with_register regs.general rsp (wrapped (slice_index regs.general rsp + 8 + i.value))) true (cut 64 found.to) 0
-outcome_by CountDown i next regs control frames found =
+flow_outcome CountDown i next regs control frames found =
     let general = count_after i.op regs.general in
     branched regs next general (is_taken_by_count i.op (slice_index general rcx) (bit regs.flags zero_flag)) (wrapped (next + i.value)) 0
-outcome_by Trap i next regs control frames found =
+flow_outcome Trap i next regs control frames found =
     change (going_on regs regs.general regs.flags next) 0 (act.Interrupt (interrupt_vector i.op i.value))
-outcome_by TrapReturn i next regs control frames found = quietly (going_on regs regs.general regs.flags next)
-outcome_by ChangeFlag i next regs control frames found =
-    change (going_on regs regs.general (flags_changed i.op regs.flags) next) 0 (flag_act i.op regs.flags)
-outcome_by Halt i next regs control frames found = change (going_on regs regs.general regs.flags next) 0 act.Halt
-outcome_by Input i next regs control frames found = change (going_on regs regs.general regs.flags next) 0 (act.In (cut 16 found.from))
-outcome_by Output i next regs control frames found =
+flow_outcome TrapReturn i next regs control frames found = quietly (going_on regs regs.general regs.flags next)
+flow_outcome PushFlags i next regs control frames found =
+    change (going_on regs (fallen regs i.width) regs.flags next) (cut i.width regs.flags) act.Quiet
+flow_outcome PopFlags i next regs control frames found =
+    quietly (going_on regs (risen regs i.width) (flags_popped regs.cpl regs.flags (cut i.width found.to)) next)
+flow_outcome ChangeInterruptFlag i next regs control frames found =
+    change (going_on regs regs.general (interrupt_flag_changed i.op regs.flags) next) 0 (flag_act i.op regs.flags)
+flow_outcome Halt i next regs control frames found = change (going_on regs regs.general regs.flags next) 0 act.Halt
+flow_outcome Input i next regs control frames found = change (going_on regs regs.general regs.flags next) 0 (act.In (cut 16 found.from))
+flow_outcome Output i next regs control frames found =
     change (going_on regs regs.general regs.flags next) 0 (act.Out (cut 8 found.from) (cut 16 found.to))
-outcome_by FromControl i next regs control frames found =
+flow_outcome FromControl i next regs control frames found =
     quietly (going_on regs (written regs.general i.to 64 (control_value control i.value)) regs.flags next)
-outcome_by ToControl i next regs control frames found = control_loaded i.value regs next frames (cut 64 found.from)
-outcome_by LoadTable i next regs control frames found =
+flow_outcome ToControl i next regs control frames found = control_loaded i.value regs next frames (cut 64 found.from)
+flow_outcome LoadTable i next regs control frames found =
     change (going_on regs regs.general regs.flags next) 0 (act.Idt (cut 64 found.from) (cut 16 found.to))
-outcome_by DropPage i next regs control frames found =
+flow_outcome DropPage i next regs control frames found =
     change (going_on regs regs.general regs.flags next) 0 (page_dropped (cut 64 found.from))
-outcome_by Nothing i next regs control frames found = quietly (going_on regs regs.general regs.flags next)
+flow_outcome Refused i next regs control frames found = quietly (going_on regs regs.general regs.flags next)
+
+abbrev pub outcome_by : Form → Instr → ℕ → Regs → Control → ℕ → Gathered → Result Change Fault
+outcome_by (Data form) i next regs control frames found = data_outcome form i next regs found
+outcome_by (Flow form) i next regs control frames found = flow_outcome form i next regs control frames found

@@ -15,7 +15,11 @@ use Rattle.x86_regs.specs.declared.registers.Regs.{Regs}
 use Rattle.x86_regs.specs.Operands.{lowered, next_of, place_address, place_span, rbp, rcx, rdi, rsi, rsp, source_by, stack_span, string_span, with_register, wrapped}
 use Rattle.x86_regs.specs.Combinations.{source_width}
 use Rattle.x86_regs.specs.declared.form.Form.{Form}
-use Rattle.x86_regs.specs.declared.form.Form.TheVariants.{Combine, Compare, Move, Address, Exchange, ExchangeAdd, CompareExchange, ScanBits, Widen, Double, Multiply, Divide, Push, PushFlags, Pop, PopFlags, Leave, MoveString, StoreString, LoadString, CompareStrings, ScanString, Branch, Call, Return, CountDown, Trap, TrapReturn, ChangeFlag, Halt, Input, Output, FromControl, ToControl, LoadTable, DropPage, Nothing}
+use Rattle.x86_regs.specs.declared.form.Form.TheVariants.{Data, Flow}
+use Rattle.x86_regs.specs.declared.form.DataForm.{DataForm}
+use Rattle.x86_regs.specs.declared.form.DataForm.TheVariants.{Combine, Compare, Move, Address, Exchange, ExchangeAdd, CompareExchange, ScanBits, Widen, Double, Multiply, Divide, Push, Pop, Leave, MoveString, StoreString, LoadString, CompareStrings, ScanString, ChangeFlag, Nothing}
+use Rattle.x86_regs.specs.declared.form.FlowForm.{FlowForm}
+use Rattle.x86_regs.specs.declared.form.FlowForm.TheVariants.{Branch, Call, Return, CountDown, Trap, TrapReturn, PushFlags, PopFlags, ChangeInterruptFlag, Halt, Input, Output, FromControl, ToControl, LoadTable, DropPage, Refused}
 use Rattle.x86_regs.specs.OperationForms.{form_of}
 
 -- IMUL of one operand has the form of MUL
@@ -28,7 +32,7 @@ is_imul op.Imul = true
 is_imul _ = false
 
 abbrev pub instr_form : Instr → Form
-instr_form i = if is_imul i.op && is_nothing i.from then Multiply else form_of i.op
+instr_form i = if is_imul i.op && is_nothing i.from then Data Multiply else form_of i.op
 
 -- the instruction is repeated
 abbrev pub is_repeated : Rep → Bool
@@ -90,41 +94,51 @@ abbrev pub table_plan : Option Span → AccessPlan
 table_plan None = no_access
 table_plan (Some limit) = plan None (At limit) (At (base_span limit)) None
 
+-- the accesses of the forms of arithmetic, moves, the stack and strings
+abbrev pub data_plan : DataForm → Instr → ℕ → Regs → AccessPlan
+data_plan Combine i size regs = plan (to_span i size regs) (to_source i size regs i.width) (from_source i size regs (source_width i.op i.width)) None
+data_plan Compare i size regs = plan None (to_source i size regs i.width) (from_source i size regs i.width) None
+data_plan Move i size regs = plan None (Is 0) (from_source i size regs (source_width i.op i.width)) (to_span i size regs)
+data_plan Address i size regs = plan None (Is 0) (Is (from_address i size regs)) None
+data_plan Exchange i size regs = plan (to_span i size regs) (to_source i size regs i.width) (from_source i size regs i.width) None
+data_plan ExchangeAdd i size regs = plan (to_span i size regs) (to_source i size regs i.width) (from_source i size regs i.width) None
+data_plan CompareExchange i size regs = plan (to_span i size regs) (to_source i size regs i.width) (from_source i size regs i.width) None
+data_plan ScanBits i size regs = plan None (Is 0) (from_source i size regs i.width) None
+data_plan Widen i size regs = no_access
+data_plan Double i size regs = no_access
+data_plan Multiply i size regs = plan None (to_source i size regs i.width) (Is 0) None
+data_plan Divide i size regs = plan None (to_source i size regs i.width) (Is 0) None
+data_plan Push i size regs = plan None (Is 0) (from_source i size regs i.width) (Some (push_span regs i.width))
+data_plan Pop i size regs = plan None (pop_source regs i.width) (Is 0) (place_span (risen regs i.width) (next_of regs size) i.width i.to)
+data_plan Leave i size regs = plan None (At (stack_span (slice_index regs.general rbp) 64)) (Is 0) None
+data_plan MoveString i size regs = unless_idle i regs (plan None (Is 0) (At (rsi_span i regs)) (Some (rdi_span i regs)))
+data_plan StoreString i size regs = unless_idle i regs (plan None (Is 0) (Is 0) (Some (rdi_span i regs)))
+data_plan LoadString i size regs = unless_idle i regs (plan None (Is 0) (At (rsi_span i regs)) None)
+data_plan CompareStrings i size regs = unless_idle i regs (plan None (At (rsi_span i regs)) (At (rdi_span i regs)) None)
+data_plan ScanString i size regs = unless_idle i regs (plan None (Is 0) (At (rdi_span i regs)) None)
+data_plan ChangeFlag i size regs = no_access
+data_plan Nothing i size regs = no_access
+
+-- those of the forms of branches, traps, the flags as a whole, IF, ports and the system
+abbrev pub flow_plan : FlowForm → Instr → ℕ → Regs → AccessPlan
+flow_plan Branch i size regs = plan None (Is 0) (from_source i size regs 64) None
+flow_plan Call i size regs = plan None (Is 0) (from_source i size regs 64) (Some (push_span regs 64))
+flow_plan Return i size regs = plan None (pop_source regs 64) (Is 0) None
+flow_plan CountDown i size regs = no_access
+flow_plan Trap i size regs = no_access
+flow_plan TrapReturn i size regs = no_access
+flow_plan PushFlags i size regs = plan None (Is 0) (Is 0) (Some (push_span regs i.width))
+flow_plan PopFlags i size regs = plan None (pop_source regs i.width) (Is 0) None
+flow_plan ChangeInterruptFlag i size regs = no_access
+flow_plan Halt i size regs = no_access
+flow_plan Input i size regs = plan None (Is 0) (from_source i size regs 16) None
+flow_plan Output i size regs = plan None (to_source i size regs 16) (from_source i size regs 8) None
+flow_plan FromControl i size regs = no_access
+flow_plan ToControl i size regs = plan None (Is 0) (from_source i size regs 64) None
+flow_plan LoadTable i size regs = table_plan (place_span regs.general (next_of regs size) 16 i.from)
+flow_plan DropPage i size regs = plan None (Is 0) (Is (from_address i size regs)) None
+flow_plan Refused i size regs = no_access
+
 abbrev pub plan_by : Form → Instr → ℕ → Regs → AccessPlan
-plan_by Combine i size regs = plan (to_span i size regs) (to_source i size regs i.width) (from_source i size regs (source_width i.op i.width)) None
-plan_by Compare i size regs = plan None (to_source i size regs i.width) (from_source i size regs i.width) None
-plan_by Move i size regs = plan None (Is 0) (from_source i size regs (source_width i.op i.width)) (to_span i size regs)
-plan_by Address i size regs = plan None (Is 0) (Is (from_address i size regs)) None
-plan_by Exchange i size regs = plan (to_span i size regs) (to_source i size regs i.width) (from_source i size regs i.width) None
-plan_by ExchangeAdd i size regs = plan (to_span i size regs) (to_source i size regs i.width) (from_source i size regs i.width) None
-plan_by CompareExchange i size regs = plan (to_span i size regs) (to_source i size regs i.width) (from_source i size regs i.width) None
-plan_by ScanBits i size regs = plan None (Is 0) (from_source i size regs i.width) None
-plan_by Widen i size regs = no_access
-plan_by Double i size regs = no_access
-plan_by Multiply i size regs = plan None (to_source i size regs i.width) (Is 0) None
-plan_by Divide i size regs = plan None (to_source i size regs i.width) (Is 0) None
-plan_by Push i size regs = plan None (Is 0) (from_source i size regs i.width) (Some (push_span regs i.width))
-plan_by PushFlags i size regs = plan None (Is 0) (Is 0) (Some (push_span regs i.width))
-plan_by Pop i size regs = plan None (pop_source regs i.width) (Is 0) (place_span (risen regs i.width) (next_of regs size) i.width i.to)
-plan_by PopFlags i size regs = plan None (pop_source regs i.width) (Is 0) None
-plan_by Leave i size regs = plan None (At (stack_span (slice_index regs.general rbp) 64)) (Is 0) None
-plan_by MoveString i size regs = unless_idle i regs (plan None (Is 0) (At (rsi_span i regs)) (Some (rdi_span i regs)))
-plan_by StoreString i size regs = unless_idle i regs (plan None (Is 0) (Is 0) (Some (rdi_span i regs)))
-plan_by LoadString i size regs = unless_idle i regs (plan None (Is 0) (At (rsi_span i regs)) None)
-plan_by CompareStrings i size regs = unless_idle i regs (plan None (At (rsi_span i regs)) (At (rdi_span i regs)) None)
-plan_by ScanString i size regs = unless_idle i regs (plan None (Is 0) (At (rdi_span i regs)) None)
-plan_by Branch i size regs = plan None (Is 0) (from_source i size regs 64) None
-plan_by Call i size regs = plan None (Is 0) (from_source i size regs 64) (Some (push_span regs 64))
-plan_by Return i size regs = plan None (pop_source regs 64) (Is 0) None
-plan_by CountDown i size regs = no_access
-plan_by Trap i size regs = no_access
-plan_by TrapReturn i size regs = no_access
-plan_by ChangeFlag i size regs = no_access
-plan_by Halt i size regs = no_access
-plan_by Input i size regs = plan None (Is 0) (from_source i size regs 16) None
-plan_by Output i size regs = plan None (to_source i size regs 16) (from_source i size regs 8) None
-plan_by FromControl i size regs = no_access
-plan_by ToControl i size regs = plan None (Is 0) (from_source i size regs 64) None
-plan_by LoadTable i size regs = table_plan (place_span regs.general (next_of regs size) 16 i.from)
-plan_by DropPage i size regs = plan None (Is 0) (Is (from_address i size regs)) None
-plan_by Nothing i size regs = no_access
+plan_by (Data form) i size regs = data_plan form i size regs
+plan_by (Flow form) i size regs = flow_plan form i size regs

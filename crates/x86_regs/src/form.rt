@@ -11,6 +11,13 @@ use x86_decode::{Instr, Op};
 /// differ in their arithmetic alone.
 #[derive(Clone, Copy, Debug, PartialEq, Eq)]
 pub enum Form {
+    Data(DataForm),
+    Flow(FlowForm),
+}
+
+/// The forms of arithmetic, of moves, of the stack and of strings, and of what changes a flag or nothing.
+#[derive(Clone, Copy, Debug, PartialEq, Eq)]
+pub enum DataForm {
     /// The first operand is read and written, the second read.
     Combine,
     /// Both operands are read.
@@ -36,15 +43,22 @@ pub enum Form {
     /// A quotient of a number of twice the width, and the remainder.
     Divide,
     Push,
-    PushFlags,
     Pop,
-    PopFlags,
     Leave,
     MoveString,
     StoreString,
     LoadString,
     CompareStrings,
     ScanString,
+    /// CF or DF is changed.
+    ChangeFlag,
+    /// Nothing is done.
+    Nothing,
+}
+
+/// The forms of branches, of traps and their return, of the flags as a whole, of IF, of ports and of the system.
+#[derive(Clone, Copy, Debug, PartialEq, Eq)]
+pub enum FlowForm {
     /// Jumps, with a condition or without.
     Branch,
     Call,
@@ -55,7 +69,10 @@ pub enum Form {
     Trap,
     /// IRETQ.
     TrapReturn,
-    ChangeFlag,
+    PushFlags,
+    PopFlags,
+    /// CLI and STI.
+    ChangeInterruptFlag,
     Halt,
     Input,
     Output,
@@ -67,8 +84,8 @@ pub enum Form {
     LoadTable,
     /// INVLPG.
     DropPage,
-    /// Nothing is done, or the conditions refuse the operation at every CPL.
-    Nothing,
+    /// The conditions refuse the operation at every CPL.
+    Refused,
 }
 
 /// The form of an instruction: that of its operation, and of MUL for IMUL of one operand.
@@ -77,7 +94,7 @@ pub fn instr_form(instr: &Instr) -> Form
     ensures { result ≡ instr_form instr.now }
 {
     if is_imul(instr.op) & is_nothing(&instr.from) {
-        Form::Multiply
+        Form::Data(DataForm::Multiply)
     } else {
         form_of(instr.op)
     }
@@ -124,44 +141,47 @@ fn form_of(op: Op) -> Form
         | Op::Btr
         | Op::Btc
         | Op::Bswap
-        | Op::Cmov(_) => Form::Combine,
-        Op::Cmp | Op::Test | Op::Bt => Form::Compare,
-        Op::Mul => Form::Multiply,
-        Op::Div | Op::Idiv => Form::Divide,
-        Op::Bsf | Op::Bsr => Form::ScanBits,
+        | Op::Cmov(_) => Form::Data(DataForm::Combine),
+        Op::Cmp | Op::Test | Op::Bt => Form::Data(DataForm::Compare),
+        Op::Mul => Form::Data(DataForm::Multiply),
+        Op::Div | Op::Idiv => Form::Data(DataForm::Divide),
+        Op::Bsf | Op::Bsr => Form::Data(DataForm::ScanBits),
         Op::Mov | Op::Movsxd | Op::Movzx8 | Op::Movzx16 | Op::Movsx8 | Op::Movsx16 | Op::Set(_) =>
-            Form::Move,
-        Op::Lea => Form::Address,
-        Op::Xchg => Form::Exchange,
-        Op::Xadd => Form::ExchangeAdd,
-        Op::Cmpxchg => Form::CompareExchange,
-        Op::Cbw | Op::Cwde | Op::Cdqe => Form::Widen,
-        Op::Cwd | Op::Cdq | Op::Cqo => Form::Double,
-        Op::Push => Form::Push,
-        Op::Pop => Form::Pop,
-        Op::Pushfq => Form::PushFlags,
-        Op::Popfq => Form::PopFlags,
-        Op::Leave => Form::Leave,
-        Op::Movs => Form::MoveString,
-        Op::Cmps => Form::CompareStrings,
-        Op::Stos => Form::StoreString,
-        Op::Lods => Form::LoadString,
-        Op::Scas => Form::ScanString,
-        Op::J(_) | Op::Jmp => Form::Branch,
-        Op::Call => Form::Call,
-        Op::Ret => Form::Return,
-        Op::Loop | Op::Loope | Op::Loopne | Op::Jrcxz => Form::CountDown,
-        Op::Int3 | Op::Int => Form::Trap,
-        Op::Iretq => Form::TrapReturn,
-        Op::Ud2 | Op::Nop | Op::Movtd | Op::Wrmsr | Op::Lldt | Op::Ltr | Op::Lgdt | Op::Lmsw =>
-            Form::Nothing,
-        Op::Cmc | Op::Clc | Op::Stc | Op::Cli | Op::Sti | Op::Cld | Op::Std => Form::ChangeFlag,
-        Op::Hlt => Form::Halt,
-        Op::In => Form::Input,
-        Op::Out => Form::Output,
-        Op::Movfc => Form::FromControl,
-        Op::Movtc => Form::ToControl,
-        Op::Lidt => Form::LoadTable,
-        Op::Invlpg => Form::DropPage,
+            Form::Data(DataForm::Move),
+        Op::Lea => Form::Data(DataForm::Address),
+        Op::Xchg => Form::Data(DataForm::Exchange),
+        Op::Xadd => Form::Data(DataForm::ExchangeAdd),
+        Op::Cmpxchg => Form::Data(DataForm::CompareExchange),
+        Op::Cbw | Op::Cwde | Op::Cdqe => Form::Data(DataForm::Widen),
+        Op::Cwd | Op::Cdq | Op::Cqo => Form::Data(DataForm::Double),
+        Op::Push => Form::Data(DataForm::Push),
+        Op::Pop => Form::Data(DataForm::Pop),
+        Op::Leave => Form::Data(DataForm::Leave),
+        Op::Movs => Form::Data(DataForm::MoveString),
+        Op::Cmps => Form::Data(DataForm::CompareStrings),
+        Op::Stos => Form::Data(DataForm::StoreString),
+        Op::Lods => Form::Data(DataForm::LoadString),
+        Op::Scas => Form::Data(DataForm::ScanString),
+        Op::Cmc | Op::Clc | Op::Stc | Op::Cld | Op::Std => Form::Data(DataForm::ChangeFlag),
+        Op::Nop => Form::Data(DataForm::Nothing),
+        Op::J(_) | Op::Jmp => Form::Flow(FlowForm::Branch),
+        Op::Call => Form::Flow(FlowForm::Call),
+        Op::Ret => Form::Flow(FlowForm::Return),
+        Op::Loop | Op::Loope | Op::Loopne | Op::Jrcxz => Form::Flow(FlowForm::CountDown),
+        Op::Int3 | Op::Int => Form::Flow(FlowForm::Trap),
+        Op::Iretq => Form::Flow(FlowForm::TrapReturn),
+        Op::Pushfq => Form::Flow(FlowForm::PushFlags),
+        Op::Popfq => Form::Flow(FlowForm::PopFlags),
+        Op::Cli | Op::Sti => Form::Flow(FlowForm::ChangeInterruptFlag),
+        Op::Hlt => Form::Flow(FlowForm::Halt),
+        Op::In => Form::Flow(FlowForm::Input),
+        Op::Out => Form::Flow(FlowForm::Output),
+        Op::Movfc => Form::Flow(FlowForm::FromControl),
+        Op::Movtc => Form::Flow(FlowForm::ToControl),
+        Op::Lidt => Form::Flow(FlowForm::LoadTable),
+        Op::Invlpg => Form::Flow(FlowForm::DropPage),
+        Op::Ud2 | Op::Movtd | Op::Wrmsr | Op::Lldt | Op::Ltr | Op::Lgdt | Op::Lmsw => Form::Flow(
+            FlowForm::Refused,
+        ),
     }
 }

@@ -130,8 +130,8 @@ fn single_flags(rt: HostRuntime) {
             going_on(&REGS, 2, 0x1001),
         ),
         (b"\x0F\x1F\x00", REGS, going_on(&REGS, 2, 0x1003)),
-        // sti at CPL 3; lock with a register as destination, and with mov
-        (b"\xFB", REGS, Err(Fault::General(0))),
+        // sti, which is of flow; lock with a register as destination, and with mov
+        (b"\xFB", REGS, Err(Fault::General(99))),
         (b"\xF0\x01\xC8", REGS, Err(Fault::Opcode)),
         (b"\xF0\x89\x0B", REGS, Err(Fault::Opcode)),
     ];
