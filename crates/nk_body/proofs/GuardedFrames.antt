@@ -2,7 +2,7 @@
 use Rattle.std.proofs.Common.{◌≡◌, ◌≢◌, ℕ, zero, suc, ◌+◌, ◌/◌, ◌<◌, Bool, true, false, not, ◌||◌, List, [], ◌∷◌, length, arith, refl, sym, ap, ◌∙◌, subst, inl, inr}
 use Rattle.std.specs.Prelude.{slice_set, slice_index_or, ◌==◌, nat_le, nat_lt, All, Option, Some, None, Result, Ok, Err, if◌then◌else◌}
 use Rattle.std.specs.List.{list_any}
-use Rattle.std.proofs.lemmas.Bool.{cases_lt, eq-eqb, ne_eqb}
+use Rattle.std.proofs.lemmas.Bool.{cases_lt, eq-eqb, false≢true, ne_eqb}
 use Rattle.std.proofs.lemmas.Option.{same_Some}
 use Rattle.std.proofs.lemmas.List.{get_or-set_other, get_or_past}
 use Rattle.std.proofs.lemmas.List.Elements.{All-cons, All-nil, All-weaker}
@@ -21,6 +21,9 @@ use Rattle.page_desc.specs.PageTables.{AreDescribed, HoldsSoundTables, tables_in
 use Rattle.region_book.specs.RegionCalls.{pages_rule, else_rule, frames_from, frames_rule, guarded, has_twice, is_bad_range, is_policy, pages_joined, leaf_frame, mapped}
 use Rattle.region_book.specs.RegionRecords.{Book, IsEachOnce}
 use Rattle.nk_body.proofs.LowerLaws.{GuardLaws, WalkLaws}
+
+pub guarded_data : Guarded ≡ Data → ⊥
+guarded_data same = false≢true (ap is_data same)
 
 -- the frame is in the list
 abbrev pub among : ℕ → List ℕ → Bool

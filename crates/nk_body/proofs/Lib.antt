@@ -24,4 +24,11 @@ pub mod CallChanges
 pub mod CallRecords
 pub mod CallAnswers
 pub mod ServedCalls
+pub mod HeldPuts
+pub mod RegionPlaces
+pub mod BesideTables
+pub mod BesideRegions
+pub mod BesidePages
+pub mod CallsBeside
+pub mod OpeningBeside
 mod RefutedLedgers

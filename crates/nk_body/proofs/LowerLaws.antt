@@ -1,6 +1,6 @@
 -- What is used of the laws of the crates below.
 use Rattle.std.proofs.Common.{◌≡◌, ◌≢◌, ◌⊎◌, ℕ, ◌+◌, ◌*◌, ◌/◌, ◌%◌, ◌^◌, ◌<◌, ◌≤◌, false, true, List, [], ◌∷◌, length, All}
-use Rattle.std.specs.Prelude.{slice_set, None, Ok}
+use Rattle.std.specs.Prelude.{slice_index_or, slice_set, None, Ok, Some}
 use Rattle.nk_bits.specs.declared.kind.Kind.{Kind}
 use Rattle.nk_bits.specs.declared.kind.Kind.TheVariants.{Data, Guarded}
 use Rattle.nk_bits.specs.declared.leaf.Leaf.{Leaf}
@@ -11,7 +11,7 @@ use Rattle.page_desc.specs.FrameCounts.{loose_in}
 use Rattle.page_desc.specs.FrameDescriptors.{Descriptors}
 use Rattle.page_desc.specs.PageTables.{AreDescribed, HoldsSoundTables, Tables, is_unguarded, loose_of, tables_in, value_in}
 use Rattle.region_book.specs.RegionCalls.{guarded, has_twice}
-use Rattle.region_book.specs.RegionRecords.{IsEachOnce}
+use Rattle.region_book.specs.RegionRecords.{Book, IsBook, IsEachOnce, Region, byte_place, region_of}
 use Rattle.vmmu.specs.AcceptedCalls.{IsDeclarable, IsRemovable, IsRoot, IsWritable}
 use Rattle.vmmu.specs.TableCalls.{declare_rule, declared, entry_rule, entry_written, memory_declared, memory_removed, memory_written, remove_rule, removed, root_loaded, root_rule}
 
@@ -90,3 +90,20 @@ pub record LowerLaws : Type 0 where
   pub accepted : AcceptedLaws
   pub guard : GuardLaws
   pub walks : WalkLaws
+
+-- bytes of live regions stand apart, within one and in two, and each region of a book is the one of its identifier
+pub record RegionLaws : Type 0 where
+  pub within : (book : Book) (id a b : ℕ) (r : Region) → IsBook book → region_of book id ≡ Some r
+      → a < r.size → b < r.size → a ≢ b → byte_place r a ≢ byte_place r b
+  pub between : (book : Book) (id other a b : ℕ) (r q : Region) → IsBook book → id ≢ other
+      → region_of book id ≡ Some r → region_of book other ≡ Some q
+      → a < r.size → b < q.size → byte_place r a ≢ byte_place q b
+  pub listed : (book : Book) (k : ℕ) (d : Region) → IsBook book → k < length book.regions
+      → region_of book (slice_index_or book.regions k d).id ≡ Some (slice_index_or book.regions k d)
+
+-- what is used over calls that are made once more
+pub record ReplayLaws : Type 0 where
+  pub byte : ByteLaws
+  pub region : RegionLaws
+  pub accepted : AcceptedLaws
+  pub once : (fs : List ℕ) → has_twice fs ≡ false → IsEachOnce fs

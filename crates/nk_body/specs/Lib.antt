@@ -4,5 +4,6 @@ pub mod CallRules
 pub mod CallLeft
 pub mod KindsKept
 pub mod SourceWords
+pub mod ReplayBeside
 -- Words of private clauses and proofs.
 pub mod CallMade

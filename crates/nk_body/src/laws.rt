@@ -1,6 +1,6 @@
 //! What follows from the definitions for those who say what a whole machine keeps.
 
-ghost use Rattle.std.specs.Prelude.{◌≡◌, ◌≢◌, None, ◌⊎◌, ◌≤◌, ◌<◌, ◌+◌, ◌/◌, ◌^◌, ℕ, List, All, IfSome, false, length, true};
+ghost use Rattle.std.specs.Prelude.{◌≡◌, ◌≢◌, Bool, None, ◌||◌, ◌⊎◌, ◌≤◌, ◌<◌, ◌+◌, ◌/◌, ◌^◌, ℕ, List, All, IfSome, false, length, true};
 ghost use Rattle.phys_mem.specs.MaskedMemory.{is_book_frame, seen};
 ghost use Rattle.phys_mem.specs.Memory.{IsBytes, byte_at, entry_in, stored};
 ghost use Rattle.nk_bits.specs.declared.call.CallWords.{CallWords};
@@ -15,17 +15,18 @@ ghost use Rattle.boot_map.specs.OpeningKinds.{kinds};
 ghost use Rattle.page_desc.specs.DescriptorBytes.{kinds_in};
 ghost use Rattle.page_desc.specs.FrameCounts.{loose_in};
 ghost use Rattle.page_desc.specs.PageTables.{HoldsSoundTables};
-ghost use Rattle.nk_body.specs.NestedRecord.{AreBooks, Books, HoldsBooks, IsLedgerKept, Ledger, Nested, OwnState, books_in, nested_in};
-ghost use Rattle.nk_body.specs.CallRules.{Sourced, answer_to, bytes_read};
+ghost use Rattle.nk_body.specs.NestedRecord.{AreBooks, Books, HoldsBooks, IsLedgerKept, Ledger, Nested, OwnState, books_in, held_bytes, nested_in};
+ghost use Rattle.nk_body.specs.CallRules.{Sourced, accepted_memory, answer_to, bytes_read, made, stand_of, verdict};
 ghost use Rattle.nk_body.specs.CallLeft.{IsCalled, left_in, memory_left};
 ghost use Rattle.nk_body.specs.KindsKept.{is_reserved, is_settled};
 ghost use Rattle.nk_body.specs.SourceWords.{opening_ledger};
+ghost use Rattle.nk_body.specs.ReplayBeside.{IsAccepted, IsBeside, IsMadeBeside, declares_table, is_opening_table, opening_byte};
 
 use boot_map::{opening_entries_law, opening_kinds_law};
 use nk_bits::walk_law;
 use page_desc::{guarded_law, page_tables_law, record_walk_law, sound_law, stored_law};
 use phys_mem::{frame_law, memory_law};
-use region_book::{declared_law, held_regions_law};
+use region_book::{apart_law, declared_law, held_regions_law};
 use vmmu::{accepted_law, table_calls_law};
 use write_log::held_log_law;
 
@@ -145,4 +146,29 @@ pub fn opening_sound_law()
     opening_kinds_law();
     opening_entries_law();
     sound_law();
+}
+
+/// The accepted calls, made once more in a memory that doesn't take the outer kernel's stores, leave a record beside the one
+/// that they made: the opening's is beside itself, and each accepted call keeps that. Every call is judged and answered alike
+/// over both.
+pub fn beside_law()
+    ensures begins { (b m : List ℕ) (frames : ℕ) → IsOpening b frames m
+        → IsBeside (opening_byte b frames) (is_opening_table b frames) (nested_in (kinds b frames) 5 opening_ledger m)
+        (held_bytes (kinds b frames) m) m }
+    ensures judged { (nk : Nested) (held : ℕ → ℕ → ℕ) (call : CallWords) (source : Sourced)
+        → verdict (record nk { held = held }) call source ≡ verdict nk call source }
+    ensures answered { (nk : Nested) (held : ℕ → ℕ → ℕ) (call : CallWords) (source : Sourced)
+        → answer_to (record nk { held = held }) call source ≡ answer_to nk call source }
+    ensures stays { (opened : ℕ → ℕ → ℕ) (tabled : ℕ → Bool) (nk : Nested) (held : ℕ → ℕ → ℕ) (m : List ℕ) (call : CallWords)
+        (source : Sourced) (stand : ℕ → ℕ → ℕ) → IsBeside opened tabled nk held m → IsAccepted nk call source
+        → let also : Nested = record nk { held = held } in
+        IsMadeBeside opened (λ f. tabled f || declares_table f call) (made nk call source stand)
+        (made also call source (stand_of also call m)) (accepted_memory also call source m) }
+{
+    memory_law();
+    frame_law();
+    accepted_law();
+    apart_law();
+    declared_law();
+    opening_kinds_law();
 }

@@ -5,7 +5,8 @@ use Rattle.std.proofs.lemmas.Bool.{eq-eqb}
 use Rattle.irq_plan.specs.declared.event.Event.{Event}
 use Rattle.text_lines.specs.TextLines.{lines}
 use Rattle.nk_body.specs.CallRules.{made}
-use Rattle.nk_body.specs.NestedRecord.{IsLedgerKept, Nested}
+use Rattle.nk_body.specs.NestedRecord.{Nested}
+use Rattle.nk_body.specs.ReplayBeside.{IsBeside}
 use Rattle.gate_state.specs.declared.moves.Move.{Move}
 use Rattle.gate_state.specs.GuardedStates.{IsGuarded}
 use Rattle.gate_state.specs.MachineStates.{MachineState, Opening, nested_of}
@@ -22,9 +23,8 @@ use Rattle.nk_run.specs.ReplayedRuns.{was_table}
 use Rattle.nk_run.specs.RunStates.{closing, ended, ending_at, is_halted, one_unless, shown_by, steps_within}
 use Rattle.nk_run.specs.RunStates.{lines_from}
 use Rattle.gate_state.specs.ShownSteps.{IsShown, IsShownCall}
-use Rattle.nk_run.proofs.Beside.{IsBeside}
 use Rattle.nk_run.proofs.HeardLines.{ending_heard}
-use Rattle.nk_run.proofs.LawsBelow.{AcceptedLaws, ByteLaws}
+use Rattle.nk_run.proofs.LawsBelow.{BesideLaws}
 use Rattle.nk_run.proofs.ReplaySteps.{replay_line}
 use Rattle.nk_run.proofs.Runs.{counted, left, not_resting, turn_left}
 use Rattle.nk_run.proofs.RunSteps.{IsStepped, called_first, replay_beside, step_beside}
@@ -147,17 +147,15 @@ pub record StepLaws (o : Opening) (plan : List Event) : Type 0 where
   pub called : (s : MachineState) → IsGuarded o s → s.turns < 2 ^ 62 → IsShownCall s
   pub counts : (s : MachineState) → CountsSteps plan (move_of plan s) s (next plan s)
 
-module _ (bytes : ByteLaws) (accepted : AcceptedLaws) (o : Opening) (plan : List Event) (laws : StepLaws o plan)
+module _ (beside_laws : BesideLaws) (o : Opening) (plan : List Event) (laws : StepLaws o plan)
     (steps : ℕ) (most_steps : steps ≤ 4294967296) where
   stepped : (s : MachineState) (before : List Made) (held : ℕ → ℕ → ℕ) (m : List ℕ) (number : ℕ) → Follows o plan s
       → s.turns ≤ steps → IsBeside (opened o) (was_table o before) (nested_of s) held m
       → IsStepped o before s held m number (move_of plan s)
   stepped s before held m number follows turns beside =
       let guarded : IsGuarded o s = here_guarded o plan s follows in
-      let later : IsGuarded o (next plan s) = here_guarded o plan (next plan s) (follows_next o plan s follows) in
-      step_beside bytes accepted o before s guarded held m number beside (move_of plan s) (laws.seen s guarded)
+      step_beside beside_laws o before s guarded held m number beside (move_of plan s) (laws.seen s guarded)
       (laws.called s guarded (omega (arith, turns, most_steps)))
-      (subst (λ (nk : Nested). IsLedgerKept nk.tables.kinds nk.ledger) (next_made o plan s follows) later.ledger)
 
   pub replays : (most : ℕ) (s : MachineState) (before : List Made) (held : ℕ → ℕ → ℕ) (m : List ℕ) (number : ℕ)
       → Follows o plan s → s.turns ≤ steps → left steps plan s ≤ most

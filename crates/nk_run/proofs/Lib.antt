@@ -22,16 +22,7 @@ pub mod Splits
 pub mod Glyphs
 pub mod SpelledNumbers
 pub mod HeardLines
-pub mod CallKinds
-pub mod HeldPuts
-pub mod Beside
 pub mod LawsBelow
-pub mod BesideTables
-pub mod RegionPlaces
-pub mod GuardedKinds
-pub mod BesideRegions
-pub mod BesidePages
-pub mod CallsBeside
 pub mod ReplaySteps
 pub mod ToldSections
 pub mod RunSteps

@@ -4,13 +4,13 @@ use Rattle.std.specs.Prelude.{Option, None, Some, ◌&&◌, if◌then◌else◌}
 use Rattle.std.proofs.lemmas.Bool.{eq-eqb}
 use Rattle.nk_bits.specs.declared.call.Answer.{Answer}
 use Rattle.nk_bits.specs.declared.call.CallWords.{CallWords}
-use Rattle.nk_bits.specs.declared.rule.Rule.{Rule}
 use Rattle.text_lines.specs.TextLines.{lines}
-use Rattle.nk_body.specs.CallRules.{Bytes, IsSourceOf, NotTaken, Sourced, Unreadable, answer_by, answer_to, verdict, wants}
+use Rattle.nk_body.specs.CallRules.{Bytes, IsSourceOf, NotTaken, Sourced, Unreadable, answer_to, wants}
 use Rattle.nk_body.specs.NestedRecord.{Nested}
 use Rattle.replay_core.specs.JournalLines.{Calls, Heard}
 use Rattle.replay_core.specs.ReplayedCalls.{WholeReplay, Replayed, is_answer, is_given, is_same_place, replay_from, replayed, stops_at, with_line}
 use Rattle.nk_run.proofs.HeardLines.{IsHeard, noted_of}
+use Rattle.nk_run.proofs.LawsBelow.{BesideLaws}
 
 pub replay_line : (number : ℕ) (line rest : List ℕ) (says : Option Heard) (s : Replayed) → IsHeard line says
     → replay_from number (lines (line ++ rest)) s ≡ with_line number s says (replay_from (number + 1) (lines rest))
@@ -30,41 +30,24 @@ same_place : (o : Option ℕ) → is_same_place o o ≡ true
 same_place None = refl
 same_place (Some p) = eq-eqb p p refl
 
--- verdict and answer depend on tables and ledger alone
-pub verdict_same : (nk : Nested) (held : ℕ → ℕ → ℕ) (call : CallWords) (source : Sourced)
-    → verdict (record nk { held = held }) call source ≡ verdict nk call source
-unfolding verdict
-verdict_same nk held call source = refl
-
-answer_same : (nk : Nested) (held : ℕ → ℕ → ℕ) (call : CallWords) (source : Sourced)
-    → answer_to (record nk { held = held }) call source ≡ answer_to nk call source
-unfolding answer_to
-answer_same nk held call source =
-    ap (λ v. answer_by v (record nk { held = held }) call) (verdict_same nk held call source)
-    ∙ by_verdict (verdict nk call source)
-  where
-    by_verdict : (v : Option Rule) → answer_by v (record nk { held = held }) call ≡ answer_by v nk call
-    by_verdict None = refl
-    by_verdict (Some rule) = refl
-
 answer_is : (answer : Answer) (call : CallWords) (source : Sourced)
     → is_answer answer (noted_of call source answer) ≡ true
 answer_is answer call source = λ i. eq-eqb answer.value answer.value refl i && same_place answer.place i
 
 -- a call that the record answers so is made
-pub replay_call : (number : ℕ) (rest : List ℕ) (nk : Nested) (held : ℕ → ℕ → ℕ) (m : List ℕ) (call : CallWords)
+pub replay_call : BesideLaws → (number : ℕ) (rest : List ℕ) (nk : Nested) (held : ℕ → ℕ → ℕ) (m : List ℕ) (call : CallWords)
     (source : Sourced) (line : List ℕ)
     → IsHeard line (Some (Calls (noted_of call source (answer_to nk call source))))
     → IsSourceOf (wants nk.ledger.book call) source
     → let s : Replayed = record { nested = record nk { held = held }; memory = m } in
     replay_from number (lines (line ++ rest)) s
     ≡ replay_from (number + 1) (lines rest) (replayed s (noted_of call source (answer_to nk call source)))
-replay_call number rest nk held m call source line is sourced =
+replay_call laws number rest nk held m call source line is sourced =
     let s : Replayed = record { nested = record nk { held = held }; memory = m } in
     let it = noted_of call source (answer_to nk call source) in
     let later : Replayed → WholeReplay = replay_from (number + 1) (lines rest) in
     let right : is_answer (answer_to (record nk { held = held }) call source) it ≡ true =
-    ap (λ (a : Answer). is_answer a it) (answer_same nk held call source)
+    ap (λ (a : Answer). is_answer a it) (laws.answered nk held call source)
     ∙ answer_is (answer_to nk call source) call source in
     replay_line number line rest (Some (Calls it)) s is
     ∙ (λ i. if given_is (wants nk.ledger.book call) source sourced i

@@ -8,15 +8,14 @@ use Rattle.nk_bits.specs.Translations.{Translations}
 use Rattle.nk_bits.specs.declared.call.Delivery.{Delivery}
 use Rattle.nk_bits.specs.declared.call.CallWords.{CallWords}
 use Rattle.nk_bits.specs.declared.rule.Rule.{Rule}
-use Rattle.boot_map.specs.OpeningKinds.{kind_at}
-use Rattle.page_desc.specs.PageTables.{is_table}
 use Rattle.irq_plan.specs.declared.event.What.{What}
 use Rattle.report_text.specs.RunLines.{call_line, console_line, delivery_line}
 use Rattle.text_lines.specs.TextLines.{lines}
 use Rattle.cpu_step.specs.declared.stepped.Stepped.{Stepped}
 use Rattle.cpu_step.specs.declared.stepped.Stepped.TheVariants as stepped
 use Rattle.nk_body.specs.CallRules.{IsSourceOf, Sourced, made, made_unless, stand_of, verdict, wants, accepted_memory, written_unless}
-use Rattle.nk_body.specs.NestedRecord.{IsLedgerKept, Nested}
+use Rattle.nk_body.specs.NestedRecord.{Nested}
+use Rattle.nk_body.specs.ReplayBeside.{IsAccepted, IsBeside, declares_table, is_opening_table}
 use Rattle.gate_state.specs.declared.moves.Move.{Move}
 use Rattle.gate_state.specs.declared.moves.Move.TheVariants as move
 use Rattle.gate_state.specs.GuardedStates.{IsGuarded}
@@ -25,15 +24,13 @@ use Rattle.gate_state.specs.MachineSteps.{Made, answer_in, call_in, called_by, m
 use Rattle.gate_state.specs.SourceBytes.{SourceRead, in_front, read_on, source_byte, source_through, source_read, source_tlb, source_with}
 use Rattle.replay_core.specs.JournalLines.{Passes}
 use Rattle.replay_core.specs.ReplayedCalls.{Replayed, replay_from, replayed}
-use Rattle.nk_run.specs.ReplayedRuns.{declares_table, was_table}
+use Rattle.nk_run.specs.ReplayedRuns.{was_table}
 use Rattle.nk_run.specs.RunStates.{shown, shown_by}
 use Rattle.gate_state.specs.ShownSteps.{IsShown, IsShownCall, IsShownDelivery}
-use Rattle.nk_run.proofs.Beside.{IsBeside}
-use Rattle.nk_run.proofs.CallsBeside.{call_beside}
 use Rattle.nk_run.proofs.HeardLines.{IsSmallCall, IsSmallDelivery, call_heard, console_heard, delivery_heard, noted_of}
-use Rattle.nk_run.proofs.LawsBelow.{AcceptedLaws, ByteLaws}
+use Rattle.nk_run.proofs.LawsBelow.{BesideLaws}
 use Rattle.nk_run.proofs.ToldSections.{opened}
-use Rattle.nk_run.proofs.ReplaySteps.{replay_call, replay_line, verdict_same}
+use Rattle.nk_run.proofs.ReplaySteps.{replay_call, replay_line}
 
 -- What is read for a call is what it takes.
 
@@ -80,10 +77,11 @@ called_first move.Turn s later = refl
 called_first move.Rest s later = refl
 
 was_more : (o : Opening) (before : List Made) (it : Made) (f : ℕ)
-    → was_table o (before ++ it ∷ []) f ≡ (was_table o before f || declares_table f it)
+    → was_table o (before ++ it ∷ []) f ≡ (was_table o before f || declares_table f it.call)
 was_more o before it f =
-    ap (λ b. is_table (kind_at o.image o.frames f) || b) (list_any-append (declares_table f) before (it ∷ []))
-    ∙ regroup (is_table (kind_at o.image o.frames f)) (list_any (declares_table f) before) (declares_table f it)
+    let declares : Made → Bool = λ it. declares_table f it.call in
+    ap (λ b. is_opening_table o.image o.frames f || b) (list_any-append declares before (it ∷ []))
+    ∙ regroup (is_opening_table o.image o.frames f) (list_any declares before) (declares it)
   where
     regroup : (a b c : Bool) → (a || (b || (c || false))) ≡ ((a || b) || c)
     regroup true b c = refl
@@ -107,7 +105,7 @@ pub record IsStepped (o : Opening) (before : List Made) (s : MachineState) (held
   pub beside : IsBeside (opened o) (was_table o (before ++ called_by mv s []))
       (made_by_all (nested_of s) (called_by mv s [])) held_after memory_after
 
-module _ (bytes : ByteLaws) (accepted : AcceptedLaws) (o : Opening) (before : List Made) (s : MachineState)
+module _ (laws : BesideLaws) (o : Opening) (before : List Made) (s : MachineState)
     (guarded : IsGuarded o s) (held : ℕ → ℕ → ℕ) (m : List ℕ) (number : ℕ)
     (beside : IsBeside (opened o) (was_table o before) (nested_of s) held m) where
   nothing_more : IsBeside (opened o) (was_table o (before ++ [])) (nested_of s) held m
@@ -194,11 +192,13 @@ module _ (bytes : ByteLaws) (accepted : AcceptedLaws) (o : Opening) (before : Li
     stands : IsBeside (opened o) (was_table o (before ++ with_call v (made_in s) []))
         (made_with v) held_after memory_after
 
-  by_verdict : (v : Option Rule) → verdict_in s ≡ v → IsLedgerKept (made_with v).tables.kinds (made_with v).ledger
-      → IsCalledBeside v
-  by_verdict None none kept_after =
-      let it = call_beside bytes accepted (opened o) (was_table o before) (nested_of s) held m beside guarded.ledger
-      guarded.tables.handler call source sourced (made_in s).stand none kept_after in
+  accepted : verdict_in s ≡ None → IsAccepted (nested_of s) call source
+  accepted none = record { none = none; sourced = sourced; handler = guarded.tables.handler; kept = guarded.ledger }
+
+  by_verdict : (v : Option Rule) → verdict_in s ≡ v → IsCalledBeside v
+  by_verdict None none =
+      let it = laws.stays (opened o) (was_table o before) (nested_of s) held m call source (made_in s).stand beside
+      (accepted none) in
       record {
         held_after = (made also call source (stand_of also call m)).held;
         memory_after = accepted_memory also call source m;
@@ -208,14 +208,13 @@ module _ (bytes : ByteLaws) (accepted : AcceptedLaws) (o : Opening) (before : Li
             (made also call source (stand_of also call m)).held (accepted_memory also call source m))
             (λ i f. sym (was_more o before (made_in s) f) i) it.beside;
       }
-  by_verdict (Some rule) broken kept_after =
+  by_verdict (Some rule) broken =
       record { held_after = held; memory_after = m; made = refl; memory = refl; stands = nothing_more }
 
-  call_step : IsShownCall s → IsLedgerKept (made_with (verdict_in s)).tables.kinds (made_with (verdict_in s)).ledger
-      → IsStepped o before s held m number move.Serve
-  call_step small kept_after =
-      let it = by_verdict (verdict_in s) refl kept_after in
-      let same : verdict also call source ≡ verdict_in s = verdict_same (nested_of s) held call source in
+  call_step : IsShownCall s → IsStepped o before s held m number move.Serve
+  call_step small =
+      let it = by_verdict (verdict_in s) refl in
+      let same : verdict also call source ≡ verdict_in s = laws.judged (nested_of s) held call source in
       let makes : replayed (replay_beside (nested_of s) held m) (noted_of call source (answer_in s))
       ≡ replay_beside (made_with (verdict_in s)) it.held_after it.memory_after =
       (λ i. record {
@@ -228,18 +227,15 @@ module _ (bytes : ByteLaws) (accepted : AcceptedLaws) (o : Opening) (before : Li
         held_after = it.held_after;
         memory_after = it.memory_after;
         goes = λ rest.
-            replay_call number rest (nested_of s) held m call source (call_line call source (answer_in s))
+            replay_call laws number rest (nested_of s) held m call source (call_line call source (answer_in s))
             (call_heard call source (answer_in s) (small_call small)) sourced
             ∙ ap (replay_from (number + 1) (lines rest)) makes;
         beside = it.stands;
       }
 
   -- every step
-  pub step_beside : (mv : Move) → IsShown (seen_by mv s) → IsShownCall s
-      → IsLedgerKept (made_by_all (nested_of s) (called_by mv s [])).tables.kinds
-      (made_by_all (nested_of s) (called_by mv s [])).ledger
-      → IsStepped o before s held m number mv
-  step_beside move.Serve shown small kept_after = call_step small kept_after
-  step_beside (move.Take what) shown small kept_after = event_step what
-  step_beside move.Turn shown small kept_after = turn_step shown
-  step_beside move.Rest shown small kept_after = rest_step
+  pub step_beside : (mv : Move) → IsShown (seen_by mv s) → IsShownCall s → IsStepped o before s held m number mv
+  step_beside move.Serve shown small = call_step small
+  step_beside (move.Take what) shown small = event_step what
+  step_beside move.Turn shown small = turn_step shown
+  step_beside move.Rest shown small = rest_step

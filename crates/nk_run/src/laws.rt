@@ -13,14 +13,11 @@ ghost use Rattle.nk_run.specs.Replies.{ReadsBytes};
 ghost use Rattle.nk_run.specs.RunStates.{EndsAfter, run_length};
 ghost use Rattle.nk_run.specs.Witness.{Files};
 
-use boot_map::opening_kinds_law;
 use byte_scanner::clean_law;
 use elf_image::pages_law;
 use gate_state::{moves_law, safety_law, shown_law};
 use irq_plan::plan_law;
-use phys_mem::{frame_law, memory_law};
-use region_book::apart_law;
-use vmmu::accepted_law;
+use nk_body::beside_law;
 
 /// Where the checks of a run pass, the run is safe in each of its states, and its text is a journal of its calls; and each
 /// run goes on to the first state at which it ends.
@@ -53,11 +50,7 @@ fn journal_law()
     ensures { (o : Opening) (input : List ℕ) (plan : List Event) (steps : ℕ)
         → IsAdmitted o → IsPlan plan → steps ≤ 4294967296 → IsReplayedRun o input plan steps }
 {
-    memory_law();
-    frame_law();
-    accepted_law();
-    apart_law();
-    opening_kinds_law();
+    beside_law();
     safety_law();
     shown_law();
     moves_law();

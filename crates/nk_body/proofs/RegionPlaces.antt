@@ -1,33 +1,19 @@
 -- Where the bytes of regions stand.
-use Rattle.std.proofs.Common.{◌≡◌, ◌≢◌, ℕ, ◌+◌, ◌-◌, ◌/◌, ◌<◌, ◌≤◌, true, false, List, [], ◌∷◌, length, All, inl, inr, sym, ap, subst, ◌∙◌, arith}
+use Rattle.std.proofs.Common.{◌≡◌, ◌≢◌, ℕ, ◌+◌, ◌-◌, ◌/◌, ◌<◌, ◌≤◌, true, false, List, [], ◌∷◌, length, All, inl, inr, ap, ◌∙◌, arith}
 use Rattle.std.specs.Prelude.{◌==◌, Some, slice_index}
-use Rattle.std.specs.List.{position_or_len}
 use Rattle.std.proofs.lemmas.Bool.{cases_lt, eq-eqb, eqb-true, ne_eqb, or_left, or_right}
-use Rattle.std.proofs.lemmas.Option.{get_or_from_slice_get, slice_get_within}
 use Rattle.std.proofs.lemmas.List.Elements.{All-cons, All-nil}
-use Rattle.std.proofs.lemmas.List.Folds.{find_at, list_any_none}
+use Rattle.std.proofs.lemmas.List.Folds.{list_any_none}
 use Rattle.std.proofs.lemmas.List.FromFn.{get_or-range_with_len}
-use Rattle.std.proofs.lemmas.List.Sums.{passes_at_first}
 use Rattle.nk_bits.specs.KernelLayout.{pool_start}
 use Rattle.region_book.specs.RegionRecords.{Book, IsRegion, Region, byte_place, region_of, region_stores}
-use Rattle.nk_run.proofs.Beside.{frame_at}
-use Rattle.nk_run.proofs.HeldPuts.{hits}
-
--- what holds of each region holds of the one that is found
-pub found_holds : (P : Region → Type 0) (book : Book) (id : ℕ) (r : Region) → region_of book id ≡ Some r
-    → All P book.regions → P r
-found_holds P book id r found all =
-    let at = position_or_len (λ x. x.id == id) book.regions in
-    let there = sym (find_at (λ x. x.id == id) book.regions) ∙ found in
-    subst P (get_or_from_slice_get book.regions at r r there) (all at r (slice_get_within book.regions at r there))
+use Rattle.nk_body.specs.ReplayBeside.{frame_at}
+use Rattle.nk_body.proofs.HeldPuts.{hits}
+use Rattle.nk_body.proofs.RegionFrames.{found_place}
 
 -- the region of an identifier has it
 pub found_id : (book : Book) (id : ℕ) (r : Region) → region_of book id ≡ Some r → r.id ≡ id
-found_id book id r found =
-    let at = position_or_len (λ x. x.id == id) book.regions in
-    let there = sym (find_at (λ x. x.id == id) book.regions) ∙ found in
-    eqb-true r.id id (ap (λ x. x.id == id) (sym (get_or_from_slice_get book.regions at r r there))
-    ∙ passes_at_first (λ x. x.id == id) book.regions r (slice_get_within book.regions at r there))
+found_id book id r found = eqb-true r.id id (found_place (λ x. x.id == id) book.regions r found).3
 
 -- the frame of each byte of a region is one of its frames
 pub frame_holds : (P : ℕ → Type 0) (next : ℕ) (r : Region) → IsRegion next r → All P r.frames → (at : ℕ) → at < r.size

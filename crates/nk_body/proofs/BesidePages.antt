@@ -1,10 +1,10 @@
 -- A replay beside a run, over a call that declares pages.
-use Rattle.std.proofs.Common.{◌≡◌, ℕ, ◌+◌, ◌*◌, ◌<◌, Bool, true, false, List, length, All, inl, inr, refl, sym, ap, ◌∙◌, arith}
-use Rattle.std.specs.Prelude.{◌==◌, if◌then◌else◌, slice_index_or}
-use Rattle.std.proofs.lemmas.Bool.{cases_Bool, cond-false, cond-true, eq-eqb, false≢true, ne_eqb}
+use Rattle.std.proofs.Common.{◌≡◌, ℕ, ◌+◌, ◌*◌, ◌<◌, Bool, true, false, List, length, All, inl, inr, sym, ap, ◌∙◌, arith}
+use Rattle.std.specs.Prelude.{◌==◌, ◌||◌, if◌then◌else◌, slice_index_or}
+use Rattle.std.proofs.lemmas.Bool.{cases_Bool, cond-false, cond-true, false≢true, ne_eqb}
 use Rattle.std.proofs.lemmas.List.{get_or-replicate}
 use Rattle.std.proofs.lemmas.List.Elements.{All-push, All-weaker}
-use Rattle.std.proofs.lemmas.List.Folds.{list_any_at, list_any_none}
+use Rattle.std.proofs.lemmas.List.Folds.{list_any_none}
 use Rattle.nk_bits.specs.declared.kind.Kind.{Kind}
 use Rattle.nk_bits.specs.declared.kind.Kind.TheVariants.{Data, Guarded}
 use Rattle.nk_bits.specs.Kinds.{kind_of}
@@ -13,9 +13,10 @@ use Rattle.page_desc.specs.PageTables.{is_table}
 use Rattle.region_book.specs.RegionCalls.{with_one_more, guarded, page_region}
 use Rattle.region_book.specs.RegionRecords.{Book, IsRegion, Region}
 use Rattle.nk_body.specs.NestedRecord.{IsLedgerKept, Nested}
-use Rattle.nk_run.proofs.Beside.{IsBeside, IsTold, frame_at, left, place_at}
-use Rattle.nk_run.proofs.GuardedKinds.{AreFree, among, guarded_data, in_memory, kind_guarded, length_guarded}
-use Rattle.nk_run.proofs.RegionPlaces.{frame_holds}
+use Rattle.nk_body.specs.ReplayBeside.{IsBeside, IsTold, frame_at, left_alone, offset_at}
+use Rattle.nk_body.proofs.CallChanges.{free_inside}
+use Rattle.nk_body.proofs.GuardedFrames.{among, among_each, guarded_data, kind_guarded, length_guarded}
+use Rattle.nk_body.proofs.RegionPlaces.{frame_holds}
 
 module _ (opened : ℕ → ℕ → ℕ) (tabled : ℕ → Bool) (nk : Nested) (held : ℕ → ℕ → ℕ) (m : List ℕ)
     (beside : IsBeside opened tabled nk held m) (kept : IsLedgerKept nk.tables.kinds nk.ledger) where
@@ -25,7 +26,7 @@ module _ (opened : ℕ → ℕ → ℕ) (tabled : ℕ → Bool) (nk : Nested) (h
   abbrev book : Book
   book = nk.ledger.book
 
-  module _ (fs : List ℕ) (is : AreFree kinds fs) (address size policy next : ℕ)
+  module _ (fs : List ℕ) (is : All (λ f. kind_of kinds f ≡ Data) fs) (address size policy next : ℕ)
       (region : IsRegion next (page_region book address size policy fs))
       (run_stand stand : ℕ → ℕ → ℕ) (stands : (f offset : ℕ) → among f fs ≡ true → offset < 4096
       → stand f offset ≡ byte_at m (4096 * f + offset)) where
@@ -44,13 +45,8 @@ module _ (opened : ℕ → ℕ → ℕ) (tabled : ℕ → Bool) (nk : Nested) (h
         (All-weaker (λ g. kind_of kinds g ≡ Data) (λ g. (g == f) ≡ false)
         (λ g free. ne_eqb g f (λ same. guarded_data (sym other ∙ ap (kind_of kinds) (sym same) ∙ free))) fs is)
 
-    all_among : All (λ f. among f fs ≡ true) fs
-    all_among k d below = list_any_at (λ g. g == slice_index_or fs k d) fs k d below
-        (eq-eqb (slice_index_or fs k d) (slice_index_or fs k d) refl)
-
     inside : All (λ f. f < length kinds) fs
-    inside = All-weaker (λ f. kind_of kinds f ≡ Data) (λ f. f < length kinds)
-        (λ f free. in_memory kinds f free) fs is
+    inside = free_inside kinds fs is
 
     -- the regions that were there
     old_told : (q : Region) → IsRegion book.next q → All (λ f. kind_of kinds f ≡ Guarded) q.frames
@@ -60,10 +56,10 @@ module _ (opened : ℕ → ℕ → ℕ) (tabled : ℕ → Bool) (nk : Nested) (h
           let f : ℕ = frame_at q at in
           let out : among f fs ≡ false = not_among f
           (frame_holds (λ f. kind_of kinds f ≡ Guarded) book.next q was guards at within) in
-          cond-false (among f fs) (stand f (place_at q at)) (held f (place_at q at)) out
+          cond-false (among f fs) (stand f (offset_at q at)) (held f (offset_at q at)) out
           ∙ told.bytes at within
-          ∙ ap (λ b. if slice_index_or q.written at false then b else left tabled opened f (place_at q at))
-          (sym (cond-false (among f fs) (run_stand f (place_at q at)) (nk.held f (place_at q at)) out));
+          ∙ ap (λ b. if q.pooled || slice_index_or q.written at false then b else left_alone opened tabled f (offset_at q at))
+          (sym (cond-false (among f fs) (run_stand f (offset_at q at)) (nk.held f (offset_at q at)) out));
     }
 
     -- the new one: nothing was written of it
@@ -71,14 +67,14 @@ module _ (opened : ℕ → ℕ → ℕ) (tabled : ℕ → Bool) (nk : Nested) (h
     new_told = record {
       bytes = λ at within.
           let f : ℕ = frame_at pages at in
-          let offset : ℕ = place_at pages at in
-          let there : among f fs ≡ true = frame_holds (λ f. among f fs ≡ true) next pages region all_among at within in
+          let offset : ℕ = offset_at pages at in
+          let there : among f fs ≡ true = frame_holds (λ f. among f fs ≡ true) next pages region (among_each fs) at within in
           let free : kind_of kinds f ≡ Data = frame_holds (λ f. kind_of kinds f
           ≡ Data) next pages region is at within in
           cond-true (among f fs) (stand f offset) (held f offset) there
           ∙ stands f offset there (omega arith)
           ∙ beside.free f offset free (omega arith)
-          ∙ sym (cond-false (slice_index_or pages.written at false) (run_after f offset) (left tabled opened f offset)
+          ∙ sym (cond-false (slice_index_or pages.written at false) (run_after f offset) (left_alone opened tabled f offset)
           (get_or-replicate size at false false within));
     }
 
@@ -111,9 +107,8 @@ module _ (opened : ℕ → ℕ → ℕ) (tabled : ℕ → Bool) (nk : Nested) (h
           cond-false (among f fs) (stand f offset) (held f offset) out
           ∙ beside.pool f offset least most within
           ∙ sym (cond-false (among f fs) (run_stand f offset) (nk.held f offset) out);
-      regions = All-push (λ q. q.pooled ≡ false
-          → IsTold opened tabled run_after held_after q) book.regions pages
-          (λ k d below declared. old_told (slice_index_or book.regions k d) (kept.book.each k d below)
-          (kept.frames k d below) (beside.regions k d below declared))
-          (λ declared. new_told);
+      regions = All-push (IsTold opened tabled run_after held_after) book.regions pages
+          (λ k d below. old_told (slice_index_or book.regions k d) (kept.book.each k d below)
+          (kept.frames k d below) (beside.regions k d below))
+          new_told;
     }

@@ -15,10 +15,10 @@ use Rattle.region_book.specs.RegionRecords.{IsRegion, Region}
 use Rattle.vmmu.specs.AcceptedCalls.{IsDeclarable, IsRemovable, IsWritable}
 use Rattle.vmmu.specs.TableCalls.{declared, entry_written, memory_declared, memory_removed, memory_written, removed, root_loaded}
 use Rattle.nk_body.specs.NestedRecord.{IsLedgerKept, Nested}
-use Rattle.nk_run.proofs.Beside.{IsBeside, IsTold, frame_at, left, place_at}
-use Rattle.nk_run.proofs.GuardedKinds.{guarded_data}
-use Rattle.nk_run.proofs.LawsBelow.{ByteLaws}
-use Rattle.nk_run.proofs.RegionPlaces.{frame_holds}
+use Rattle.nk_body.specs.ReplayBeside.{IsBeside, IsTold, frame_at, left_alone, offset_at}
+use Rattle.nk_body.proofs.GuardedFrames.{guarded_data}
+use Rattle.nk_body.proofs.LowerLaws.{ByteLaws}
+use Rattle.nk_body.proofs.RegionPlaces.{frame_holds}
 
 fixed_data : Fixed ≡ Data → ⊥
 fixed_data same = false≢true (ap is_data same)
@@ -35,7 +35,7 @@ module _ (laws : ByteLaws) (opened : ℕ → ℕ → ℕ) (tabled : ℕ → Bool
   pub spared : (ws : List (ℕ × ℕ)) → Spares ws → (f offset : ℕ) → kind_of kinds f ≡ Data → offset < 4096
       → byte_at (stored m ws) (4096 * f + offset) ≡ byte_at m (4096 * f + offset)
   spared ws spares f offset free inside =
-      laws.elsewhere m ws (4096 * f + offset)
+      laws.byte_elsewhere m ws (4096 * f + offset)
       (All-weaker (λ (w : ℕ × ℕ). kind_of kinds (w.0 / 4096) ≢ Data) (λ w. w.0 ≢ 4096 * f + offset)
       (λ w apart same.
       let frame : w.0 / 4096 ≡ f = omega (arith, same, inside) in apart (ap (kind_of kinds) frame ∙ free))
@@ -112,15 +112,15 @@ module _ (laws : ByteLaws) (opened : ℕ → ℕ → ℕ) (tabled : ℕ → Bool
       whole = whole_frame frame is.inside
 
       free : (f offset : ℕ) → kind_of (slice_set kinds frame Data) f ≡ Data → offset < 4096
-          → byte_at (frame_zeroed m frame) (4096 * f + offset) ≡ left tabled opened f offset
+          → byte_at (frame_zeroed m frame) (4096 * f + offset) ≡ left_alone opened tabled f offset
       free f offset is_data_now inside = elim (cases_eq f frame) [
         | inl here ↦
-            laws.zeroed m frame (4096 * f + offset) whole (frame_of_place f offset inside ∙ here)
+            laws.byte_zeroed m frame (4096 * f + offset) whole (frame_of_place f offset inside ∙ here)
             ∙ ap (λ b. if b then 0 else opened f offset)
             (sym (beside.tables f (ap (λ n. is_table (kind_of kinds n)) here
             ∙ lt-ltb 0 (level_of (kind_of kinds frame)) is.table)))
         | inr apart ↦
-            laws.zeroed_elsewhere m frame (4096 * f + offset) whole
+            laws.byte_zeroed_elsewhere m frame (4096 * f + offset) whole
             (λ same. apart (sym (frame_of_place f offset inside) ∙ same))
             ∙ beside.free f offset (sym (kind_there frame Data f apart) ∙ is_data_now) inside
       ]
@@ -143,7 +143,7 @@ module _ (laws : ByteLaws) (opened : ℕ → ℕ → ℕ) (tabled : ℕ → Bool
     also_same : (f : ℕ) → f ≢ frame → also f ≡ tabled f
     also_same f apart = ap (λ b. tabled f || b) (ne_eqb frame f (λ same. apart (sym same))) ∙ or-false (tabled f)
 
-    left_same : (f offset : ℕ) → f ≢ frame → left tabled opened f offset ≡ left also opened f offset
+    left_same : (f offset : ℕ) → f ≢ frame → left_alone opened tabled f offset ≡ left_alone opened also f offset
     left_same f offset apart = ap (λ b. if b then 0 else opened f offset) (sym (also_same f apart))
 
     ws : List (ℕ × ℕ)
@@ -153,12 +153,12 @@ module _ (laws : ByteLaws) (opened : ℕ → ℕ → ℕ) (tabled : ℕ → Bool
         ≡ byte_at m (4096 * f + offset)
     unfolding ws
     elsewhere f offset apart inside =
-        laws.elsewhere (frame_zeroed m frame) ws (4096 * f + offset)
+        laws.byte_elsewhere (frame_zeroed m frame) ws (4096 * f + offset)
         (All-weaker (λ (w : ℕ × ℕ). (4096 * frame + 8 * 511 ≤ w.0) × (w.0 < 4096 * frame + 8 * 511 + 8))
         (λ w. w.0 ≢ 4096 * f + offset)
         (λ w at same. apart (omega (arith, same, inside, at.0, at.1)))
         ws (laws.places 8 (4096 * frame + 8 * 511) (last_value level)))
-        ∙ laws.zeroed_elsewhere m frame (4096 * f + offset) (whole_frame frame is.inside)
+        ∙ laws.byte_zeroed_elsewhere m frame (4096 * f + offset) (whole_frame frame is.inside)
         (λ same. apart (sym (frame_of_place f offset inside) ∙ same))
 
     other_frame : (f : ℕ) → kind_of kinds f ≡ Guarded → f ≢ frame
@@ -168,8 +168,8 @@ module _ (laws : ByteLaws) (opened : ℕ → ℕ → ℕ) (tabled : ℕ → Bool
         → IsTold opened tabled nk.held held r → IsTold opened also nk.held held r
     still_told r region guarded told = record {
       bytes = λ at inside. told.bytes at inside
-          ∙ ap (λ b. if slice_index_or r.written at false then nk.held (frame_at r at) (place_at r at) else b)
-          (left_same (frame_at r at) (place_at r at)
+          ∙ ap (λ b. if r.pooled || slice_index_or r.written at false then nk.held (frame_at r at) (offset_at r at) else b)
+          (left_same (frame_at r at) (offset_at r at)
           (other_frame (frame_at r at)
           (frame_holds (λ f. kind_of kinds f ≡ Guarded) nk.ledger.book.next r region guarded at inside)));
     }
@@ -194,9 +194,9 @@ module _ (laws : ByteLaws) (opened : ℕ → ℕ → ℕ) (tabled : ℕ → Bool
             (beside.tables f (sym (ap is_table (kind_there frame (Table level) f apart)) ∙ table))
       ];
       pool = beside.pool;
-      regions = λ k d below declared.
+      regions = λ k d below.
           still_told (slice_index_or nk.ledger.book.regions k d) (kept.book.each k d below) (kept.frames k d below)
-          (beside.regions k d below declared);
+          (beside.regions k d below);
     }
       where
         table_data : Table level ≡ Data → ⊥
