@@ -53,6 +53,7 @@ pub mod RunsSafe
 pub mod RunsShort
 pub mod ShownStates
 pub mod MoveLemmas
+pub mod StepLemmas
 pub mod WholeLemmas
 pub mod QuietTurns
 pub mod OpeningWhole

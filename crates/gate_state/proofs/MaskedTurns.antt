@@ -1,4 +1,4 @@
--- A turn over a memory of which a guarded state's is seen: processor and what is console_shown are as over the state's memory,
+-- A turn over a memory of which a guarded state's is seen: processor and what is shown are as over the state's memory,
 -- and so are the stores.
 use Rattle.std.proofs.Common.{◌≡◌, ◌⊎◌, ℕ, ◌+◌, ◌*◌, ◌/◌, ◌^◌, ◌<◌, Bool, true, false, List, [], ◌∷◌, ◌++◌, All, refl, sym, ap, subst, ◌∙◌, arith, inl, inr}
 use Rattle.std.specs.Prelude.{Option, None, Some, Result, Ok, Err, if◌then◌else◌}

@@ -21,6 +21,8 @@ use Rattle.gate_state.specs.declared.moves.Move.TheVariants as move
 use Rattle.gate_state.specs.declared.seen.Seen.{Seen}
 use Rattle.gate_state.specs.declared.seen.Seen.TheVariants as seen
 use Rattle.gate_state.specs.declared.seen.Called.{Called}
+use Rattle.gate_state.specs.declared.seen.Step.{Step}
+use Rattle.gate_state.specs.declared.seen.Step.TheVariants as step
 use Rattle.gate_state.specs.declared.seen.Took.{Took}
 use Rattle.gate_state.specs.declared.seen.Took.TheVariants as took
 use Rattle.gate_state.specs.MachineStates.{MachineState, nested_of}
@@ -139,6 +141,12 @@ unfoldable pub state : List Event → MachineState → ℕ → MachineState
 state plan s zero = s
 state plan s (suc k) = state plan (next plan s) k
 
+-- whether a source was read
+abbrev pub took_by : Sourced → Took
+took_by NotTaken = took.NotTaken
+took_by Unreadable = took.Unreadable
+took_by (Bytes bytes) = took.Taken
+
 -- what a step shows to the outside, but for the body, which shows a call
 abbrev pub shown_by_turn : Stepped → Seen
 shown_by_turn stepped.Ran = seen.Quiet
@@ -150,6 +158,21 @@ abbrev pub seen_by : Move → MachineState → Seen
 seen_by (move.Take what) s = seen.Event
 seen_by move.Turn s = shown_by_turn (turn_of s).stepped
 seen_by _ s = seen.Quiet
+
+-- the call of a state at the body's place, and its answer; the bytes that it takes are shown apart
+abbrev pub called_in : MachineState → Called
+called_in s = record {
+  call = call_in s.processor.regs;
+  source = took_by (source_of s);
+  answer = answer_in s;
+}
+
+-- what a step was, with what it shows
+abbrev pub step_by : Move → MachineState → Step
+step_by move.Serve s = step.Called (called_in s)
+step_by (move.Take what) s = step.Seen (seen_by (move.Take what) s)
+step_by move.Turn s = step.Seen (seen_by move.Turn s)
+step_by move.Rest s = step.Rested
 
 -- a call that breaks no rule, before the later ones
 abbrev pub with_call : Option Rule → Made → List Made → List Made
@@ -169,17 +192,3 @@ calls plan s (suc k) = called_by (move_of plan s) s (calls plan (next plan s) k)
 abbrev pub made_by_all : Nested → List Made → Nested
 made_by_all nk [] = nk
 made_by_all nk (it ∷ later) = made_by_all (made nk it.call it.source it.stand) later
-
--- whether a source was read
-abbrev pub took_by : Sourced → Took
-took_by NotTaken = took.NotTaken
-took_by Unreadable = took.Unreadable
-took_by (Bytes bytes) = took.Taken
-
--- the call of a state at the body's place, and its answer; the bytes that it takes are shown apart
-abbrev pub called_in : MachineState → Called
-called_in s = record {
-  call = call_in s.processor.regs;
-  source = took_by (source_of s);
-  answer = answer_in s;
-}

@@ -7,7 +7,7 @@ use Rattle.gate_state.specs.declared.moves.Move.{Move}
 use Rattle.gate_state.specs.declared.moves.Move.TheVariants as move
 use Rattle.gate_state.specs.MachineStates.{MachineState, Opening}
 use Rattle.nk_body.specs.CallRules.{bytes_read}
-use Rattle.gate_state.specs.MachineSteps.{next, served, source_of}
+use Rattle.gate_state.specs.MachineSteps.{move_of, next, served, source_of}
 use Rattle.gate_state.specs.GuardedStates.{IsAdmitted, IsGuarded}
 
 -- with the bytes that were read last for a call
@@ -31,6 +31,14 @@ next_whole plan w = record w { state = next plan w.state }
 
 abbrev pub served_whole : WholeState → WholeState
 served_whole w = record w { state = served w.state; source = bytes_read (source_of w.state) }
+
+-- and after the step from any state: the body alone reads bytes
+abbrev pub source_after : Move → WholeState → List ℕ
+source_after move.Serve w = bytes_read (source_of w.state)
+source_after _ w = w.source
+
+abbrev pub stepped_whole : List Event → WholeState → WholeState
+stepped_whole plan w = record w { state = next plan w.state; source = source_after (move_of plan w.state) w }
 
 -- no step is left
 abbrev pub is_rest : Move → Bool

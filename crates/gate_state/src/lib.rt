@@ -31,7 +31,7 @@ pub use moves::Move;
 pub use nested::NestedMachine;
 pub use opening::NoMemory;
 pub use outer::OuterMachine;
-pub use seen::{Called, Seen, Took};
+pub use seen::{Called, Seen, Step, Took};
 pub use whole::Finished;
 
 #[cfg(test)]

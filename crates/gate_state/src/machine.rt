@@ -4,19 +4,23 @@ ghost use Rattle.std.specs.Prelude.{◌≡◌, ◌<◌, false, length, ◌*◌};
 ghost use Rattle.cpu_step.specs.Turns.{enters_body};
 ghost use Rattle.phys_mem.specs.MaskedMemory.{seen};
 ghost use Rattle.page_desc.specs.DescriptorBytes.{kinds_in};
+ghost use Rattle.nk_body.specs.CallRules.{Sourced, bytes_read};
 ghost use Rattle.nk_body.specs.NestedRecord.{HoldsBooks, books_in};
+ghost use Rattle.nk_body.specs.SourceWords.{sourced_of};
 ghost use Rattle.gate_state.specs.MachineOf.{IsOf, whole_of};
-ghost use Rattle.gate_state.specs.MachineSteps.{move_of, seen_by};
+ghost use Rattle.gate_state.specs.MachineSteps.{move_of, seen_by, step_by, took_by};
 ghost use Rattle.gate_state.specs.QuietSteps.{IsHurried};
 ghost use Rattle.gate_state.specs.SafeStates.{IsSafe};
-ghost use Rattle.gate_state.specs.WholeMachine.{is_rest, next_whole};
+ghost use Rattle.gate_state.specs.WholeMachine.{is_rest, next_whole, stepped_whole};
 
 use crate::gate::GateMachine;
 use crate::nested::NestedMachine;
 use crate::outer::OuterMachine;
-use crate::seen::Seen;
+use crate::seen::{Seen, Step, Took};
+use crate::source::sourced;
 use crate::whole::{Finished, Whole};
 use irq_plan::Plan;
+use nk_body::Source;
 
 /// The machine between two steps, by what its supervisor may write: with WP set, with WP clear in the gates, and with WP
 /// clear at the nested kernel's body.
@@ -48,6 +52,33 @@ impl<'i> Machine<'i> {
             Machine::Outer(machine) => Machine::Outer(machine.hurry(plan, limit)),
             Machine::Gate(machine) => Machine::Gate(machine),
             Machine::Nested(machine) => Machine::Nested(machine),
+        }
+    }
+
+    /// The step from this state, with what it shows: none where the machine rests for good, and then it stays as it was.
+    pub fn step(self, plan: &Plan) -> (Machine<'i>, Step)
+        requires turns { (whole_of self).state.turns < 4294967296 }
+        ensures next { whole_of result.0 ≡ stepped_whole plan.now (whole_of self.entry) }
+        ensures step { result.1 ≡ step_by (move_of plan.now (whole_of self.entry).state) (whole_of self.entry).state }
+        ensures safe { IsSafe (whole_of self.entry).opening (whole_of self.entry).state }
+        ensures sorted { IsOf result.0 }
+    {
+        match self {
+            Machine::Outer(OuterMachine { whole }) => step_any(whole, plan),
+            Machine::Gate(GateMachine { whole }) => step_any(whole, plan),
+            Machine::Nested(NestedMachine { whole }) => step_any(whole, plan),
+        }
+    }
+
+    /// What a call took that was the last step, with the bytes that were read for it.
+    pub fn source(&self, took: Took) -> Source<'_>
+        ensures { (source : Sourced) → took ≡ took_by source → (whole_of self.now).source ≡ bytes_read source
+            → sourced_of result ≡ source }
+    {
+        match self {
+            Machine::Outer(machine) => sourced(took, machine.source()),
+            Machine::Gate(machine) => sourced(took, machine.source()),
+            Machine::Nested(machine) => sourced(took, machine.source()),
         }
     }
 
@@ -95,6 +126,20 @@ fn sorted<'i>(whole: Box<Whole<'i>>) -> Machine<'i>
         whole.stands_in_gates();
         Machine::Gate(GateMachine { whole })
     }
+}
+
+/// The step of a machine, where one is left, with what it shows.
+fn step_any<'i>(whole: Box<Whole<'i>>, plan: &Plan) -> (Machine<'i>, Step)
+    requires turns { whole.value.state.turns < 4294967296 }
+    ensures next { whole_of result.0 ≡ stepped_whole plan.now whole.entry.value }
+    ensures step { result.1 ≡ step_by (move_of plan.now whole.entry.value.state) whole.entry.value.state }
+    ensures safe { IsSafe whole.entry.value.opening whole.entry.value.state }
+    ensures sorted { IsOf result.0 }
+{
+    whole.is_safe();
+    let mut whole = whole;
+    let step = whole.step(plan);
+    (sorted(whole), step)
 }
 
 /// The step of a machine for which no body is to run, with what it shows.

@@ -149,6 +149,13 @@ impl<'i> OuterMachine<'i> {
         self.whole.turns
     }
 
+    /// The bytes that were read last for a call.
+    pub fn source(&self) -> &[u8]
+        ensures { result.now ≡ self.now.source }
+    {
+        &self.whole.source
+    }
+
     /// Memory and books, at the end of a run.
     pub fn finish(self) -> Finished
         ensures memory { seen result.mem ≡ self.entry.state.memory }

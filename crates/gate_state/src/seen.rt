@@ -33,3 +33,14 @@ pub struct Called {
     pub source: Took,
     pub answer: Answer,
 }
+
+/// What the step from a state was, with what it shows.
+#[derive(Clone, Copy, Debug, PartialEq, Eq)]
+pub enum Step {
+    /// None was left: the machine rests for good.
+    Rested,
+    /// An event of the plan, or a turn.
+    Seen(Seen),
+    /// The nested kernel's body.
+    Called(Called),
+}

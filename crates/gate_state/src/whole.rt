@@ -7,17 +7,17 @@ ghost use Rattle.cpu_step.specs.Turns.{enters_body};
 ghost use Rattle.phys_mem.specs.MaskedMemory.{seen};
 ghost use Rattle.page_desc.specs.DescriptorBytes.{kinds_in};
 ghost use Rattle.nk_body.specs.NestedRecord.{HoldsBooks, books_in};
-ghost use Rattle.gate_state.specs.EventMoves.{IfTaken};
+ghost use Rattle.gate_state.specs.EventMoves.{IfTaken, IsBodyBy};
 ghost use Rattle.gate_state.specs.MachineOf.{IsAtBody, IsInGates};
-ghost use Rattle.gate_state.specs.MachineSteps.{after_event, after_turn, answered_with, call_in, called_in, move_by, move_of, next, seen_by, served, shown_by_turn, turn_of, waits};
+ghost use Rattle.gate_state.specs.MachineSteps.{after_event, after_turn, answered_with, call_in, called_in, move_by, move_of, next, seen_by, served, shown_by_turn, step_by, turn_of, waits};
 ghost use Rattle.gate_state.specs.QuietSteps.{IsHurried};
 ghost use Rattle.gate_state.specs.SafeStates.{IsSafe, TakesTurn};
-ghost use Rattle.gate_state.specs.WholeMachine.{is_rest, next_whole, served_whole};
+ghost use Rattle.gate_state.specs.WholeMachine.{is_rest, next_whole, served_whole, stepped_whole};
 ghost use Rattle.gate_state.specs.WindowLeft.{ComesNearer, left};
 
 use crate::laws::{steps_law, window_law};
 use crate::moves::Move;
-use crate::seen::{Called, Seen};
+use crate::seen::{Called, Seen, Step};
 use crate::source::{sourced, take_source};
 use crate::turns_left::left;
 use boot_map::Layout;
@@ -81,11 +81,26 @@ impl<'i> Whole<'i> {
     pub fn next_move(&self, plan: &Plan) -> Move
         ensures moved { result ≡ move_of plan.now self.now.state }
         ensures planned { IfTaken result (λ what. IsPlannable what × (self.now.state.taken + 1 < 2 ^ 64)) }
+        ensures body { IsBodyBy (enters_body self.now.state.processor) result }
     {
         if self.cpu.enters_body() {
             return Move::Serve;
         }
         move_by(&self.cpu, plan, self.turns, self.taken)
+    }
+
+    /// Takes the step from this state, where one is left.
+    pub fn step(&mut self, plan: &Plan) -> Step
+        requires turns { self.old.state.turns < 4294967296 }
+        ensures next { self.new ≡ stepped_whole plan.now self.old }
+        ensures step { result ≡ step_by (move_of plan.now self.old.state) self.old.state }
+    {
+        match self.next_move(plan) {
+            Move::Serve => Step::Called(self.serve()),
+            Move::Take(what) => Step::Seen(self.take(what)),
+            Move::Turn => Step::Seen(self.turn()),
+            Move::Rest => Step::Rested,
+        }
     }
 
     /// Takes the step from a state at which no body is to run.
@@ -96,10 +111,9 @@ impl<'i> Whole<'i> {
         ensures next { self.new ≡ next_whole plan.now self.old }
         ensures seen { result ≡ seen_by (move_of plan.now self.old.state) self.old.state }
     {
-        match self.next_move(plan) {
-            Move::Take(what) => self.take(what),
-            Move::Turn => self.turn(),
-            Move::Serve | Move::Rest => unreachable!(),
+        match self.step(plan) {
+            Step::Seen(seen) => seen,
+            Step::Called(_) | Step::Rested => unreachable!(),
         }
     }
 

@@ -103,7 +103,7 @@ leaf_table processes frame = 85 + script_pages processes + frame / 512
 abbrev pub first_frame : ℕ → ℕ → ℕ
 first_frame processes p = 93 + script_pages processes + 5 * p
 
--- the values of entries: a frame that may only be read and not executed; a made_link; a user's code; a user's data
+-- the values of entries: a frame that may only be read and not executed; a link; a user's code; a user's data
 abbrev pub read_only : ℕ → ℕ
 read_only frame = 2 ^ 63 + 4096 * frame + 0x21
 

@@ -1,4 +1,4 @@
--- A sound book of regions stays sound where a region is with_one_more, one is let go, and a range of one was written.
+-- A sound book of regions stays sound where a region is added, one is let go, and a range of one was written.
 use Rattle.std.proofs.Common.{◌≡◌, ◌≢◌, ◌⊎◌, ℕ, suc, ◌+◌, ◌<◌, ◌≤◌, Bool, true, false, not, ◌==◌, List, [], ◌∷◌, length, map, arith, refl, sym, ap, ◌∙◌, subst, inl, inr, slice_index_or}
 use Rattle.std.specs.Prelude.{All, AllPairs, Some, cond, filter, if◌then◌else◌}
 use Rattle.std.specs.List.{sum_by}

@@ -63,7 +63,7 @@ decided passes answer = Some answer
 decided (ends other) answer = Some other
 decided unheld answer = None
 
--- a test on files that were fetch_verdict
+-- a test on files that were fetched
 abbrev pub test : Verdict → Check
 test verdict = record { fetches = None; finds = verdict }
 

@@ -51,7 +51,7 @@ shown_by (move.Take what) s = shown (seen_by (move.Take what) s)
 shown_by move.Turn s = shown (seen_by move.Turn s)
 shown_by move.Rest s = []
 
--- the lines_from of the first n steps from a state on
+-- the lines of the first n steps from a state on
 unfoldable pub lines_from : ℕ → List Event → MachineState → List ℕ
 lines_from zero plan s = []
 lines_from (suc n) plan s = shown_by (move_of plan s) s ++ lines_from n plan (next plan s)

@@ -1,4 +1,4 @@
--- The region that an identifier names: it has the identifier, is shown_region with it, and is at most 65,536 bytes long.
+-- The region that an identifier names: it has the identifier, is shown with it, and is at most 65,536 bytes long.
 use Rattle.std.proofs.Common.{◌≡◌, ℕ, ◌≤◌, ◌+◌, Bool, true, false, List, [], ◌∷◌, arith, refl, sym, ap, ◌∙◌}
 use Rattle.std.specs.Prelude.{◌==◌, All, IfSome, None, Option, Some, cond}
 use Rattle.std.specs.List.{find}
@@ -36,7 +36,7 @@ pub fits_short : (o : Option Region) (offset count : ℕ) → IfSome o (λ r. r.
 fits_short None offset count short fits = let no : false ≡ true = fits in cc
 fits_short (Some r) offset count short fits = omega (arith, short, leb-true (offset + count) r.size (and_parts _ _ fits).1)
 
--- a region is shown_region with the identifier by which it was found
+-- a region is shown with the identifier by which it was found
 pub found_id : (book : Book) (id : ℕ) (s : ShownRegion) → option_map shown_region (region_of book id) ≡ Some s → s.id ≡ id
 found_id book id s is = go (region_of book id) is (has_id book id)
   where

@@ -1,4 +1,4 @@
--- The book after a row was with_one_more, by its rows and bits.
+-- The book after a row was put in, by its rows and bits.
 use Rattle.std.proofs.Common.{◌≡◌, ℕ, ◌+◌, ◌-◌, ◌*◌, ◌<◌, ◌≤◌, true, false, not, ◌&&◌, List, [], ◌∷◌, ◌++◌, length, arith, sym, ap, ◌∙◌, subst}
 use Rattle.std.proofs.lemmas.List.{length-map}
 use Rattle.region_book.specs.declared.row.Row.{Row}

@@ -29,7 +29,7 @@ pool_frames next memory r is pooled most =
     (run_within (r.first - pool_start) r.size ((r.place + r.size + 4095) / 4096) memory
     (omega (arith, place.0, place.1)) (ap (λ q. (q + r.size + 4095) / 4096) place.2) most)
 
--- the region that is shown_region
+-- the region that is shown
 region_shown : (o : Option Region) (s : ShownRegion) → option_map shown_region o ≡ Some s →
     (r : Region) × (o ≡ Some r) × (shown_region r ≡ s)
 region_shown None s is = let no : None ≡ Some s = is in cc

@@ -1,4 +1,4 @@
--- A book stays sound where a range of a region was written, a region of the pool is let go and a new one is with_one_more.
+-- A book stays sound where a range of a region was written, a region of the pool is let go and a new one is put in.
 use Rattle.std.proofs.Common.{◌≡◌, ℕ, ◌+◌, ◌<◌, ◌≤◌, Bool, true, false, not, ◌==◌, length, set, arith, refl, sym, ap, ◌∙◌, subst, slice_index_or}
 use Rattle.std.specs.Prelude.{All, Some, if◌then◌else◌}
 use Rattle.std.proofs.lemmas.Bool.{eqb-true, not-false}

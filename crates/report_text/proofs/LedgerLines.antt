@@ -118,7 +118,7 @@ found (x ∷ rs) rising (suc i) r e =
     within (x ∷ rs) zero r e = omega arith
     within (x ∷ rs) (suc i) r e = let low = within rs i r e in omega (arith, low)
 
--- what is shown_region is a region that lives, and it is found by its identifier
+-- what is shown is a region that lives, and it is found by its identifier
 pub record IsShown (book : Book) (i : ℕ) (it : ShownRegion) : Type 0 where
   pub region : Region
   pub at : slice_get book.regions i ≡ Some region

@@ -26,7 +26,7 @@ six a b c d e f rest =
     (behind c (d ++ (e ++ f)) (d ++ (e ++ (f ++ rest))) rest
     (behind d (e ++ f) (e ++ (f ++ rest)) rest (append_assoc e f rest))))
 
--- the lines of a record and of a region up to their bytes, by what is shown_region of them, and of a call up to its source
+-- the lines of a record and of a region up to their bytes, by what is shown of them, and of a call up to its source
 abbrev record_head : ℕ → Noted → List ℕ
 record_head number it =
     codes "l " ++ (decimal number ++ (codes " " ++ (decimal it.region

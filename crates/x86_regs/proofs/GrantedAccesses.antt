@@ -211,7 +211,7 @@ module _ (laws : AccessLaws) (view : View) where
             second = serves.1;
           }
 
-      -- the answer of an access, before its fault is with_stack
+      -- the answer of an access, before its fault is marked
       marked_ok : (span : Span) (answer : Result Target AccessFault) (target : Target) → with_stack span answer ≡ Ok target →
           answer ≡ Ok target
       marked_ok span (Ok place) target is = cc
