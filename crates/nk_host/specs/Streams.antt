@@ -40,8 +40,8 @@ pub record CameTo {F : Type 0} (position : F → Option ℕ) (remaining : F → 
 abbrev pub StandsAt : {F : Type 0} → (F → Option ℕ) → (F → Option (List ℕ)) → F → ℕ → Type 0
 StandsAt position remaining now at = ∥ CameTo position remaining now at ∥₁
 
--- the reader stood at a place, and then gave the bytes
-pub record GivesAt {F : Type 0} (position : F → Option ℕ) (remaining : F → Option (List ℕ)) (after : F) (at : ℕ) (bytes : List ℕ) : Type 0 where
-  pub here : F
-  pub there : StandsAt position remaining here at
-  pub given : Consumes (remaining here) (remaining after) bytes
+-- the reader was moved to a place, where its place was known, and then gave the bytes
+pub record GivesAt {F : Type 0} (position : F → Option ℕ) (remaining : F → Option (List ℕ)) (before after : F) (at : ℕ) (bytes : List ℕ) : Type 0 where
+  pub moved : F
+  pub there : IfSome (position before) (λ _. position moved ≡ Some at)
+  pub given : Consumes (remaining moved) (remaining after) bytes

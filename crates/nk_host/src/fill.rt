@@ -1,5 +1,5 @@
 //! A block of memory that a reader fills.
-ghost use Rattle.std.specs.Prelude.{◌≡◌, ℕ, ◌+◌, ◌<◌, ◌≤◌, ◌^◌, length, take, Some, IfOk, IfSome, OnOk, OnErr, IfErr};
+ghost use Rattle.std.specs.Prelude.{◌≡◌, ◌≢◌, ℕ, ◌+◌, ◌<◌, ◌≤◌, ◌^◌, length, take, Some, IfOk, IfSome, OnOk, OnErr, IfErr};
 ghost use Rattle.std.specs.Option.{SomeIff};
 ghost use Rattle.std.specs.Io.KnownBytes.{Consumes};
 ghost use Rattle.nk_host.specs.FaultCounts.{RoseTo};
@@ -10,7 +10,8 @@ use crate::counted::Counted;
 use std::io::{Read, Seek};
 
 /// Fills the block with what the reader has from place `at` on. Where the reader stands, if that is
-/// known, is taken from `stands`, and kept there: it is moved only where it doesn't stand there already.
+/// known, is taken from `stands`, and kept there: from a reader that stands at `at` the block is what it
+/// has next, and any other is first moved there.
 pub(crate) fn fill_from<F: Read + Seek>(
     from: &mut Counted<F>,
     stands: &mut Option<u64>,
@@ -18,8 +19,10 @@ pub(crate) fn fill_from<F: Read + Seek>(
     block: &mut [u8],
 ) -> Result<(), PieceFault>
     requires { IfSome stands.old (StandsAt F.stream_position F.remaining from.old.inner) }
-    ensures given { OnOk result
-        (GivesAt F.stream_position F.remaining from.new.inner at block.new) }
+    ensures next { OnOk result (stands.old ≡ Some at
+        → Consumes (F.remaining from.old.inner) (F.remaining from.new.inner) block.new) }
+    ensures moved { OnOk result (stands.old ≢ Some at
+        → GivesAt F.stream_position F.remaining from.old.inner from.new.inner at block.new) }
     ensures behind { OnOk result
         (SomeIff stands.new (at + length block.new < 2 ^ 64) (at + length block.new)) }
     ensures stands { IfSome stands.new (StandsAt F.stream_position F.remaining from.new.inner) }
@@ -44,6 +47,8 @@ fn stand_at<F: Read + Seek>(
     requires { IfSome known (StandsAt F.stream_position F.remaining from.old.inner) }
     ensures there { OnOk result (StandsAt F.stream_position F.remaining from.new.inner at) }
     ensures unmoved { known ≡ Some at → from.new ≡ from.old }
+    ensures moved { OnOk result (known ≢ Some at → IfSome (F.stream_position from.old.inner)
+        (λ _. F.stream_position from.new.inner ≡ Some at)) }
     ensures never_falls { from.old.faults ≤ from.new.faults }
     ensures failed { OnErr result (RoseTo from.old.faults from.new.faults) }
     ensures kept { OnOk result (from.new.faults ≡ from.old.faults) }

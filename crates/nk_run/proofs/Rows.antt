@@ -85,6 +85,19 @@ stops_behind words before mid after image roles later status text falls same pas
   own = stop.own;
 }))
 
+-- the checks on the image stop the row that is they alone
+pub image_stops : (words : List (List ℕ)) (shelf : Change ShelfState) (status : ℕ) (text : List ℕ)
+    → Stops words shelf Image (λ files. first_verdict (image_checks files words)) status text
+    → StopsIn words shelf (Image ∷ []) (λ files. image_checks files words) status text
+image_stops words shelf status text (inl stop) = inl (record {
+  role = Image;
+  listed = refl;
+  unread = stop;
+  reached = if_told shelf.before.files _ (λ files e. tt);
+})
+image_stops words shelf status text (inr (inl want)) = inr (inl want)
+image_stops words shelf status text (inr (inr stop)) = inr (inr stop)
+
 -- the fetch of the journal stops the row that is it alone
 pub journal_stops : (words : List (List ℕ)) (shelf : Change ShelfState) (status : ℕ) (text : List ℕ)
     → Stops words shelf Journal (λ files. fetch_verdict Journal (files (name_in words Journal))) status text

@@ -9,14 +9,14 @@ use Rattle.gate_state.specs.MachineStates.{Opening}
 use Rattle.report_text.specs.ClosingSection.{section}
 use Rattle.replay_core.specs.ReplayedCalls.{WholeReplay, replay_of}
 use Rattle.image_maker.specs.MadeImage.{image_of_number}
-use Rattle.nk_run.specs.declared.command_line.Command.TheVariants.{Make, Replay, Run, Work}
+use Rattle.nk_run.specs.declared.command_line.Command.TheVariants.{Make, Map, Replay, Run, Work}
 use Rattle.nk_run.specs.declared.command_line.Role.TheVariants.{Image, Input, Journal, Plan}
 use Rattle.nk_run.specs.CommandLine.{command_of, roles_of}
-use Rattle.nk_run.specs.Outcome.{Answer, Check, Verdict, ends, events_in, file_in, first_verdict, journal_checks, journaled, opened, opening_in, outcome, passes, replay_in, roomy, run_checks, test, unless_ended, worked}
-use Rattle.nk_run.specs.Replies.{CommandSays, IsWant, RefusesBy, StopsIn}
+use Rattle.nk_run.specs.Outcome.{Answer, Check, Verdict, ends, events_in, file_in, first_verdict, image_checks, journal_checks, journaled, opened, opening_in, outcome, passes, replay_in, roomy, run_checks, test, unless_ended, worked}
+use Rattle.nk_run.specs.Replies.{CommandSays, IsWant, RefusesBy, Stops, StopsIn}
 use Rattle.nk_run.specs.RunStates.{run_text}
 use Rattle.nk_run.specs.Witness.{Change, Files, ShelfState}
-use Rattle.nk_run.proofs.Rows.{all_says, later_says, outcome_says, own_zero, row_says, wants_says}
+use Rattle.nk_run.proofs.Rows.{all_says, image_stops, later_says, outcome_says, own_zero, row_says, wants_says}
 use Rattle.nk_run.proofs.Told.{if_told, told_at}
 
 last_ends : (v later : Verdict) (it : Answer) → v ≡ ends it → unless_ended v later ≡ ends it
@@ -27,6 +27,13 @@ next_ends u v it first e = rw (first, e) refl
 
 both : (u v : Verdict) → u ≡ passes → v ≡ passes → unless_ended u (unless_ended v passes) ≡ passes
 both u v first second = rw (first, second) refl
+
+-- A walk of the opening's tables, for which the image isn't opened.
+pub map_stops : (words : List (List ℕ)) (frames va : ℕ) → command_of words ≡ Some (Map frames va) → (shelf : Change ShelfState) (status : ℕ) (text : List ℕ)
+    → Stops words shelf Image (λ files. first_verdict (image_checks files words)) status text → CommandSays words shelf status text
+map_stops words frames va asked shelf status text stops =
+    row_says words (Map frames va) asked (λ files. image_checks files words) (λ files. test (roomy (need (file_in files words Image) frames) frames) ∷ [])
+    (λ files. refl) (λ e. cc) shelf status text (image_stops words shelf status text stops)
 
 -- A run.
 module _ (words : List (List ℕ)) (steps frames : ℕ) (asked : command_of words ≡ Some (Run steps frames)) where

@@ -1,5 +1,5 @@
 -- A run step by step: its text from a state on, and what of it went out.
-use Rattle.std.proofs.Common.{◌≡◌, ℕ, suc, ◌+◌, ◌-◌, ◌<◌, ◌≤◌, zero, Bool, true, false, inl, inr, List, [], ◌++◌, length, sym, ap, ◌∙◌, refl, subst, append_assoc, arith}
+use Rattle.std.proofs.Common.{◌≡◌, ℕ, suc, ◌+◌, ◌-◌, ◌<◌, ◌≤◌, zero, Bool, true, false, inl, inr, Result, List, [], ◌++◌, length, sym, ap, ◌∙◌, refl, subst, append_assoc, arith}
 use Rattle.std.specs.Prelude.{◌==◌, if◌then◌else◌, Option, None, Some}
 use Rattle.std.proofs.lemmas.Bool.{cases_lt, eqb-false}
 use Rattle.std.specs.Io.KnownBytes.{Appends}
@@ -18,7 +18,8 @@ use Rattle.nk_run.specs.declared.ending.Ending.{Ending}
 use Rattle.nk_run.specs.declared.ending.Ending.TheVariants as ending
 use Rattle.report_text.specs.ClosingSection.{section}
 use Rattle.report_text.specs.RunLines.{ending_line, turns_line}
-use Rattle.nk_run.specs.Replies.{IsWritten}
+use Rattle.nk_run.specs.Clauses.{SinkRose, TookPrefix}
+use Rattle.nk_run.specs.Replies.{IsPut}
 use Rattle.nk_run.specs.RunStates.{closing, ended, ending_at, is_halted, lines_from, one_unless, run_length, run_text, shown_by, steps_within}
 use Rattle.nk_run.specs.Witness.{sink_change}
 use Rattle.nk_run.proofs.Texts.{prefix_behind, prefix_of_both, rose_before, went_on}
@@ -169,13 +170,11 @@ module _ {O : Type 0} (taken : O → Option (List ℕ)) (faults : O → ℕ) (fi
     -- a step was taken, and a fault cut what it shows
     pub was_cut : (later : O) → ending_at steps plan w.state ≡ None → CountsSteps plan (move_of plan w.state) w.state (next plan w.state)
         → RoseTo (faults now) (faults later) → AppendsPrefix (taken now) (taken later) (shown_by (move_of plan w.state) w.state)
-        → IsWritten (sink_change taken faults first later) 0 whole 4
+        → SinkRose (sink_change taken faults first later) × TookPrefix (sink_change taken faults first later) whole
     was_cut later e counts rose cut =
         let bytes = shown_by (move_of plan w.state) w.state in
         let rest = run_text o steps plan (next plan w.state) in
-        let text = text_going o steps plan w.state e (step_is e counts).less in
-        inr (
-          refl,
+        let text = text_going o steps plan w.state e (step_is e counts).less in (
           rose_before (faults first) (faults now) (faults later) going.never_fell rose,
           subst (AppendsPrefix (taken first) (taken later)) (sym going.split)
               (prefix_behind (taken first) (taken now) (taken later) going.done _ going.appended
@@ -183,11 +182,11 @@ module _ {O : Type 0} (taken : O → Option (List ℕ)) (faults : O → ℕ) (fi
         )
 
     -- the run ended, and the rest was written or cut
-    pub closes : (later : O) (reason : Ending) (result : ℕ) → ending_at steps plan w.state ≡ Some reason
-        → IsWritten (sink_change taken faults now later) 0 (ending_line (is_halted reason)
-        ++ (turns_line w.state.turns ++ section o.image o.frames (nested_of w.state))) result
-        → IsWritten (sink_change taken faults first later) 0 whole result
-    closes later reason result e written =
+    pub closes : {A E : Type 0} (later : O) (reason : Ending) (put : Result A E) → ending_at steps plan w.state ≡ Some reason
+        → IsPut (sink_change taken faults now later) (ending_line (is_halted reason)
+        ++ (turns_line w.state.turns ++ section o.image o.frames (nested_of w.state))) put
+        → IsPut (sink_change taken faults first later) whole put
+    closes later reason put e written =
         let text = going.split ∙ ap (λ l. going.done ++ l) (text_ended o steps plan w.state reason e) in
-        subst (λ l. IsWritten (sink_change taken faults first later) 0 l result) (sym text)
-        (went_on taken faults first now later going.done going.done _ 0 result refl going.never_fell going.appended written)
+        subst (λ l. IsPut (sink_change taken faults first later) l put) (sym text)
+        (went_on taken faults first now later going.done going.done _ put refl going.never_fell going.appended written)

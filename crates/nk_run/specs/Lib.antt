@@ -10,6 +10,7 @@ pub mod Outcome
 pub mod JournalLaw
 pub mod Clauses
 -- Words of private clauses and proofs.
+pub mod Statuses
 pub mod ReplyText
 pub mod Replies
 pub mod HeldFile

@@ -6,6 +6,7 @@ ghost use Rattle.nk_run.specs.Lines.{usage_line};
 ghost use Rattle.nk_run.specs.Witness.{shelf_change, sink_change};
 ghost use Rattle.nk_run.specs.ReplyText.{line_bytes};
 ghost use Rattle.nk_run.specs.Replies.{IsAnswered, ReadsBytes};
+ghost use Rattle.nk_run.specs.Statuses.{status_number};
 
 use crate::command_line::Command;
 use crate::lines::usage_line;
@@ -15,17 +16,18 @@ use crate::replay::replay;
 use crate::reply::{Line, Reply};
 use crate::run::run;
 use crate::scan::scan;
+use crate::status::Status;
 use crate::work::work;
 use nk_host::{Shelf, Sink};
 use std::alloc::Global;
 
 /// The reply to words without a form.
 fn usage() -> Reply
-    ensures status { result.status ≡ 2 }
+    ensures status { status_number result.status ≡ 2 }
     ensures text { line_bytes result.line ≡ usage_line }
 {
     Reply {
-        status: 2,
+        status: Status::Formless,
         line: Line::Fixed(usage_line()),
     }
 }
@@ -36,14 +38,14 @@ pub(crate) fn answer<S: Shelf, O: Sink>(
     words: &[String],
     shelf: &mut S,
     sink: &mut O,
-) -> u8
+) -> Status
     ensures bytes { let names = map string_bytes words.now in
         IfSome (command_of names) (λ command. ReadsBytes command names (S.files shelf.old)) }
     ensures answered { IsAnswered (record {
       words = map string_bytes words.now;
       shelf = shelf_change S.files S.faults S.wants shelf.old shelf.new;
       sink = sink_change O.taken O.faults sink.old sink.new;
-    }) result }
+    }) (status_number result) }
 {
     match Command::read(words) {
         None => usage().write(sink),

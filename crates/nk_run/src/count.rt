@@ -9,7 +9,7 @@ ghost use Rattle.gate_state.specs.MachineSteps.{move_of, next};
 ghost use Rattle.gate_state.specs.WholeMachine.{is_rest};
 ghost use Rattle.report_text.specs.RunLines.{ending_line, turns_line};
 ghost use Rattle.report_text.specs.RunSummary.{summary_lines};
-ghost use Rattle.nk_run.specs.Replies.{CanCount, IsWritten};
+ghost use Rattle.nk_run.specs.Replies.{CanCount, IsPut};
 ghost use Rattle.nk_run.specs.RunStates.{is_halted};
 ghost use Rattle.nk_run.specs.WorkSummary.{summary_of, with_answer, with_shown, with_step, work_text};
 ghost use Rattle.nk_run.specs.Witness.{sink_change};
@@ -20,7 +20,7 @@ use gate_state::{Machine, Seen, moves_law};
 use irq_plan::Plan;
 use nk_bits::{Answer, Kind};
 use nk_body::Kernel;
-use nk_host::Sink;
+use nk_host::{Sink, SinkFault};
 use page_desc::{Frames, stored_law};
 use phys_mem::PhysMem;
 use report_text::{RunCounts, ending, summary};
@@ -49,11 +49,15 @@ impl Tally {
     };
 }
 
-/// Takes the steps of a run of a made image, and writes its summary; gives 0, or 4 after a fault of the sink.
-pub(crate) fn count<'i, O: Sink>(machine: Machine<'i>, plan: &Plan, sink: &mut O) -> u8
+/// Takes the steps of a run of a made image, and writes its summary.
+pub(crate) fn count<'i, O: Sink>(
+    machine: Machine<'i>,
+    plan: &Plan,
+    sink: &mut O,
+) -> Result<(), SinkFault>
     requires turns { (whole_of machine).state.turns ≡ 0 }
     ensures never_falls { O.faults sink.old ≤ O.faults sink.new }
-    ensures written { IsWritten (sink_change O.taken O.faults sink.old sink.new) 0
+    ensures written { IsPut (sink_change O.taken O.faults sink.old sink.new)
         (work_text 2000000 plan.now (whole_of machine.entry).state) result }
 {
     moves_law();
@@ -126,9 +130,14 @@ fn answered(tally: Tally, answer: &Answer) -> Tally
 }
 
 /// Ends the run of a machine, and writes why, how many turns it took, and the counts.
-fn sum_up<'i, O: Sink>(machine: Machine<'i>, reason: Ending, tally: &Tally, sink: &mut O) -> u8
+fn sum_up<'i, O: Sink>(
+    machine: Machine<'i>,
+    reason: Ending,
+    tally: &Tally,
+    sink: &mut O,
+) -> Result<(), SinkFault>
     ensures never_falls { O.faults sink.old ≤ O.faults sink.new }
-    ensures written { IsWritten (sink_change O.taken O.faults sink.old sink.new) 0
+    ensures written { IsPut (sink_change O.taken O.faults sink.old sink.new)
         (ending_line (is_halted reason) ++ (turns_line (whole_of machine.entry).state.turns
         ++ summary_lines (summary_of tally.now (nested_of (whole_of machine.entry).state)))) result }
 {
@@ -137,19 +146,16 @@ fn sum_up<'i, O: Sink>(machine: Machine<'i>, reason: Ending, tally: &Tally, sink
     let counts = summed(&finished.kernel, &finished.mem, tally);
     match ending(sink, reason.is_halted(), turns) {
         Ok(()) => put_counts(&counts, sink),
-        Err(_) => 4,
+        Err(fault) => Err(fault),
     }
 }
 
 /// Writes the counts.
-fn put_counts<O: Sink>(counts: &RunCounts, sink: &mut O) -> u8
+fn put_counts<O: Sink>(counts: &RunCounts, sink: &mut O) -> Result<(), SinkFault>
     ensures never_falls { O.faults sink.old ≤ O.faults sink.new }
-    ensures written { IsWritten (sink_change O.taken O.faults sink.old sink.new) 0 (summary_lines counts.now) result }
+    ensures written { IsPut (sink_change O.taken O.faults sink.old sink.new) (summary_lines counts.now) result }
 {
-    match summary(sink, counts) {
-        Ok(()) => 0,
-        Err(_) => 4,
-    }
+    summary(sink, counts)
 }
 
 /// What was counted, and what the books have in the end.

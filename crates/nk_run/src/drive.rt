@@ -13,34 +13,32 @@ ghost use Rattle.gate_state.specs.MachineSteps.{move_of, next, took_by};
 ghost use Rattle.gate_state.specs.WholeMachine.{is_rest};
 ghost use Rattle.report_text.specs.ClosingSection.{section};
 ghost use Rattle.report_text.specs.RunLines.{ending_line, turns_line};
-ghost use Rattle.nk_run.specs.Replies.{IsWritten};
+ghost use Rattle.nk_run.specs.Replies.{IsPut};
 ghost use Rattle.nk_run.specs.RunStates.{ending_at, is_halted, run_text, shown, shown_by};
 ghost use Rattle.nk_run.specs.Witness.{sink_change};
 
 use crate::ending::Ending;
-use boot_map::Layout;
-use elf_image::Image;
+use crate::opening::Opened;
 use gate_state::{Finished, Machine, Seen, Took, moves_law};
 use irq_plan::Plan;
 use nk_body::Source;
 use nk_host::{Sink, SinkFault};
 
-/// Takes the steps of a run, and writes its text; gives 0, or 4 after a fault of the sink.
+/// Takes the steps of a run, and writes its text.
 pub(crate) fn drive<'i, O: Sink>(
     machine: Machine<'i>,
-    image: &Image,
-    layout: &Layout,
+    opened: &Opened,
     plan: &Plan,
     steps: u64,
     sink: &mut O,
-) -> u8
-    requires opening { (whole_of machine).opening ≡ record { image = image.now; frames = layout.now.frames } }
-    requires layout { IsLayout image.now layout.now }
+) -> Result<(), SinkFault>
+    requires opening { (whole_of machine).opening ≡ record { image = opened.now.image; frames = opened.now.layout.frames } }
+    requires layout { IsLayout opened.now.image opened.now.layout }
     requires steps { steps ≤ 4294967296 }
     requires turns { (whole_of machine).state.turns ≡ 0 }
     ensures never_falls { O.faults sink.old ≤ O.faults sink.new }
-    ensures written { IsWritten (sink_change O.taken O.faults sink.old sink.new) 0
-        (run_text (record { image = image.now; frames = layout.now.frames }) steps plan.now
+    ensures written { IsPut (sink_change O.taken O.faults sink.old sink.new)
+        (run_text (record { image = opened.now.image; frames = opened.now.layout.frames }) steps plan.now
         (whole_of machine.entry).state) result }
 {
     moves_law();
@@ -48,13 +46,13 @@ pub(crate) fn drive<'i, O: Sink>(
     loop {
         let hurried = machine.hurry(plan, steps);
         if let Some(ending) = ending_at(&hurried, plan, steps) {
-            return end(hurried, image, layout, ending, sink);
+            return end(hurried, opened, ending, sink);
         }
         let (next, shown) = advance(hurried, plan, sink);
         machine = next;
-        if let Err(_) = shown {
+        if let Err(fault) = shown {
             let _finished = machine.finish();
-            return 4;
+            return Err(fault);
         }
     }
 }
@@ -136,57 +134,58 @@ fn show<O: Sink>(seen: &Seen, sink: &mut O) -> Result<(), SinkFault>
 /// Ends the run of a machine, and writes why, how many turns it took, and the closing section.
 fn end<'i, O: Sink>(
     machine: Machine<'i>,
-    image: &Image,
-    layout: &Layout,
+    opened: &Opened,
     ending: Ending,
     sink: &mut O,
-) -> u8
-    requires opening { (whole_of machine).opening ≡ record { image = image.now; frames = layout.now.frames } }
-    requires layout { IsLayout image.now layout.now }
+) -> Result<(), SinkFault>
+    requires opening { (whole_of machine).opening ≡ record { image = opened.now.image; frames = opened.now.layout.frames } }
+    requires layout { IsLayout opened.now.image opened.now.layout }
     ensures never_falls { O.faults sink.old ≤ O.faults sink.new }
-    ensures written { IsWritten (sink_change O.taken O.faults sink.old sink.new) 0
+    ensures written { IsPut (sink_change O.taken O.faults sink.old sink.new)
         (ending_line (is_halted ending) ++ (turns_line (whole_of machine.entry).state.turns
-        ++ section image.now layout.now.frames (nested_of (whole_of machine.entry).state))) result }
+        ++ section opened.now.image opened.now.layout.frames (nested_of (whole_of machine.entry).state))) result }
 {
     let turns = machine.turns();
     let finished = machine.finish();
-    close(&finished, image, layout, turns, ending, sink)
+    close(&finished, opened, turns, ending, sink)
 }
 
 /// Writes why the run ended, how many turns it took, and the closing section.
 fn close<O: Sink>(
     finished: &Finished,
-    image: &Image,
-    layout: &Layout,
+    opened: &Opened,
     turns: u64,
     ending: Ending,
     sink: &mut O,
-) -> u8
-    requires layout { IsLayout image.now layout.now }
+) -> Result<(), SinkFault>
+    requires layout { IsLayout opened.now.image opened.now.layout }
     requires books { HoldsBooks finished.now.kernel finished.now.mem }
-    requires size { length finished.now.mem ≡ 4096 * layout.now.frames }
+    requires size { length finished.now.mem ≡ 4096 * opened.now.layout.frames }
     ensures never_falls { O.faults sink.old ≤ O.faults sink.new }
-    ensures written { IsWritten (sink_change O.taken O.faults sink.old sink.new) 0
+    ensures written { IsPut (sink_change O.taken O.faults sink.old sink.new)
         (ending_line (is_halted ending) ++ (turns_line turns
-        ++ section image.now layout.now.frames (nested_held finished.now.kernel finished.now.mem))) result }
+        ++ section opened.now.image opened.now.layout.frames (nested_held finished.now.kernel finished.now.mem))) result }
 {
     match report_text::ending(sink, ending.is_halted(), turns) {
-        Ok(()) => finish(finished, image, layout, sink),
-        Err(_) => 4,
+        Ok(()) => finish(finished, opened, sink),
+        Err(fault) => Err(fault),
     }
 }
 
 /// Writes the closing section.
-fn finish<O: Sink>(finished: &Finished, image: &Image, layout: &Layout, sink: &mut O) -> u8
-    requires layout { IsLayout image.now layout.now }
+fn finish<O: Sink>(finished: &Finished, opened: &Opened, sink: &mut O) -> Result<(), SinkFault>
+    requires layout { IsLayout opened.now.image opened.now.layout }
     requires books { HoldsBooks finished.now.kernel finished.now.mem }
-    requires size { length finished.now.mem ≡ 4096 * layout.now.frames }
+    requires size { length finished.now.mem ≡ 4096 * opened.now.layout.frames }
     ensures never_falls { O.faults sink.old ≤ O.faults sink.new }
-    ensures written { IsWritten (sink_change O.taken O.faults sink.old sink.new) 0
-        (section image.now layout.now.frames (nested_held finished.now.kernel finished.now.mem)) result }
+    ensures written { IsPut (sink_change O.taken O.faults sink.old sink.new)
+        (section opened.now.image opened.now.layout.frames (nested_held finished.now.kernel finished.now.mem)) result }
 {
-    match report_text::section(sink, image, layout, &finished.mem, &finished.kernel) {
-        Ok(()) => 0,
-        Err(_) => 4,
-    }
+    report_text::section(
+        sink,
+        &opened.image,
+        &opened.layout,
+        &finished.mem,
+        &finished.kernel,
+    )
 }

@@ -9,11 +9,13 @@ ghost use Rattle.nk_run.specs.CommandLine.{name_in, word_place};
 ghost use Rattle.nk_run.specs.Witness.{shelf_change};
 ghost use Rattle.nk_run.specs.Outcome.{fetch_verdict, formed, clean, first_verdict, form_checks, image_checks, file_in, passes};
 ghost use Rattle.nk_run.specs.ReplyText.{line_bytes};
+ghost use Rattle.nk_run.specs.Statuses.{status_number};
 ghost use Rattle.nk_run.specs.Replies.{EndsBy, Stops, TellsBytes};
 
 use crate::command_line::Role;
 use crate::lines::{longer_line, unread_line};
 use crate::reply::{Line, Reply, no_memory};
+use crate::status::Status;
 use byte_scanner::{Found, scan};
 use elf_image::{Image, ImageFault};
 use nk_host::{FetchFault, Shelf};
@@ -39,17 +41,17 @@ pub(crate) fn fetch<S: Shelf>(
         (files (name_in names role) ≡ Some bytes.items)
         × (fetch_verdict role (files (name_in names role)) ≡ passes)))
         (λ reply. Stops names (shelf_change S.files S.faults S.wants shelf.old shelf.new) role
-        (λ files. fetch_verdict role (files (name_in names role))) reply.status (line_bytes reply.line)) }
+        (λ files. fetch_verdict role (files (name_in names role))) (status_number reply.status) (line_bytes reply.line)) }
 {
     match shelf.fetch(alloc, words[role.word_place()].as_str(), FILE_LIMIT) {
         Ok(bytes) => Ok(bytes),
         Err(FetchFault::Memory) => Err(no_memory()),
         Err(FetchFault::Failed) => Err(Reply {
-            status: 3,
+            status: Status::Unread,
             line: Line::Fixed(unread_line(role)),
         }),
         Err(FetchFault::Longer) => Err(Reply {
-            status: 7,
+            status: Status::Longer,
             line: Line::Fixed(longer_line(role)),
         }),
     }
@@ -57,18 +59,18 @@ pub(crate) fn fetch<S: Shelf>(
 
 /// The reply to an image that isn't admitted, of this line.
 fn refused(line: ShortLine) -> Reply
-    ensures status { result.status ≡ 1 }
+    ensures status { status_number result.status ≡ 1 }
     ensures line { line_bytes result.line ≡ line }
 {
     Reply {
-        status: 1,
+        status: Status::Refused,
         line: Line::Short(line),
     }
 }
 
 /// The reply to the image's first fault.
 pub(crate) fn faulty(fault: &ImageFault) -> Reply
-    ensures { EndsBy 1 (formed (Some fault.now)) result.status (line_bytes result.line) }
+    ensures { EndsBy 1 (formed (Some fault.now)) (status_number result.status) (line_bytes result.line) }
 {
     refused(image_line(fault))
 }
@@ -76,7 +78,7 @@ pub(crate) fn faulty(fault: &ImageFault) -> Reply
 /// The reply to the first protected encoding in the image's code.
 pub(crate) fn protected(found: &Found) -> Reply
     requires { found.now.count ≤ 3 }
-    ensures { EndsBy 1 (clean (Some found.now)) result.status (line_bytes result.line) }
+    ensures { EndsBy 1 (clean (Some found.now)) (status_number result.status) (line_bytes result.line) }
 {
     let bytes = &found.bytes[..found.count as usize];
     refused(protected_line(found.at, bytes))
@@ -87,7 +89,7 @@ fn form(bytes: Vec<u8>) -> Result<Image, Reply>
     ensures { MatchResult result
         (λ image. (image ≡ bytes.items) × (formed (first_fault bytes.items) ≡ passes))
         (λ reply. EndsBy 1 (formed (first_fault bytes.items))
-        reply.status (line_bytes reply.line)) }
+        (status_number reply.status) (line_bytes reply.line)) }
 {
     match Image::read(bytes) {
         Ok(image) => Ok(image),
@@ -99,7 +101,7 @@ fn form(bytes: Vec<u8>) -> Result<Image, Reply>
 fn admit(image: &Image) -> Option<Reply>
     ensures { MatchOption result
         ((first_found image.now ≡ None) × (clean (first_found image.now) ≡ passes))
-        (λ reply. EndsBy 1 (clean (first_found image.now)) reply.status (line_bytes reply.line)) }
+        (λ reply. EndsBy 1 (clean (first_found image.now)) (status_number reply.status) (line_bytes reply.line)) }
 {
     match scan(image) {
         None => None,
@@ -112,7 +114,7 @@ fn judge(bytes: Vec<u8>) -> Result<Image, Reply>
     ensures clean { IfOk result (λ image. first_found image ≡ None) }
     ensures judged { MatchResult result
         (λ image. (image ≡ bytes.items) × (first_verdict (form_checks bytes.items) ≡ passes))
-        (λ reply. EndsBy 1 (first_verdict (form_checks bytes.items)) reply.status (line_bytes reply.line)) }
+        (λ reply. EndsBy 1 (first_verdict (form_checks bytes.items)) (status_number reply.status) (line_bytes reply.line)) }
 {
     let image = match form(bytes) {
         Ok(image) => image,
@@ -135,7 +137,7 @@ pub(crate) fn open<S: Shelf>(alloc: Global, words: &[String], shelf: &mut S) -> 
         (λ image. IfTold (S.files shelf.old) (λ files. (image ≡ file_in files names Role.Image)
         × (first_verdict (image_checks files names) ≡ passes)))
         (λ reply. Stops names (shelf_change S.files S.faults S.wants shelf.old shelf.new) Role.Image
-        (λ files. first_verdict (image_checks files names)) reply.status (line_bytes reply.line)) }
+        (λ files. first_verdict (image_checks files names)) (status_number reply.status) (line_bytes reply.line)) }
 {
     let bytes = match fetch(alloc, words, Role::Image, shelf) {
         Ok(bytes) => bytes,

@@ -8,12 +8,14 @@ ghost use Rattle.nk_run.specs.CommandLine.{word_place};
 ghost use Rattle.nk_run.specs.Witness.{shelf_change};
 ghost use Rattle.nk_run.specs.Outcome.{file_in, first_verdict, input_checks, passes, plan_checks, planned};
 ghost use Rattle.nk_run.specs.ReplyText.{line_bytes};
+ghost use Rattle.nk_run.specs.Statuses.{status_number};
 ghost use Rattle.nk_run.specs.Replies.{RefusesBy, Stops, StopsIn};
 
 use crate::command_line::Role;
 use crate::image::fetch;
 use crate::lines::plan_line;
 use crate::reply::{Reply, made, no_memory};
+use crate::status::Status;
 use irq_plan::{Plan, PlanFault};
 use nk_host::Shelf;
 use std::alloc::Global;
@@ -29,11 +31,11 @@ pub(crate) struct Outside {
 fn read_plan(alloc: Global, bytes: &[u8]) -> Result<Plan, Reply>
     ensures { MatchResult result
         (λ plan. plan_of bytes.now ≡ Ok plan)
-        (λ reply. RefusesBy 6 (planned (plan_of bytes.now)) reply.status (line_bytes reply.line)) }
+        (λ reply. RefusesBy 6 (planned (plan_of bytes.now)) (status_number reply.status) (line_bytes reply.line)) }
 {
     match Plan::read(alloc, bytes) {
         Ok(plan) => Ok(plan),
-        Err(PlanFault::Line(number)) => Err(made(6, plan_line(alloc, number))),
+        Err(PlanFault::Line(number)) => Err(made(Status::WrongLine, plan_line(alloc, number))),
         Err(PlanFault::Memory) => Err(no_memory()),
     }
 }
@@ -47,7 +49,7 @@ fn open_plan<S: Shelf>(alloc: Global, words: &[String], shelf: &mut S) -> Result
         (λ plan. IfTold (S.files shelf.old) (λ files. (plan_of (file_in files names Role.Plan) ≡ Ok plan)
         × (first_verdict (plan_checks files names) ≡ passes)))
         (λ reply. Stops names (shelf_change S.files S.faults S.wants shelf.old shelf.new) Role.Plan
-        (λ files. first_verdict (plan_checks files names)) reply.status (line_bytes reply.line)) }
+        (λ files. first_verdict (plan_checks files names)) (status_number reply.status) (line_bytes reply.line)) }
 {
     match fetch(alloc, words, Role::Plan, shelf) {
         Ok(bytes) => read_plan(alloc, &bytes),
@@ -70,7 +72,7 @@ pub(crate) fn open_outside<S: Shelf>(
         × (plan_of (file_in files names Role.Plan) ≡ Ok outside.plan)
         × (first_verdict (input_checks files names) ≡ passes)))
         (λ reply. StopsIn names (shelf_change S.files S.faults S.wants shelf.old shelf.new)
-        (Role.Input ∷ Role.Plan ∷ []) (λ files. input_checks files names) reply.status (line_bytes reply.line)) }
+        (Role.Input ∷ Role.Plan ∷ []) (λ files. input_checks files names) (status_number reply.status) (line_bytes reply.line)) }
 {
     let input = match fetch(alloc, words, Role::Input, shelf) {
         Ok(input) => input,

@@ -11,6 +11,7 @@ mod numbers;
 // What is said, and how it goes out.
 mod lines;
 mod reply;
+mod status;
 
 // The image: held whole, for the commands that open it; and read in pieces, for the scan.
 mod image;

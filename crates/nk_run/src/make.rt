@@ -2,38 +2,30 @@
 ghost use Rattle.std.specs.Prelude.{◌≡◌, map, Some};
 ghost use Rattle.std.specs.String.{string_bytes};
 ghost use Rattle.nk_run.specs.CommandLine.{command_of, IsBounded};
-ghost use Rattle.nk_run.specs.Replies.{IsAnswered, IsWritten};
+ghost use Rattle.nk_run.specs.Replies.{IsAnswered};
+ghost use Rattle.nk_run.specs.Statuses.{status_number};
 ghost use Rattle.nk_run.specs.Witness.{Change, ShelfState, sink_change};
 
 use crate::command_line::Command;
 use crate::reply::no_memory;
+use crate::status::Status;
 use image_maker::make_image;
 use nk_host::{Sink, put_all};
 use std::alloc::Global;
 
 /// Writes the image of a number, in pieces. The shelf isn't looked at.
 #[inline(never)]
-pub(crate) fn make<O: Sink>(alloc: Global, words: &[String], number: u64, sink: &mut O) -> u8
+pub(crate) fn make<O: Sink>(alloc: Global, words: &[String], number: u64, sink: &mut O) -> Status
     requires asked { command_of (map string_bytes words.now) ≡ Some (Command.Make number) }
     requires bounds { IsBounded (Command.Make number) }
     ensures { (shelf : Change ShelfState) → shelf.after.files ≡ shelf.before.files → IsAnswered (record {
       words = map string_bytes words.now;
       shelf = shelf;
       sink = sink_change O.taken O.faults sink.old sink.new;
-    }) result }
+    }) (status_number result) }
 {
     match make_image(alloc, number) {
-        Ok(file) => put_file(&file, sink),
+        Ok(file) => Status::Done.unless_cut(put_all(sink, &file)),
         Err(_) => no_memory().write(sink),
-    }
-}
-
-/// Writes the bytes of a file; gives 0, or 4 after a fault of the sink.
-fn put_file<O: Sink>(file: &[u8], sink: &mut O) -> u8
-    ensures { IsWritten (sink_change O.taken O.faults sink.old sink.new) 0 file.now result }
-{
-    match put_all(sink, file) {
-        Ok(()) => 0,
-        Err(_) => 4,
     }
 }

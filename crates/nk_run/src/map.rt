@@ -10,13 +10,16 @@ ghost use Rattle.nk_run.specs.Lines.{walk_line};
 ghost use Rattle.nk_run.specs.Witness.{shelf_change};
 ghost use Rattle.nk_run.specs.Outcome.{roomy, translation_of};
 ghost use Rattle.nk_run.specs.ReplyText.{line_bytes};
+ghost use Rattle.nk_run.specs.Statuses.{status_number};
 ghost use Rattle.nk_run.specs.Replies.{CommandSays, Concludes, ShowsWalk};
 
 use crate::command_line::Command;
 use crate::image::open;
-use crate::lines::{frame_line, missing_line, noroom_line};
+use crate::lines::{frame_line, missing_line};
+use crate::opening::divide;
 use crate::reply::{Reply, made, no_memory};
-use boot_map::{Layout, prepare, tables_law};
+use crate::status::Status;
+use boot_map::{prepare, tables_law};
 use elf_image::Image;
 use nk_bits::OPENING_ROOT;
 use nk_host::Shelf;
@@ -30,26 +33,26 @@ fn walk_reply(alloc: Global, memory: &PhysMem, va: u64) -> Reply
     requires canonical { IsTrue (is_canonical va) }
     ensures { let frames = length memory.now / 4096 in
         ShowsWalk (walk (entry_in memory.now) frames opening_root (page_of va))
-        result.status (line_bytes result.line) }
+        (status_number result.status) (line_bytes result.line) }
 {
     match walk(memory, OPENING_ROOT, va) {
-        Ok(leaf) => made(0, frame_line(alloc, leaf)),
-        Err(fault) => made(0, missing_line(alloc, fault.level)),
+        Ok(leaf) => made(Status::Done, frame_line(alloc, leaf)),
+        Err(fault) => made(Status::Done, missing_line(alloc, fault.level)),
     }
 }
 
 /// Opens the image in a memory of so many frames, and walks its tables for an address.
-fn translate(alloc: Global, image: &Image, frames: u32, va: u64) -> Reply
+fn translate(alloc: Global, image: Image, frames: u32, va: u64) -> Reply
     requires { IsBounded (Command.Map frames va) }
-    ensures { Concludes (roomy (need image.now frames) frames)
-        (walk_line (translation_of image.now frames va)) result.status (line_bytes result.line) }
+    ensures { Concludes (roomy (need image frames) frames)
+        (walk_line (translation_of image frames va)) (status_number result.status) (line_bytes result.line) }
 {
-    let layout = match Layout::of(image, frames) {
-        Ok(layout) => layout,
-        Err(fault) => return made(1, noroom_line(alloc, &fault)),
+    let opened = match divide(alloc, image, frames) {
+        Ok(opened) => opened,
+        Err(reply) => return reply,
     };
     tables_law();
-    match prepare(alloc, image, &layout) {
+    match prepare(alloc, &opened.image, &opened.layout) {
         Ok(memory) => walk_reply(alloc, &memory, va),
         Err(_) => no_memory(),
     }
@@ -69,10 +72,10 @@ pub(crate) fn map<S: Shelf>(
     requires bounds { IsBounded (Command.Map frames va) }
     ensures files_stay { S.files shelf.new ≡ S.files shelf.old }
     ensures says { CommandSays (map string_bytes words.now)
-        (shelf_change S.files S.faults S.wants shelf.old shelf.new) result.status (line_bytes result.line) }
+        (shelf_change S.files S.faults S.wants shelf.old shelf.new) (status_number result.status) (line_bytes result.line) }
 {
     match open(alloc, words, shelf) {
-        Ok(image) => translate(alloc, &image, frames, va),
+        Ok(image) => translate(alloc, image, frames, va),
         Err(reply) => reply,
     }
 }

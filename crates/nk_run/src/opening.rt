@@ -12,16 +12,25 @@ ghost use Rattle.nk_body.specs.SourceWords.{opening_ledger};
 ghost use Rattle.gate_state.specs.MachineOpening.{opening_state};
 ghost use Rattle.nk_run.specs.Outcome.{passes, roomy};
 ghost use Rattle.nk_run.specs.ReplyText.{line_bytes};
+ghost use Rattle.nk_run.specs.Statuses.{status_number};
 ghost use Rattle.nk_run.specs.Replies.{RefusesBy};
 
 use crate::lines::noroom_line;
 use crate::reply::{Reply, made};
+use crate::status::Status;
 use boot_map::{Layout, prepare};
 use elf_image::Image;
 use gate_state::OuterMachine;
 use nk_body::Kernel;
 use phys_mem::{PhysMem, mask_law};
 use std::alloc::Global;
+
+/// An image, and the division of a memory for it.
+#[derive(Drop)]
+pub(crate) struct Opened {
+    pub image: Image,
+    pub layout: Layout,
+}
 
 /// The opening's memory with the books in it, and what the nested kernel keeps beside it.
 #[derive(Drop)]
@@ -30,37 +39,37 @@ pub(crate) struct Guarded {
     pub kernel: Kernel,
 }
 
-/// The division of a memory of so many frames for the image, or the reply where it has no room.
-pub(crate) fn divide(alloc: Global, image: &Image, frames: u32) -> Result<Layout, Reply>
+/// The image with the division of a memory of so many frames, or the reply where it has no room.
+pub(crate) fn divide(alloc: Global, image: Image, frames: u32) -> Result<Opened, Reply>
     requires least { 512 ≤ frames }
     requires most { frames ≤ 65536 }
     ensures { MatchResult result
-        (λ layout. IsLayout image.now layout × (layout.frames ≡ frames)
-        × (roomy (need image.now frames) frames ≡ passes))
-        (λ reply. RefusesBy 1 (roomy (need image.now frames) frames) reply.status (line_bytes reply.line)) }
+        (λ opened. (opened.image ≡ image) × IsLayout image opened.layout × (opened.layout.frames ≡ frames)
+        × (roomy (need image frames) frames ≡ passes))
+        (λ reply. RefusesBy 1 (roomy (need image frames) frames) (status_number reply.status) (line_bytes reply.line)) }
 {
-    match Layout::of(image, frames) {
-        Ok(layout) => Ok(layout),
-        Err(fault) => Err(made(1, noroom_line(alloc, &fault))),
+    match Layout::of(&image, frames) {
+        Ok(layout) => Ok(Opened { image, layout }),
+        Err(fault) => Err(made(Status::Refused, noroom_line(alloc, &fault))),
     }
 }
 
 /// The opening's memory with the books in it, None where there is no memory for them.
-pub(crate) fn guard(alloc: Global, image: &Image, layout: &Layout) -> Option<Guarded>
-    requires layout { IsLayout image.now layout.now }
-    ensures opening { IfSome result (λ it. IsOpening image.now layout.now.frames (seen it.memory)) }
-    ensures size { IfSome result (λ it. length it.memory ≡ 4096 * layout.now.frames) }
-    ensures kinds { IfSome result (λ it. kinds_in it.memory ≡ kinds image.now layout.now.frames) }
+pub(crate) fn guard(alloc: Global, opened: &Opened) -> Option<Guarded>
+    requires layout { IsLayout opened.now.image opened.now.layout }
+    ensures opening { IfSome result (λ it. IsOpening opened.now.image opened.now.layout.frames (seen it.memory)) }
+    ensures size { IfSome result (λ it. length it.memory ≡ 4096 * opened.now.layout.frames) }
+    ensures kinds { IfSome result (λ it. kinds_in it.memory ≡ kinds opened.now.image opened.now.layout.frames) }
     ensures root { IfSome result (λ it. it.kernel.root ≡ 5) }
     ensures ledger { IfSome result (λ it. (books_in it.kernel it.memory).ledger ≡ opening_ledger) }
     ensures books { IfSome result (λ it. HoldsBooks it.kernel it.memory) }
 {
     mask_law();
-    let mut memory = match prepare(alloc, image, layout) {
+    let mut memory = match prepare(alloc, &opened.image, &opened.layout) {
         Ok(memory) => memory,
         Err(_) => return None,
     };
-    match Kernel::start(alloc, &mut memory, image, layout) {
+    match Kernel::start(alloc, &mut memory, &opened.image, &opened.layout) {
         Ok(kernel) => Some(Guarded { memory, kernel }),
         Err(_) => None,
     }
@@ -69,21 +78,20 @@ pub(crate) fn guard(alloc: Global, image: &Image, layout: &Layout) -> Option<Gua
 /// The machine as a run begins; None where there is no memory for it.
 pub(crate) fn begin<'i>(
     alloc: Global,
-    image: &'i Image,
-    layout: &'i Layout,
+    opened: &'i Opened,
     input: Vec<u8>,
 ) -> Option<OuterMachine<'i>>
-    requires layout { IsLayout image.now layout.now }
-    requires clean { first_found image.now ≡ None }
-    ensures opening { IfSome result (λ machine. machine.opening ≡ record { image = image.now; frames = layout.now.frames }) }
+    requires layout { IsLayout opened.now.image opened.now.layout }
+    requires clean { first_found opened.now.image ≡ None }
+    ensures opening { IfSome result (λ machine. machine.opening ≡ record { image = opened.now.image; frames = opened.now.layout.frames }) }
     ensures state { IfSome result (λ machine. machine.state
-        ≡ opening_state (record { image = image.now; frames = layout.now.frames }) input.items) }
+        ≡ opening_state (record { image = opened.now.image; frames = opened.now.layout.frames }) input.items) }
 {
-    let Guarded { memory, kernel } = match guard(alloc, image, layout) {
+    let Guarded { memory, kernel } = match guard(alloc, opened) {
         Some(guarded) => guarded,
         None => return None,
     };
-    match OuterMachine::start(alloc, memory, kernel, image, layout, input) {
+    match OuterMachine::start(alloc, memory, kernel, &opened.image, &opened.layout, input) {
         Ok(machine) => Some(machine),
         Err(_) => None,
     }

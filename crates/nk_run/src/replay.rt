@@ -11,16 +11,17 @@ ghost use Rattle.nk_run.specs.CommandLine.{command_of, word_count, IsBounded};
 ghost use Rattle.nk_run.specs.Witness.{shelf_change, sink_change};
 ghost use Rattle.nk_run.specs.Outcome.{file_in, first_verdict, journal_checks, journaled, opened, passes};
 ghost use Rattle.nk_run.specs.ReplyText.{line_bytes};
-ghost use Rattle.nk_run.specs.Replies.{CommandSays, IsAnswered, IsReplayedFrom, IsWritten, RefusesBy, StopsIn};
+ghost use Rattle.nk_run.specs.Statuses.{status_number};
+ghost use Rattle.nk_run.specs.Replies.{CommandSays, IsAnswered, IsPut, IsReplayedFrom, RefusesBy, StopsIn};
 
 use crate::command_line::{Command, Role};
 use crate::image::{fetch, open};
 use crate::lines::journal_line;
-use crate::opening::{Guarded, divide, guard};
+use crate::opening::{Guarded, Opened, divide, guard};
 use crate::reply::{Reply, made, no_memory};
-use boot_map::Layout;
+use crate::status::Status;
 use elf_image::Image;
-use nk_host::{Shelf, Sink};
+use nk_host::{Shelf, Sink, SinkFault};
 use replay_core::{ReplayFault, replay as replay_calls};
 use std::alloc::Global;
 
@@ -34,8 +35,7 @@ struct Held {
 /// What the calls of a journal left.
 #[derive(Drop)]
 struct Replayed {
-    image: Image,
-    layout: Layout,
+    opened: Opened,
     left: Guarded,
 }
 
@@ -49,7 +49,7 @@ fn hold<S: Shelf>(alloc: Global, words: &[String], shelf: &mut S) -> Result<Held
         × (held.journal.items ≡ file_in files names Role.Journal)
         × (first_verdict (journal_checks files names) ≡ passes)))
         (λ reply. StopsIn names (shelf_change S.files S.faults S.wants shelf.old shelf.new)
-        (Role.Image ∷ Role.Journal ∷ []) (λ files. journal_checks files names) reply.status (line_bytes reply.line)) }
+        (Role.Image ∷ Role.Journal ∷ []) (λ files. journal_checks files names) (status_number reply.status) (line_bytes reply.line)) }
 {
     let image = match open(alloc, words, shelf) {
         Ok(image) => image,
@@ -63,27 +63,22 @@ fn hold<S: Shelf>(alloc: Global, words: &[String], shelf: &mut S) -> Result<Held
 
 /// The reply to the first line of a journal that isn't right.
 fn refuse(alloc: Global, number: u64) -> Reply
-    ensures { RefusesBy 6 (journaled (Some number)) result.status (line_bytes result.line) }
+    ensures { RefusesBy 6 (journaled (Some number)) (status_number result.status) (line_bytes result.line) }
 {
-    made(6, journal_line(alloc, number))
+    made(Status::WrongLine, journal_line(alloc, number))
 }
 
 /// What the calls of a journal leave of the opening, or the reply to its first line that isn't right.
-fn make_calls(
-    alloc: Global,
-    image: &Image,
-    layout: &Layout,
-    journal: &[u8],
-) -> Result<Guarded, Reply>
-    requires { IsLayout image.now layout.now }
-    ensures { let from = opened (record { image = image.now; frames = layout.now.frames }) in MatchResult result
+fn make_calls(alloc: Global, opening: &Opened, journal: &[u8]) -> Result<Guarded, Reply>
+    requires { IsLayout opening.now.image opening.now.layout }
+    ensures { let from = opened (record { image = opening.now.image; frames = opening.now.layout.frames }) in MatchResult result
         (λ left. ((replay_of journal.now from).bad ≡ None)
         × (nested_held left.kernel left.memory ≡ (replay_of journal.now from).made.nested)
         × HoldsBooks left.kernel left.memory
-        × (length left.memory ≡ 4096 * layout.now.frames))
-        (λ reply. RefusesBy 6 (journaled (replay_of journal.now from).bad) reply.status (line_bytes reply.line)) }
+        × (length left.memory ≡ 4096 * opening.now.layout.frames))
+        (λ reply. RefusesBy 6 (journaled (replay_of journal.now from).bad) (status_number reply.status) (line_bytes reply.line)) }
 {
-    let Guarded { memory, kernel } = match guard(alloc, image, layout) {
+    let Guarded { memory, kernel } = match guard(alloc, opening) {
         Some(guarded) => guarded,
         None => return Err(no_memory()),
     };
@@ -108,25 +103,21 @@ fn make_replay<S: Shelf>(
     requires bounds { IsBounded (Command.Replay frames) }
     ensures files_stay { S.files shelf.new ≡ S.files shelf.old }
     ensures made { let names = map string_bytes words.now in MatchResult result
-        (λ it. IsReplayedFrom names (S.files shelf.old) frames it.image it.layout it.left.kernel it.left.memory)
+        (λ it. IsReplayedFrom names (S.files shelf.old) frames it.opened.image it.opened.layout it.left.kernel it.left.memory)
         (λ reply. CommandSays names (shelf_change S.files S.faults S.wants shelf.old shelf.new)
-        reply.status (line_bytes reply.line)) }
+        (status_number reply.status) (line_bytes reply.line)) }
 {
     let held = match hold(alloc, words, shelf) {
         Ok(held) => held,
         Err(reply) => return Err(reply),
     };
     let Held { image, journal } = held;
-    let layout = match divide(alloc, &image, frames) {
-        Ok(layout) => layout,
+    let opened = match divide(alloc, image, frames) {
+        Ok(opened) => opened,
         Err(reply) => return Err(reply),
     };
-    match make_calls(alloc, &image, &layout, &journal) {
-        Ok(left) => Ok(Replayed {
-            image,
-            layout,
-            left,
-        }),
+    match make_calls(alloc, &opened, &journal) {
+        Ok(left) => Ok(Replayed { opened, left }),
         Err(reply) => Err(reply),
     }
 }
@@ -139,7 +130,7 @@ pub(crate) fn replay<S: Shelf, O: Sink>(
     frames: u32,
     shelf: &mut S,
     sink: &mut O,
-) -> u8
+) -> Status
     requires asked { command_of (map string_bytes words.now) ≡ Some (Command.Replay frames) }
     requires count { length words.now ≡ word_count (Command.Replay frames) }
     requires bounds { IsBounded (Command.Replay frames) }
@@ -147,32 +138,29 @@ pub(crate) fn replay<S: Shelf, O: Sink>(
       words = map string_bytes words.now;
       shelf = shelf_change S.files S.faults S.wants shelf.old shelf.new;
       sink = sink_change O.taken O.faults sink.old sink.new;
-    }) result }
+    }) (status_number result) }
 {
     let replayed = match make_replay(alloc, words, frames, shelf) {
         Ok(replayed) => replayed,
         Err(reply) => return reply.write(sink),
     };
-    show(&replayed, sink)
+    Status::Done.unless_cut(show(&replayed, sink))
 }
 
-/// Writes the closing section; gives 0, or 4 after a fault of the sink.
-fn show<O: Sink>(replayed: &Replayed, sink: &mut O) -> u8
-    requires layout { IsLayout replayed.now.image replayed.now.layout }
+/// Writes the closing section.
+fn show<O: Sink>(replayed: &Replayed, sink: &mut O) -> Result<(), SinkFault>
+    requires layout { IsLayout replayed.now.opened.image replayed.now.opened.layout }
     requires books { HoldsBooks replayed.now.left.kernel replayed.now.left.memory }
-    requires size { length replayed.now.left.memory ≡ 4096 * replayed.now.layout.frames }
-    ensures { IsWritten (sink_change O.taken O.faults sink.old sink.new) 0
-        (section replayed.now.image replayed.now.layout.frames
+    requires size { length replayed.now.left.memory ≡ 4096 * replayed.now.opened.layout.frames }
+    ensures { IsPut (sink_change O.taken O.faults sink.old sink.new)
+        (section replayed.now.opened.image replayed.now.opened.layout.frames
         (nested_held replayed.now.left.kernel replayed.now.left.memory)) result }
 {
-    match report_text::section(
+    report_text::section(
         sink,
-        &replayed.image,
-        &replayed.layout,
+        &replayed.opened.image,
+        &replayed.opened.layout,
         &replayed.left.memory,
         &replayed.left.kernel,
-    ) {
-        Ok(()) => 0,
-        Err(_) => 4,
-    }
+    )
 }

@@ -3,9 +3,11 @@ ghost use Rattle.std.specs.Prelude.{◌≡◌, ◌≤◌, MatchResult};
 ghost use Rattle.std.specs.String.{string_bytes};
 ghost use Rattle.nk_run.specs.Replies.{IsWant, IsWritten};
 ghost use Rattle.nk_run.specs.ReplyText.{line_bytes};
+ghost use Rattle.nk_run.specs.Statuses.{status_number};
 ghost use Rattle.nk_run.specs.Witness.{sink_change};
 
 use crate::lines::no_memory_line;
+use crate::status::Status;
 use nk_host::{Sink, put_all};
 use report_text::ShortLine;
 use std::alloc::AllocError;
@@ -21,7 +23,7 @@ pub(crate) enum Line {
 /// A status and the line that goes with it.
 #[derive(Drop)]
 pub(crate) struct Reply {
-    pub status: u8,
+    pub status: Status,
     pub line: Line,
 }
 
@@ -40,19 +42,19 @@ impl Line {
 
 /// There was no memory.
 pub(crate) fn no_memory() -> Reply
-    ensures { IsWant result.status (line_bytes result.line) }
+    ensures { IsWant (status_number result.status) (line_bytes result.line) }
 {
     Reply {
-        status: 5,
+        status: Status::Want,
         line: Line::Fixed(no_memory_line()),
     }
 }
 
 /// A line made for the occasion, or that there was no memory for it.
-pub(crate) fn made(status: u8, line: Result<String, AllocError>) -> Reply
+pub(crate) fn made(status: Status, line: Result<String, AllocError>) -> Reply
     ensures { MatchResult line
         (λ line. (result.status ≡ status) × (line_bytes result.line ≡ string_bytes line))
-        (λ _. IsWant result.status (line_bytes result.line)) }
+        (λ _. IsWant (status_number result.status) (line_bytes result.line)) }
 {
     match line {
         Ok(line) => Reply {
@@ -65,14 +67,11 @@ pub(crate) fn made(status: u8, line: Result<String, AllocError>) -> Reply
 
 impl Reply {
     /// Writes the line and gives the status, or that of a fault of the sink.
-    pub(crate) fn write<O: Sink>(&self, sink: &mut O) -> u8
+    pub(crate) fn write<O: Sink>(&self, sink: &mut O) -> Status
         ensures never_falls { O.faults sink.old ≤ O.faults sink.new }
         ensures written { IsWritten (sink_change O.taken O.faults sink.old sink.new)
-            self.now.status (line_bytes self.now.line) result }
+            (status_number self.now.status) (line_bytes self.now.line) (status_number result) }
     {
-        match put_all(sink, self.line.as_bytes()) {
-            Ok(()) => self.status,
-            Err(_) => 4,
-        }
+        self.status.unless_cut(put_all(sink, self.line.as_bytes()))
     }
 }

@@ -10,15 +10,16 @@ ghost use Rattle.nk_run.specs.CommandLine.{command_of, word_count, IsBounded};
 ghost use Rattle.nk_run.specs.Witness.{shelf_change, sink_change};
 ghost use Rattle.nk_run.specs.Outcome.{file_in, first_verdict, passes, roomy, run_checks};
 ghost use Rattle.nk_run.specs.ReplyText.{line_bytes};
+ghost use Rattle.nk_run.specs.Statuses.{status_number};
 ghost use Rattle.nk_run.specs.Replies.{CommandSays, IsAnswered, IsReady, RefusesBy, StopsIn, TellsBytes};
 
 use crate::command_line::{Command, Role};
 use crate::drive::drive;
 use crate::image::open;
 use crate::inputs::{Outside, open_outside};
-use crate::opening::{begin, divide};
+use crate::opening::{Opened, begin, divide};
 use crate::reply::{Reply, no_memory};
-use boot_map::Layout;
+use crate::status::Status;
 use elf_image::Image;
 use gate_state::Machine;
 use nk_host::{Shelf, Sink};
@@ -34,8 +35,7 @@ struct Held {
 /// What a run begins from.
 #[derive(Drop)]
 struct Ready {
-    image: Image,
-    layout: Layout,
+    opened: Opened,
     outside: Outside,
 }
 
@@ -51,7 +51,7 @@ fn hold<S: Shelf>(alloc: Global, words: &[String], shelf: &mut S) -> Result<Held
         × (plan_of (file_in files names Role.Plan) ≡ Ok held.outside.plan)
         × (first_verdict (run_checks files names) ≡ passes)))
         (λ reply. StopsIn names (shelf_change S.files S.faults S.wants shelf.old shelf.new)
-        (Role.Image ∷ Role.Input ∷ Role.Plan ∷ []) (λ files. run_checks files names) reply.status (line_bytes reply.line)) }
+        (Role.Image ∷ Role.Input ∷ Role.Plan ∷ []) (λ files. run_checks files names) (status_number reply.status) (line_bytes reply.line)) }
 {
     let image = match open(alloc, words, shelf) {
         Ok(image) => image,
@@ -77,21 +77,17 @@ fn make_ready<S: Shelf>(
     ensures files_stay { S.files shelf.new ≡ S.files shelf.old }
     ensures bytes { TellsBytes (map string_bytes words.now) (S.files shelf.old) Role.Image }
     ensures ready { let names = map string_bytes words.now in MatchResult result
-        (λ it. IsReady names (S.files shelf.old) steps frames it.image it.layout it.outside.input.items it.outside.plan)
+        (λ it. IsReady names (S.files shelf.old) steps frames it.opened.image it.opened.layout it.outside.input.items it.outside.plan)
         (λ reply. CommandSays names (shelf_change S.files S.faults S.wants shelf.old shelf.new)
-        reply.status (line_bytes reply.line)) }
+        (status_number reply.status) (line_bytes reply.line)) }
 {
     let held = match hold(alloc, words, shelf) {
         Ok(held) => held,
         Err(reply) => return Err(reply),
     };
     let Held { image, outside } = held;
-    match divide(alloc, &image, frames) {
-        Ok(layout) => Ok(Ready {
-            image,
-            layout,
-            outside,
-        }),
+    match divide(alloc, image, frames) {
+        Ok(opened) => Ok(Ready { opened, outside }),
         Err(reply) => Err(reply),
     }
 }
@@ -105,7 +101,7 @@ pub(crate) fn run<S: Shelf, O: Sink>(
     frames: u32,
     shelf: &mut S,
     sink: &mut O,
-) -> u8
+) -> Status
     requires asked { command_of (map string_bytes words.now) ≡ Some (Command.Run steps frames) }
     requires count { length words.now ≡ word_count (Command.Run steps frames) }
     requires bounds { IsBounded (Command.Run steps frames) }
@@ -114,20 +110,19 @@ pub(crate) fn run<S: Shelf, O: Sink>(
       words = map string_bytes words.now;
       shelf = shelf_change S.files S.faults S.wants shelf.old shelf.new;
       sink = sink_change O.taken O.faults sink.old sink.new;
-    }) result }
+    }) (status_number result) }
 {
     let ready = match make_ready(alloc, words, steps, frames, shelf) {
         Ok(ready) => ready,
         Err(reply) => return reply.write(sink),
     };
-    let Ready {
-        image,
-        layout,
-        outside,
-    } = ready;
+    let Ready { opened, outside } = ready;
     let Outside { input, plan } = outside;
-    match begin(alloc, &image, &layout, input) {
-        Some(machine) => drive(Machine::Outer(machine), &image, &layout, &plan, steps, sink),
+    match begin(alloc, &opened, input) {
+        Some(machine) => {
+            let machine = Machine::Outer(machine);
+            Status::Done.unless_cut(drive(machine, &opened, &plan, steps, sink))
+        }
         None => no_memory().write(sink),
     }
 }

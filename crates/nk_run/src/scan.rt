@@ -4,6 +4,7 @@ ghost use Rattle.std.specs.String.{string_bytes};
 ghost use Rattle.nk_run.specs.CommandLine.{command_of, name_in, word_count, word_place};
 ghost use Rattle.nk_run.specs.Witness.{shelf_change};
 ghost use Rattle.nk_run.specs.ReplyText.{line_bytes};
+ghost use Rattle.nk_run.specs.Statuses.{status_number};
 ghost use Rattle.nk_run.specs.Replies.{CommandSays};
 ghost use Rattle.nk_run.specs.ScanStops.{IsReplyTo, IsShort};
 
@@ -13,6 +14,7 @@ use crate::lines::{longer_line, unread_line};
 use crate::page_pieces::scan_file;
 use crate::pieces::Stop;
 use crate::reply::{Line, Reply, no_memory};
+use crate::status::Status;
 use nk_host::Shelf;
 use report_text::admitted_line;
 use std::alloc::Global;
@@ -28,16 +30,16 @@ fn image_name(words: &[String]) -> &str
 /// The reply to a scan that stopped.
 fn stopped(stop: Stop) -> Reply
     requires { IsShort stop }
-    ensures { IsReplyTo stop result.status (line_bytes result.line) }
+    ensures { IsReplyTo stop (status_number result.status) (line_bytes result.line) }
 {
     match stop {
         Stop::Unread => Reply {
-            status: 3,
+            status: Status::Unread,
             line: Line::Fixed(unread_line(Role::Image)),
         },
         Stop::Want => no_memory(),
         Stop::Longer => Reply {
-            status: 7,
+            status: Status::Longer,
             line: Line::Fixed(longer_line(Role::Image)),
         },
         Stop::Faulty(fault) => faulty(&fault),
@@ -52,11 +54,11 @@ pub(crate) fn scan<S: Shelf>(alloc: Global, words: &[String], shelf: &mut S) -> 
     requires count { length words.now ≡ word_count Command.Scan }
     ensures files_stay { S.files shelf.new ≡ S.files shelf.old }
     ensures says { CommandSays (map string_bytes words.now)
-        (shelf_change S.files S.faults S.wants shelf.old shelf.new) result.status (line_bytes result.line) }
+        (shelf_change S.files S.faults S.wants shelf.old shelf.new) (status_number result.status) (line_bytes result.line) }
 {
     match scan_file(alloc, image_name(words), shelf) {
         Ok(it) => Reply {
-            status: 0,
+            status: Status::Done,
             line: Line::Short(admitted_line(it.entry, it.pages)),
         },
         Err(stop) => stopped(stop),

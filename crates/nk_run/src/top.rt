@@ -31,5 +31,5 @@ pub fn nk_main<S: Shelf, O: Sink>(
     }) result }
 {
     run_law();
-    answer(alloc, words, shelf, sink)
+    answer(alloc, words, shelf, sink).number()
 }

@@ -3,12 +3,14 @@ ghost use Rattle.std.specs.Prelude.{◌≡◌, ◌≤◌, [], map, IfSome, Some}
 ghost use Rattle.std.specs.String.{string_bytes};
 ghost use Rattle.nk_run.specs.CommandLine.{command_of, IsBounded};
 ghost use Rattle.nk_run.specs.Replies.{IsAnswered, IsWorkable};
+ghost use Rattle.nk_run.specs.Statuses.{status_number};
 ghost use Rattle.nk_run.specs.Witness.{Change, ShelfState, sink_change};
 
 use crate::command_line::Command;
 use crate::count::count;
-use crate::opening::begin;
+use crate::opening::{Opened, begin};
 use crate::reply::no_memory;
+use crate::status::Status;
 use boot_map::Layout;
 use elf_image::Image;
 use gate_state::Machine;
@@ -20,15 +22,8 @@ use std::alloc::Global;
 /// How many frames the memory of a made image has.
 const FRAMES: u32 = 4096;
 
-/// What the run of a made image begins from.
-#[derive(Drop)]
-struct Ready {
-    image: Image,
-    layout: Layout,
-}
-
-/// What the run begins from, None where there is no memory for it.
-fn make_ready(alloc: Global, number: u64) -> Option<Ready>
+/// What the run of a made image begins from, None where there is no memory for it.
+fn make_ready(alloc: Global, number: u64) -> Option<Opened>
     requires least { 1 ≤ number }
     requires most { number ≤ 100 }
     ensures { IfSome result (λ it. IsWorkable number it.image it.layout) }
@@ -43,7 +38,7 @@ fn make_ready(alloc: Global, number: u64) -> Option<Ready>
         Err(_) => unreachable!(),
     };
     match Layout::of(&image, FRAMES) {
-        Ok(layout) => Some(Ready { image, layout }),
+        Ok(layout) => Some(Opened { image, layout }),
         Err(_) => unreachable!(),
     }
 }
@@ -60,25 +55,25 @@ fn quiet(alloc: Global) -> Option<Plan>
 
 /// Runs the image of a number, and writes the counts. The shelf isn't looked at.
 #[inline(never)]
-pub(crate) fn work<O: Sink>(alloc: Global, words: &[String], number: u64, sink: &mut O) -> u8
+pub(crate) fn work<O: Sink>(alloc: Global, words: &[String], number: u64, sink: &mut O) -> Status
     requires asked { command_of (map string_bytes words.now) ≡ Some (Command.Work number) }
     requires bounds { IsBounded (Command.Work number) }
     ensures { (shelf : Change ShelfState) → shelf.after.files ≡ shelf.before.files → IsAnswered (record {
       words = map string_bytes words.now;
       shelf = shelf;
       sink = sink_change O.taken O.faults sink.old sink.new;
-    }) result }
+    }) (status_number result) }
 {
-    let Ready { image, layout } = match make_ready(alloc, number) {
-        Some(ready) => ready,
+    let opened = match make_ready(alloc, number) {
+        Some(opened) => opened,
         None => return no_memory().write(sink),
     };
     let plan = match quiet(alloc) {
         Some(plan) => plan,
         None => return no_memory().write(sink),
     };
-    match begin(alloc, &image, &layout, Vec::new(alloc)) {
-        Some(machine) => count(Machine::Outer(machine), &plan, sink),
+    match begin(alloc, &opened, Vec::new(alloc)) {
+        Some(machine) => Status::Done.unless_cut(count(Machine::Outer(machine), &plan, sink)),
         None => no_memory().write(sink),
     }
 }

@@ -1,11 +1,11 @@
-use Rattle.std.proofs.Common.{◌≡◌, ◌++◌, inr, append_assoc, ap, refl, subst, ◌∙◌}
+use Rattle.std.proofs.Common.{◌≡◌, ◌++◌, append_assoc, ap, subst, ◌∙◌}
 use Rattle.nk_host.specs.Taken.{AppendsPrefix}
 use Rattle.gate_state.specs.MachineOf.{whole_of}
 use Rattle.gate_state.specs.MachineStates.{MachineState, nested_of}
 use Rattle.nk_body.specs.NestedRecord.{nested_in}
 use Rattle.report_text.specs.RunLines.{ending_line, turns_line}
 use Rattle.report_text.specs.RunSummary.{summary_lines}
-use Rattle.nk_run.specs.Replies.{IsWritten}
+use Rattle.nk_run.specs.Replies.{IsPut}
 use Rattle.nk_run.specs.RunStates.{is_halted}
 use Rattle.nk_run.specs.Witness.{sink_change}
 use Rattle.nk_run.specs.WorkSummary.{summary_of}
@@ -24,13 +24,13 @@ returns-in-Ok-clause-written g c =
     ∙ (λ i. summary_of c.args.tally.now (nested_in (end.kinds i) (end.root i) (end.ledger i) (end.memory i))) in
     let same = ap (λ halted. ending_line halted ++ turns_line c.turns-turns.result) c.is_halted.ensures
     ∙ ap (λ n. why ++ turns_line n) c.turns-turns.ensures in
-    subst (λ l. IsWritten
-    (sink_change g.O.Sink.taken g.O.Sink.faults c.args.sink.now c.put_counts.new.sink) 0 l c.put_counts.result)
+    subst (λ l. IsPut
+    (sink_change g.O.Sink.taken g.O.Sink.faults c.args.sink.now c.put_counts.new.sink) l c.put_counts.result)
     (append_assoc why turns rest)
     (went_on g.O.Sink.taken g.O.Sink.faults c.args.sink.now c.ending.new.sink c.put_counts.new.sink _ (why ++ turns) rest
-    0 _ same c.ending.ensures.never_falls c.in-Ok.ensures.all
-    (subst (λ it. IsWritten
-    (sink_change g.O.Sink.taken g.O.Sink.faults c.ending.new.sink c.put_counts.new.sink) 0 (summary_lines it) c.put_counts.result)
+    _ same c.ending.ensures.never_falls c.in-Ok.ensures.all
+    (subst (λ it. IsPut
+    (sink_change g.O.Sink.taken g.O.Sink.faults c.ending.new.sink c.put_counts.new.sink) (summary_lines it) c.put_counts.result)
     counts c.put_counts.ensures.written))
 
 pub returns-clause-written : goal.returns-clause-written
@@ -42,9 +42,8 @@ returns-clause-written g c =
     let same = ap (λ halted. ending_line halted ++ turns_line c.turns-turns.result) c.is_halted.ensures
     ∙ ap (λ n. why ++ turns_line n) c.turns-turns.ensures in
     let before = g.O.Sink.taken c.args.sink.now in
-    let after = g.O.Sink.taken c.ending.new.sink in
-    inr (
-      refl,
+    let after = g.O.Sink.taken c.ending.new.sink in (
+      tt,
       c.in-Err.ensures.failed,
       subst (AppendsPrefix before after) (append_assoc why turns rest)
           (prefix_of_both before after (why ++ turns) rest (subst (AppendsPrefix before after) same c.in-Err.ensures.some)),

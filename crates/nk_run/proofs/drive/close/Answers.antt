@@ -1,9 +1,9 @@
-use Rattle.std.proofs.Common.{◌++◌, inr, append_assoc, ap, refl, subst}
+use Rattle.std.proofs.Common.{◌++◌, append_assoc, ap, subst}
 use Rattle.nk_host.specs.Taken.{AppendsPrefix}
 use Rattle.nk_body.specs.NestedRecord.{nested_held}
 use Rattle.report_text.specs.ClosingSection.{section}
 use Rattle.report_text.specs.RunLines.{ending_line, turns_line}
-use Rattle.nk_run.specs.Replies.{IsWritten}
+use Rattle.nk_run.specs.Replies.{IsPut}
 use Rattle.nk_run.specs.RunStates.{is_halted}
 use Rattle.nk_run.specs.Witness.{sink_change}
 use Rattle.nk_run.proofs.Texts.{prefix_of_both, went_on}
@@ -14,12 +14,12 @@ returns-in-Ok-clause-written g c =
     let why = ending_line (is_halted c.args.ending) in
     let turns = turns_line c.args.turns in
     let held = nested_held c.args.finished.now.kernel c.args.finished.now.mem in
-    let rest = section c.args.image.now c.args.layout.now.frames held in
-    subst (λ l. IsWritten
-    (sink_change g.O.Sink.taken g.O.Sink.faults c.args.sink.now c.finish.new.sink) 0 l c.finish.result)
+    let rest = section c.args.opened.now.image c.args.opened.now.layout.frames held in
+    subst (λ l. IsPut
+    (sink_change g.O.Sink.taken g.O.Sink.faults c.args.sink.now c.finish.new.sink) l c.finish.result)
     (append_assoc why turns rest)
     (went_on g.O.Sink.taken g.O.Sink.faults c.args.sink.now c.ending.new.sink c.finish.new.sink _ (why ++ turns) rest
-    0 _
+    _
     (ap (λ halted. ending_line halted ++ turns) c.is_halted.ensures) c.ending.ensures.never_falls c.in-Ok.ensures.all
     c.finish.ensures.written)
 
@@ -28,13 +28,12 @@ returns-in-Err-clause-written g c =
     let why = ending_line (is_halted c.args.ending) in
     let turns = turns_line c.args.turns in
     let held = nested_held c.args.finished.now.kernel c.args.finished.now.mem in
-    let rest = section c.args.image.now c.args.layout.now.frames held in
+    let rest = section c.args.opened.now.image c.args.opened.now.layout.frames held in
     let before = g.O.Sink.taken c.args.sink.now in
     let after = g.O.Sink.taken c.ending.new.sink in
     let cut = subst (AppendsPrefix before after) (ap (λ halted. ending_line halted ++ turns) c.is_halted.ensures)
-    c.in-Err.ensures.some in
-    inr (
-      refl,
+    c.in-Err.ensures.some in (
+      tt,
       c.in-Err.ensures.failed,
       subst (AppendsPrefix before after) (append_assoc why turns rest)
           (prefix_of_both before after (why ++ turns) rest cut),

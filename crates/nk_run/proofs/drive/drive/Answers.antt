@@ -22,7 +22,7 @@ returns-in-Some-clause-never_falls g c =
 pub returns-in-Some-clause-written : goal.returns-in-Some-clause-written
 returns-in-Some-clause-written g c =
     let going = goes_quietly c.loop-ending.invariant c.hurry-hurried.ensures.hurried in
-    let o : Opening = record { image = c.args.image.now; frames = c.args.layout.now.frames } in
+    let o : Opening = record { image = c.args.opened.now.image; frames = c.args.opened.now.layout.frames } in
     closes g.O.Sink.taken g.O.Sink.faults c.args.sink.now c.loop-ending.sink o c.args.steps c.args.plan.now
     (run_text o c.args.steps c.args.plan.now (whole_of c.args.machine).state) (whole_of c.hurry-hurried.result) going
     c.end.new.sink c.in-Some.ending c.end.result (sym c.ending_at.ensures ∙ c.in-Some.is) c.end.ensures.written
@@ -45,17 +45,18 @@ returns-in-Err-clause-never_falls g c =
 pub returns-in-Err-clause-written : goal.returns-in-Err-clause-written
 returns-in-Err-clause-written g c =
     let going = goes_quietly c.loop-ending.invariant c.hurry-hurried.ensures.hurried in
-    let o : Opening = record { image = c.args.image.now; frames = c.args.layout.now.frames } in
+    let o : Opening = record { image = c.args.opened.now.image; frames = c.args.opened.now.layout.frames } in
     let w = whole_of c.hurry-hurried.result in
-    was_cut g.O.Sink.taken g.O.Sink.faults c.args.sink.now c.loop-ending.sink o c.args.steps c.args.plan.now
+    let cut = was_cut g.O.Sink.taken g.O.Sink.faults c.args.sink.now c.loop-ending.sink o c.args.steps c.args.plan.now
     (run_text o c.args.steps c.args.plan.now (whole_of c.args.machine).state) w going
     c.advance-next.new.sink (sym c.ending_at.ensures ∙ c.in_default.is) (c.moves_law.ensures c.args.plan.now w.state)
-    (on_err c.in-Err.is c.advance-next.ensures.failed) (on_err c.in-Err.is c.advance-next.ensures.some)
+    (on_err c.in-Err.is c.advance-next.ensures.failed) (on_err c.in-Err.is c.advance-next.ensures.some) in
+    (tt, cut.0, cut.1)
 
 pub loop-ending-smaller : goal.loop-ending-smaller
 loop-ending-smaller g c =
     let going = goes_quietly c.loop-ending.invariant c.hurry-hurried.ensures.hurried in
-    let o : Opening = record { image = c.args.image.now; frames = c.args.layout.now.frames } in
+    let o : Opening = record { image = c.args.opened.now.image; frames = c.args.opened.now.layout.frames } in
     let w = whole_of c.hurry-hurried.result in
     let less = goes_less g.O.Sink.taken g.O.Sink.faults c.args.sink.now c.loop-ending.sink o c.args.steps c.args.plan.now
     (run_text o c.args.steps c.args.plan.now (whole_of c.args.machine).state) w going
@@ -65,7 +66,7 @@ loop-ending-smaller g c =
 pub loop-ending-preserved : goal.loop-ending-preserved
 loop-ending-preserved g c =
     let going = goes_quietly c.loop-ending.invariant c.hurry-hurried.ensures.hurried in
-    let o : Opening = record { image = c.args.image.now; frames = c.args.layout.now.frames } in
+    let o : Opening = record { image = c.args.opened.now.image; frames = c.args.opened.now.layout.frames } in
     let w = whole_of c.hurry-hurried.result in
     goes_on g.O.Sink.taken g.O.Sink.faults c.args.sink.now c.loop-ending.sink o c.args.steps c.args.plan.now
     (run_text o c.args.steps c.args.plan.now (whole_of c.args.machine).state) w going

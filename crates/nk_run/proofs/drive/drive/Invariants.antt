@@ -6,7 +6,7 @@ use Rattle.nk_run.proofs.drive.drive.Given as goal
 
 abbrev pub invariant-loop-ending : goal.invariant-loop-ending
 invariant-loop-ending g l =
-    let o : Opening = record { image = l.image; frames = l.layout.frames } in
+    let o : Opening = record { image = l.opened.image; frames = l.opened.layout.frames } in
     IsGoing g.O.Sink.taken g.O.Sink.faults l.initial.sink l.sink
     (run_text o l.steps l.plan (whole_of l.initial.machine).state) o l.steps l.plan (whole_of l.machine)
 

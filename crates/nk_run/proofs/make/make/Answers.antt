@@ -1,8 +1,7 @@
-use Rattle.std.proofs.Common.{inr, subst, ◌∙◌}
+use Rattle.std.proofs.Common.{inr, ◌∙◌}
 use Rattle.image_maker.specs.MadeImage.{image_of_number}
-use Rattle.nk_run.specs.Replies.{IsWritten}
-use Rattle.nk_run.specs.Witness.{sink_change}
 use Rattle.nk_run.proofs.RunRows.{make_says, make_wants}
+use Rattle.nk_run.proofs.Texts.{put_written}
 use Rattle.nk_run.proofs.make.make.Goals as goal
 
 pub returns-in-Ok : goal.returns-in-Ok
@@ -10,8 +9,8 @@ returns-in-Ok g c = λ shelf same. record {
   status = 0;
   text = image_of_number c.args.number;
   says = inr (make_says _ c.args.number c.requires.asked shelf);
-  written = subst (λ l. IsWritten (sink_change g.O.Sink.taken g.O.Sink.faults c.args.sink.now c.put_file.new.sink) 0 l c.put_file.result)
-      (c.deref.ensures.value ∙ c.in-Ok.ensures) c.put_file.ensures;
+  written = put_written _ _ _ _ _ _ (c.deref.ensures.value ∙ c.in-Ok.ensures) c.put_all.ensures.all c.put_all.ensures.failed c.put_all.ensures.some
+      c.unless_cut.ensures;
   files_stay = same;
 }
 

@@ -1,7 +1,8 @@
-use Rattle.std.proofs.Common.{inr}
+use Rattle.std.proofs.Common.{inr, refl}
 use Rattle.nk_body.specs.NestedRecord.{nested_held}
 use Rattle.report_text.specs.ClosingSection.{section}
 use Rattle.nk_run.proofs.RunRows.{replayed_says}
+use Rattle.nk_run.proofs.Texts.{put_written}
 use Rattle.nk_run.proofs.replay.replay.Goals as goal
 
 pub returns-in-Err : goal.returns-in-Err
@@ -18,8 +19,8 @@ returns g c =
     let it = c.in-Ok.replayed in
     record {
       status = 0;
-      text = section it.image it.layout.frames (nested_held it.left.kernel it.left.memory);
+      text = section it.opened.image it.opened.layout.frames (nested_held it.left.kernel it.left.memory);
       says = inr (replayed_says _ c.args.frames c.requires.asked _ _ c.in-Ok.ensures.made.outcome_is);
-      written = c.show.ensures;
+      written = put_written _ _ _ _ _ _ refl c.show.ensures.0 c.show.ensures.1 c.show.ensures.2 c.unless_cut.ensures;
       files_stay = c.make_replay.ensures.files_stay;
     }

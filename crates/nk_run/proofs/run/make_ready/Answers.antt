@@ -1,5 +1,6 @@
-use Rattle.std.proofs.Common.{map, refl}
+use Rattle.std.proofs.Common.{map, refl, subst, sym}
 use Rattle.std.specs.String.{string_bytes}
+use Rattle.nk_run.specs.Replies.{IsReady}
 use Rattle.nk_run.proofs.RunRows.{ready_says, run_room_says, run_row_says}
 use Rattle.nk_run.proofs.run.make_ready.Goals as goal
 
@@ -12,10 +13,17 @@ returns-in-Err-divide-clause-ready g c =
     run_room_says _ c.args.steps c.args.frames c.requires.asked _ _ _ _ c.in-Ok.ensures.held.1 _ _ _ refl c.in-Err-divide.ensures
 
 pub returns-in-Ok-divide-clause-ready : goal.returns-in-Ok-divide-clause-ready
-returns-in-Ok-divide-clause-ready g c = record {
-  layout_is = c.in-Ok-divide.ensures.0;
-  frames_are = c.in-Ok-divide.ensures.1;
-  clean = c.in-Ok.ensures.held.0;
-  outcome_is = ready_says (map string_bytes c.args.words.now) c.args.steps c.args.frames c.requires.asked
-      _ c.in-Ok.held.image c.in-Ok.held.outside.input.items c.in-Ok.held.outside.plan c.in-Ok.ensures.held.1 c.in-Ok-divide.ensures.2;
-}
+returns-in-Ok-divide-clause-ready g c =
+    let words = map string_bytes c.args.words.now in
+    let held = c.in-Ok.held in
+    let opened = c.in-Ok-divide.opened in
+    let (same, layout_is, frames_are, fits) = c.in-Ok-divide.ensures in
+    subst (λ image. IsReady words (g.S.Shelf.files c.args.shelf.now) c.args.steps c.args.frames image opened.layout held.outside.input.items held.outside.plan)
+    (sym same)
+    (record {
+      layout_is = layout_is;
+      frames_are = frames_are;
+      clean = c.in-Ok.ensures.held.0;
+      outcome_is = ready_says words c.args.steps c.args.frames c.requires.asked
+          _ held.image held.outside.input.items held.outside.plan c.in-Ok.ensures.held.1 fits;
+    })

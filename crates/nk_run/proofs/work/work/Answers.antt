@@ -1,18 +1,17 @@
-use Rattle.std.proofs.Common.{◌≡◌, [], ℕ, List, inr, subst, ap, ◌∙◌}
+use Rattle.std.proofs.Common.{◌≡◌, [], ℕ, List, inr, ap, ◌∙◌}
 use Rattle.irq_plan.specs.declared.event.Event.{Event}
 use Rattle.gate_state.specs.MachineOpening.{opening_state}
 use Rattle.gate_state.specs.MachineStates.{MachineState}
 use Rattle.nk_run.specs.Outcome.{worked}
-use Rattle.nk_run.specs.Replies.{IsWritten}
-use Rattle.nk_run.specs.Witness.{sink_change}
 use Rattle.nk_run.specs.WorkSummary.{work_text}
 use Rattle.nk_run.proofs.RunRows.{work_says}
+use Rattle.nk_run.proofs.Texts.{put_written}
 use Rattle.nk_run.proofs.work.work.Goals as goal
 
 pub returns-in-Some-begin : goal.returns-in-Some-begin
 returns-in-Some-begin g c = λ shelf same.
-    let image = c.in-Some.ready.image in
-    let frames = c.in-Some.ready.layout.frames in
+    let image = c.in-Some.opened.image in
+    let frames = c.in-Some.opened.layout.frames in
     let it = c.in-Some.ensures in
     let text : work_text 2000000 c.in-Some-quiet.plan c.in-Some-begin.machine.state ≡ worked image =
     ap (λ (s : MachineState). work_text 2000000 c.in-Some-quiet.plan s) c.in-Some-begin.ensures.state
@@ -24,7 +23,8 @@ returns-in-Some-begin g c = λ shelf same.
       status = 0;
       text = worked image;
       says = inr (work_says _ c.args.number c.requires.asked image it.made shelf);
-      written = subst (λ l. IsWritten (sink_change g.O.Sink.taken g.O.Sink.faults c.args.sink.now c.count.new.sink) 0 l c.count.result)
-          text c.count.ensures.written;
+      written =
+          let put = c.count.ensures.written in
+          put_written _ _ _ _ _ _ text put.0 put.1 put.2 c.unless_cut.ensures;
       files_stay = same;
     }

@@ -1,0 +1,5 @@
+use Rattle.nk_run.proofs.RunRows.{map_stops}
+use Rattle.nk_run.proofs.map.map.Goals as goal
+
+pub returns-in-Err-clause-says : goal.returns-in-Err-clause-says
+returns-in-Err-clause-says g c = map_stops _ c.args.frames c.args.va c.requires.asked _ _ _ c.in-Err.ensures.opened

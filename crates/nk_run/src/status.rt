@@ -1,0 +1,54 @@
+//! How the program ends.
+ghost use Rattle.std.specs.Prelude.{◌≡◌, MatchResult};
+ghost use Rattle.nk_run.specs.Statuses.{status_number};
+
+use nk_host::SinkFault;
+
+/// How the program ends.
+#[derive(Clone, Copy, Debug, PartialEq, Eq)]
+pub(crate) enum Status {
+    /// All was done.
+    Done,
+    /// The image isn't admitted, or has no room.
+    Refused,
+    /// The words have none of the forms.
+    Formless,
+    /// A file couldn't be read.
+    Unread,
+    /// The text couldn't be written whole.
+    Cut,
+    /// There was no memory.
+    Want,
+    /// A line of the plan or of the journal isn't right.
+    WrongLine,
+    /// A file is longer than the limit.
+    Longer,
+}
+
+impl Status {
+    /// The exit status.
+    pub(crate) fn number(self) -> u8
+        ensures { result ≡ status_number self }
+    {
+        match self {
+            Status::Done => 0,
+            Status::Refused => 1,
+            Status::Formless => 2,
+            Status::Unread => 3,
+            Status::Cut => 4,
+            Status::Want => 5,
+            Status::WrongLine => 6,
+            Status::Longer => 7,
+        }
+    }
+
+    /// This status where its text was put, else that of a fault of the sink.
+    pub(crate) fn unless_cut(self, put: Result<(), SinkFault>) -> Status
+        ensures { MatchResult put (λ _. result ≡ self) (λ _. result ≡ Status.Cut) }
+    {
+        match put {
+            Ok(()) => self,
+            Err(SinkFault) => Status::Cut,
+        }
+    }
+}
