@@ -13,7 +13,7 @@ pub mod Runs
 pub mod RunEnds
 pub mod JournalOutcomes
 pub mod SafeRuns
-pub mod Moves
+pub mod StepTexts
 pub mod Texts
 pub mod OpeningMemory
 pub mod CountedRuns

@@ -4,8 +4,9 @@ ghost use Rattle.page_desc.specs.PageTables.{is_table};
 ghost use Rattle.page_desc.specs.DescriptorBytes.{HoldsDescriptors, kinds_in};
 ghost use Rattle.nk_body.specs.NestedRecord.{HoldsBooks, nested_held};
 ghost use Rattle.gate_state.specs.MachineOf.{whole_of};
-ghost use Rattle.gate_state.specs.MachineStates.{nested_of};
-ghost use Rattle.gate_state.specs.MachineSteps.{move_of, next};
+ghost use Rattle.gate_state.specs.MachineStates.{MachineState, nested_of};
+ghost use Rattle.gate_state.specs.declared.moves.Move.{Move};
+ghost use Rattle.gate_state.specs.MachineSteps.{move_of, next, step_by};
 ghost use Rattle.gate_state.specs.WholeMachine.{is_rest};
 ghost use Rattle.report_text.specs.RunLines.{ending_line, turns_line};
 ghost use Rattle.report_text.specs.RunSummary.{summary_lines};
@@ -16,7 +17,7 @@ ghost use Rattle.nk_run.specs.Witness.{sink_change};
 
 use crate::drive::ending_at;
 use crate::ending::Ending;
-use gate_state::{Machine, Seen, moves_law};
+use gate_state::{Machine, Seen, Step, moves_law};
 use irq_plan::Plan;
 use nk_bits::{Answer, Kind};
 use nk_body::Kernel;
@@ -82,19 +83,19 @@ fn advance<'i>(machine: Machine<'i>, plan: &Plan, tally: Tally) -> (Machine<'i>,
     ensures next { (whole_of result.0).state ≡ next plan.now (whole_of machine.entry).state }
     ensures counted { let s = (whole_of machine.entry).state in result.1 ≡ with_step (move_of plan.now s) s tally }
 {
-    match machine {
-        Machine::Outer(outer) => {
-            let (next, seen) = outer.step(plan);
-            (next, shown(tally, &seen))
-        }
-        Machine::Gate(gate) => {
-            let (next, seen) = gate.step(plan);
-            (next, shown(tally, &seen))
-        }
-        Machine::Nested(nested) => {
-            let (next, called) = nested.serve();
-            (Machine::Gate(next), answered(tally, &called.answer))
-        }
+    let (next, step) = machine.step(plan);
+    (next, stepped(tally, &step))
+}
+
+/// Counts a step by what it shows.
+fn stepped(tally: Tally, step: &Step) -> Tally
+    requires { CanCount tally }
+    ensures { (m : Move) (s : MachineState) → step.now ≡ step_by m s → result ≡ with_step m s tally }
+{
+    match step {
+        Step::Rested => tally,
+        Step::Seen(seen) => shown(tally, seen),
+        Step::Called(it) => answered(tally, &it.answer),
     }
 }
 

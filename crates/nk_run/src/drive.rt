@@ -4,13 +4,12 @@ ghost use Rattle.std.specs.Io.KnownBytes.{Appends};
 ghost use Rattle.nk_host.specs.FaultCounts.{RoseTo};
 ghost use Rattle.nk_host.specs.Taken.{AppendsPrefix};
 ghost use Rattle.boot_map.specs.Division.{IsLayout};
-ghost use Rattle.nk_body.specs.CallRules.{Sourced, bytes_read};
 ghost use Rattle.nk_body.specs.NestedRecord.{HoldsBooks, nested_held};
-ghost use Rattle.nk_body.specs.SourceWords.{sourced_of};
 ghost use Rattle.gate_state.specs.MachineOf.{whole_of};
 ghost use Rattle.gate_state.specs.MachineStates.{nested_of};
-ghost use Rattle.gate_state.specs.MachineSteps.{move_of, next, took_by};
-ghost use Rattle.gate_state.specs.WholeMachine.{is_rest};
+ghost use Rattle.gate_state.specs.MachineSteps.{move_of, next, step_by};
+ghost use Rattle.gate_state.specs.WholeMachine.{WholeState, is_rest, source_after};
+ghost use Rattle.gate_state.specs.declared.moves.Move.{Move};
 ghost use Rattle.report_text.specs.ClosingSection.{section};
 ghost use Rattle.report_text.specs.RunLines.{ending_line, turns_line};
 ghost use Rattle.nk_run.specs.Replies.{IsPut};
@@ -19,9 +18,8 @@ ghost use Rattle.nk_run.specs.Witness.{sink_change};
 
 use crate::ending::Ending;
 use crate::opening::Opened;
-use gate_state::{Finished, Machine, Seen, Took, moves_law};
+use gate_state::{Finished, Machine, Seen, Step, moves_law};
 use irq_plan::Plan;
-use nk_body::Source;
 use nk_host::{Sink, SinkFault};
 
 /// Takes the steps of a run, and writes its text.
@@ -88,37 +86,31 @@ fn advance<'i, O: Sink>(
     ensures some { let s = (whole_of machine.entry).state in
         OnErr result.1 (AppendsPrefix (O.taken sink.old) (O.taken sink.new) (shown_by (move_of plan.now s) s)) }
 {
-    match machine {
-        Machine::Outer(outer) => {
-            let (next, seen) = outer.step(plan);
-            (next, show(&seen, sink))
-        }
-        Machine::Gate(gate) => {
-            let (next, seen) = gate.step(plan);
-            (next, show(&seen, sink))
-        }
-        Machine::Nested(nested) => {
-            let (next, called) = nested.serve();
-            let source = sourced(called.source, next.source());
-            let shown = report_text::called(sink, &called.call, &source, &called.answer);
-            (Machine::Gate(next), shown)
-        }
-    }
+    let (next, step) = machine.step(plan);
+    let shown = show(&next, &step, sink);
+    (next, shown)
 }
 
-/// What a call took, with the bytes that were read last.
-fn sourced<'s>(took: Took, bytes: &'s [u8]) -> Source<'s>
-    ensures { (source : Sourced) → took ≡ took_by source → bytes.now ≡ bytes_read source → sourced_of result ≡ source }
+/// Writes what a step shows that the machine took last.
+fn show<'i, O: Sink>(machine: &Machine<'i>, step: &Step, sink: &mut O) -> Result<(), SinkFault>
+    ensures never_falls { O.faults sink.old ≤ O.faults sink.new }
+    ensures failed { OnErr result (RoseTo (O.faults sink.old) (O.faults sink.new)) }
+    ensures all { (m : Move) (w : WholeState) → step.now ≡ step_by m w.state → (whole_of machine.now).source ≡ source_after m w
+        → OnOk result (Appends (O.taken sink.old) (O.taken sink.new) (shown_by m w.state)) }
+    ensures some { (m : Move) (w : WholeState) → step.now ≡ step_by m w.state → (whole_of machine.now).source ≡ source_after m w
+        → OnErr result (AppendsPrefix (O.taken sink.old) (O.taken sink.new) (shown_by m w.state)) }
 {
-    match took {
-        Took::NotTaken => Source::NotTaken,
-        Took::Unreadable => Source::Unreadable,
-        Took::Taken => Source::Bytes(bytes),
+    match step {
+        Step::Rested => Ok(()),
+        Step::Seen(seen) => show_seen(seen, sink),
+        Step::Called(it) => {
+            report_text::called(sink, &it.call, &machine.source(it.source), &it.answer)
+        }
     }
 }
 
 /// Writes what a step shows that isn't the nested kernel's.
-fn show<O: Sink>(seen: &Seen, sink: &mut O) -> Result<(), SinkFault>
+fn show_seen<O: Sink>(seen: &Seen, sink: &mut O) -> Result<(), SinkFault>
     ensures never_falls { O.faults sink.old ≤ O.faults sink.new }
     ensures failed { OnErr result (RoseTo (O.faults sink.old) (O.faults sink.new)) }
     ensures all { OnOk result (Appends (O.taken sink.old) (O.taken sink.new) (shown seen.now)) }
