@@ -9,10 +9,8 @@ use Rattle.irq_plan.specs.PlanFile.{plan_of}
 use Rattle.boot_map.specs.Division.{need}
 use Rattle.gate_state.specs.MachineStates.{Opening}
 use Rattle.replay_core.specs.ReplayedCalls.{replay_of}
-use Rattle.nk_run.specs.declared.command_line.Command.{Command}
-use Rattle.nk_run.specs.declared.command_line.Command.TheVariants.{Scan, Map, Run, Replay, Make, Work}
 use Rattle.nk_run.specs.declared.command_line.Role.TheVariants.{Image, Input, Plan, Journal}
-use Rattle.nk_run.specs.CommandLine.{command_of, name_in}
+use Rattle.nk_run.specs.CommandLine.{Command, Scan, Map, Run, Replay, Make, Work, command_of, name_in}
 use Rattle.nk_run.specs.Lines.{longest_file}
 use Rattle.nk_run.specs.Witness.{Change, Files, ShelfState, Witness}
 use Rattle.nk_run.specs.Outcome.{Answer, Verdict, passes, decided, first_verdict, checks_of, text_of, outcome, command_outcome, fetch_verdict, formed, clean, journaled, opened, opening_in, planned, replay_in, roomy, file_in}

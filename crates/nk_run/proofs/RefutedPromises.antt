@@ -3,11 +3,9 @@ use Rattle.std.proofs.Common.{◌≡◌, ◌≢◌, ℕ, List, ◌++◌, None, S
 use Rattle.std.specs.Prelude.{MatchOption, ◌⊎◌, ⊤}
 use Rattle.std.specs.Io.KnownBytes.{Appends}
 use Rattle.nk_host.specs.FaultCounts.{RoseTo}
-use Rattle.nk_run.specs.declared.command_line.Command.{Command}
-use Rattle.nk_run.specs.declared.command_line.Command.TheVariants.{Scan}
 use Rattle.nk_run.specs.declared.command_line.Role.{Role}
 use Rattle.nk_run.specs.Clauses.{IsOutside, NameRose, Promises, SinkRose, TookAll}
-use Rattle.nk_run.specs.CommandLine.{IsAsked, command_of}
+use Rattle.nk_run.specs.CommandLine.{Command, Scan, IsAsked, command_of}
 use Rattle.nk_run.specs.Outcome.{Answer, outcome}
 use Rattle.nk_run.specs.Witness.{Files, Witness}
 use Rattle.nk_run.proofs.Told.{told_at}

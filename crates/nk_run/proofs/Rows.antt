@@ -5,11 +5,9 @@ use Rattle.std.proofs.lemmas.Grind.{common_steps}
 use Rattle.std.specs.Prelude.{MatchBool, ⊤}
 use Rattle.nk_host.specs.FaultCounts.{NeverFalls, RoseTo}
 use Rattle.nk_host.specs.Told.{IfTold}
-use Rattle.nk_run.specs.declared.command_line.Command.{Command}
-use Rattle.nk_run.specs.declared.command_line.Command.TheVariants.{Scan}
 use Rattle.nk_run.specs.declared.command_line.Role.{Role}
 use Rattle.nk_run.specs.declared.command_line.Role.TheVariants.{Image, Input, Plan, Journal}
-use Rattle.nk_run.specs.CommandLine.{IsAsked, command_of, is_same, name_in, roles_of}
+use Rattle.nk_run.specs.CommandLine.{Command, Scan, IsAsked, command_of, is_same, name_in, roles_of}
 use Rattle.nk_run.specs.Witness.{Change, Files, ShelfState}
 use Rattle.nk_run.specs.Outcome.{Answer, Check, DoesPass, IsReached, IsReachedAfter, Verdict, checks_of, decided, ends, fetch, fetch_verdict, file_in, first_verdict, outcome, command_outcome, passes, image_checks, text_of, unheld, unless_ended}
 use Rattle.nk_run.specs.Replies.{CommandSays, IsOwn, IsWant, RefusesBy, Stops, StopsIn, is_listed}
@@ -138,6 +136,16 @@ own_number number status kinds e = record {
 pub own_zero : IsOwn 0
 own_zero = own_number 0 0 (inl refl) refl
 
+-- the statuses of a walk are two of them
+pub own_small : (status : ℕ) → status ≤ 1 → IsOwn status
+own_small status small = record {
+  small = omega (arith, small);
+  not_usage = λ h. omega (arith, small, h);
+  not_unread = λ h. omega (arith, small, h);
+  not_cut = λ h. omega (arith, small, h);
+  not_want = λ h. omega (arith, small, h);
+}
+
 pub some_is : {A : Type 0} (o : Option A) (x : A) → o ≡ Some x → IsSome o
 some_is {A = A} o x e = let P : Option A → Type 0 = λ p. IsSome p in subst P (sym e) refl
 
@@ -194,7 +202,7 @@ module _ (words : List (List ℕ)) (command : Command) (asked : command_of words
       outcome_is files ∙ ap (λ (v : Verdict). decided (unless_ended v (first_verdict (later files))) (answer files)) e
 
   -- the row passed, and the checks behind it decide
-  row_passed : (files : Files) (v : Verdict) → first_verdict (row files) ≡ passes → first_verdict (later files) ≡ v
+  pub row_passed : (files : Files) (v : Verdict) → first_verdict (row files) ≡ passes → first_verdict (later files) ≡ v
       → outcome words files ≡ decided v (answer files)
   row_passed files v e is =
       outcome_is files ∙ ap (λ (u : Verdict). decided (unless_ended u (first_verdict (later files))) (answer files)) e

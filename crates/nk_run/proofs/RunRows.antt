@@ -9,14 +9,14 @@ use Rattle.gate_state.specs.MachineStates.{Opening}
 use Rattle.report_text.specs.ClosingSection.{section}
 use Rattle.replay_core.specs.ReplayedCalls.{WholeReplay, replay_of}
 use Rattle.image_maker.specs.MadeImage.{image_of_number}
-use Rattle.nk_run.specs.declared.command_line.Command.TheVariants.{Make, Map, Replay, Run, Work}
 use Rattle.nk_run.specs.declared.command_line.Role.TheVariants.{Image, Input, Journal, Plan}
-use Rattle.nk_run.specs.CommandLine.{command_of, roles_of}
-use Rattle.nk_run.specs.Outcome.{Answer, Check, Verdict, ends, events_in, file_in, first_verdict, image_checks, journal_checks, journaled, opened, opening_in, outcome, passes, replay_in, roomy, run_checks, test, unless_ended, worked}
-use Rattle.nk_run.specs.Replies.{CommandSays, IsWant, RefusesBy, Stops, StopsIn}
+use Rattle.nk_run.specs.CommandLine.{Make, Map, Replay, Run, Work, command_of, roles_of}
+use Rattle.nk_run.specs.Outcome.{Answer, Check, Verdict, decided, ends, events_in, file_in, first_verdict, image_checks, journal_checks, journaled, opened, opening_in, outcome, passes, replay_in, roomy, run_checks, test, translation_of, unheld, unless_ended, worked}
+use Rattle.nk_run.specs.Replies.{CommandSays, Concludes, IsWant, RefusesBy, Stops, StopsIn}
+use Rattle.nk_run.specs.Lines.{walk_line}
 use Rattle.nk_run.specs.RunStates.{run_text}
 use Rattle.nk_run.specs.Witness.{Change, Files, ShelfState}
-use Rattle.nk_run.proofs.Rows.{all_says, image_stops, later_says, outcome_says, own_zero, row_says, wants_says}
+use Rattle.nk_run.proofs.Rows.{all_says, image_stops, later_says, outcome_says, own_small, own_zero, row_passed, row_says, wants_says}
 use Rattle.nk_run.proofs.Told.{if_told, told_at}
 
 last_ends : (v later : Verdict) (it : Answer) → v ≡ ends it → unless_ended v later ≡ ends it
@@ -28,12 +28,40 @@ next_ends u v it first e = rw (first, e) refl
 both : (u v : Verdict) → u ≡ passes → v ≡ passes → unless_ended u (unless_ended v passes) ≡ passes
 both u v first second = rw (first, second) refl
 
--- A walk of the opening's tables, for which the image isn't opened.
-pub map_stops : (words : List (List ℕ)) (frames va : ℕ) → command_of words ≡ Some (Map frames va) → (shelf : Change ShelfState) (status : ℕ) (text : List ℕ)
-    → Stops words shelf Image (λ files. first_verdict (image_checks files words)) status text → CommandSays words shelf status text
-map_stops words frames va asked shelf status text stops =
-    row_says words (Map frames va) asked (λ files. image_checks files words) (λ files. test (roomy (need (file_in files words Image) frames) frames) ∷ [])
-    (λ files. refl) (λ e. cc) shelf status text (image_stops words shelf status text stops)
+-- A walk of the opening's tables.
+unless_passes : (v : Verdict) → unless_ended v passes ≡ v
+unless_passes passes = refl
+unless_passes (ends answer) = refl
+unless_passes unheld = refl
+
+module _ (words : List (List ℕ)) (frames va : ℕ) (asked : command_of words ≡ Some (Map frames va)) where
+  abbrev map_row : Files → List Check
+  map_row files = image_checks files words
+
+  abbrev map_last : Files → List Check
+  map_last files = test (roomy (need (file_in files words Image) frames) frames) ∷ []
+
+  -- the image isn't opened
+  pub map_stops : (shelf : Change ShelfState) (status : ℕ) (text : List ℕ)
+      → Stops words shelf Image (λ files. first_verdict (image_checks files words)) status text → CommandSays words shelf status text
+  map_stops shelf status text stops =
+      row_says words (Map frames va) asked map_row map_last (λ files. refl) (λ e. cc) shelf status text (image_stops words shelf status text stops)
+
+  -- what is said of an image with these bytes, which are those of the file
+  abbrev said_of : List ℕ → Option Answer
+  said_of image = decided (roomy (need image frames) frames) (record { status = 0; text = walk_line (translation_of image frames va) })
+
+  pub map_says : (image : List ℕ) (shelf : Change ShelfState) (status : ℕ) (text : List ℕ)
+      → IfTold shelf.before.files (λ files. (image ≡ file_in files words Image) × (first_verdict (image_checks files words) ≡ passes))
+      → Concludes (roomy (need image frames) frames) (walk_line (translation_of image frames va)) status text → CommandSays words shelf status text
+  map_says image shelf status text passed (inl want) =
+      wants_says words (Map frames va) asked map_row map_last (λ files. refl) (λ e. cc) shelf status text want
+  map_says image shelf status text passed (inr (said, small)) =
+      outcome_says words (Map frames va) asked map_row map_last (λ files. refl) (λ e. cc) shelf status text (own_small status small)
+      (if_told shelf.before.files _ (λ files e.
+      let (same, first) = told_at shelf.before.files _ files e passed in
+      row_passed words (Map frames va) asked map_row map_last (λ files. refl) (λ e. cc) files _ first (unless_passes _)
+      ∙ ap said_of (sym same) ∙ said))
 
 -- A run.
 module _ (words : List (List ℕ)) (steps frames : ℕ) (asked : command_of words ≡ Some (Run steps frames)) where

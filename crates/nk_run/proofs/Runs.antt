@@ -19,7 +19,7 @@ use Rattle.nk_run.specs.declared.ending.Ending.TheVariants as ending
 use Rattle.report_text.specs.ClosingSection.{section}
 use Rattle.report_text.specs.RunLines.{ending_line, turns_line}
 use Rattle.nk_run.specs.Clauses.{SinkRose, TookPrefix}
-use Rattle.nk_run.specs.Replies.{IsPut}
+use Rattle.nk_run.specs.Replies.{IsTextPut}
 use Rattle.nk_run.specs.RunStates.{closing, ended, ending_at, is_halted, lines_from, one_unless, run_length, run_text, shown_by, steps_within}
 use Rattle.nk_run.specs.Witness.{sink_change}
 use Rattle.nk_run.proofs.Texts.{prefix_behind, prefix_of_both, rose_before, went_on}
@@ -183,10 +183,10 @@ module _ {O : Type 0} (taken : O → Option (List ℕ)) (faults : O → ℕ) (fi
 
     -- the run ended, and the rest was written or cut
     pub closes : {A E : Type 0} (later : O) (reason : Ending) (put : Result A E) → ending_at steps plan w.state ≡ Some reason
-        → IsPut (sink_change taken faults now later) (ending_line (is_halted reason)
+        → IsTextPut (sink_change taken faults now later) (ending_line (is_halted reason)
         ++ (turns_line w.state.turns ++ section o.image o.frames (nested_of w.state))) put
-        → IsPut (sink_change taken faults first later) whole put
+        → IsTextPut (sink_change taken faults first later) whole put
     closes later reason put e written =
         let text = going.split ∙ ap (λ l. going.done ++ l) (text_ended o steps plan w.state reason e) in
-        subst (λ l. IsPut (sink_change taken faults first later) l put) (sym text)
+        subst (λ l. IsTextPut (sink_change taken faults first later) l put) (sym text)
         (went_on taken faults first now later going.done going.done _ put refl going.never_fell going.appended written)

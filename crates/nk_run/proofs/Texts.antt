@@ -8,7 +8,7 @@ use Rattle.std.proofs.lemmas.List.{take-append-le}
 use Rattle.nk_host.specs.FaultCounts.{RoseTo}
 use Rattle.nk_host.specs.Taken.{AppendsPrefix}
 use Rattle.nk_run.specs.Clauses.{SinkRose, TookAll, TookPrefix}
-use Rattle.nk_run.specs.Replies.{IsPut, IsWritten}
+use Rattle.nk_run.specs.Replies.{IsTextPut, IsWritten}
 use Rattle.nk_run.specs.declared.status.Status.{Status}
 use Rattle.nk_run.specs.declared.status.Status.TheVariants.{Cut}
 use Rattle.nk_run.specs.Statuses.{status_number}
@@ -37,7 +37,7 @@ prefix_of_both a b x y (n, short, appended) = (
 -- a text was put, and what was put behind it is the rest
 pub went_on : {O A E : Type 0} (taken : O → Option (List ℕ)) (faults : O → ℕ) (a b c : O) (bytes x y : List ℕ) (put : Result A E)
     → bytes ≡ x → faults a ≤ faults b → Appends (taken a) (taken b) bytes
-    → IsPut (sink_change taken faults b c) y put → IsPut (sink_change taken faults a c) (x ++ y) put
+    → IsTextPut (sink_change taken faults b c) y put → IsTextPut (sink_change taken faults a c) (x ++ y) put
 went_on taken faults a b c bytes x y (Ok _) e low whole (done, _, _) =
     let first = subst (Appends (taken a) (taken b)) e whole in
     (Appends-trans (taken a) (taken b) (taken c) x y first done, tt, tt)

@@ -6,10 +6,8 @@ use Rattle.nk_bits.specs.declared.leaf.Leaf.{Leaf}
 use Rattle.nk_bits.specs.declared.leaf.Rights.{Rights}
 use Rattle.report_text.specs.ImageLines.{admitted_line, image_line, protected_line}
 use Rattle.report_text.specs.RunLines.{hex_16}
-use Rattle.nk_run.specs.declared.command_line.Command.{Command}
-use Rattle.nk_run.specs.declared.command_line.Command.TheVariants.{Scan, Map, Run, Replay, Make, Work}
 use Rattle.nk_run.specs.declared.command_line.Role.TheVariants.{Image, Input, Plan, Journal}
-use Rattle.nk_run.specs.CommandLine.{command_of}
+use Rattle.nk_run.specs.CommandLine.{Command, Scan, Map, Run, Replay, Make, Work, command_of}
 use Rattle.nk_run.specs.Lines.{frame_line, journal_line, longer_line, missing_line, no_memory_line, noroom_line, plan_line, rights_text, unread_line, usage_line, walk_line}
 
 -- `scan IMAGE`, whatever the name of the file

@@ -20,11 +20,9 @@ use Rattle.replay_core.specs.ReplayedCalls.{replay_of}
 use Rattle.image_maker.specs.MadeImage.{image_of_number}
 use Rattle.gate_state.specs.SafeStates.{IsSafe}
 use Rattle.gate_state.specs.WindowLeft.{IsShortWindow}
-use Rattle.nk_run.specs.declared.command_line.Command.{Command}
-use Rattle.nk_run.specs.declared.command_line.Command.TheVariants.{Scan, Map, Run, Replay, Make, Work}
 use Rattle.nk_run.specs.declared.command_line.Role.{Role}
 use Rattle.nk_run.specs.declared.command_line.Role.TheVariants.{Image, Input, Plan, Journal}
-use Rattle.nk_run.specs.CommandLine.{command_of, name_in, IsAsked}
+use Rattle.nk_run.specs.CommandLine.{Command, Scan, Map, Run, Replay, Make, Work, command_of, name_in, IsAsked}
 use Rattle.nk_run.specs.JournalLaw.{IsJournal}
 use Rattle.nk_run.specs.Lines.{longest_file, no_memory_line, unread_line, usage_line}
 use Rattle.nk_run.specs.RunStates.{EndsAfter, run_length}

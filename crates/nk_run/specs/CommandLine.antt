@@ -3,11 +3,18 @@ use Rattle.std.specs.Prelude.{ℕ, ◌≤◌, Bool, true, false, if◌then◌els
 use Rattle.std.specs.Option.{option_map}
 use Rattle.std.specs.Str.{bytes_eq}
 use Rattle.nk_bits.specs.Paging.{is_canonical}
-use Rattle.nk_run.specs.declared.command_line.Command.{Command}
-use Rattle.nk_run.specs.declared.command_line.Command.TheVariants.{Scan, Map, Run, Replay, Make, Work}
 use Rattle.nk_run.specs.declared.command_line.Role.{Role}
 use Rattle.nk_run.specs.declared.command_line.Role.TheVariants.{Image, Input, Plan, Journal}
 use Rattle.nk_run.specs.NumberWords.{decimal_within, address_word}
+
+-- what the words ask for, by the numbers among them; the names of the files are read beside it
+pub data Command : Type 0 where
+  Scan : Command
+  Map : ℕ → ℕ → Command
+  Run : ℕ → ℕ → Command
+  Replay : ℕ → Command
+  Make : ℕ → Command
+  Work : ℕ → Command
 
 -- `scan IMAGE`; and `make NUMBER` and `work NUMBER`, NUMBER from 1 to 100
 abbrev pub short_of : List ℕ → List ℕ → Option Command
@@ -48,15 +55,6 @@ command_of (name ∷ word ∷ []) = short_of name word
 command_of (name ∷ image ∷ frames ∷ word ∷ []) = middle_of name frames word
 command_of (name ∷ image ∷ input ∷ plan ∷ steps ∷ frames ∷ []) = run_of name steps frames
 command_of _ = None
-
--- how many words a command's form has
-abbrev pub word_count : Command → ℕ
-word_count Scan = 2
-word_count (Map frames va) = 4
-word_count (Run steps frames) = 6
-word_count (Replay frames) = 4
-word_count (Make number) = 2
-word_count (Work number) = 2
 
 -- a command's numbers lie within their bounds
 abbrev pub IsBounded : Command → Type 0

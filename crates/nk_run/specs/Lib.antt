@@ -11,6 +11,7 @@ pub mod JournalLaw
 pub mod Clauses
 -- Words of private clauses and proofs.
 pub mod Statuses
+pub mod NamedCommands
 pub mod ReplyText
 pub mod Replies
 pub mod HeldFile

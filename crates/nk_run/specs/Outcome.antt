@@ -20,11 +20,9 @@ use Rattle.report_text.specs.ClosingSection.{section}
 use Rattle.report_text.specs.ImageLines.{admitted_line, image_line, protected_line}
 use Rattle.replay_core.specs.ReplayedCalls.{WholeReplay, Replayed, replay_of}
 use Rattle.image_maker.specs.MadeImage.{image_of_number}
-use Rattle.nk_run.specs.declared.command_line.Command.{Command}
-use Rattle.nk_run.specs.declared.command_line.Command.TheVariants.{Scan, Map, Run, Replay, Make, Work}
 use Rattle.nk_run.specs.declared.command_line.Role.{Role}
 use Rattle.nk_run.specs.declared.command_line.Role.TheVariants.{Image, Input, Plan, Journal}
-use Rattle.nk_run.specs.CommandLine.{command_of, is_same, name_in}
+use Rattle.nk_run.specs.CommandLine.{Command, Scan, Map, Run, Replay, Make, Work, command_of, is_same, name_in}
 use Rattle.nk_run.specs.Witness.{Files}
 use Rattle.nk_run.specs.Lines.{longest_file, usage_line, longer_line, noroom_line, plan_line, journal_line, walk_line}
 use Rattle.nk_run.specs.RunStates.{run_text}

@@ -11,13 +11,11 @@ use Rattle.boot_map.specs.Division.{Division, IsLayout}
 use Rattle.nk_body.specs.NestedRecord.{HoldsBooks, OwnState, nested_held}
 use Rattle.gate_state.specs.MachineOpening.{opening_state}
 use Rattle.report_text.specs.ClosingSection.{section}
-use Rattle.nk_run.specs.declared.command_line.Command.{Command}
-use Rattle.nk_run.specs.declared.command_line.Command.TheVariants.{Run, Scan}
 use Rattle.image_maker.specs.MadeImage.{image_of_number}
 use Rattle.nk_run.specs.declared.command_line.Role.{Role}
 use Rattle.nk_run.specs.declared.command_line.Role.TheVariants.{Image}
 use Rattle.nk_run.specs.declared.count.Tally.{Tally}
-use Rattle.nk_run.specs.CommandLine.{command_of, is_same, name_in}
+use Rattle.nk_run.specs.CommandLine.{Command, Run, Scan, command_of, is_same, name_in}
 use Rattle.nk_run.specs.Lines.{no_memory_line, unread_line, usage_line, walk_line}
 use Rattle.nk_run.specs.Witness.{Change, Files, ShelfState, SinkState, Witness}
 use Rattle.nk_run.specs.Outcome.{Check, Verdict, ends, decided, first_verdict, outcome, IsReached}
@@ -80,8 +78,8 @@ IsWritten sink status text result =
     ((result ≡ status) × TookAll sink text) ⊎ ((result ≡ 4) × SinkRose sink × TookPrefix sink text)
 
 -- a text was put, or cut by a fault of the sink
-abbrev pub IsPut : {A E : Type 0} → Change SinkState → List ℕ → Result A E → Type 0
-IsPut sink text put = OnOk put (TookAll sink text) × OnErr put (SinkRose sink) × OnErr put (TookPrefix sink text)
+abbrev pub IsTextPut : {A E : Type 0} → Change SinkState → List ℕ → Result A E → Type 0
+IsTextPut sink text put = OnOk put (TookAll sink text) × OnErr put (SinkRose sink) × OnErr put (TookPrefix sink text)
 
 -- the top call says something, of a status and a text, and writes it
 pub record IsAnswered (seen : Witness) (result : ℕ) : Type 0 where

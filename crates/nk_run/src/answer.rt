@@ -1,5 +1,5 @@
 //! What the words ask for, done over the shelf's files and written to the sink.
-ghost use Rattle.std.specs.Prelude.{◌≡◌, map, IfSome};
+ghost use Rattle.std.specs.Prelude.{◌≡◌, ℕ, List, map, IfSome};
 ghost use Rattle.std.specs.String.{string_bytes};
 ghost use Rattle.nk_run.specs.CommandLine.{command_of};
 ghost use Rattle.nk_run.specs.Lines.{usage_line};
@@ -8,7 +8,7 @@ ghost use Rattle.nk_run.specs.ReplyText.{line_bytes};
 ghost use Rattle.nk_run.specs.Replies.{IsAnswered, ReadsBytes};
 ghost use Rattle.nk_run.specs.Statuses.{status_number};
 
-use crate::command_line::Command;
+use crate::command_line::Request;
 use crate::lines::usage_line;
 use crate::make::make;
 use crate::map::map;
@@ -27,7 +27,7 @@ fn usage() -> Reply
     ensures text { line_bytes result.line ≡ usage_line }
 {
     Reply {
-        status: Status::Formless,
+        status: Status::Usage,
         line: Line::Fixed(usage_line()),
     }
 }
@@ -39,21 +39,30 @@ pub(crate) fn answer<S: Shelf, O: Sink>(
     shelf: &mut S,
     sink: &mut O,
 ) -> Status
-    ensures bytes { let names = map string_bytes words.now in
-        IfSome (command_of names) (λ command. ReadsBytes command names (S.files shelf.old)) }
+    ghost names: { List (List ℕ) }
+    requires { names ≡ map string_bytes words.now }
+    ensures bytes { IfSome (command_of names) (λ command. ReadsBytes command names (S.files shelf.old)) }
     ensures answered { IsAnswered (record {
-      words = map string_bytes words.now;
+      words = names;
       shelf = shelf_change S.files S.faults S.wants shelf.old shelf.new;
       sink = sink_change O.taken O.faults sink.old sink.new;
     }) (status_number result) }
 {
-    match Command::read(words) {
+    match Request::read(words) {
         None => usage().write(sink),
-        Some(Command::Scan) => scan(alloc, words, shelf).write(sink),
-        Some(Command::Map { frames, va }) => map(alloc, words, frames, va, shelf).write(sink),
-        Some(Command::Run { steps, frames }) => run(alloc, words, steps, frames, shelf, sink),
-        Some(Command::Replay { frames }) => replay(alloc, words, frames, shelf, sink),
-        Some(Command::Make { number }) => make(alloc, words, number, sink),
-        Some(Command::Work { number }) => work(alloc, words, number, sink),
+        Some(Request::Scan { image }) => scan(alloc, image, shelf).write(sink),
+        Some(Request::Map { image, frames, va }) => {
+            map(alloc, image, frames, va, shelf).write(sink)
+        }
+        Some(
+            Request::Run {
+                files,
+                steps,
+                frames,
+            },
+        ) => run(alloc, files, steps, frames, shelf, sink),
+        Some(Request::Replay { files, frames }) => replay(alloc, files, frames, shelf, sink),
+        Some(Request::Make { number }) => make(alloc, number, sink),
+        Some(Request::Work { number }) => work(alloc, number, sink),
     }
 }

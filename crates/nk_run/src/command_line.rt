@@ -1,7 +1,8 @@
 //! The command line, read by hand: all words are positional.
-ghost use Rattle.std.specs.Prelude.{◌≡◌, length, map, IfSome};
+ghost use Rattle.std.specs.Prelude.{◌≡◌, [], ◌∷◌, map, option_map, IfSome};
 ghost use Rattle.std.specs.String.{string_bytes};
-ghost use Rattle.nk_run.specs.CommandLine.{command_of, middle_of, run_of, short_of, word_count, word_place, IsBounded};
+ghost use Rattle.nk_run.specs.CommandLine.{command_of, middle_of, run_of, short_of, IsBounded};
+ghost use Rattle.nk_run.specs.NamedCommands.{command_as, NamesFiles};
 
 use crate::numbers::{address_of, decimal_within};
 
@@ -32,112 +33,181 @@ pub enum Role {
     Journal,
 }
 
-impl Role {
-    /// The place among the words of the file's name.
-    pub(crate) fn word_place(self) -> usize
-        ensures { result ≡ word_place self }
-    {
-        match self {
-            Role::Image => 1,
-            Role::Input => 2,
-            Role::Plan => 3,
-            Role::Journal => 3,
-        }
-    }
-}
-
-/// What the words ask for. The names of the files stay in the words.
+/// The name of a file, as the words have it.
 #[derive(Clone, Copy, Debug, PartialEq, Eq)]
-pub enum Command {
-    /// Admit or refuse an image.
-    Scan,
-    /// Walk the opening tables for a linear address, in a memory of so many frames.
-    Map { frames: u32, va: u64 },
-    /// Run an image for at most so many turns, in a memory of so many frames.
-    Run { steps: u64, frames: u32 },
-    /// Make the calls of a journal, in a memory of so many frames.
-    Replay { frames: u32 },
-    /// Write the image of a number.
-    Make { number: u64 },
-    /// Run the image of a number, and count.
-    Work { number: u64 },
+pub(crate) struct FileName<'w> {
+    pub text: &'w str,
 }
 
-impl Command {
+/// The files of a run.
+#[derive(Clone, Copy, Debug, PartialEq, Eq)]
+pub(crate) struct RunFiles<'w> {
+    pub image: FileName<'w>,
+    pub input: FileName<'w>,
+    pub plan: FileName<'w>,
+}
+
+/// The files of a replay.
+#[derive(Clone, Copy, Debug, PartialEq, Eq)]
+pub(crate) struct ReplayFiles<'w> {
+    pub image: FileName<'w>,
+    pub journal: FileName<'w>,
+}
+
+/// What the words ask for.
+#[derive(Clone, Copy, Debug, PartialEq, Eq)]
+pub(crate) enum Request<'w> {
+    /// Admit or refuse an image.
+    Scan {
+        image: FileName<'w>,
+    },
+    /// Walk the opening tables for a linear address, in a memory of so many frames.
+    Map {
+        image: FileName<'w>,
+        frames: u32,
+        va: u64,
+    },
+    /// Run an image for at most so many turns, in a memory of so many frames.
+    Run {
+        files: RunFiles<'w>,
+        steps: u64,
+        frames: u32,
+    },
+    /// Make the calls of a journal, in a memory of so many frames.
+    Replay {
+        files: ReplayFiles<'w>,
+        frames: u32,
+    },
+    /// Write the image of a number.
+    Make {
+        number: u64,
+    },
+    /// Run the image of a number, and count.
+    Work {
+        number: u64,
+    },
+}
+
+impl<'w> Request<'w> {
     /// The command that the words spell, None where they have none of the forms.
-    pub(crate) fn read(words: &[String]) -> Option<Command>
-        ensures command { result ≡ command_of (map string_bytes words.now) }
-        ensures bounds { IfSome result IsBounded }
-        ensures count { IfSome result (λ command. length words.now ≡ word_count command) }
+    pub(crate) fn read(words: &'w [String]) -> Option<Request<'w>>
+        ensures command { option_map command_as result ≡ command_of (map string_bytes words.now) }
+        ensures bounds { IfSome result (λ it. IsBounded (command_as it)) }
+        ensures names { IfSome result (NamesFiles (map string_bytes words.now)) }
     {
-        match words {
-            [name, word] => read_short(name.as_str(), word.as_str()),
-            [name, _image, frames, word] => {
-                read_middle(name.as_str(), frames.as_str(), word.as_str())
-            }
-            [name, _image, _input, _plan, steps, frames] => {
-                read_run(name.as_str(), steps.as_str(), frames.as_str())
-            }
-            _ => None,
+        if let Some([name, word]) = words.as_array::<2>() {
+            return read_short(name.as_str(), word.as_str());
         }
+        if let Some([name, image, frames, word]) = words.as_array::<4>() {
+            return read_middle(
+                name.as_str(),
+                image.as_str(),
+                frames.as_str(),
+                word.as_str(),
+            );
+        }
+        if let Some(words) = words.as_array::<6>() {
+            return read_long(words);
+        }
+        None
     }
 }
 
 /// `scan IMAGE`, `make NUMBER` or `work NUMBER`.
-fn read_short(name: &str, word: &str) -> Option<Command>
-    ensures command { result ≡ short_of name.now word.now }
-    ensures bounds { IfSome result IsBounded }
-    ensures count { IfSome result (λ command. word_count command ≡ 2) }
+fn read_short<'w>(name: &str, word: &'w str) -> Option<Request<'w>>
+    ensures command { option_map command_as result ≡ short_of name.now word.now }
+    ensures bounds { IfSome result (λ it. IsBounded (command_as it)) }
+    ensures names { IfSome result (NamesFiles (name.now ∷ word.now ∷ [])) }
 {
     if name == "scan" {
-        return Some(Command::Scan);
+        let image = FileName { text: word };
+        return Some(Request::Scan { image });
     }
     if name == "make" {
         let number = decimal_within(word, LEAST_NUMBER, MOST_NUMBER)?;
-        return Some(Command::Make { number });
+        return Some(Request::Make { number });
     }
     if name == "work" {
         let number = decimal_within(word, LEAST_NUMBER, MOST_NUMBER)?;
-        return Some(Command::Work { number });
+        return Some(Request::Work { number });
     }
     None
 }
 
 /// `map IMAGE FRAMES VA` or `replay IMAGE FRAMES JOURNAL`.
-fn read_middle(name: &str, frames: &str, word: &str) -> Option<Command>
-    ensures command { result ≡ middle_of name.now frames.now word.now }
-    ensures bounds { IfSome result IsBounded }
-    ensures count { IfSome result (λ command. word_count command ≡ 4) }
+fn read_middle<'w>(name: &str, image: &'w str, frames: &str, word: &'w str) -> Option<Request<'w>>
+    ensures command { option_map command_as result ≡ middle_of
+        name.now frames.now word.now }
+    ensures bounds { IfSome result (λ it. IsBounded (command_as it)) }
+    ensures names { IfSome result (NamesFiles
+        (name.now ∷ image.now ∷ frames.now ∷ word.now ∷ [])) }
 {
+    let image = FileName { text: image };
     if name == "map" {
         let frames = decimal_within(frames, LEAST_FRAMES, MOST_FRAMES)?;
         let va = address_of(word)?;
-        return Some(Command::Map {
+        return Some(Request::Map {
+            image,
             frames: frames as u32,
             va,
         });
     }
     if name == "replay" {
         let frames = decimal_within(frames, LEAST_FRAMES, MOST_FRAMES)?;
-        return Some(Command::Replay {
+        let journal = FileName { text: word };
+        return Some(Request::Replay {
+            files: ReplayFiles { image, journal },
             frames: frames as u32,
         });
     }
     None
 }
 
+/// The command that six words spell.
+fn read_long<'w>(words: &'w [String; 6]) -> Option<Request<'w>>
+    ensures command { option_map command_as result ≡ command_of (map string_bytes words.now) }
+    ensures bounds { IfSome result (λ it. IsBounded (command_as it)) }
+    ensures names { IfSome result (NamesFiles (map string_bytes words.now)) }
+{
+    let [name, image, input, plan, steps, frames] = words;
+    read_run(
+        name.as_str(),
+        image.as_str(),
+        input.as_str(),
+        plan.as_str(),
+        steps.as_str(),
+        frames.as_str(),
+    )
+}
+
 /// `run IMAGE INPUT PLAN STEPS FRAMES`.
-fn read_run(name: &str, steps: &str, frames: &str) -> Option<Command>
-    ensures command { result ≡ run_of name.now steps.now frames.now }
-    ensures bounds { IfSome result IsBounded }
-    ensures count { IfSome result (λ command. word_count command ≡ 6) }
+fn read_run<'w>(
+    name: &str,
+    image: &'w str,
+    input: &'w str,
+    plan: &'w str,
+    steps: &str,
+    frames: &str,
+) -> Option<Request<'w>>
+    ensures command { option_map command_as result ≡ run_of
+        name.now steps.now frames.now }
+    ensures bounds { IfSome result (λ it. IsBounded (command_as it)) }
+    ensures names { IfSome result
+        (NamesFiles (name.now ∷ image.now ∷ input.now
+        ∷ plan.now ∷ steps.now ∷ frames.now ∷ [])) }
 {
     if name != "run" {
         return None;
     }
     let steps = decimal_within(steps, 0, MOST_STEPS)?;
     let frames = decimal_within(frames, LEAST_FRAMES, MOST_FRAMES)?;
-    Some(Command::Run {
+    let files = RunFiles {
+        image: FileName { text: image },
+        input: FileName { text: input },
+        plan: FileName { text: plan },
+    };
+    Some(Request::Run {
+        files,
         steps,
         frames: frames as u32,
     })

@@ -10,7 +10,7 @@ ghost use Rattle.gate_state.specs.MachineSteps.{move_of, next, step_by};
 ghost use Rattle.gate_state.specs.WholeMachine.{is_rest};
 ghost use Rattle.report_text.specs.RunLines.{ending_line, turns_line};
 ghost use Rattle.report_text.specs.RunSummary.{summary_lines};
-ghost use Rattle.nk_run.specs.Replies.{CanCount, IsPut};
+ghost use Rattle.nk_run.specs.Replies.{CanCount, IsTextPut};
 ghost use Rattle.nk_run.specs.RunStates.{is_halted};
 ghost use Rattle.nk_run.specs.WorkSummary.{summary_of, with_answer, with_shown, with_step, work_text};
 ghost use Rattle.nk_run.specs.Witness.{sink_change};
@@ -58,7 +58,7 @@ pub(crate) fn count<'i, O: Sink>(
 ) -> Result<(), SinkFault>
     requires turns { (whole_of machine).state.turns ≡ 0 }
     ensures never_falls { O.faults sink.old ≤ O.faults sink.new }
-    ensures written { IsPut (sink_change O.taken O.faults sink.old sink.new)
+    ensures written { IsTextPut (sink_change O.taken O.faults sink.old sink.new)
         (work_text 2000000 plan.now (whole_of machine.entry).state) result }
 {
     moves_law();
@@ -138,7 +138,7 @@ fn sum_up<'i, O: Sink>(
     sink: &mut O,
 ) -> Result<(), SinkFault>
     ensures never_falls { O.faults sink.old ≤ O.faults sink.new }
-    ensures written { IsPut (sink_change O.taken O.faults sink.old sink.new)
+    ensures written { IsTextPut (sink_change O.taken O.faults sink.old sink.new)
         (ending_line (is_halted reason) ++ (turns_line (whole_of machine.entry).state.turns
         ++ summary_lines (summary_of tally.now (nested_of (whole_of machine.entry).state)))) result }
 {
@@ -154,7 +154,7 @@ fn sum_up<'i, O: Sink>(
 /// Writes the counts.
 fn put_counts<O: Sink>(counts: &RunCounts, sink: &mut O) -> Result<(), SinkFault>
     ensures never_falls { O.faults sink.old ≤ O.faults sink.new }
-    ensures written { IsPut (sink_change O.taken O.faults sink.old sink.new) (summary_lines counts.now) result }
+    ensures written { IsTextPut (sink_change O.taken O.faults sink.old sink.new) (summary_lines counts.now) result }
 {
     summary(sink, counts)
 }

@@ -12,7 +12,7 @@ ghost use Rattle.gate_state.specs.WholeMachine.{WholeState, is_rest, source_afte
 ghost use Rattle.gate_state.specs.declared.moves.Move.{Move};
 ghost use Rattle.report_text.specs.ClosingSection.{section};
 ghost use Rattle.report_text.specs.RunLines.{ending_line, turns_line};
-ghost use Rattle.nk_run.specs.Replies.{IsPut};
+ghost use Rattle.nk_run.specs.Replies.{IsTextPut};
 ghost use Rattle.nk_run.specs.RunStates.{ending_at, is_halted, run_text, shown, shown_by};
 ghost use Rattle.nk_run.specs.Witness.{sink_change};
 
@@ -30,12 +30,13 @@ pub(crate) fn drive<'i, O: Sink>(
     steps: u64,
     sink: &mut O,
 ) -> Result<(), SinkFault>
-    requires opening { (whole_of machine).opening ≡ record { image = opened.now.image; frames = opened.now.layout.frames } }
+    requires opening { (whole_of machine).opening
+        ≡ record { image = opened.now.image; frames = opened.now.layout.frames } }
     requires layout { IsLayout opened.now.image opened.now.layout }
     requires steps { steps ≤ 4294967296 }
     requires turns { (whole_of machine).state.turns ≡ 0 }
     ensures never_falls { O.faults sink.old ≤ O.faults sink.new }
-    ensures written { IsPut (sink_change O.taken O.faults sink.old sink.new)
+    ensures written { IsTextPut (sink_change O.taken O.faults sink.old sink.new)
         (run_text (record { image = opened.now.image; frames = opened.now.layout.frames }) steps plan.now
         (whole_of machine.entry).state) result }
 {
@@ -130,10 +131,11 @@ fn end<'i, O: Sink>(
     ending: Ending,
     sink: &mut O,
 ) -> Result<(), SinkFault>
-    requires opening { (whole_of machine).opening ≡ record { image = opened.now.image; frames = opened.now.layout.frames } }
+    requires opening { (whole_of machine).opening
+        ≡ record { image = opened.now.image; frames = opened.now.layout.frames } }
     requires layout { IsLayout opened.now.image opened.now.layout }
     ensures never_falls { O.faults sink.old ≤ O.faults sink.new }
-    ensures written { IsPut (sink_change O.taken O.faults sink.old sink.new)
+    ensures written { IsTextPut (sink_change O.taken O.faults sink.old sink.new)
         (ending_line (is_halted ending) ++ (turns_line (whole_of machine.entry).state.turns
         ++ section opened.now.image opened.now.layout.frames (nested_of (whole_of machine.entry).state))) result }
 {
@@ -154,7 +156,7 @@ fn close<O: Sink>(
     requires books { HoldsBooks finished.now.kernel finished.now.mem }
     requires size { length finished.now.mem ≡ 4096 * opened.now.layout.frames }
     ensures never_falls { O.faults sink.old ≤ O.faults sink.new }
-    ensures written { IsPut (sink_change O.taken O.faults sink.old sink.new)
+    ensures written { IsTextPut (sink_change O.taken O.faults sink.old sink.new)
         (ending_line (is_halted ending) ++ (turns_line turns
         ++ section opened.now.image opened.now.layout.frames (nested_held finished.now.kernel finished.now.mem))) result }
 {
@@ -170,7 +172,7 @@ fn finish<O: Sink>(finished: &Finished, opened: &Opened, sink: &mut O) -> Result
     requires books { HoldsBooks finished.now.kernel finished.now.mem }
     requires size { length finished.now.mem ≡ 4096 * opened.now.layout.frames }
     ensures never_falls { O.faults sink.old ≤ O.faults sink.new }
-    ensures written { IsPut (sink_change O.taken O.faults sink.old sink.new)
+    ensures written { IsTextPut (sink_change O.taken O.faults sink.old sink.new)
         (section opened.now.image opened.now.layout.frames (nested_held finished.now.kernel finished.now.mem)) result }
 {
     report_text::section(

@@ -1,18 +1,18 @@
 //! The checks on the image, which every command on files makes first.
-ghost use Rattle.std.specs.Prelude.{◌≡◌, ◌<◌, ◌≤◌, length, map, None, Some, IfOk, MatchOption, MatchResult};
-ghost use Rattle.std.specs.String.{string_bytes};
+ghost use Rattle.std.specs.Prelude.{◌≡◌, ◌≤◌, ℕ, List, None, Some, IfOk, MatchOption, MatchResult};
 ghost use Rattle.nk_host.specs.FaultCounts.{NeverFalls};
 ghost use Rattle.nk_host.specs.Told.{IfTold};
 ghost use Rattle.elf_image.specs.Rows.{first_fault};
 ghost use Rattle.byte_scanner.specs.FirstFound.{first_found};
-ghost use Rattle.nk_run.specs.CommandLine.{name_in, word_place};
+ghost use Rattle.nk_run.specs.CommandLine.{name_in};
+ghost use Rattle.nk_run.specs.NamedCommands.{Names};
 ghost use Rattle.nk_run.specs.Witness.{shelf_change};
 ghost use Rattle.nk_run.specs.Outcome.{fetch_verdict, formed, clean, first_verdict, form_checks, image_checks, file_in, passes};
 ghost use Rattle.nk_run.specs.ReplyText.{line_bytes};
 ghost use Rattle.nk_run.specs.Statuses.{status_number};
 ghost use Rattle.nk_run.specs.Replies.{EndsBy, Stops, TellsBytes};
 
-use crate::command_line::Role;
+use crate::command_line::{FileName, Role};
 use crate::lines::{longer_line, unread_line};
 use crate::reply::{Line, Reply, no_memory};
 use crate::status::Status;
@@ -28,22 +28,24 @@ pub const FILE_LIMIT: u64 = 67_108_864;
 /// The file of a role, or the reply to a failed fetch.
 pub(crate) fn fetch<S: Shelf>(
     alloc: Global,
-    words: &[String],
+    name: FileName<'_>,
     role: Role,
     shelf: &mut S,
 ) -> Result<Vec<u8>, Reply>
-    requires { word_place role < length words.now }
+    ghost words: { List (List ℕ) }
+    requires { Names words role name }
     ensures files_stay { S.files shelf.new ≡ S.files shelf.old }
     ensures never_falls { NeverFalls (S.faults shelf.old) (S.faults shelf.new) }
-    ensures bytes { TellsBytes (map string_bytes words.now) (S.files shelf.old) role }
-    ensures fetched { let names = map string_bytes words.now in MatchResult result
+    ensures bytes { TellsBytes words (S.files shelf.old) role }
+    ensures fetched { MatchResult result
         (λ bytes. IfTold (S.files shelf.old) (λ files.
-        (files (name_in names role) ≡ Some bytes.items)
-        × (fetch_verdict role (files (name_in names role)) ≡ passes)))
-        (λ reply. Stops names (shelf_change S.files S.faults S.wants shelf.old shelf.new) role
-        (λ files. fetch_verdict role (files (name_in names role))) (status_number reply.status) (line_bytes reply.line)) }
+        (files (name_in words role) ≡ Some bytes.items)
+        × (fetch_verdict role (files (name_in words role)) ≡ passes)))
+        (λ reply. Stops words (shelf_change S.files S.faults S.wants shelf.old shelf.new) role
+        (λ files. fetch_verdict role (files (name_in words role)))
+        (status_number reply.status) (line_bytes reply.line)) }
 {
-    match shelf.fetch(alloc, words[role.word_place()].as_str(), FILE_LIMIT) {
+    match shelf.fetch(alloc, name.text, FILE_LIMIT) {
         Ok(bytes) => Ok(bytes),
         Err(FetchFault::Memory) => Err(no_memory()),
         Err(FetchFault::Failed) => Err(Reply {
@@ -51,7 +53,7 @@ pub(crate) fn fetch<S: Shelf>(
             line: Line::Fixed(unread_line(role)),
         }),
         Err(FetchFault::Longer) => Err(Reply {
-            status: Status::Longer,
+            status: Status::TooLong,
             line: Line::Fixed(longer_line(role)),
         }),
     }
@@ -101,7 +103,8 @@ fn form(bytes: Vec<u8>) -> Result<Image, Reply>
 fn admit(image: &Image) -> Option<Reply>
     ensures { MatchOption result
         ((first_found image.now ≡ None) × (clean (first_found image.now) ≡ passes))
-        (λ reply. EndsBy 1 (clean (first_found image.now)) (status_number reply.status) (line_bytes reply.line)) }
+        (λ reply. EndsBy 1 (clean (first_found image.now))
+        (status_number reply.status) (line_bytes reply.line)) }
 {
     match scan(image) {
         None => None,
@@ -114,7 +117,8 @@ fn judge(bytes: Vec<u8>) -> Result<Image, Reply>
     ensures clean { IfOk result (λ image. first_found image ≡ None) }
     ensures judged { MatchResult result
         (λ image. (image ≡ bytes.items) × (first_verdict (form_checks bytes.items) ≡ passes))
-        (λ reply. EndsBy 1 (first_verdict (form_checks bytes.items)) (status_number reply.status) (line_bytes reply.line)) }
+        (λ reply. EndsBy 1 (first_verdict (form_checks bytes.items))
+        (status_number reply.status) (line_bytes reply.line)) }
 {
     let image = match form(bytes) {
         Ok(image) => image,
@@ -127,19 +131,25 @@ fn judge(bytes: Vec<u8>) -> Result<Image, Reply>
 }
 
 /// The image, or the reply to the first check on it that doesn't pass.
-pub(crate) fn open<S: Shelf>(alloc: Global, words: &[String], shelf: &mut S) -> Result<Image, Reply>
-    requires { word_place Role.Image < length words.now }
+pub(crate) fn open<S: Shelf>(
+    alloc: Global,
+    name: FileName<'_>,
+    shelf: &mut S,
+) -> Result<Image, Reply>
+    ghost words: { List (List ℕ) }
+    requires { Names words Role.Image name }
     ensures files_stay { S.files shelf.new ≡ S.files shelf.old }
     ensures never_falls { NeverFalls (S.faults shelf.old) (S.faults shelf.new) }
-    ensures bytes { TellsBytes (map string_bytes words.now) (S.files shelf.old) Role.Image }
+    ensures bytes { TellsBytes words (S.files shelf.old) Role.Image }
     ensures clean { IfOk result (λ image. first_found image ≡ None) }
-    ensures opened { let names = map string_bytes words.now in MatchResult result
-        (λ image. IfTold (S.files shelf.old) (λ files. (image ≡ file_in files names Role.Image)
-        × (first_verdict (image_checks files names) ≡ passes)))
-        (λ reply. Stops names (shelf_change S.files S.faults S.wants shelf.old shelf.new) Role.Image
-        (λ files. first_verdict (image_checks files names)) (status_number reply.status) (line_bytes reply.line)) }
+    ensures opened { MatchResult result
+        (λ image. IfTold (S.files shelf.old) (λ files. (image ≡ file_in files words Role.Image)
+        × (first_verdict (image_checks files words) ≡ passes)))
+        (λ reply. Stops words (shelf_change S.files S.faults S.wants shelf.old shelf.new) Role.Image
+        (λ files. first_verdict (image_checks files words))
+        (status_number reply.status) (line_bytes reply.line)) }
 {
-    let bytes = match fetch(alloc, words, Role::Image, shelf) {
+    let bytes = match fetch(alloc, name, Role::Image, shelf) {
         Ok(bytes) => bytes,
         Err(reply) => return Err(reply),
     };

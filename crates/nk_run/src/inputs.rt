@@ -1,17 +1,16 @@
 //! The files that a run takes beside the image: its input, and the plan of the events of the outside.
-ghost use Rattle.std.specs.Prelude.{◌≡◌, ◌<◌, [], ◌∷◌, Ok, length, map, MatchResult};
-ghost use Rattle.std.specs.String.{string_bytes};
+ghost use Rattle.std.specs.Prelude.{◌≡◌, ℕ, List, [], ◌∷◌, Ok, MatchResult};
 ghost use Rattle.irq_plan.specs.PlanFile.{plan_of};
 ghost use Rattle.nk_host.specs.FaultCounts.{NeverFalls};
 ghost use Rattle.nk_host.specs.Told.{IfTold};
-ghost use Rattle.nk_run.specs.CommandLine.{word_place};
+ghost use Rattle.nk_run.specs.NamedCommands.{Names, NamesRun};
 ghost use Rattle.nk_run.specs.Witness.{shelf_change};
 ghost use Rattle.nk_run.specs.Outcome.{file_in, first_verdict, input_checks, passes, plan_checks, planned};
 ghost use Rattle.nk_run.specs.ReplyText.{line_bytes};
 ghost use Rattle.nk_run.specs.Statuses.{status_number};
 ghost use Rattle.nk_run.specs.Replies.{RefusesBy, Stops, StopsIn};
 
-use crate::command_line::Role;
+use crate::command_line::{FileName, Role, RunFiles};
 use crate::image::fetch;
 use crate::lines::plan_line;
 use crate::reply::{Reply, made, no_memory};
@@ -31,7 +30,8 @@ pub(crate) struct Outside {
 fn read_plan(alloc: Global, bytes: &[u8]) -> Result<Plan, Reply>
     ensures { MatchResult result
         (λ plan. plan_of bytes.now ≡ Ok plan)
-        (λ reply. RefusesBy 6 (planned (plan_of bytes.now)) (status_number reply.status) (line_bytes reply.line)) }
+        (λ reply. RefusesBy 6 (planned (plan_of bytes.now))
+        (status_number reply.status) (line_bytes reply.line)) }
 {
     match Plan::read(alloc, bytes) {
         Ok(plan) => Ok(plan),
@@ -41,17 +41,19 @@ fn read_plan(alloc: Global, bytes: &[u8]) -> Result<Plan, Reply>
 }
 
 /// The plan, or the reply to the first check on it that doesn't pass.
-fn open_plan<S: Shelf>(alloc: Global, words: &[String], shelf: &mut S) -> Result<Plan, Reply>
-    requires { word_place Role.Plan < length words.now }
+fn open_plan<S: Shelf>(alloc: Global, name: FileName<'_>, shelf: &mut S) -> Result<Plan, Reply>
+    ghost words: { List (List ℕ) }
+    requires { Names words Role.Plan name }
     ensures files_stay { S.files shelf.new ≡ S.files shelf.old }
     ensures never_falls { NeverFalls (S.faults shelf.old) (S.faults shelf.new) }
-    ensures opened { let names = map string_bytes words.now in MatchResult result
-        (λ plan. IfTold (S.files shelf.old) (λ files. (plan_of (file_in files names Role.Plan) ≡ Ok plan)
-        × (first_verdict (plan_checks files names) ≡ passes)))
-        (λ reply. Stops names (shelf_change S.files S.faults S.wants shelf.old shelf.new) Role.Plan
-        (λ files. first_verdict (plan_checks files names)) (status_number reply.status) (line_bytes reply.line)) }
+    ensures opened { MatchResult result
+        (λ plan. IfTold (S.files shelf.old) (λ files. (plan_of (file_in files words Role.Plan) ≡ Ok plan)
+        × (first_verdict (plan_checks files words) ≡ passes)))
+        (λ reply. Stops words (shelf_change S.files S.faults S.wants shelf.old shelf.new) Role.Plan
+        (λ files. first_verdict (plan_checks files words))
+        (status_number reply.status) (line_bytes reply.line)) }
 {
-    match fetch(alloc, words, Role::Plan, shelf) {
+    match fetch(alloc, name, Role::Plan, shelf) {
         Ok(bytes) => read_plan(alloc, &bytes),
         Err(reply) => Err(reply),
     }
@@ -60,25 +62,26 @@ fn open_plan<S: Shelf>(alloc: Global, words: &[String], shelf: &mut S) -> Result
 /// The input and then the plan, or the reply to the first check on either that doesn't pass.
 pub(crate) fn open_outside<S: Shelf>(
     alloc: Global,
-    words: &[String],
+    files: RunFiles<'_>,
     shelf: &mut S,
 ) -> Result<Outside, Reply>
-    requires input { word_place Role.Input < length words.now }
-    requires plan { word_place Role.Plan < length words.now }
+    ghost words: { List (List ℕ) }
+    requires { NamesRun words files }
     ensures files_stay { S.files shelf.new ≡ S.files shelf.old }
     ensures never_falls { NeverFalls (S.faults shelf.old) (S.faults shelf.new) }
-    ensures opened { let names = map string_bytes words.now in MatchResult result
-        (λ outside. IfTold (S.files shelf.old) (λ files. (outside.input.items ≡ file_in files names Role.Input)
-        × (plan_of (file_in files names Role.Plan) ≡ Ok outside.plan)
-        × (first_verdict (input_checks files names) ≡ passes)))
-        (λ reply. StopsIn names (shelf_change S.files S.faults S.wants shelf.old shelf.new)
-        (Role.Input ∷ Role.Plan ∷ []) (λ files. input_checks files names) (status_number reply.status) (line_bytes reply.line)) }
+    ensures opened { MatchResult result
+        (λ outside. IfTold (S.files shelf.old) (λ files. (outside.input.items ≡ file_in files words Role.Input)
+        × (plan_of (file_in files words Role.Plan) ≡ Ok outside.plan)
+        × (first_verdict (input_checks files words) ≡ passes)))
+        (λ reply. StopsIn words (shelf_change S.files S.faults S.wants shelf.old shelf.new)
+        (Role.Input ∷ Role.Plan ∷ []) (λ files. input_checks files words)
+        (status_number reply.status) (line_bytes reply.line)) }
 {
-    let input = match fetch(alloc, words, Role::Input, shelf) {
+    let input = match fetch(alloc, files.input, Role::Input, shelf) {
         Ok(input) => input,
         Err(reply) => return Err(reply),
     };
-    match open_plan(alloc, words, shelf) {
+    match open_plan(alloc, files.plan, shelf) {
         Ok(plan) => Ok(Outside { input, plan }),
         Err(reply) => Err(reply),
     }

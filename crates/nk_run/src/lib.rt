@@ -43,7 +43,7 @@ mod top;
 // The whole over the machine.
 mod program;
 
-pub use crate::command_line::{Command, Role};
+pub use crate::command_line::Role;
 pub use crate::image::FILE_LIMIT;
 pub use crate::program::nk_program;
 pub use crate::top::nk_main;

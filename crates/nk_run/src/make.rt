@@ -1,12 +1,10 @@
 //! The command `make NUMBER`.
-ghost use Rattle.std.specs.Prelude.{◌≡◌, map, Some};
-ghost use Rattle.std.specs.String.{string_bytes};
-ghost use Rattle.nk_run.specs.CommandLine.{command_of, IsBounded};
+ghost use Rattle.std.specs.Prelude.{◌≡◌, ℕ, List, Some};
+ghost use Rattle.nk_run.specs.CommandLine.{command_of, IsBounded, Make};
 ghost use Rattle.nk_run.specs.Replies.{IsAnswered};
 ghost use Rattle.nk_run.specs.Statuses.{status_number};
 ghost use Rattle.nk_run.specs.Witness.{Change, ShelfState, sink_change};
 
-use crate::command_line::Command;
 use crate::reply::no_memory;
 use crate::status::Status;
 use image_maker::make_image;
@@ -15,11 +13,12 @@ use std::alloc::Global;
 
 /// Writes the image of a number, in pieces. The shelf isn't looked at.
 #[inline(never)]
-pub(crate) fn make<O: Sink>(alloc: Global, words: &[String], number: u64, sink: &mut O) -> Status
-    requires asked { command_of (map string_bytes words.now) ≡ Some (Command.Make number) }
-    requires bounds { IsBounded (Command.Make number) }
+pub(crate) fn make<O: Sink>(alloc: Global, number: u64, sink: &mut O) -> Status
+    ghost words: { List (List ℕ) }
+    requires asked { command_of words ≡ Some (Make number) }
+    requires bounds { IsBounded (Make number) }
     ensures { (shelf : Change ShelfState) → shelf.after.files ≡ shelf.before.files → IsAnswered (record {
-      words = map string_bytes words.now;
+      words = words;
       shelf = shelf;
       sink = sink_change O.taken O.faults sink.old sink.new;
     }) (status_number result) }

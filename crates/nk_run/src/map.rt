@@ -1,19 +1,19 @@
 //! The command `map IMAGE FRAMES VA`.
-ghost use Rattle.std.specs.Prelude.{◌≡◌, ◌<◌, ◌*◌, ◌/◌, length, map, Some, IsTrue};
-ghost use Rattle.std.specs.String.{string_bytes};
+ghost use Rattle.std.specs.Prelude.{◌≡◌, ◌<◌, ◌*◌, ◌/◌, ℕ, List, length, Some, IsTrue};
 ghost use Rattle.phys_mem.specs.Memory.{entry_in};
 ghost use Rattle.nk_bits.specs.Paging.{is_canonical, page_of, walk};
 ghost use Rattle.boot_map.specs.Division.{need};
 ghost use Rattle.nk_bits.specs.KernelLayout.{opening_root};
-ghost use Rattle.nk_run.specs.CommandLine.{command_of, word_count, IsBounded};
+ghost use Rattle.nk_run.specs.CommandLine.{command_of, IsBounded, Map};
 ghost use Rattle.nk_run.specs.Lines.{walk_line};
+ghost use Rattle.nk_run.specs.NamedCommands.{Names};
 ghost use Rattle.nk_run.specs.Witness.{shelf_change};
 ghost use Rattle.nk_run.specs.Outcome.{roomy, translation_of};
 ghost use Rattle.nk_run.specs.ReplyText.{line_bytes};
 ghost use Rattle.nk_run.specs.Statuses.{status_number};
 ghost use Rattle.nk_run.specs.Replies.{CommandSays, Concludes, ShowsWalk};
 
-use crate::command_line::Command;
+use crate::command_line::{FileName, Role};
 use crate::image::open;
 use crate::lines::{frame_line, missing_line};
 use crate::opening::divide;
@@ -43,9 +43,10 @@ fn walk_reply(alloc: Global, memory: &PhysMem, va: u64) -> Reply
 
 /// Opens the image in a memory of so many frames, and walks its tables for an address.
 fn translate(alloc: Global, image: Image, frames: u32, va: u64) -> Reply
-    requires { IsBounded (Command.Map frames va) }
+    requires { IsBounded (Map frames va) }
     ensures { Concludes (roomy (need image frames) frames)
-        (walk_line (translation_of image frames va)) (status_number result.status) (line_bytes result.line) }
+        (walk_line (translation_of image frames va))
+        (status_number result.status) (line_bytes result.line) }
 {
     let opened = match divide(alloc, image, frames) {
         Ok(opened) => opened,
@@ -62,19 +63,21 @@ fn translate(alloc: Global, image: Image, frames: u32, va: u64) -> Reply
 #[inline(never)]
 pub(crate) fn map<S: Shelf>(
     alloc: Global,
-    words: &[String],
+    image: FileName<'_>,
     frames: u32,
     va: u64,
     shelf: &mut S,
 ) -> Reply
-    requires asked { command_of (map string_bytes words.now) ≡ Some (Command.Map frames va) }
-    requires count { length words.now ≡ word_count (Command.Map frames va) }
-    requires bounds { IsBounded (Command.Map frames va) }
+    ghost words: { List (List ℕ) }
+    requires asked { command_of words ≡ Some (Map frames va) }
+    requires named { Names words Role.Image image }
+    requires bounds { IsBounded (Map frames va) }
     ensures files_stay { S.files shelf.new ≡ S.files shelf.old }
-    ensures says { CommandSays (map string_bytes words.now)
-        (shelf_change S.files S.faults S.wants shelf.old shelf.new) (status_number result.status) (line_bytes result.line) }
+    ensures says { CommandSays words
+        (shelf_change S.files S.faults S.wants shelf.old shelf.new)
+        (status_number result.status) (line_bytes result.line) }
 {
-    match open(alloc, words, shelf) {
+    match open(alloc, image, shelf) {
         Ok(image) => translate(alloc, image, frames, va),
         Err(reply) => reply,
     }

@@ -46,7 +46,8 @@ pub(crate) fn divide(alloc: Global, image: Image, frames: u32) -> Result<Opened,
     ensures { MatchResult result
         (λ opened. (opened.image ≡ image) × IsLayout image opened.layout × (opened.layout.frames ≡ frames)
         × (roomy (need image frames) frames ≡ passes))
-        (λ reply. RefusesBy 1 (roomy (need image frames) frames) (status_number reply.status) (line_bytes reply.line)) }
+        (λ reply. RefusesBy 1 (roomy (need image frames) frames)
+        (status_number reply.status) (line_bytes reply.line)) }
 {
     match Layout::of(&image, frames) {
         Ok(layout) => Ok(Opened { image, layout }),
@@ -83,7 +84,8 @@ pub(crate) fn begin<'i>(
 ) -> Option<OuterMachine<'i>>
     requires layout { IsLayout opened.now.image opened.now.layout }
     requires clean { first_found opened.now.image ≡ None }
-    ensures opening { IfSome result (λ machine. machine.opening ≡ record { image = opened.now.image; frames = opened.now.layout.frames }) }
+    ensures opening { IfSome result (λ machine. machine.opening
+        ≡ record { image = opened.now.image; frames = opened.now.layout.frames }) }
     ensures state { IfSome result (λ machine. machine.state
         ≡ opening_state (record { image = opened.now.image; frames = opened.now.layout.frames }) input.items) }
 {

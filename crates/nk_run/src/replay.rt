@@ -1,20 +1,20 @@
 //! The command `replay IMAGE FRAMES JOURNAL`.
-ghost use Rattle.std.specs.Prelude.{◌≡◌, ◌<◌, ◌*◌, None, length, map, MatchResult, Some, [], ◌∷◌};
-ghost use Rattle.std.specs.String.{string_bytes};
+ghost use Rattle.std.specs.Prelude.{◌≡◌, ◌*◌, ℕ, List, None, length, MatchResult, Some, [], ◌∷◌};
 ghost use Rattle.nk_host.specs.Told.{IfTold};
 ghost use Rattle.byte_scanner.specs.FirstFound.{first_found};
 ghost use Rattle.boot_map.specs.Division.{IsLayout};
 ghost use Rattle.nk_body.specs.NestedRecord.{HoldsBooks, nested_held};
 ghost use Rattle.report_text.specs.ClosingSection.{section};
 ghost use Rattle.replay_core.specs.ReplayedCalls.{replay_of};
-ghost use Rattle.nk_run.specs.CommandLine.{command_of, word_count, IsBounded};
+ghost use Rattle.nk_run.specs.CommandLine.{command_of, IsBounded, Replay};
+ghost use Rattle.nk_run.specs.NamedCommands.{NamesReplay};
 ghost use Rattle.nk_run.specs.Witness.{shelf_change, sink_change};
 ghost use Rattle.nk_run.specs.Outcome.{file_in, first_verdict, journal_checks, journaled, opened, passes};
 ghost use Rattle.nk_run.specs.ReplyText.{line_bytes};
 ghost use Rattle.nk_run.specs.Statuses.{status_number};
-ghost use Rattle.nk_run.specs.Replies.{CommandSays, IsAnswered, IsPut, IsReplayedFrom, RefusesBy, StopsIn};
+ghost use Rattle.nk_run.specs.Replies.{CommandSays, IsAnswered, IsTextPut, IsReplayedFrom, RefusesBy, StopsIn};
 
-use crate::command_line::{Command, Role};
+use crate::command_line::{ReplayFiles, Role};
 use crate::image::{fetch, open};
 use crate::lines::journal_line;
 use crate::opening::{Guarded, Opened, divide, guard};
@@ -22,7 +22,7 @@ use crate::reply::{Reply, made, no_memory};
 use crate::status::Status;
 use elf_image::Image;
 use nk_host::{Shelf, Sink, SinkFault};
-use replay_core::{ReplayFault, replay as replay_calls};
+use replay_core::ReplayFault;
 use std::alloc::Global;
 
 /// What a replay reads from its files.
@@ -40,22 +40,24 @@ struct Replayed {
 }
 
 /// The files of a replay, or the reply to the first check on them that doesn't pass.
-fn hold<S: Shelf>(alloc: Global, words: &[String], shelf: &mut S) -> Result<Held, Reply>
-    requires { 3 < length words.now }
+fn hold<S: Shelf>(alloc: Global, files: ReplayFiles<'_>, shelf: &mut S) -> Result<Held, Reply>
+    ghost words: { List (List ℕ) }
+    requires { NamesReplay words files }
     ensures files_stay { S.files shelf.new ≡ S.files shelf.old }
-    ensures held { let names = map string_bytes words.now in MatchResult result
+    ensures held { MatchResult result
         (λ held. (first_found held.image ≡ None)
-        × IfTold (S.files shelf.old) (λ files. (held.image ≡ file_in files names Role.Image)
-        × (held.journal.items ≡ file_in files names Role.Journal)
-        × (first_verdict (journal_checks files names) ≡ passes)))
-        (λ reply. StopsIn names (shelf_change S.files S.faults S.wants shelf.old shelf.new)
-        (Role.Image ∷ Role.Journal ∷ []) (λ files. journal_checks files names) (status_number reply.status) (line_bytes reply.line)) }
+        × IfTold (S.files shelf.old) (λ files. (held.image ≡ file_in files words Role.Image)
+        × (held.journal.items ≡ file_in files words Role.Journal)
+        × (first_verdict (journal_checks files words) ≡ passes)))
+        (λ reply. StopsIn words (shelf_change S.files S.faults S.wants shelf.old shelf.new)
+        (Role.Image ∷ Role.Journal ∷ []) (λ files. journal_checks files words)
+        (status_number reply.status) (line_bytes reply.line)) }
 {
-    let image = match open(alloc, words, shelf) {
+    let image = match open(alloc, files.image, shelf) {
         Ok(image) => image,
         Err(reply) => return Err(reply),
     };
-    match fetch(alloc, words, Role::Journal, shelf) {
+    match fetch(alloc, files.journal, Role::Journal, shelf) {
         Ok(journal) => Ok(Held { image, journal }),
         Err(reply) => Err(reply),
     }
@@ -71,12 +73,14 @@ fn refuse(alloc: Global, number: u64) -> Reply
 /// What the calls of a journal leave of the opening, or the reply to its first line that isn't right.
 fn make_calls(alloc: Global, opening: &Opened, journal: &[u8]) -> Result<Guarded, Reply>
     requires { IsLayout opening.now.image opening.now.layout }
-    ensures { let from = opened (record { image = opening.now.image; frames = opening.now.layout.frames }) in MatchResult result
+    ensures { let from = opened (record { image = opening.now.image; frames = opening.now.layout.frames }) in
+        MatchResult result
         (λ left. ((replay_of journal.now from).bad ≡ None)
         × (nested_held left.kernel left.memory ≡ (replay_of journal.now from).made.nested)
         × HoldsBooks left.kernel left.memory
         × (length left.memory ≡ 4096 * opening.now.layout.frames))
-        (λ reply. RefusesBy 6 (journaled (replay_of journal.now from).bad) (status_number reply.status) (line_bytes reply.line)) }
+        (λ reply. RefusesBy 6 (journaled (replay_of journal.now from).bad)
+        (status_number reply.status) (line_bytes reply.line)) }
 {
     let Guarded { memory, kernel } = match guard(alloc, opening) {
         Some(guarded) => guarded,
@@ -84,7 +88,7 @@ fn make_calls(alloc: Global, opening: &Opened, journal: &[u8]) -> Result<Guarded
     };
     let mut memory = memory;
     let mut kernel = kernel;
-    match replay_calls(alloc, &mut kernel, &mut memory, journal) {
+    match replay_core::replay(alloc, &mut kernel, &mut memory, journal) {
         Ok(()) => Ok(Guarded { memory, kernel }),
         Err(ReplayFault::Line(number)) => Err(refuse(alloc, number)),
         Err(ReplayFault::Memory) => Err(no_memory()),
@@ -94,20 +98,22 @@ fn make_calls(alloc: Global, opening: &Opened, journal: &[u8]) -> Result<Guarded
 /// What the calls of the journal left, or the reply where they aren't all made.
 fn make_replay<S: Shelf>(
     alloc: Global,
-    words: &[String],
+    files: ReplayFiles<'_>,
     frames: u32,
     shelf: &mut S,
 ) -> Result<Replayed, Reply>
-    requires asked { command_of (map string_bytes words.now) ≡ Some (Command.Replay frames) }
-    requires count { length words.now ≡ word_count (Command.Replay frames) }
-    requires bounds { IsBounded (Command.Replay frames) }
+    ghost words: { List (List ℕ) }
+    requires asked { command_of words ≡ Some (Replay frames) }
+    requires named { NamesReplay words files }
+    requires bounds { IsBounded (Replay frames) }
     ensures files_stay { S.files shelf.new ≡ S.files shelf.old }
-    ensures made { let names = map string_bytes words.now in MatchResult result
-        (λ it. IsReplayedFrom names (S.files shelf.old) frames it.opened.image it.opened.layout it.left.kernel it.left.memory)
-        (λ reply. CommandSays names (shelf_change S.files S.faults S.wants shelf.old shelf.new)
+    ensures made { MatchResult result
+        (λ it. IsReplayedFrom words (S.files shelf.old) frames it.opened.image it.opened.layout
+        it.left.kernel it.left.memory)
+        (λ reply. CommandSays words (shelf_change S.files S.faults S.wants shelf.old shelf.new)
         (status_number reply.status) (line_bytes reply.line)) }
 {
-    let held = match hold(alloc, words, shelf) {
+    let held = match hold(alloc, files, shelf) {
         Ok(held) => held,
         Err(reply) => return Err(reply),
     };
@@ -126,21 +132,22 @@ fn make_replay<S: Shelf>(
 #[inline(never)]
 pub(crate) fn replay<S: Shelf, O: Sink>(
     alloc: Global,
-    words: &[String],
+    files: ReplayFiles<'_>,
     frames: u32,
     shelf: &mut S,
     sink: &mut O,
 ) -> Status
-    requires asked { command_of (map string_bytes words.now) ≡ Some (Command.Replay frames) }
-    requires count { length words.now ≡ word_count (Command.Replay frames) }
-    requires bounds { IsBounded (Command.Replay frames) }
+    ghost words: { List (List ℕ) }
+    requires asked { command_of words ≡ Some (Replay frames) }
+    requires named { NamesReplay words files }
+    requires bounds { IsBounded (Replay frames) }
     ensures { IsAnswered (record {
-      words = map string_bytes words.now;
+      words = words;
       shelf = shelf_change S.files S.faults S.wants shelf.old shelf.new;
       sink = sink_change O.taken O.faults sink.old sink.new;
     }) (status_number result) }
 {
-    let replayed = match make_replay(alloc, words, frames, shelf) {
+    let replayed = match make_replay(alloc, files, frames, shelf) {
         Ok(replayed) => replayed,
         Err(reply) => return reply.write(sink),
     };
@@ -152,7 +159,7 @@ fn show<O: Sink>(replayed: &Replayed, sink: &mut O) -> Result<(), SinkFault>
     requires layout { IsLayout replayed.now.opened.image replayed.now.opened.layout }
     requires books { HoldsBooks replayed.now.left.kernel replayed.now.left.memory }
     requires size { length replayed.now.left.memory ≡ 4096 * replayed.now.opened.layout.frames }
-    ensures { IsPut (sink_change O.taken O.faults sink.old sink.new)
+    ensures { IsTextPut (sink_change O.taken O.faults sink.old sink.new)
         (section replayed.now.opened.image replayed.now.opened.layout.frames
         (nested_held replayed.now.left.kernel replayed.now.left.memory)) result }
 {

@@ -45,7 +45,7 @@ pub(crate) fn no_memory() -> Reply
     ensures { IsWant (status_number result.status) (line_bytes result.line) }
 {
     Reply {
-        status: Status::Want,
+        status: Status::NoMemory,
         line: Line::Fixed(no_memory_line()),
     }
 }

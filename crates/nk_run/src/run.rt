@@ -1,19 +1,19 @@
 //! The command `run IMAGE INPUT PLAN STEPS FRAMES`.
-ghost use Rattle.std.specs.Prelude.{◌≡◌, ◌<◌, ◌≤◌, None, length, map, IfSome, MatchResult, Ok, Some, [], ◌∷◌};
-ghost use Rattle.std.specs.String.{string_bytes};
+ghost use Rattle.std.specs.Prelude.{◌≡◌, ◌≤◌, ℕ, List, None, IfSome, MatchResult, Ok, Some, [], ◌∷◌};
 ghost use Rattle.irq_plan.specs.PlanFile.{plan_of};
 ghost use Rattle.nk_host.specs.Told.{IfTold};
 ghost use Rattle.byte_scanner.specs.FirstFound.{first_found};
 ghost use Rattle.boot_map.specs.Division.{IsLayout, need};
 ghost use Rattle.gate_state.specs.MachineOpening.{opening_state};
-ghost use Rattle.nk_run.specs.CommandLine.{command_of, word_count, IsBounded};
+ghost use Rattle.nk_run.specs.CommandLine.{command_of, IsBounded, Run};
+ghost use Rattle.nk_run.specs.NamedCommands.{NamesRun};
 ghost use Rattle.nk_run.specs.Witness.{shelf_change, sink_change};
 ghost use Rattle.nk_run.specs.Outcome.{file_in, first_verdict, passes, roomy, run_checks};
 ghost use Rattle.nk_run.specs.ReplyText.{line_bytes};
 ghost use Rattle.nk_run.specs.Statuses.{status_number};
 ghost use Rattle.nk_run.specs.Replies.{CommandSays, IsAnswered, IsReady, RefusesBy, StopsIn, TellsBytes};
 
-use crate::command_line::{Command, Role};
+use crate::command_line::{Role, RunFiles};
 use crate::drive::drive;
 use crate::image::open;
 use crate::inputs::{Outside, open_outside};
@@ -40,24 +40,26 @@ struct Ready {
 }
 
 /// The files of a run, or the reply to the first check on them that doesn't pass.
-fn hold<S: Shelf>(alloc: Global, words: &[String], shelf: &mut S) -> Result<Held, Reply>
-    requires { 3 < length words.now }
+fn hold<S: Shelf>(alloc: Global, files: RunFiles<'_>, shelf: &mut S) -> Result<Held, Reply>
+    ghost words: { List (List ℕ) }
+    requires { NamesRun words files }
     ensures files_stay { S.files shelf.new ≡ S.files shelf.old }
-    ensures bytes { TellsBytes (map string_bytes words.now) (S.files shelf.old) Role.Image }
-    ensures held { let names = map string_bytes words.now in MatchResult result
+    ensures bytes { TellsBytes words (S.files shelf.old) Role.Image }
+    ensures held { MatchResult result
         (λ held. (first_found held.image ≡ None)
-        × IfTold (S.files shelf.old) (λ files. (held.image ≡ file_in files names Role.Image)
-        × (held.outside.input.items ≡ file_in files names Role.Input)
-        × (plan_of (file_in files names Role.Plan) ≡ Ok held.outside.plan)
-        × (first_verdict (run_checks files names) ≡ passes)))
-        (λ reply. StopsIn names (shelf_change S.files S.faults S.wants shelf.old shelf.new)
-        (Role.Image ∷ Role.Input ∷ Role.Plan ∷ []) (λ files. run_checks files names) (status_number reply.status) (line_bytes reply.line)) }
+        × IfTold (S.files shelf.old) (λ files. (held.image ≡ file_in files words Role.Image)
+        × (held.outside.input.items ≡ file_in files words Role.Input)
+        × (plan_of (file_in files words Role.Plan) ≡ Ok held.outside.plan)
+        × (first_verdict (run_checks files words) ≡ passes)))
+        (λ reply. StopsIn words (shelf_change S.files S.faults S.wants shelf.old shelf.new)
+        (Role.Image ∷ Role.Input ∷ Role.Plan ∷ []) (λ files. run_checks files words)
+        (status_number reply.status) (line_bytes reply.line)) }
 {
-    let image = match open(alloc, words, shelf) {
+    let image = match open(alloc, files.image, shelf) {
         Ok(image) => image,
         Err(reply) => return Err(reply),
     };
-    match open_outside(alloc, words, shelf) {
+    match open_outside(alloc, files, shelf) {
         Ok(outside) => Ok(Held { image, outside }),
         Err(reply) => Err(reply),
     }
@@ -66,22 +68,24 @@ fn hold<S: Shelf>(alloc: Global, words: &[String], shelf: &mut S) -> Result<Held
 /// What the run begins from, or the reply where it doesn't.
 fn make_ready<S: Shelf>(
     alloc: Global,
-    words: &[String],
+    files: RunFiles<'_>,
     steps: u64,
     frames: u32,
     shelf: &mut S,
 ) -> Result<Ready, Reply>
-    requires asked { command_of (map string_bytes words.now) ≡ Some (Command.Run steps frames) }
-    requires count { length words.now ≡ word_count (Command.Run steps frames) }
-    requires bounds { IsBounded (Command.Run steps frames) }
+    ghost words: { List (List ℕ) }
+    requires asked { command_of words ≡ Some (Run steps frames) }
+    requires named { NamesRun words files }
+    requires bounds { IsBounded (Run steps frames) }
     ensures files_stay { S.files shelf.new ≡ S.files shelf.old }
-    ensures bytes { TellsBytes (map string_bytes words.now) (S.files shelf.old) Role.Image }
-    ensures ready { let names = map string_bytes words.now in MatchResult result
-        (λ it. IsReady names (S.files shelf.old) steps frames it.opened.image it.opened.layout it.outside.input.items it.outside.plan)
-        (λ reply. CommandSays names (shelf_change S.files S.faults S.wants shelf.old shelf.new)
+    ensures bytes { TellsBytes words (S.files shelf.old) Role.Image }
+    ensures ready { MatchResult result
+        (λ it. IsReady words (S.files shelf.old) steps frames it.opened.image it.opened.layout
+        it.outside.input.items it.outside.plan)
+        (λ reply. CommandSays words (shelf_change S.files S.faults S.wants shelf.old shelf.new)
         (status_number reply.status) (line_bytes reply.line)) }
 {
-    let held = match hold(alloc, words, shelf) {
+    let held = match hold(alloc, files, shelf) {
         Ok(held) => held,
         Err(reply) => return Err(reply),
     };
@@ -96,23 +100,24 @@ fn make_ready<S: Shelf>(
 #[inline(never)]
 pub(crate) fn run<S: Shelf, O: Sink>(
     alloc: Global,
-    words: &[String],
+    files: RunFiles<'_>,
     steps: u64,
     frames: u32,
     shelf: &mut S,
     sink: &mut O,
 ) -> Status
-    requires asked { command_of (map string_bytes words.now) ≡ Some (Command.Run steps frames) }
-    requires count { length words.now ≡ word_count (Command.Run steps frames) }
-    requires bounds { IsBounded (Command.Run steps frames) }
-    ensures bytes { TellsBytes (map string_bytes words.now) (S.files shelf.old) Role.Image }
+    ghost words: { List (List ℕ) }
+    requires asked { command_of words ≡ Some (Run steps frames) }
+    requires named { NamesRun words files }
+    requires bounds { IsBounded (Run steps frames) }
+    ensures bytes { TellsBytes words (S.files shelf.old) Role.Image }
     ensures answered { IsAnswered (record {
-      words = map string_bytes words.now;
+      words = words;
       shelf = shelf_change S.files S.faults S.wants shelf.old shelf.new;
       sink = sink_change O.taken O.faults sink.old sink.new;
     }) (status_number result) }
 {
-    let ready = match make_ready(alloc, words, steps, frames, shelf) {
+    let ready = match make_ready(alloc, files, steps, frames, shelf) {
         Ok(ready) => ready,
         Err(reply) => return reply.write(sink),
     };

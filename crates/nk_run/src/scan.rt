@@ -1,14 +1,14 @@
 //! The command `scan IMAGE`, which holds neither the file nor the image.
-ghost use Rattle.std.specs.Prelude.{◌≡◌, ◌<◌, length, map, Some};
-ghost use Rattle.std.specs.String.{string_bytes};
-ghost use Rattle.nk_run.specs.CommandLine.{command_of, name_in, word_count, word_place};
+ghost use Rattle.std.specs.Prelude.{◌≡◌, ◌≤◌, ℕ, List, Some};
+ghost use Rattle.nk_run.specs.CommandLine.{command_of, Scan};
+ghost use Rattle.nk_run.specs.NamedCommands.{Names};
 ghost use Rattle.nk_run.specs.Witness.{shelf_change};
 ghost use Rattle.nk_run.specs.ReplyText.{line_bytes};
 ghost use Rattle.nk_run.specs.Statuses.{status_number};
 ghost use Rattle.nk_run.specs.Replies.{CommandSays};
 ghost use Rattle.nk_run.specs.ScanStops.{IsReplyTo, IsShort};
 
-use crate::command_line::{Command, Role};
+use crate::command_line::{FileName, Role};
 use crate::image::{faulty, protected};
 use crate::lines::{longer_line, unread_line};
 use crate::page_pieces::scan_file;
@@ -18,14 +18,6 @@ use crate::status::Status;
 use nk_host::Shelf;
 use report_text::admitted_line;
 use std::alloc::Global;
-
-/// The name of the image's file.
-fn image_name(words: &[String]) -> &str
-    requires { word_place Role.Image < length words.now }
-    ensures { result.now ≡ name_in (map string_bytes words.now) Role.Image }
-{
-    words[Role::Image.word_place()].as_str()
-}
 
 /// The reply to a scan that stopped.
 fn stopped(stop: Stop) -> Reply
@@ -39,7 +31,7 @@ fn stopped(stop: Stop) -> Reply
         },
         Stop::Want => no_memory(),
         Stop::Longer => Reply {
-            status: Status::Longer,
+            status: Status::TooLong,
             line: Line::Fixed(longer_line(Role::Image)),
         },
         Stop::Faulty(fault) => faulty(&fault),
@@ -49,14 +41,16 @@ fn stopped(stop: Stop) -> Reply
 
 /// Admits or refuses the image. Takes no memory but the shelf's.
 #[inline(never)]
-pub(crate) fn scan<S: Shelf>(alloc: Global, words: &[String], shelf: &mut S) -> Reply
-    requires asked { command_of (map string_bytes words.now) ≡ Some Command.Scan }
-    requires count { length words.now ≡ word_count Command.Scan }
+pub(crate) fn scan<S: Shelf>(alloc: Global, image: FileName<'_>, shelf: &mut S) -> Reply
+    ghost words: { List (List ℕ) }
+    requires asked { command_of words ≡ Some Scan }
+    requires named { Names words Role.Image image }
     ensures files_stay { S.files shelf.new ≡ S.files shelf.old }
-    ensures says { CommandSays (map string_bytes words.now)
-        (shelf_change S.files S.faults S.wants shelf.old shelf.new) (status_number result.status) (line_bytes result.line) }
+    ensures says { CommandSays words
+        (shelf_change S.files S.faults S.wants shelf.old shelf.new)
+        (status_number result.status) (line_bytes result.line) }
 {
-    match scan_file(alloc, image_name(words), shelf) {
+    match scan_file(alloc, image.text, shelf) {
         Ok(it) => Reply {
             status: Status::Done,
             line: Line::Short(admitted_line(it.entry, it.pages)),

@@ -12,17 +12,17 @@ pub(crate) enum Status {
     /// The image isn't admitted, or has no room.
     Refused,
     /// The words have none of the forms.
-    Formless,
+    Usage,
     /// A file couldn't be read.
     Unread,
     /// The text couldn't be written whole.
     Cut,
     /// There was no memory.
-    Want,
+    NoMemory,
     /// A line of the plan or of the journal isn't right.
     WrongLine,
     /// A file is longer than the limit.
-    Longer,
+    TooLong,
 }
 
 impl Status {
@@ -33,12 +33,12 @@ impl Status {
         match self {
             Status::Done => 0,
             Status::Refused => 1,
-            Status::Formless => 2,
+            Status::Usage => 2,
             Status::Unread => 3,
             Status::Cut => 4,
-            Status::Want => 5,
+            Status::NoMemory => 5,
             Status::WrongLine => 6,
-            Status::Longer => 7,
+            Status::TooLong => 7,
         }
     }
 

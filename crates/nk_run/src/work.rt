@@ -1,12 +1,10 @@
 //! The command `work NUMBER`: the image of a number is made and run, and what the run showed is counted.
-ghost use Rattle.std.specs.Prelude.{◌≡◌, ◌≤◌, [], map, IfSome, Some};
-ghost use Rattle.std.specs.String.{string_bytes};
-ghost use Rattle.nk_run.specs.CommandLine.{command_of, IsBounded};
+ghost use Rattle.std.specs.Prelude.{◌≡◌, ◌≤◌, ℕ, List, [], IfSome, Some};
+ghost use Rattle.nk_run.specs.CommandLine.{command_of, IsBounded, Work};
 ghost use Rattle.nk_run.specs.Replies.{IsAnswered, IsWorkable};
 ghost use Rattle.nk_run.specs.Statuses.{status_number};
 ghost use Rattle.nk_run.specs.Witness.{Change, ShelfState, sink_change};
 
-use crate::command_line::Command;
 use crate::count::count;
 use crate::opening::{Opened, begin};
 use crate::reply::no_memory;
@@ -55,11 +53,12 @@ fn quiet(alloc: Global) -> Option<Plan>
 
 /// Runs the image of a number, and writes the counts. The shelf isn't looked at.
 #[inline(never)]
-pub(crate) fn work<O: Sink>(alloc: Global, words: &[String], number: u64, sink: &mut O) -> Status
-    requires asked { command_of (map string_bytes words.now) ≡ Some (Command.Work number) }
-    requires bounds { IsBounded (Command.Work number) }
+pub(crate) fn work<O: Sink>(alloc: Global, number: u64, sink: &mut O) -> Status
+    ghost words: { List (List ℕ) }
+    requires asked { command_of words ≡ Some (Work number) }
+    requires bounds { IsBounded (Work number) }
     ensures { (shelf : Change ShelfState) → shelf.after.files ≡ shelf.before.files → IsAnswered (record {
-      words = map string_bytes words.now;
+      words = words;
       shelf = shelf;
       sink = sink_change O.taken O.faults sink.old sink.new;
     }) (status_number result) }

@@ -10,8 +10,7 @@ ghost use Rattle.page_desc.specs.DescriptorBytes.{HoldsDescriptors};
 use super::books::{Books, are_slots_right};
 use super::image;
 use super::tables::DECLARES;
-use crate::opening::{Guarded, begin, guard};
-use boot_map::Layout;
+use crate::opening::{Guarded, begin, divide, guard};
 use byte_scanner::scan;
 use elf_image::Image;
 use gate_state::{Called, Finished, Machine};
@@ -296,7 +295,7 @@ fn run(alloc: Global, file: Vec<u8>, frames: u32) -> Option<Ran>
     let Some(image) = admitted(file) else {
         return None;
     };
-    let Ok(layout) = Layout::of(&image, frames) else {
+    let Ok(opened) = divide(alloc, image, frames) else {
         return None;
     };
     let Ok(plan) = Plan::read(alloc, b"") else {
@@ -305,10 +304,10 @@ fn run(alloc: Global, file: Vec<u8>, frames: u32) -> Option<Ran>
     let Ok(mut books) = Books::new(alloc) else {
         return None;
     };
-    let Some(mut beside) = guard(alloc, &image, &layout) else {
+    let Some(mut beside) = guard(alloc, &opened) else {
         return None;
     };
-    let Some(start) = begin(alloc, &image, &layout, Vec::new(alloc)) else {
+    let Some(start) = begin(alloc, &opened, Vec::new(alloc)) else {
         return None;
     };
     let mut made = Made { calls: 0, wrong: 0 };

@@ -5,7 +5,7 @@ use super::regions::{
 use super::run::run_planned;
 use super::tables::{DECLARED, DECLARES};
 use super::{NAME, Ran, USAGE, gives, image, owned, run_over};
-use crate::Command;
+use crate::command_line::{Command, FileName, ReplayFiles};
 use std::alloc::{AllocError, Global};
 use std::test::Fail;
 
@@ -261,7 +261,11 @@ fn a_replay_s_memory_has_512_to_65_536_frames(rt: HostRuntime) -> Result<(), Fai
     ];
     for (word, frames) in ends {
         let words = owned(alloc, &["replay", NAME, word, JOURNAL])?;
-        let replay = frames.map(|frames| Command::Replay { frames });
+        let files = ReplayFiles {
+            image: FileName { text: NAME },
+            journal: FileName { text: JOURNAL },
+        };
+        let replay = frames.map(|frames| Command::Replay { files, frames });
         assert_eq!(rt; Command::read(&words), replay, "{word}");
     }
     let forms: [&[&str]; 4] = [

@@ -1,11 +1,11 @@
 //! Worked cases of how a shelf is read: which reads a scan makes, that each may fail, and what a want of memory gives.
 ghost use Rattle.std.specs.Prelude.{◌≡◌, ◌≢◌, map, Some};
 ghost use Rattle.std.specs.String.{string_bytes};
-ghost use Rattle.nk_run.specs.CommandLine.{command_of};
+ghost use Rattle.nk_run.specs.CommandLine.{command_of, Scan};
 
 use super::hostile::changed;
 use super::{CODE, HOME, NAME, READ, Segment, gives, image, image_of, nops_with, owned, run_with};
-use crate::{Command, nk_main};
+use crate::nk_main;
 use nk_host::{FetchFault, MemShelf, MemSink, PieceFault, Shelf};
 use std::alloc::Global;
 use std::test::Fail;
@@ -78,7 +78,7 @@ fn a_name_without_a_file_is_unread(rt: HostRuntime) -> Result<(), Fail> {
 
 /// The status over a shelf in memory, which of `scan` is never that of want of memory.
 fn status_in_memory(alloc: Global, words: &[String], shelf: &mut MemShelf, sink: &mut MemSink) -> u8
-    ensures { command_of (map string_bytes words.now) ≡ Some Command.Scan → result ≢ 5 }
+    ensures { command_of (map string_bytes words.now) ≡ Some Scan → result ≢ 5 }
 {
     nk_main(alloc, words, shelf, sink)
 }

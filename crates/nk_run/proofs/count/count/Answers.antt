@@ -1,6 +1,6 @@
 use Rattle.std.proofs.Common.{◌∙◌, ap, arith, refl, sym, subst}
 use Rattle.gate_state.specs.MachineOf.{whole_of}
-use Rattle.nk_run.specs.Replies.{IsPut}
+use Rattle.nk_run.specs.Replies.{IsTextPut}
 use Rattle.nk_run.specs.Witness.{sink_change}
 use Rattle.nk_run.specs.WorkSummary.{work_text}
 use Rattle.nk_run.proofs.CountedRuns.{begins_counting, counts_less, counts_on, summary_ended}
@@ -21,10 +21,10 @@ returns-in-Some-clause-written g c =
     let whole = (counts_quietly c.loop-ending.invariant.1 c.hurry-hurried.ensures.hurried).whole
     ∙ summary_ended 2000000 c.args.plan.now (whole_of c.hurry-hurried.result).state c.loop-ending.tally c.in-Some.ending
     (sym c.ending_at.ensures ∙ c.in-Some.is) in
-    subst (λ from. IsPut (sink_change g.O.Sink.taken g.O.Sink.faults from c.sum_up.new.sink)
+    subst (λ from. IsTextPut (sink_change g.O.Sink.taken g.O.Sink.faults from c.sum_up.new.sink)
     (work_text 2000000 c.args.plan.now (whole_of c.args.machine).state) c.sum_up.result)
     c.loop-ending.invariant.0
-    (subst (λ l. IsPut (sink_change g.O.Sink.taken g.O.Sink.faults c.loop-ending.sink c.sum_up.new.sink) l c.sum_up.result)
+    (subst (λ l. IsTextPut (sink_change g.O.Sink.taken g.O.Sink.faults c.loop-ending.sink c.sum_up.new.sink) l c.sum_up.result)
     (sym whole) c.sum_up.ensures.written)
 
 pub advance-next-requires-clause-left : goal.advance-next-requires-clause-left

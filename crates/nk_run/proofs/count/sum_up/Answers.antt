@@ -5,7 +5,7 @@ use Rattle.gate_state.specs.MachineStates.{MachineState, nested_of}
 use Rattle.nk_body.specs.NestedRecord.{nested_in}
 use Rattle.report_text.specs.RunLines.{ending_line, turns_line}
 use Rattle.report_text.specs.RunSummary.{summary_lines}
-use Rattle.nk_run.specs.Replies.{IsPut}
+use Rattle.nk_run.specs.Replies.{IsTextPut}
 use Rattle.nk_run.specs.RunStates.{is_halted}
 use Rattle.nk_run.specs.Witness.{sink_change}
 use Rattle.nk_run.specs.WorkSummary.{summary_of}
@@ -24,12 +24,12 @@ returns-in-Ok-clause-written g c =
     ∙ (λ i. summary_of c.args.tally.now (nested_in (end.kinds i) (end.root i) (end.ledger i) (end.memory i))) in
     let same = ap (λ halted. ending_line halted ++ turns_line c.turns-turns.result) c.is_halted.ensures
     ∙ ap (λ n. why ++ turns_line n) c.turns-turns.ensures in
-    subst (λ l. IsPut
+    subst (λ l. IsTextPut
     (sink_change g.O.Sink.taken g.O.Sink.faults c.args.sink.now c.put_counts.new.sink) l c.put_counts.result)
     (append_assoc why turns rest)
     (went_on g.O.Sink.taken g.O.Sink.faults c.args.sink.now c.ending.new.sink c.put_counts.new.sink _ (why ++ turns) rest
     _ same c.ending.ensures.never_falls c.in-Ok.ensures.all
-    (subst (λ it. IsPut
+    (subst (λ it. IsTextPut
     (sink_change g.O.Sink.taken g.O.Sink.faults c.ending.new.sink c.put_counts.new.sink) (summary_lines it) c.put_counts.result)
     counts c.put_counts.ensures.written))
 

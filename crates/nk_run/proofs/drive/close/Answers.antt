@@ -3,7 +3,7 @@ use Rattle.nk_host.specs.Taken.{AppendsPrefix}
 use Rattle.nk_body.specs.NestedRecord.{nested_held}
 use Rattle.report_text.specs.ClosingSection.{section}
 use Rattle.report_text.specs.RunLines.{ending_line, turns_line}
-use Rattle.nk_run.specs.Replies.{IsPut}
+use Rattle.nk_run.specs.Replies.{IsTextPut}
 use Rattle.nk_run.specs.RunStates.{is_halted}
 use Rattle.nk_run.specs.Witness.{sink_change}
 use Rattle.nk_run.proofs.Texts.{prefix_of_both, went_on}
@@ -15,7 +15,7 @@ returns-in-Ok-clause-written g c =
     let turns = turns_line c.args.turns in
     let held = nested_held c.args.finished.now.kernel c.args.finished.now.mem in
     let rest = section c.args.opened.now.image c.args.opened.now.layout.frames held in
-    subst (λ l. IsPut
+    subst (λ l. IsTextPut
     (sink_change g.O.Sink.taken g.O.Sink.faults c.args.sink.now c.finish.new.sink) l c.finish.result)
     (append_assoc why turns rest)
     (went_on g.O.Sink.taken g.O.Sink.faults c.args.sink.now c.ending.new.sink c.finish.new.sink _ (why ++ turns) rest

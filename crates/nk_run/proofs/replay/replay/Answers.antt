@@ -20,7 +20,7 @@ returns g c =
     record {
       status = 0;
       text = section it.opened.image it.opened.layout.frames (nested_held it.left.kernel it.left.memory);
-      says = inr (replayed_says _ c.args.frames c.requires.asked _ _ c.in-Ok.ensures.made.outcome_is);
+      says = inr (replayed_says _ c.args.frames c.requires.1.1.0 _ _ c.in-Ok.ensures.made.outcome_is);
       written = put_written _ _ _ _ _ _ refl c.show.ensures.0 c.show.ensures.1 c.show.ensures.2 c.unless_cut.ensures;
       files_stay = c.make_replay.ensures.files_stay;
     }

@@ -1,29 +1,27 @@
-use Rattle.std.proofs.Common.{map, refl, subst, sym}
-use Rattle.std.specs.String.{string_bytes}
+use Rattle.std.proofs.Common.{refl, subst, sym}
 use Rattle.nk_run.specs.Replies.{IsReady}
 use Rattle.nk_run.proofs.RunRows.{ready_says, run_room_says, run_row_says}
 use Rattle.nk_run.proofs.run.make_ready.Goals as goal
 
 pub returns-in-Err-clause-ready : goal.returns-in-Err-clause-ready
 returns-in-Err-clause-ready g c =
-    run_row_says _ c.args.steps c.args.frames c.requires.asked _ _ _ c.in-Err.ensures.held
+    run_row_says _ c.args.steps c.args.frames c.requires.1.0 _ _ _ c.in-Err.ensures.held
 
 pub returns-in-Err-divide-clause-ready : goal.returns-in-Err-divide-clause-ready
 returns-in-Err-divide-clause-ready g c =
-    run_room_says _ c.args.steps c.args.frames c.requires.asked _ _ _ _ c.in-Ok.ensures.held.1 _ _ _ refl c.in-Err-divide.ensures
+    run_room_says _ c.args.steps c.args.frames c.requires.1.0 _ _ _ _ c.in-Ok.ensures.held.1 _ _ _ refl c.in-Err-divide.ensures
 
 pub returns-in-Ok-divide-clause-ready : goal.returns-in-Ok-divide-clause-ready
 returns-in-Ok-divide-clause-ready g c =
-    let words = map string_bytes c.args.words.now in
     let held = c.in-Ok.held in
     let opened = c.in-Ok-divide.opened in
     let (same, layout_is, frames_are, fits) = c.in-Ok-divide.ensures in
-    subst (λ image. IsReady words (g.S.Shelf.files c.args.shelf.now) c.args.steps c.args.frames image opened.layout held.outside.input.items held.outside.plan)
+    subst (λ image. IsReady g.words (g.S.Shelf.files c.args.shelf.now) c.args.steps c.args.frames image opened.layout held.outside.input.items held.outside.plan)
     (sym same)
     (record {
       layout_is = layout_is;
       frames_are = frames_are;
       clean = c.in-Ok.ensures.held.0;
-      outcome_is = ready_says words c.args.steps c.args.frames c.requires.asked
+      outcome_is = ready_says g.words c.args.steps c.args.frames c.requires.1.0
           _ held.image held.outside.input.items held.outside.plan c.in-Ok.ensures.held.1 fits;
     })

@@ -29,7 +29,7 @@ returns-in-Some-clause-answered g c =
     record {
       status = 0;
       text = run_text o c.args.steps ready.outside.plan (opening_state o ready.outside.input.items);
-      says = inr (ran_says _ c.args.steps c.args.frames c.requires.asked _ _ it.outcome_is);
+      says = inr (ran_says _ c.args.steps c.args.frames c.requires.1.1.0 _ _ it.outcome_is);
       written =
           let put = c.drive.ensures.written in
           put_written _ _ _ _ _ _ text_is put.0 put.1 put.2 c.unless_cut.ensures;

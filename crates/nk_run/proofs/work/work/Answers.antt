@@ -22,7 +22,7 @@ returns-in-Some-begin g c = λ shelf same.
     record {
       status = 0;
       text = worked image;
-      says = inr (work_says _ c.args.number c.requires.asked image it.made shelf);
+      says = inr (work_says _ c.args.number c.requires.1.0 image it.made shelf);
       written =
           let put = c.count.ensures.written in
           put_written _ _ _ _ _ _ text put.0 put.1 put.2 c.unless_cut.ensures;

@@ -1,0 +1,19 @@
+use Rattle.nk_run.proofs.answer.answer.Given as goal
+
+abbrev pub ghost-scan : goal.ghost-scan
+ghost-scan g a = g.names
+
+abbrev pub ghost-map : goal.ghost-map
+ghost-map g a = g.names
+
+abbrev pub ghost-run : goal.ghost-run
+ghost-run g a = g.names
+
+abbrev pub ghost-replay : goal.ghost-replay
+ghost-replay g a = g.names
+
+abbrev pub ghost-make : goal.ghost-make
+ghost-make g a = g.names
+
+abbrev pub ghost-work : goal.ghost-work
+ghost-work g a = g.names
