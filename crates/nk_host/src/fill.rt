@@ -39,6 +39,7 @@ pub(crate) fn fill_from<F: Read + Seek>(
 }
 
 // Moves the reader to place `at`, if it isn't known to stand there.
+#[tactic(auto, using(crate::proofs::InReads::stands_there))]
 fn stand_at<F: Read + Seek>(
     from: &mut Counted<F>,
     known: Option<u64>,

@@ -15,7 +15,7 @@ mod scans;
 mod sources;
 mod tables;
 
-use crate::command_line::{Command, FileName};
+use crate::command_line::{FileName, Request};
 use crate::nk_main;
 use nk_host::{MemShelf, MemSink};
 use std::alloc::{AllocError, Global};
@@ -255,12 +255,12 @@ fn a_memory_has_512_to_65_536_frames(rt: HostRuntime) -> Result<(), Fail> {
     for (word, frames) in ends {
         let words = owned(alloc, &["map", NAME, word, "0"])?;
         let image = FileName { text: NAME };
-        let map = frames.map(|frames| Command::Map {
+        let map = frames.map(|frames| Request::Map {
             image,
             frames,
             va: 0,
         });
-        assert_eq!(rt; Command::read(&words), map, "{word}");
+        assert_eq!(rt; Request::read(&words), map, "{word}");
     }
     Ok(())
 }

@@ -5,7 +5,7 @@ use super::regions::{
 use super::run::run_planned;
 use super::tables::{DECLARED, DECLARES};
 use super::{NAME, Ran, USAGE, gives, image, owned, run_over};
-use crate::command_line::{Command, FileName, ReplayFiles};
+use crate::command_line::{FileName, ReplayFiles, Request};
 use std::alloc::{AllocError, Global};
 use std::test::Fail;
 
@@ -265,8 +265,8 @@ fn a_replay_s_memory_has_512_to_65_536_frames(rt: HostRuntime) -> Result<(), Fai
             image: FileName { text: NAME },
             journal: FileName { text: JOURNAL },
         };
-        let replay = frames.map(|frames| Command::Replay { files, frames });
-        assert_eq!(rt; Command::read(&words), replay, "{word}");
+        let replay = frames.map(|frames| Request::Replay { files, frames });
+        assert_eq!(rt; Request::read(&words), replay, "{word}");
     }
     let forms: [&[&str]; 4] = [
         &["replay", NAME, "512"],

@@ -1,7 +1,7 @@
 //! Worked cases of `run`, with texts written by hand: a run ends with why it ended, its turns, the root's frame and
 //! the trap handler, which is the halt loop of the gates' text until the outer kernel names one.
 use super::{NAME, Ran, USAGE, gives, image, owned, run_over};
-use crate::command_line::{Command, FileName, RunFiles};
+use crate::command_line::{FileName, Request, RunFiles};
 use std::alloc::{AllocError, Global};
 use std::test::Fail;
 
@@ -236,7 +236,7 @@ fn steps_and_frames_have_bounds(rt: HostRuntime) -> Result<(), Fail> {
     ];
     for (word, frames) in ends {
         let words = owned(alloc, &["run", NAME, INPUT, PLAN, "4294967296", word])?;
-        let most = Command::Run {
+        let most = Request::Run {
             files: RunFiles {
                 image: FileName { text: NAME },
                 input: FileName { text: INPUT },
@@ -245,7 +245,7 @@ fn steps_and_frames_have_bounds(rt: HostRuntime) -> Result<(), Fail> {
             steps: 4_294_967_296,
             frames,
         };
-        assert_eq!(rt; Command::read(&words), Some(most), "{word}");
+        assert_eq!(rt; Request::read(&words), Some(most), "{word}");
     }
     let others = [
         ("4294967297", "512"),
