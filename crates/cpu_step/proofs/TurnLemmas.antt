@@ -4,11 +4,10 @@ use Rattle.nk_bits.specs.Translations.{NamesFramesIn, Translations}
 use Rattle.nk_bits.specs.Outcomes.{Outcome, outcome_of}
 use Rattle.x86_regs.specs.declared.effects.Act.{Act}
 use Rattle.x86_regs.specs.declared.effects.Act.TheVariants as act
-use Rattle.x86_regs.specs.declared.effects.Asked.{Asked}
 use Rattle.x86_regs.specs.declared.effects.Effect.{Effect}
 use Rattle.x86_regs.specs.declared.faults.Fault.{Fault}
 use Rattle.x86_regs.specs.declared.registers.Regs.{Regs}
-use Rattle.x86_regs.specs.Effects.{IfDelivered, LeavesToDelivery, effect_with, memory_after}
+use Rattle.x86_regs.specs.Effects.{IfDelivered, LeavesToDelivery, memory_after}
 use Rattle.cpu_step.specs.Processor.{IsSound, Processor, deliverable}
 use Rattle.cpu_step.specs.Turns.{acted, instructed, instruction_made, is_at_body, fault_raised, refused_body, turned, turned_by, turned_unless}
 
@@ -33,14 +32,12 @@ instructed_elsewhere p m at =
     let made = instruction_made p m in
     ap (λ (b : Bool). if b then refused_body p m else turned_by made.answer p m made.tlb) at
 
--- the registers are those from before
-pub turned_by_fault : (p : Processor) (m : List ℕ) (it : Fault) (regs : Regs) (tlb : Translations)
-    → is_at_body p.regs ≡ false → outcome_of (Err it) tlb ≡ instruction_made p m → regs ≡ p.regs
-    → instructed p m ≡ fault_raised it (record p { regs = regs; tlb = tlb }) m
-turned_by_fault p m it regs tlb at made same =
+pub turned_by_fault : (p : Processor) (m : List ℕ) (it : Fault) (tlb : Translations)
+    → is_at_body p.regs ≡ false → outcome_of (Err it) tlb ≡ instruction_made p m
+    → instructed p m ≡ fault_raised it (record p { tlb = tlb }) m
+turned_by_fault p m it tlb at made =
     instructed_elsewhere p m at
     ∙ ap (λ (o : Outcome Fault Effect). turned_by o.answer p m o.tlb) (sym made)
-    ∙ ap (λ (r : Regs). fault_raised it (record p { regs = r; tlb = tlb }) m) (sym same)
 
 -- an interrupt or a return has changed RIP alone, which is set back
 set_back : (a : Act) (before regs : Regs) (W : Type 0) (q : Processor) (m : List ℕ)
@@ -62,16 +59,14 @@ set_back (act.Cr4 value) before regs W q m left = refl
 set_back (act.Idt base limit) before regs W q m left = refl
 set_back (act.DropPage page) before regs W q m left = refl
 
-pub turned_by_act : (p : Processor) (m : List ℕ) (asked : Asked) (regs : Regs) (tlb : Translations)
-    → is_at_body p.regs ≡ false
-    → outcome_of (effect_with (Ok asked) regs) tlb ≡ instruction_made p m
-    → LeavesToDelivery p.regs (record { regs = regs; write = asked.write; act = asked.act })
+pub turned_by_act : (p : Processor) (m : List ℕ) (it : Effect) (tlb : Translations)
+    → is_at_body p.regs ≡ false → outcome_of (Ok it) tlb ≡ instruction_made p m → LeavesToDelivery p.regs it
     → instructed p m
-    ≡ acted asked.act (record regs { rip = p.regs.rip }) (record p { regs = regs; tlb = tlb }) (memory_after asked.write m)
-turned_by_act p m asked regs tlb at made left =
+    ≡ acted it.act (record it.regs { rip = p.regs.rip }) (record p { regs = it.regs; tlb = tlb }) (memory_after it.write m)
+turned_by_act p m it tlb at made left =
     instructed_elsewhere p m at
     ∙ ap (λ (o : Outcome Fault Effect). turned_by o.answer p m o.tlb) (sym made)
-    ∙ sym (set_back asked.act p.regs regs (asked.write ≡ None) (record p { regs = regs; tlb = tlb }) (memory_after asked.write m) left)
+    ∙ sym (set_back it.act p.regs it.regs (it.write ≡ None) (record p { regs = it.regs; tlb = tlb }) (memory_after it.write m) left)
 
 -- a turn by the vector that is deliverable
 pub turned_by_vector : (p : Processor) (m : List ℕ) (vector : Option ℕ) → deliverable p ≡ vector

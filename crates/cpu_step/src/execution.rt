@@ -1,50 +1,42 @@
-//! The effect of an instruction on the registers, and what it leaves to the processor.
+//! The effect of an instruction, by the crate that has its form.
 
-ghost use Rattle.std.specs.Prelude.{◌≡◌, ◌⊎◌, ◌*◌, ◌<◌, IfOk, OnErr, length, Ok};
+ghost use Rattle.std.specs.Prelude.{◌≡◌, ◌⊎◌, ◌*◌, ◌<◌, IfOk, length};
 ghost use Rattle.nk_bits.specs.Translations.{NamesFramesIn};
 ghost use Rattle.nk_bits.specs.Outcomes.{outcome_of};
 ghost use Rattle.x86_decode.specs.WellFormed.{IsWellFormed};
-ghost use Rattle.x86_regs.specs.Effects.{FitsIn, HasAccessSize, LeavesToDelivery, LoadsFrameIn, asked_nothing, effect_of, effect_with};
+ghost use Rattle.x86_regs.specs.Effects.{FitsIn, HasAccessSize, LeavesToDelivery, LoadsFrameIn, effect_of};
 
 use nk_bits::Control;
 use phys_mem::PhysMem;
 use tlb_model::Tlb;
 use x86_decode::Instr;
-use x86_regs::{Asked, Fault, Form, Regs, effect_law, instr_form};
+use x86_regs::{Effect, Fault, Form, Regs, effect_law, instr_form};
 
-/// Makes the effect of an instruction that was fetched on the registers; its write is judged and not made.
-pub(crate) fn execute(
+/// The effect of an instruction that was fetched; its write is judged and not made.
+pub(crate) fn effect_of(
     instr: &Instr,
     size: u8,
-    regs: &mut Regs,
+    regs: &Regs,
     control: &Control,
     mem: &PhysMem,
     tlb: &mut Tlb,
-    made: &mut Result<Asked, Fault>,
-)
-    requires fresh { made.old ≡ Ok asked_nothing }
+) -> Result<Effect, Fault>
     requires formed { IsWellFormed instr.now }
-    requires cpl { (regs.old.cpl ≡ 0) ⊎ (regs.old.cpl ≡ 3) }
+    requires cpl { (regs.now.cpl ≡ 0) ⊎ (regs.now.cpl ≡ 3) }
     requires root { 4096 * control.now.root < length mem.now }
     requires frames { NamesFramesIn (length mem.now) tlb.old }
-    ensures outcome { outcome_of (effect_with made.new regs.new) tlb.new
-        ≡ effect_of instr.now size regs.old control.now mem.now tlb.old }
-    ensures kept { OnErr made.new (regs.new ≡ regs.old) }
-    ensures privilege { regs.new.cpl ≡ regs.old.cpl }
-    ensures loads { IfOk made.new (λ asked. LoadsFrameIn (length mem.now) asked.act) }
-    ensures delivered { IfOk made.new (λ asked. LeavesToDelivery regs.old
-        (record { regs = regs.new; write = asked.write; act = asked.act })) }
+    ensures outcome { outcome_of result tlb.new
+        ≡ effect_of instr.now size regs.now control.now mem.now tlb.old }
+    ensures privilege { IfOk result (λ effect. effect.regs.cpl ≡ regs.now.cpl) }
+    ensures loads { IfOk result (λ effect. LoadsFrameIn (length mem.now) effect.act) }
+    ensures delivered { IfOk result (LeavesToDelivery regs.now) }
     ensures frames { NamesFramesIn (length mem.now) tlb.new }
-    ensures places { IfOk made.new (λ asked. FitsIn (length mem.now) asked.write) }
-    ensures sized { IfOk made.new (λ asked. HasAccessSize asked.write) }
+    ensures places { IfOk result (λ effect. FitsIn (length mem.now) effect.write) }
+    ensures sized { IfOk result (λ effect. HasAccessSize effect.write) }
 {
     effect_law();
     match instr_form(instr) {
-        Form::Data(form) => {
-            exec_data::execute(form, instr, size, regs, control, mem, tlb, made);
-        }
-        Form::Flow(form) => {
-            exec_flow::execute(form, instr, size, regs, control, mem, tlb, made);
-        }
+        Form::Data(form) => exec_data::effect_of(form, instr, size, regs, control, mem, tlb),
+        Form::Flow(form) => exec_flow::effect_of(form, instr, size, regs, control, mem, tlb),
     }
 }

@@ -1,14 +1,14 @@
 //! A turn.
 
-ghost use Rattle.std.specs.Prelude.{◌≡◌, ◌⊎◌, ℕ, ◌%◌, ◌≤◌, false, IsSome, IfOk, Ok, OnErr, length};
+ghost use Rattle.std.specs.Prelude.{◌≡◌, ◌⊎◌, ℕ, ◌%◌, ◌≤◌, false, IsSome, IfOk, length};
 ghost use Rattle.nk_bits.specs.Accesses.{wp_of};
 ghost use Rattle.nk_bits.specs.Translations.{faulted};
 ghost use Rattle.nk_bits.specs.Outcomes.{outcome_of};
-ghost use Rattle.x86_regs.specs.Effects.{FitsIn, HasAccessSize, LeavesToDelivery, LoadsFrameIn, asked_nothing, effect_with, memory_after};
+ghost use Rattle.x86_regs.specs.Effects.{FitsIn, HasAccessSize, LeavesToDelivery, LoadsFrameIn, memory_after};
 ghost use Rattle.cpu_step.specs.Processor.{IsSound, deliverable};
 ghost use Rattle.cpu_step.specs.Turns.{acted, enters_body, instructed, instruction_made, is_at_body, refused_body, turned};
 
-use crate::execution::execute;
+use crate::execution::effect_of;
 use crate::fetch::{code_on_page, fetch_by_pages, is_on_page};
 use crate::processor::Cpu;
 use crate::stepped::Stepped;
@@ -16,7 +16,7 @@ use mem_access::commit;
 use nk_bits::{BODY, NESTED_STACK_TOP, named_law};
 use phys_mem::PhysMem;
 use x86_decode::Decoded;
-use x86_regs::{ASKED_NOTHING, Asked, Fault, Regs, Write, bit};
+use x86_regs::{Effect, Fault, Regs, Write, bit};
 
 /// Where the body's first push lies, on the nested stack, which isn't writable.
 const BODY_STACK: u64 = NESTED_STACK_TOP - 8;
@@ -68,29 +68,30 @@ impl Cpu {
         if is_at_body(&self.regs) {
             return self.refuse_body(mem);
         }
-        let rip = self.regs.rip;
-        let mut made = Ok(ASKED_NOTHING);
-        self.make(mem, &mut made);
-        match &made {
-            Ok(asked) => self.finish(asked, rip, mem),
-            Err(fault) => self.raise(*fault, mem),
+        match self.make(mem) {
+            Ok(effect) => self.finish(&effect, mem),
+            Err(fault) => self.raise(fault, mem),
         }
     }
 
-    /// Makes the write of an instruction, which stood at `rip`, and does what it asks.
+    /// Takes the registers of an effect, makes its write, and does what it asks.
     #[inline]
-    fn finish(&mut self, asked: &Asked, rip: u64, mem: &mut PhysMem) -> Stepped
-        requires places { FitsIn (length mem.old) asked.now.write }
-        requires sized { HasAccessSize asked.now.write }
-        requires loads { LoadsFrameIn (length mem.old) asked.now.act }
+    fn finish(&mut self, effect: &Effect, mem: &mut PhysMem) -> Stepped
+        requires privilege { effect.now.regs.cpl ≡ self.old.regs.cpl }
+        requires places { FitsIn (length mem.old) effect.now.write }
+        requires sized { HasAccessSize effect.now.write }
+        requires loads { LoadsFrameIn (length mem.old) effect.now.act }
         requires sound { IsSound (length mem.old) self.old }
-        ensures acted { record { processor = self.new; memory = mem.new; stepped = result } ≡ acted asked.now.act
-            (record self.old.regs { rip = rip }) self.old (memory_after asked.now.write mem.old) }
+        ensures acted { record { processor = self.new; memory = mem.new; stepped = result }
+            ≡ acted effect.now.act (record effect.now.regs { rip = self.old.regs.rip })
+            (record self.old { regs = effect.now.regs }) (memory_after effect.now.write mem.old) }
         ensures sound { IsSound (length mem.new) self.new }
         ensures length { length mem.new ≡ length mem.old }
     {
-        put(mem, &asked.write);
-        self.act(&asked.act, rip, mem)
+        let rip = self.regs.rip;
+        self.regs = effect.regs;
+        put(mem, &effect.write);
+        self.act(&effect.act, rip, mem)
     }
 
     /// With WP set the first push of the body is a page fault.
@@ -122,42 +123,36 @@ impl Cpu {
     }
 
     /// Fetches the instruction at RIP and makes its effect on the registers.
-    fn make(&mut self, mem: &PhysMem, made: &mut Result<Asked, Fault>)
-        requires fresh { made.old ≡ Ok asked_nothing }
+    fn make(&mut self, mem: &PhysMem) -> Result<Effect, Fault>
         requires sound { IsSound (length mem.now) self.old }
-        ensures outcome { outcome_of (effect_with made.new self.new.regs) self.new.tlb
-            ≡ instruction_made self.old mem.now }
-        ensures rest { self.new ≡ record self.old { regs = self.new.regs; tlb = self.new.tlb } }
-        ensures kept { OnErr made.new (self.new.regs ≡ self.old.regs) }
+        ensures outcome { outcome_of result self.new.tlb ≡ instruction_made self.old mem.now }
+        ensures rest { self.new ≡ record self.old { tlb = self.new.tlb } }
         ensures sound { IsSound (length mem.now) self.new }
-        ensures places { IfOk made.new (λ asked. FitsIn (length mem.now) asked.write) }
-        ensures sized { IfOk made.new (λ asked. HasAccessSize asked.write) }
-        ensures loads { IfOk made.new (λ asked. LoadsFrameIn (length mem.now) asked.act) }
-        ensures delivered { IfOk made.new (λ asked. LeavesToDelivery self.old.regs
-            (record { regs = self.new.regs; write = asked.write; act = asked.act })) }
+        ensures privilege { IfOk result (λ effect. effect.regs.cpl ≡ self.old.regs.cpl) }
+        ensures places { IfOk result (λ effect. FitsIn (length mem.now) effect.write) }
+        ensures sized { IfOk result (λ effect. HasAccessSize effect.write) }
+        ensures loads { IfOk result (λ effect. LoadsFrameIn (length mem.now) effect.act) }
+        ensures delivered { IfOk result (LeavesToDelivery self.old.regs) }
     {
         if is_on_page(self.regs.rip) {
-            self.make_on_page(mem, made)
+            self.make_on_page(mem)
         } else {
-            self.make_by_pages(mem, made)
+            self.make_by_pages(mem)
         }
     }
 
     /// Where the fifteen bytes from RIP on lie on one page: the instruction stays where the memo keeps it.
-    fn make_on_page(&mut self, mem: &PhysMem, made: &mut Result<Asked, Fault>)
-        requires fresh { made.old ≡ Ok asked_nothing }
+    fn make_on_page(&mut self, mem: &PhysMem) -> Result<Effect, Fault>
         requires sound { IsSound (length mem.now) self.old }
         requires page { self.old.regs.rip % 4096 ≤ 4080 }
-        ensures outcome { outcome_of (effect_with made.new self.new.regs) self.new.tlb
-            ≡ instruction_made self.old mem.now }
-        ensures rest { self.new ≡ record self.old { regs = self.new.regs; tlb = self.new.tlb } }
-        ensures kept { OnErr made.new (self.new.regs ≡ self.old.regs) }
+        ensures outcome { outcome_of result self.new.tlb ≡ instruction_made self.old mem.now }
+        ensures rest { self.new ≡ record self.old { tlb = self.new.tlb } }
         ensures sound { IsSound (length mem.now) self.new }
-        ensures places { IfOk made.new (λ asked. FitsIn (length mem.now) asked.write) }
-        ensures sized { IfOk made.new (λ asked. HasAccessSize asked.write) }
-        ensures loads { IfOk made.new (λ asked. LoadsFrameIn (length mem.now) asked.act) }
-        ensures delivered { IfOk made.new (λ asked. LeavesToDelivery self.old.regs
-            (record { regs = self.new.regs; write = asked.write; act = asked.act })) }
+        ensures privilege { IfOk result (λ effect. effect.regs.cpl ≡ self.old.regs.cpl) }
+        ensures places { IfOk result (λ effect. FitsIn (length mem.now) effect.write) }
+        ensures sized { IfOk result (λ effect. HasAccessSize effect.write) }
+        ensures loads { IfOk result (λ effect. LoadsFrameIn (length mem.now) effect.act) }
+        ensures delivered { IfOk result (LeavesToDelivery self.old.regs) }
     {
         match code_on_page(
             &mut self.memo,
@@ -167,48 +162,36 @@ impl Cpu {
             &self.regs,
         ) {
             Ok(Decoded::Whole(instr, size)) => {
-                execute(
-                    instr,
-                    *size,
-                    &mut self.regs,
-                    &self.control,
-                    mem,
-                    &mut self.tlb,
-                    made,
-                )
+                effect_of(instr, *size, &self.regs, &self.control, mem, &mut self.tlb)
             }
-            Ok(Decoded::Short | Decoded::TooLong) => *made = Err(Fault::General(0)),
-            Ok(Decoded::Unknown) => *made = Err(Fault::Opcode),
-            Err(fault) => *made = Err(fault),
+            Ok(Decoded::Short | Decoded::TooLong) => Err(Fault::General(0)),
+            Ok(Decoded::Unknown) => Err(Fault::Opcode),
+            Err(fault) => Err(fault),
         }
     }
 
     /// At the end of a page.
-    fn make_by_pages(&mut self, mem: &PhysMem, made: &mut Result<Asked, Fault>)
-        requires fresh { made.old ≡ Ok asked_nothing }
+    fn make_by_pages(&mut self, mem: &PhysMem) -> Result<Effect, Fault>
         requires sound { IsSound (length mem.now) self.old }
-        ensures outcome { outcome_of (effect_with made.new self.new.regs) self.new.tlb
-            ≡ instruction_made self.old mem.now }
-        ensures rest { self.new ≡ record self.old { regs = self.new.regs; tlb = self.new.tlb } }
-        ensures kept { OnErr made.new (self.new.regs ≡ self.old.regs) }
+        ensures outcome { outcome_of result self.new.tlb ≡ instruction_made self.old mem.now }
+        ensures rest { self.new ≡ record self.old { tlb = self.new.tlb } }
         ensures sound { IsSound (length mem.now) self.new }
-        ensures places { IfOk made.new (λ asked. FitsIn (length mem.now) asked.write) }
-        ensures sized { IfOk made.new (λ asked. HasAccessSize asked.write) }
-        ensures loads { IfOk made.new (λ asked. LoadsFrameIn (length mem.now) asked.act) }
-        ensures delivered { IfOk made.new (λ asked. LeavesToDelivery self.old.regs
-            (record { regs = self.new.regs; write = asked.write; act = asked.act })) }
+        ensures privilege { IfOk result (λ effect. effect.regs.cpl ≡ self.old.regs.cpl) }
+        ensures places { IfOk result (λ effect. FitsIn (length mem.now) effect.write) }
+        ensures sized { IfOk result (λ effect. HasAccessSize effect.write) }
+        ensures loads { IfOk result (λ effect. LoadsFrameIn (length mem.now) effect.act) }
+        ensures delivered { IfOk result (LeavesToDelivery self.old.regs) }
     {
         match fetch_by_pages(mem, &mut self.tlb, &self.control, &self.regs) {
-            Ok(it) => execute(
+            Ok(it) => effect_of(
                 &it.instr,
                 it.size,
-                &mut self.regs,
+                &self.regs,
                 &self.control,
                 mem,
                 &mut self.tlb,
-                made,
             ),
-            Err(fault) => *made = Err(fault),
+            Err(fault) => Err(fault),
         }
     }
 }

@@ -1,6 +1,6 @@
 //! The effect of an instruction: its conditions, its accesses in order, its outcome, and the check of its write.
 
-ghost use Rattle.std.specs.Prelude.{◌≡◌, ◌⊎◌, ◌*◌, ◌<◌, IfOk, OnErr, length, Ok};
+ghost use Rattle.std.specs.Prelude.{◌≡◌, ◌⊎◌, ◌*◌, ◌<◌, IfOk, length};
 ghost use Rattle.nk_bits.specs.Outcomes.{outcome_of};
 ghost use Rattle.nk_bits.specs.Translations.{NamesFramesIn};
 ghost use Rattle.page_walk.specs.MemoryAccess.{view_of};
@@ -9,7 +9,7 @@ ghost use Rattle.x86_decode.specs.WellFormed.{IsWellFormed};
 ghost use Rattle.x86_regs.specs.declared.form.Form.TheVariants.{Data};
 ghost use Rattle.x86_regs.specs.OperationForms.{IsData};
 ghost use Rattle.x86_regs.specs.OperandPlans.{instr_form};
-ghost use Rattle.x86_regs.specs.Effects.{FitsIn, HasAccessSize, asked_nothing, concluded, effect_of, effect_with, planned_effect};
+ghost use Rattle.x86_regs.specs.Effects.{FitsIn, HasAccessSize, concluded, effect_of, planned_effect};
 
 use crate::outcomes::data_outcome;
 use crate::plans::data_plan;
@@ -20,53 +20,14 @@ use phys_mem::PhysMem;
 use tlb_model::Tlb;
 use x86_decode::Instr;
 use x86_regs::{
-    Asked, Change, DataForm, Effect, Fault, Form, Regs, instr_form, next_of, raised, refusal,
-    write_of,
+    Change, DataForm, Effect, Fault, Form, Regs, instr_form, next_of, raised, refusal, write_of,
 };
 
-/// Executes an instruction of `size` bytes that stands at RIP: its registers are changed in place, and its write is
-/// judged and not made. Besides, only the translations kept change.
+/// What an instruction of `size` bytes does that stands at RIP: the registers after it, its one write, which is judged and
+/// not made, and what it asks of the processor. Only the translations kept change.
 ///
 /// Fails with the first fault of the instruction, in the order of its conditions, its accesses, its outcome and the
 /// check of its write.
-pub fn execute(
-    form: DataForm,
-    instr: &Instr,
-    size: u8,
-    regs: &mut Regs,
-    control: &Control,
-    mem: &PhysMem,
-    tlb: &mut Tlb,
-    made: &mut Result<Asked, Fault>,
-)
-    requires fresh { made.old ≡ Ok asked_nothing }
-    requires form { Data form ≡ instr_form instr.now }
-    requires formed { IsWellFormed instr.now }
-    requires cpl { (regs.old.cpl ≡ 0) ⊎ (regs.old.cpl ≡ 3) }
-    requires root { 4096 * control.now.root < length mem.now }
-    requires frames { NamesFramesIn (length mem.now) tlb.old }
-    ensures outcome { outcome_of (effect_with made.new regs.new) tlb.new
-        ≡ effect_of instr.now size regs.old control.now mem.now tlb.old }
-    ensures kept { OnErr made.new (regs.new ≡ regs.old) }
-    ensures frames { NamesFramesIn (length mem.now) tlb.new }
-    ensures places { IfOk made.new (λ asked. FitsIn (length mem.now) asked.write) }
-    ensures sized { IfOk made.new (λ asked. HasAccessSize asked.write) }
-{
-    match effect_of(form, instr, size, regs, control, mem, tlb) {
-        Ok(effect) => {
-            *regs = effect.regs;
-            *made = Ok(Asked {
-                write: effect.write,
-                act: effect.act,
-            });
-        }
-        Err(fault) => *made = Err(fault),
-    }
-}
-
-/// The effect of an instruction as a value: the registers after it, beside the write and the act that `execute` gives.
-///
-/// Fails as `execute` does.
 pub fn effect(
     instr: &Instr,
     size: u8,
@@ -92,9 +53,9 @@ pub fn effect(
     }
 }
 
-/// The effect of an instruction of this form: the fault of its conditions, or what its accesses and its outcome are.
+/// The effect of an instruction whose form is known: the fault of its conditions, or what its accesses and its outcome are.
 #[tactic(auto, unfolding(x86_regs::specs::Effects::effect_of))]
-fn effect_of(
+pub fn effect_of(
     form: DataForm,
     instr: &Instr,
     size: u8,

@@ -18,7 +18,7 @@ mod plans;
 // The call.
 mod execution;
 
-pub use execution::{effect, execute};
+pub use execution::{effect, effect_of};
 
 #[cfg(test)]
 mod tests;

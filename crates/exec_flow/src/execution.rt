@@ -1,6 +1,6 @@
 //! The effect of an instruction: its conditions, its accesses in order, its outcome, and the check of its write.
 
-ghost use Rattle.std.specs.Prelude.{◌≡◌, ◌⊎◌, ◌*◌, ◌<◌, IfOk, OnErr, length, Ok};
+ghost use Rattle.std.specs.Prelude.{◌≡◌, ◌⊎◌, ◌*◌, ◌<◌, IfOk, length};
 ghost use Rattle.nk_bits.specs.Translations.{NamesFramesIn};
 ghost use Rattle.nk_bits.specs.Outcomes.{outcome_of};
 ghost use Rattle.page_walk.specs.AccessPlans.{IsChecked, IsAccessPlan};
@@ -9,7 +9,7 @@ ghost use Rattle.x86_decode.specs.WellFormed.{IsWellFormed};
 ghost use Rattle.x86_regs.specs.declared.form.Form.TheVariants.{Flow};
 ghost use Rattle.x86_regs.specs.OperationForms.{IsFlow};
 ghost use Rattle.x86_regs.specs.OperandPlans.{instr_form};
-ghost use Rattle.x86_regs.specs.Effects.{FitsIn, HasAccessSize, asked_nothing, concluded, effect_by, effect_of, effect_with, planned_effect};
+ghost use Rattle.x86_regs.specs.Effects.{FitsIn, HasAccessSize, concluded, effect_by, effect_of, planned_effect};
 
 use crate::interrupt_returns::return_effect;
 use crate::outcomes::flow_outcome;
@@ -21,8 +21,7 @@ use phys_mem::PhysMem;
 use tlb_model::Tlb;
 use x86_decode::Instr;
 use x86_regs::{
-    Asked, Change, Effect, Fault, FlowForm, Form, Regs, instr_form, next_of, raised, refusal,
-    write_of,
+    Change, Effect, Fault, FlowForm, Form, Regs, instr_form, next_of, raised, refusal, write_of,
 };
 
 /// What an instruction of flow or of the system does, which has this length in bytes: the registers after it, its one
@@ -56,47 +55,9 @@ pub fn effect(
     }
 }
 
-/// As `effect`, but the registers are changed in place: the answer is the write and what the processor is asked for.
-///
-/// Fails as `effect` does; then the registers stay as they were.
-pub fn execute(
-    form: FlowForm,
-    instr: &Instr,
-    size: u8,
-    regs: &mut Regs,
-    control: &Control,
-    mem: &PhysMem,
-    tlb: &mut Tlb,
-    made: &mut Result<Asked, Fault>,
-)
-    requires fresh { made.old ≡ Ok asked_nothing }
-    requires form { Flow form ≡ instr_form instr.now }
-    requires formed { IsWellFormed instr.now }
-    requires cpl { (regs.old.cpl ≡ 0) ⊎ (regs.old.cpl ≡ 3) }
-    requires root { 4096 * control.now.root < length mem.now }
-    requires frames { NamesFramesIn (length mem.now) tlb.old }
-    ensures outcome { outcome_of (effect_with made.new regs.new) tlb.new
-        ≡ effect_of instr.now size regs.old control.now mem.now tlb.old }
-    ensures kept { OnErr made.new (regs.new ≡ regs.old) }
-    ensures frames { NamesFramesIn (length mem.now) tlb.new }
-    ensures places { IfOk made.new (λ asked. FitsIn (length mem.now) asked.write) }
-    ensures sized { IfOk made.new (λ asked. HasAccessSize asked.write) }
-{
-    match effect_of(form, instr, size, regs, control, mem, tlb) {
-        Ok(effect) => {
-            *regs = effect.regs;
-            *made = Ok(Asked {
-                write: effect.write,
-                act: effect.act,
-            });
-        }
-        Err(fault) => *made = Err(fault),
-    }
-}
-
-/// The effect of an instruction of this form: the fault of its conditions, or what its form makes.
+/// The effect of an instruction whose form is known: the fault of its conditions, or what its form makes.
 #[tactic(auto, unfolding(x86_regs::specs::Effects::effect_of))]
-fn effect_of(
+pub fn effect_of(
     form: FlowForm,
     instr: &Instr,
     size: u8,

@@ -16,7 +16,7 @@ mod flags;
 mod interrupt_returns;
 mod system;
 
-pub use execution::{effect, execute};
+pub use execution::{effect, effect_of};
 
 #[cfg(test)]
 mod tests;

@@ -51,9 +51,9 @@ impl<'i> GateMachine<'i> {
             (whole_of result.0).state.processor }
     {
         let GateMachine { whole } = self;
-        whole.stands_in_gates();
-        whole.is_running(plan);
-        whole.comes_nearer(plan);
+        whole.in_gates_law();
+        whole.running_law(plan);
+        whole.nearer_law(plan);
         step(whole, plan)
     }
 
@@ -64,7 +64,7 @@ impl<'i> GateMachine<'i> {
         ensures most { result ≤ 11 }
         ensures in_gates { IsInGates self.now.state.processor }
     {
-        self.whole.stands_in_gates();
+        self.whole.in_gates_law();
         self.whole.left()
     }
 
@@ -74,8 +74,8 @@ impl<'i> GateMachine<'i> {
         ensures never { result ≡ false }
         ensures in_gates { IsInGates self.now.state.processor }
     {
-        self.whole.stands_in_gates();
-        self.whole.is_running(plan);
+        self.whole.in_gates_law();
+        self.whole.running_law(plan);
         false
     }
 
@@ -105,8 +105,8 @@ impl<'i> GateMachine<'i> {
         ensures in_gates { IsInGates self.entry.state.processor }
     {
         let GateMachine { whole } = self;
-        whole.stands_in_gates();
-        whole.is_safe();
+        whole.in_gates_law();
+        whole.safe_law();
         Box::into_inner(whole).finish()
     }
 }

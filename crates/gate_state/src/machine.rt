@@ -120,10 +120,10 @@ fn sorted<'i>(whole: Box<Whole<'i>>) -> Machine<'i>
     if whole.keeps_supervisor() {
         Machine::Outer(OuterMachine { whole })
     } else if whole.is_at_body() {
-        whole.stands_at_body();
+        whole.at_body_law();
         Machine::Nested(NestedMachine { whole })
     } else {
-        whole.stands_in_gates();
+        whole.in_gates_law();
         Machine::Gate(GateMachine { whole })
     }
 }
@@ -136,7 +136,7 @@ fn step_any<'i>(whole: Box<Whole<'i>>, plan: &Plan) -> (Machine<'i>, Step)
     ensures safe { IsSafe whole.entry.value.opening whole.entry.value.state }
     ensures sorted { IsOf result.0 }
 {
-    whole.is_safe();
+    whole.safe_law();
     let mut whole = whole;
     let step = whole.step(plan);
     (sorted(whole), step)
@@ -152,7 +152,7 @@ pub(crate) fn step<'i>(whole: Box<Whole<'i>>, plan: &Plan) -> (Machine<'i>, Seen
     ensures safe { IsSafe whole.entry.value.opening whole.entry.value.state }
     ensures sorted { IsOf result.0 }
 {
-    whole.is_safe();
+    whole.safe_law();
     let mut whole = whole;
     let seen = whole.advance(plan);
     (sorted(whole), seen)

@@ -47,11 +47,11 @@ impl<'i> NestedMachine<'i> {
         ensures nearer { left result.0.state.processor < left self.entry.state.processor }
     {
         let NestedMachine { mut whole } = self;
-        whole.stands_at_body();
-        whole.serves_nearer();
-        whole.is_safe();
+        whole.at_body_law();
+        whole.served_law();
+        whole.safe_law();
         let called = whole.serve();
-        whole.stands_in_gates();
+        whole.in_gates_law();
         (GateMachine { whole }, called)
     }
 
@@ -62,7 +62,7 @@ impl<'i> NestedMachine<'i> {
         ensures most { result ≤ 11 }
         ensures at_body { IsAtBody self.now.state.processor }
     {
-        self.whole.stands_at_body();
+        self.whole.at_body_law();
         self.whole.left()
     }
 
@@ -72,8 +72,8 @@ impl<'i> NestedMachine<'i> {
         ensures never { result ≡ false }
         ensures at_body { IsAtBody self.now.state.processor }
     {
-        self.whole.stands_at_body();
-        self.whole.is_serving(plan);
+        self.whole.at_body_law();
+        self.whole.serving_law(plan);
         false
     }
 
@@ -103,8 +103,8 @@ impl<'i> NestedMachine<'i> {
         ensures at_body { IsAtBody self.entry.state.processor }
     {
         let NestedMachine { whole } = self;
-        whole.stands_at_body();
-        whole.is_safe();
+        whole.at_body_law();
+        whole.safe_law();
         Box::into_inner(whole).finish()
     }
 }

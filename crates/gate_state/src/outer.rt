@@ -168,7 +168,7 @@ impl<'i> OuterMachine<'i> {
         ensures outer { IsOuter self.entry.state.processor }
     {
         let OuterMachine { whole } = self;
-        whole.is_safe();
+        whole.safe_law();
         Box::into_inner(whole).finish()
     }
 }

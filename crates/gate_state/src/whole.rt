@@ -211,7 +211,7 @@ impl<'i> Whole<'i> {
     }
 
     /// With WP clear the machine never rests.
-    pub fn is_running(&self, plan: &Plan)
+    pub(crate) fn running_law(&self, plan: &Plan)
         requires { wp_of self.now.state.processor.control.cr0 ≡ false }
         ensures { is_rest (move_of plan.now self.now.state) ≡ false }
     {
@@ -219,7 +219,7 @@ impl<'i> Whole<'i> {
     }
 
     /// Nor does it at the body.
-    pub fn is_serving(&self, plan: &Plan)
+    pub(crate) fn serving_law(&self, plan: &Plan)
         requires { enters_body self.now.state.processor ≡ true }
         ensures { is_rest (move_of plan.now self.now.state) ≡ false }
     {
@@ -227,7 +227,7 @@ impl<'i> Whole<'i> {
     }
 
     /// With WP clear, where no body is to run, the supervisor stands in the gates.
-    pub fn stands_in_gates(&self)
+    pub(crate) fn in_gates_law(&self)
         requires clear { wp_of self.now.state.processor.control.cr0 ≡ false }
         requires no_body { enters_body self.now.state.processor ≡ false }
         ensures { IsInGates self.now.state.processor }
@@ -237,7 +237,7 @@ impl<'i> Whole<'i> {
     }
 
     /// Where the body is to run, the supervisor stands at its place.
-    pub fn stands_at_body(&self)
+    pub(crate) fn at_body_law(&self)
         requires { enters_body self.now.state.processor ≡ true }
         ensures { IsAtBody self.now.state.processor }
     {
@@ -246,7 +246,7 @@ impl<'i> Whole<'i> {
     }
 
     /// With WP clear, the step from this state comes nearer to where WP is set.
-    pub fn comes_nearer(&self, plan: &Plan)
+    pub(crate) fn nearer_law(&self, plan: &Plan)
         requires clear { wp_of self.now.state.processor.control.cr0 ≡ false }
         ensures { ComesNearer (move_of plan.now self.now.state) self.now.state.processor
             (next plan.now self.now.state).processor }
@@ -256,7 +256,7 @@ impl<'i> Whole<'i> {
     }
 
     /// Behind the body fewer turns are left.
-    pub fn serves_nearer(&self)
+    pub(crate) fn served_law(&self)
         requires body { enters_body self.now.state.processor ≡ true }
         ensures { left (served self.now.state).processor < left self.now.state.processor }
     {
@@ -275,7 +275,7 @@ impl<'i> Whole<'i> {
     }
 
     /// What the invariant gives: the state is safe.
-    pub fn is_safe(&self)
+    pub(crate) fn safe_law(&self)
         ensures { IsSafe self.now.opening self.now.state }
     {
         steps_law();

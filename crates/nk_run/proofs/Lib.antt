@@ -14,6 +14,7 @@ pub mod RunEnds
 pub mod JournalOutcomes
 pub mod SafeRuns
 pub mod StepTexts
+pub mod StepEnds
 pub mod Texts
 pub mod OpeningMemory
 pub mod CountedRuns

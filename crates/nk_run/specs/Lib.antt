@@ -12,6 +12,7 @@ pub mod Clauses
 -- Words of private clauses and proofs.
 pub mod Statuses
 pub mod NamedCommands
+pub mod RunProgress
 pub mod ReplyText
 pub mod Replies
 pub mod HeldFile

@@ -1,13 +1,12 @@
 //! The loop of a run that is counted: step after step of the machine, and the summary in the end.
-ghost use Rattle.std.specs.Prelude.{◌≡◌, ◌<◌, ◌≤◌, ◌+◌, ◌++◌, false, filter, length};
+ghost use Rattle.std.specs.Prelude.{◌≡◌, ◌<◌, ◌≤◌, ◌+◌, ◌++◌, filter, length};
 ghost use Rattle.page_desc.specs.PageTables.{is_table};
 ghost use Rattle.page_desc.specs.DescriptorBytes.{HoldsDescriptors, kinds_in};
 ghost use Rattle.nk_body.specs.NestedRecord.{HoldsBooks, nested_held};
 ghost use Rattle.gate_state.specs.MachineOf.{whole_of};
 ghost use Rattle.gate_state.specs.MachineStates.{MachineState, nested_of};
 ghost use Rattle.gate_state.specs.declared.moves.Move.{Move};
-ghost use Rattle.gate_state.specs.MachineSteps.{move_of, next, step_by};
-ghost use Rattle.gate_state.specs.WholeMachine.{is_rest};
+ghost use Rattle.gate_state.specs.MachineSteps.{next, step_by};
 ghost use Rattle.report_text.specs.RunLines.{ending_line, turns_line};
 ghost use Rattle.report_text.specs.RunSummary.{summary_lines};
 ghost use Rattle.nk_run.specs.Replies.{CanCount, IsTextPut};
@@ -15,8 +14,8 @@ ghost use Rattle.nk_run.specs.RunStates.{is_halted};
 ghost use Rattle.nk_run.specs.WorkSummary.{summary_of, with_answer, with_shown, with_step, work_text};
 ghost use Rattle.nk_run.specs.Witness.{sink_change};
 
-use crate::drive::ending_at;
 use crate::ending::Ending;
+use crate::progress::{Progress, go_on};
 use gate_state::{Machine, Seen, Step, moves_law};
 use irq_plan::Plan;
 use nk_bits::{Answer, Kind};
@@ -65,26 +64,14 @@ pub(crate) fn count<'i, O: Sink>(
     let mut machine = machine;
     let mut tally = Tally::NOTHING;
     loop {
-        let hurried = machine.hurry(plan, STEPS);
-        if let Some(ending) = ending_at(&hurried, plan, STEPS) {
-            return sum_up(hurried, ending, &tally, sink);
+        match go_on(machine, plan, STEPS) {
+            Progress::Ends(ended, ending) => return sum_up(ended, ending, &tally, sink),
+            Progress::Goes(next, step) => {
+                machine = next;
+                tally = stepped(tally, &step);
+            }
         }
-        let (next, more) = advance(hurried, plan, tally);
-        machine = next;
-        tally = more;
     }
-}
-
-/// Takes a step, and counts what it shows.
-fn advance<'i>(machine: Machine<'i>, plan: &Plan, tally: Tally) -> (Machine<'i>, Tally)
-    requires left { is_rest (move_of plan.now (whole_of machine).state) ≡ false }
-    requires turns { (whole_of machine).state.turns < 4294967296 }
-    requires counted { CanCount tally }
-    ensures next { (whole_of result.0).state ≡ next plan.now (whole_of machine.entry).state }
-    ensures counted { let s = (whole_of machine.entry).state in result.1 ≡ with_step (move_of plan.now s) s tally }
-{
-    let (next, step) = machine.step(plan);
-    (next, stepped(tally, &step))
 }
 
 /// Counts a step by what it shows.

@@ -1,5 +1,5 @@
 //! The loop of a run: step after step of the machine, with the text as it comes.
-ghost use Rattle.std.specs.Prelude.{◌≡◌, ◌<◌, ◌≤◌, ◌*◌, ◌++◌, false, length, OnErr, OnOk};
+ghost use Rattle.std.specs.Prelude.{◌≡◌, ◌<◌, ◌≤◌, ◌*◌, ◌++◌, length, OnErr, OnOk};
 ghost use Rattle.std.specs.Io.KnownBytes.{Appends};
 ghost use Rattle.nk_host.specs.FaultCounts.{RoseTo};
 ghost use Rattle.nk_host.specs.Taken.{AppendsPrefix};
@@ -7,17 +7,18 @@ ghost use Rattle.boot_map.specs.Division.{IsLayout};
 ghost use Rattle.nk_body.specs.NestedRecord.{HoldsBooks, nested_held};
 ghost use Rattle.gate_state.specs.MachineOf.{whole_of};
 ghost use Rattle.gate_state.specs.MachineStates.{nested_of};
-ghost use Rattle.gate_state.specs.MachineSteps.{move_of, next, step_by};
-ghost use Rattle.gate_state.specs.WholeMachine.{WholeState, is_rest, source_after};
+ghost use Rattle.gate_state.specs.MachineSteps.{next, step_by};
+ghost use Rattle.gate_state.specs.WholeMachine.{WholeState, source_after};
 ghost use Rattle.gate_state.specs.declared.moves.Move.{Move};
 ghost use Rattle.report_text.specs.ClosingSection.{section};
 ghost use Rattle.report_text.specs.RunLines.{ending_line, turns_line};
 ghost use Rattle.nk_run.specs.Replies.{IsTextPut};
-ghost use Rattle.nk_run.specs.RunStates.{ending_at, is_halted, run_text, shown, shown_by};
+ghost use Rattle.nk_run.specs.RunStates.{is_halted, run_text, shown, shown_by};
 ghost use Rattle.nk_run.specs.Witness.{sink_change};
 
 use crate::ending::Ending;
 use crate::opening::Opened;
+use crate::progress::{Progress, go_on};
 use gate_state::{Finished, Machine, Seen, Step, moves_law};
 use irq_plan::Plan;
 use nk_host::{Sink, SinkFault};
@@ -43,53 +44,17 @@ pub(crate) fn drive<'i, O: Sink>(
     moves_law();
     let mut machine = machine;
     loop {
-        let hurried = machine.hurry(plan, steps);
-        if let Some(ending) = ending_at(&hurried, plan, steps) {
-            return end(hurried, opened, ending, sink);
-        }
-        let (next, shown) = advance(hurried, plan, sink);
-        machine = next;
-        if let Err(fault) = shown {
-            let _finished = machine.finish();
-            return Err(fault);
+        match go_on(machine, plan, steps) {
+            Progress::Ends(ended, ending) => return end(ended, opened, ending, sink),
+            Progress::Goes(next, step) => {
+                machine = next;
+                if let Err(fault) = show(&machine, &step, sink) {
+                    let _finished = machine.finish();
+                    return Err(fault);
+                }
+            }
         }
     }
-}
-
-/// Why the run ends at this state, where it does.
-#[tactic(auto, unfolding(crate::specs::RunStates::ending_at))]
-pub(crate) fn ending_at<'i>(machine: &Machine<'i>, plan: &Plan, steps: u64) -> Option<Ending>
-    ensures { result ≡ ending_at steps plan.now (whole_of machine.now).state }
-{
-    if machine.turns() == steps {
-        Some(Ending::Steps)
-    } else if machine.done(plan) {
-        Some(Ending::Halted)
-    } else {
-        None
-    }
-}
-
-/// Takes a step, and writes what it shows.
-fn advance<'i, O: Sink>(
-    machine: Machine<'i>,
-    plan: &Plan,
-    sink: &mut O,
-) -> (Machine<'i>, Result<(), SinkFault>)
-    requires left { is_rest (move_of plan.now (whole_of machine).state) ≡ false }
-    requires turns { (whole_of machine).state.turns < 4294967296 }
-    ensures opening { (whole_of result.0).opening ≡ (whole_of machine.entry).opening }
-    ensures next { (whole_of result.0).state ≡ next plan.now (whole_of machine.entry).state }
-    ensures never_falls { O.faults sink.old ≤ O.faults sink.new }
-    ensures failed { OnErr result.1 (RoseTo (O.faults sink.old) (O.faults sink.new)) }
-    ensures all { let s = (whole_of machine.entry).state in
-        OnOk result.1 (Appends (O.taken sink.old) (O.taken sink.new) (shown_by (move_of plan.now s) s)) }
-    ensures some { let s = (whole_of machine.entry).state in
-        OnErr result.1 (AppendsPrefix (O.taken sink.old) (O.taken sink.new) (shown_by (move_of plan.now s) s)) }
-{
-    let (next, step) = machine.step(plan);
-    let shown = show(&next, &step, sink);
-    (next, shown)
 }
 
 /// Writes what a step shows that the machine took last.

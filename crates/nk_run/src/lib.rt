@@ -30,10 +30,11 @@ mod work;
 mod inputs;
 mod opening;
 
-// A run: why it ends, its loop, and its loop where it is counted.
+// A run: why it ends, how it goes on, its loop, and its loop where it is counted.
 mod count;
 mod drive;
 mod ending;
+mod progress;
 
 // The whole.
 mod answer;

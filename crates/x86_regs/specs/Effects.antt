@@ -27,7 +27,6 @@ use Rattle.page_walk.specs.MemoryAccess.{stores_at, view_of}
 use Rattle.page_walk.specs.AccessPlans.{checked, gathered, taken}
 use Rattle.x86_regs.specs.declared.registers.Regs.{Regs}
 use Rattle.x86_regs.specs.declared.delivery.Frame.{Frame}
-use Rattle.x86_regs.specs.declared.effects.Asked.{Asked}
 use Rattle.x86_regs.specs.declared.effects.Effect.{Effect}
 use Rattle.x86_regs.specs.declared.effects.Write.{Write}
 use Rattle.x86_regs.specs.declared.effects.Act.{Act}
@@ -183,16 +182,7 @@ unfoldable pub effect_of : Instr → ℕ → Regs → Control → List ℕ → T
 effect_of i size regs control m tlb =
     unless_refused (refusal i regs.cpl) tlb (effect_by (instr_form i) i size regs control m (view_of m control regs.cpl) tlb)
 
--- the effect of an instruction whose registers were changed in place: these are the registers after it
-abbrev pub effect_with : Result Asked Fault → Regs → Result Effect Fault
-effect_with (Ok asked) regs = Ok (record { regs = regs; write = asked.write; act = asked.act })
-effect_with (Err fault) regs = Err fault
-
 -- memory after the one write of an instruction
 abbrev pub memory_after : Option Write → List ℕ → List ℕ
 memory_after None m = m
 memory_after (Some write) m = stored m (stores_at write.va write.width write.target write.value)
-
--- what an instruction asks that only changes registers
-abbrev pub asked_nothing : Asked
-asked_nothing = record { write = None; act = act.Quiet }

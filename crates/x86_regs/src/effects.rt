@@ -58,20 +58,6 @@ pub enum Act {
     DropPage(u64),
 }
 
-/// What an instruction that didn't fault leaves to the processor, once its registers are changed in place.
-#[derive(Clone, Copy, Debug, PartialEq, Eq)]
-pub struct Asked {
-    /// Its one write to memory, if it has one.
-    pub write: Option<Write>,
-    pub act: Act,
-}
-
-/// What an instruction asks that only changes registers: nothing, and it writes nothing.
-pub const ASKED_NOTHING: Asked = Asked {
-    write: None,
-    act: Act::Quiet,
-};
-
 /// What an instruction does with the values that it read, before its write is checked.
 #[derive(Clone, Copy, Debug, PartialEq, Eq)]
 pub struct Change {

@@ -38,7 +38,7 @@ pub use combinations::{
 };
 pub use conditions::{bit, condition_stands};
 pub use delivery::{Frame, Tables};
-pub use effects::{ASKED_NOTHING, Act, Asked, Change, Effect, Write};
+pub use effects::{Act, Change, Effect, Write};
 pub use faults::Fault;
 pub use flag_changes::{DF, IF, flags_changed, flags_popped};
 pub use form::{DataForm, FlowForm, Form, instr_form};

@@ -1,8 +1,8 @@
-use Rattle.std.proofs.Common.{◌≡◌, Result, IfOk, OnErr, false, subst, sym, ap, ◌∙◌}
+use Rattle.std.proofs.Common.{◌≡◌, Result, IfOk, false, subst, sym, ap, ◌∙◌}
 use Rattle.nk_bits.specs.Outcomes.{outcome_of}
-use Rattle.x86_regs.specs.declared.effects.Asked.{Asked}
+use Rattle.x86_regs.specs.declared.effects.Effect.{Effect}
 use Rattle.x86_regs.specs.declared.faults.Fault.{Fault}
-use Rattle.x86_regs.specs.Effects.{LeavesToDelivery, effect_with, memory_after}
+use Rattle.x86_regs.specs.Effects.{LeavesToDelivery, memory_after}
 use Rattle.cpu_step.specs.Processor.{Processor}
 use Rattle.cpu_step.specs.Turns.{acted, is_at_body, fault_raised}
 use Rattle.cpu_step.proofs.TurnLemmas.{instructed_at_body, turned_by_act, turned_by_fault}
@@ -17,27 +17,20 @@ returns-then-is_at_body-clause-instructed c =
 pub returns-in-Ok-clause-instructed : goal.returns-in-Ok-clause-instructed
 returns-in-Ok-clause-instructed c =
     let self = c.args.self.now in
-    let regs = c.make.new.self.regs in
-    let tlb = c.make.new.self.tlb in
-    let asked = c.in-Ok.asked in
-    let after = memory_after asked.write c.args.mem.now in
+    let effect : Effect = c.in-Ok.effect in
+    let after = memory_after effect.write c.args.mem.now in
     let at : is_at_body self.regs ≡ false = ap (λ (p : Processor). is_at_body p.regs) (sym c.self.view_is) ∙ sym c.if-is_at_body.ensures in
     c.finish.ensures.acted
-    ∙ ap (λ (q : Processor). acted asked.act (record regs { rip = c.self.inside.regs.rip }) q after) c.make.ensures.rest
-    ∙ ap (λ (v : Processor). acted asked.act (record regs { rip = v.regs.rip }) (record self { regs = regs; tlb = tlb }) after) c.self.view_is
-    ∙ sym (turned_by_act self c.args.mem.now asked regs tlb at
-    (ap (λ (it : Result Asked Fault). outcome_of (effect_with it regs) tlb) (sym c.in-Ok.is) ∙ c.make.ensures.outcome)
-    (subst (λ (it : Result Asked Fault). IfOk it (λ asked. LeavesToDelivery self.regs (record { regs = regs; write = asked.write; act = asked.act })))
-    c.in-Ok.is c.make.ensures.delivered))
+    ∙ ap (λ (q : Processor). acted effect.act (record effect.regs { rip = q.regs.rip }) (record q { regs = effect.regs }) after) c.make.ensures.rest
+    ∙ sym (turned_by_act self c.args.mem.now effect c.make.new.self.tlb at
+    (ap (λ (it : Result Effect Fault). outcome_of it c.make.new.self.tlb) (sym c.in-Ok.is) ∙ c.make.ensures.outcome)
+    (subst (λ (it : Result Effect Fault). IfOk it (LeavesToDelivery self.regs)) c.in-Ok.is c.make.ensures.delivered))
 
 pub returns-in-Err-clause-instructed : goal.returns-in-Err-clause-instructed
 returns-in-Err-clause-instructed c =
     let self = c.args.self.now in
-    let regs = c.make.new.self.regs in
-    let tlb = c.make.new.self.tlb in
     let at : is_at_body self.regs ≡ false = ap (λ (p : Processor). is_at_body p.regs) (sym c.self.view_is) ∙ sym c.if-is_at_body.ensures in
     c.raise.ensures.raised
     ∙ ap (λ (q : Processor). fault_raised c.in-Err.fault q c.args.mem.now) c.make.ensures.rest
-    ∙ sym (turned_by_fault self c.args.mem.now c.in-Err.fault regs tlb at
-    (ap (λ (it : Result Asked Fault). outcome_of (effect_with it regs) tlb) (sym c.in-Err.is) ∙ c.make.ensures.outcome)
-    (subst (λ (it : Result Asked Fault). OnErr it (regs ≡ self.regs)) c.in-Err.is c.make.ensures.kept))
+    ∙ sym (turned_by_fault self c.args.mem.now c.in-Err.fault c.make.new.self.tlb at
+    (ap (λ (it : Result Effect Fault). outcome_of it c.make.new.self.tlb) (sym c.in-Err.is) ∙ c.make.ensures.outcome))

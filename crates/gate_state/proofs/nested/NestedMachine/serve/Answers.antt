@@ -6,14 +6,14 @@ use Rattle.gate_state.proofs.BodyKept.{body_stands}
 use Rattle.gate_state.proofs.WholeLemmas.{served_behind, served_clear}
 use Rattle.gate_state.proofs.nested.NestedMachine.serve.Goals as goal
 
-pub stands_in_gates-requires-clause-clear : goal.stands_in_gates-requires-clause-clear
-stands_in_gates-requires-clause-clear c =
+pub in_gates_law-requires-clause-clear : goal.in_gates_law-requires-clause-clear
+in_gates_law-requires-clause-clear c =
     let s = c.self.inside.whole.value.state in
     let served = c.deref-4.ensures ∙ c.serve-called.ensures.served ∙ ap served_whole c.deref_mut.ensures.value in
     ap (λ (w : WholeState). wp_of w.state.processor.control.cr0) served ∙ served_clear s (body_stands s.processor c.self.invariant).1
 
-pub stands_in_gates-requires-clause-no_body : goal.stands_in_gates-requires-clause-no_body
-stands_in_gates-requires-clause-no_body c =
+pub in_gates_law-requires-clause-no_body : goal.in_gates_law-requires-clause-no_body
+in_gates_law-requires-clause-no_body c =
     let s = c.self.inside.whole.value.state in
     let served = c.deref-4.ensures ∙ c.serve-called.ensures.served ∙ ap served_whole c.deref_mut.ensures.value in
     ap (λ (w : WholeState). enters_body w.state.processor) served ∙ served_behind s

@@ -1,7 +1,7 @@
 use Rattle.std.proofs.Common.{subst}
 use Rattle.gate_state.specs.SafeStates.{IsSafe}
 use Rattle.gate_state.specs.WholeMachine.{WholeState}
-use Rattle.gate_state.proofs.whole.Whole.is_safe.Goals as goal
+use Rattle.gate_state.proofs.whole.Whole.safe_law.Goals as goal
 
 pub returns : goal.returns
 returns c =

@@ -5,7 +5,7 @@ use Rattle.gate_state.specs.MachineSteps.{move_of, next}
 use Rattle.gate_state.specs.WholeMachine.{WholeState}
 use Rattle.gate_state.specs.WindowLeft.{ComesNearer}
 use Rattle.gate_state.proofs.WholeLemmas.{state_by}
-use Rattle.gate_state.proofs.whole.Whole.comes_nearer.Goals as goal
+use Rattle.gate_state.proofs.whole.Whole.nearer_law.Goals as goal
 
 pub returns : goal.returns
 returns c =

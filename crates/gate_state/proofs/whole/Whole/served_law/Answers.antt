@@ -5,7 +5,7 @@ use Rattle.gate_state.specs.MachineSteps.{served}
 use Rattle.gate_state.specs.WholeMachine.{WholeState}
 use Rattle.gate_state.specs.WindowLeft.{left}
 use Rattle.gate_state.proofs.WholeLemmas.{state_by}
-use Rattle.gate_state.proofs.whole.Whole.serves_nearer.Goals as goal
+use Rattle.gate_state.proofs.whole.Whole.served_law.Goals as goal
 
 pub returns : goal.returns
 returns c =

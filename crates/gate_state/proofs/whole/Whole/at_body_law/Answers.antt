@@ -2,7 +2,7 @@ use Rattle.std.proofs.Common.{◌≡◌, true, sym, subst}
 use Rattle.cpu_step.specs.Turns.{enters_body}
 use Rattle.gate_state.specs.MachineOf.{IsAtBody}
 use Rattle.gate_state.specs.WholeMachine.{WholeState}
-use Rattle.gate_state.proofs.whole.Whole.stands_at_body.Goals as goal
+use Rattle.gate_state.proofs.whole.Whole.at_body_law.Goals as goal
 
 pub returns : goal.returns
 returns c =
