@@ -81,7 +81,7 @@ fn area_entry(index: usize) -> u64
     }
 }
 
-// The leaf of a frame that holds a page of the image.
+/// The leaf of a frame that holds a page of the image.
 fn page_leaf(page: PageInfo, frame: u32) -> u64
     ensures { result ≡ page_leaf page.exec page.can_write frame }
 {

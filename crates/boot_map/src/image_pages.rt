@@ -21,7 +21,7 @@ pub const RANGE_PAGES: u64 = 512;
 /// The number of bytes in a page.
 pub const PAGE_SIZE: u64 = 4096;
 
-// The number of the image's page with this place.
+/// The number of the image's page with this place.
 fn page_number(image: &Image, place: u32) -> u64
     requires { place < page_count image.now }
     ensures { result ≡ slice_index (pages_of image.now) place }
@@ -29,7 +29,7 @@ fn page_number(image: &Image, place: u32) -> u64
     image.page(place).va / PAGE_SIZE
 }
 
-// How many of the image's pages come before this one.
+/// How many of the image's pages come before this one.
 fn pages_before(image: &Image, page: u64) -> u32
     ensures within { result ≤ page_count image.now }
     ensures before { (i : ℕ) → i < result → slice_index (pages_of image.now) i < page }

@@ -23,7 +23,7 @@ const HALT_LOOP: u64 = GATE + 474;
 /// The selector of the code segment at CPL 0.
 const CODE_SELECTOR: u8 = 0x08;
 
-// Byte `index` of a number, least significant first.
+/// Byte `index` of a number, least significant first.
 #[tactic(auto, using(crate::proofs::Bytes::byte_of_le_bytes))]
 fn number_byte(number: u64, index: usize) -> u8
     requires { index < 8 }

@@ -41,7 +41,7 @@ pub struct Segment {
 pub struct Headers {
     size: u64,
     entry: u64,
-    // In the order of their addresses.
+    /// In the order of their addresses.
     sorted: ArrayVec<ProgramHeader, MOST_HEADERS>,
 }
 
@@ -154,7 +154,7 @@ impl Headers {
         }
     }
 
-    // The segment that touches a page.
+    /// The segment that touches a page.
     fn segment_at(&self, page: u64) -> Option<ProgramHeader>
         ensures { Supplies self.now.size self.now.segments page result }
     {

@@ -12,7 +12,7 @@ static POINTS: [usize; 14] = [16, 17, 27, 29, 32, 37, 40, 45, 448, 449, 452, 457
 /// INT3, which fills the text wherever no gate stands.
 const FILL: u8 = 0xCC;
 
-// An instruction a line, with its offset; a stub a line.
+/// An instruction a line, with its offset; a stub a line.
 static TEXT: [u8; 480] = [
     0x9C, // 0: pushfq
     0xFA, // 1: cli

@@ -42,11 +42,6 @@ module _ (va width : ℕ) where
   abbrev at : ℕ → Bool
   at k = is_canonical (address_of va k)
 
-  -- of no byte all are canonical
-  pub none_canonical : width ≡ 0 → has_canonical_bytes va width ≡ true
-  unfolding has_canonical_bytes
-  none_canonical none = ap (λ n. list_all at (range_with_len 0 n)) none
-
   module _ (fits : va < 2 ^ 64) (some : 0 < width) where
     pub first_not : is_canonical va ≡ false → has_canonical_bytes va width ≡ false
     unfolding has_canonical_bytes

@@ -11,9 +11,10 @@ const PAGE_SIZE: u64 = 4096;
 /// Whether each byte's address is canonical; addresses wrap at 2^64. The first byte and the last tell: the addresses
 /// that aren't canonical are one run, far longer than any access.
 pub fn has_canonical_bytes(va: u64, width: u8) -> bool
+    requires { 1 ≤ width }
     ensures { result ≡ has_canonical_bytes va width }
 {
-    width == 0 || canonical(va) && canonical(va.wrapping_add(u64::from(width) - 1))
+    canonical(va) && canonical(va.wrapping_add(u64::from(width) - 1))
 }
 
 /// Whether the access has a second page.

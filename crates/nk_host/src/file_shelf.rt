@@ -25,7 +25,7 @@ pub struct FileShelf<'a, R: Files> {
     last: Option<OpenFile<R::File>>,
 }
 
-// A file that is open, under its name.
+/// A file that is open, under its name.
 #[derive(Drop)]
 struct OpenFile<F: Read + Seek> {
     name: String,
@@ -40,14 +40,14 @@ impl<'a, R: Files> Model for FileShelf<'a, R> {
     ghost view = { λ s. record { faults = s.faults; wants = s.wants } };
 }
 
-// Opens a file to read. A directory opens too, but it is none.
+/// Opens a file to read. A directory opens too, but it is none.
 fn open_file<R: Files>(rt: &R, name: &str) -> Option<R::File> {
     let file = fs::open(rt, name).ok()?;
     let data = std::fs::OpenFile::metadata(&file).ok()?;
     if data.is_dir() { None } else { Some(file) }
 }
 
-// The size as it was read, where it is at most `most`.
+/// The size as it was read, where it is at most `most`.
 fn at_most(size: Result<u64, PieceFault>, most: u64) -> Result<u64, FetchFault>
     ensures at_most { IfOk result (λ size. size ≤ most) }
     ensures memory { result ≡ Err FetchFault.Memory ↔ size ≡ Err PieceFault.Memory }
@@ -88,7 +88,7 @@ impl<'a, R: Files> FileShelf<'a, R> {
         self.wants = self.wants.saturating_add(1);
     }
 
-    // Opens a file anew, with its name beside it.
+    /// Opens a file anew, with its name beside it.
     fn open(&mut self, alloc: Global, name: &str) -> Result<OpenFile<R::File>, PieceFault>
         ensures never_falls { self.old.faults ≤ self.new.faults }
         ensures wants_stand { self.old.wants ≤ self.new.wants }
@@ -112,7 +112,7 @@ impl<'a, R: Files> FileShelf<'a, R> {
         }
     }
 
-    // The file of that name: the one that was opened last, or else one that is opened now.
+    /// The file of that name: the one that was opened last, or else one that is opened now.
     fn file(&mut self, alloc: Global, name: &str) -> Result<OpenFile<R::File>, PieceFault>
         ensures never_falls { self.old.faults ≤ self.new.faults }
         ensures wants_stand { self.old.wants ≤ self.new.wants }
@@ -128,7 +128,7 @@ impl<'a, R: Files> FileShelf<'a, R> {
         self.open(alloc, name)
     }
 
-    // Keeps a file open, and takes over the count of faults.
+    /// Keeps a file open, and takes over the count of faults.
     fn keep(&mut self, name: String, reader: Counted<R::File>, stands: Option<u64>)
         requires { IfSome stands (StandsAt R.File.stream_position R.File.remaining reader.inner) }
         ensures { self.new ≡ record self.old { faults = reader.faults } }
@@ -140,7 +140,7 @@ impl<'a, R: Files> FileShelf<'a, R> {
         });
     }
 
-    // The length of the file of that name, which stays open.
+    /// The length of the file of that name, which stays open.
     fn length(&mut self, alloc: Global, name: &str) -> Result<u64, PieceFault>
         ensures never_falls { self.old.faults ≤ self.new.faults }
         ensures wants_stand { self.old.wants ≤ self.new.wants }
@@ -158,7 +158,7 @@ impl<'a, R: Files> FileShelf<'a, R> {
         size
     }
 
-    // The piece of the file of that name, which stays open.
+    /// The piece of the file of that name, which stays open.
     fn fill(
         &mut self,
         alloc: Global,

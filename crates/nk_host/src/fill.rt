@@ -38,7 +38,7 @@ pub(crate) fn fill_from<F: Read + Seek>(
     Ok(())
 }
 
-// Moves the reader to place `at`, if it isn't known to stand there.
+/// Moves the reader to place `at`, if it isn't known to stand there.
 #[tactic(auto, using(crate::proofs::InReads::stands_there))]
 fn stand_at<F: Read + Seek>(
     from: &mut Counted<F>,
@@ -77,7 +77,7 @@ pub(crate) fn fill<F: Read>(from: &mut Counted<F>, block: &mut [u8]) -> Result<(
     Ok(())
 }
 
-// One read into the block behind the bytes that are done.
+/// One read into the block behind the bytes that are done.
 fn read_behind<F: Read>(
     from: &mut Counted<F>,
     block: &mut [u8],
@@ -96,7 +96,7 @@ fn read_behind<F: Read>(
     read_some(from, &mut block[done..])
 }
 
-// One read, of at least one byte.
+/// One read, of at least one byte.
 fn read_some<F: Read>(from: &mut Counted<F>, block: &mut [u8]) -> Result<usize, PieceFault>
     requires { 0 < length block.old }
     ensures some { IfOk result (λ n. 0 < n) }

@@ -40,33 +40,33 @@ impl Model for MemShelf {
     ghost invariant = { λ s. vec_len s.counts ≡ vec_len s.held };
 }
 
-// The place of the first pair of a name.
+/// The place of the first pair of a name.
 fn first_place(held: &[(String, Vec<u8>)], name: &str) -> Option<usize>
     ensures { result ≡ position (λ file. bytes_eq (string_bytes file.0) name.now) held.now }
 {
     held.iter().position(|file| file.0.as_str() == name)
 }
 
-// The place of the first file of a name.
+/// The place of the first file of a name.
 fn place_of_name(held: &[(String, Vec<u8>)], name: &str) -> Option<usize>
     ensures { result ≡ name_place (named_files held.now) name.now }
 {
     first_place(held, name)
 }
 
-// Counts of no fault yet, one for each of so many files.
+/// Counts of no fault yet, one for each of so many files.
 fn no_faults(alloc: Global, len: usize) -> Result<Vec<u64>, NoMemory>
     ensures { IfOk result (λ counts. counts.items ≡ replicate len 0) }
 {
     vec![in alloc; 0; len].map_err(|_| NoMemory)
 }
 
-// Each element of a slice of bytes is a byte.
+/// Each element of a slice of bytes is a byte.
 fn are_bytes(file: &[u8])
     ensures { IsFileOfBytes file.now }
 {}
 
-// A copy of the file, where it has at most `most` bytes.
+/// A copy of the file, where it has at most `most` bytes.
 fn copy_of(alloc: Global, file: &[u8], most: u64) -> Result<Vec<u8>, FetchFault>
     ensures whole { IfOk result (λ bytes. bytes.items ≡ file.now) }
     ensures longer { result ≡ Err FetchFault.Longer ↔ most < length file.now }
@@ -79,7 +79,7 @@ fn copy_of(alloc: Global, file: &[u8], most: u64) -> Result<Vec<u8>, FetchFault>
     file.to_vec(alloc).map_err(|_| FetchFault::Memory)
 }
 
-// The length of the file, where it has at most `most` bytes.
+/// The length of the file, where it has at most `most` bytes.
 fn size_of(file: &[u8], most: u64) -> Result<u64, FetchFault>
     ensures whole { IfOk result (λ size. size ≡ length file.now) }
     ensures longer { result ≡ Err FetchFault.Longer ↔ most < length file.now }
@@ -94,7 +94,7 @@ fn size_of(file: &[u8], most: u64) -> Result<u64, FetchFault>
     }
 }
 
-// Copies the file's bytes from place `at` on.
+/// Copies the file's bytes from place `at` on.
 fn copy_piece(file: &[u8], at: u64, into: &mut [u8])
     requires { at + length into.old ≤ length file.now }
     ensures { into.new ≡ take (length into.new) (drop at file.now) }
@@ -131,7 +131,7 @@ impl MemShelf {
         })
     }
 
-    // Begins the next read, and says whether its number is among the failing ones.
+    /// Begins the next read, and says whether its number is among the failing ones.
     fn begin(&mut self) -> bool
         ensures after { self.new ≡ record self.old { reads = raised self.old.reads } }
         ensures due { result ≡ is_due self.old.failing (raised self.old.reads) }
@@ -232,7 +232,7 @@ impl MemShelf {
         }
     }
 
-    // The file of the name, where one is held, has so many bytes from place `at` on.
+    /// The file of the name, where one is held, has so many bytes from place `at` on.
     #[cfg(test)]
     pub(crate) fn is_within(&self, name: &str, at: u64, len: usize) -> bool
         ensures { IsTrue result → IsWithin (file_of self.now.files) name.now at len }

@@ -76,7 +76,7 @@ impl MemSink {
         &self.bytes
     }
 
-    // Begins the next put, and says whether its number is among the failing ones.
+    /// Begins the next put, and says whether its number is among the failing ones.
     fn begin(&mut self) -> bool
         ensures after { self.new ≡ record self.old { puts = raised self.old.puts } }
         ensures due { result ≡ is_due self.old.failing (raised self.old.puts) }
@@ -85,7 +85,7 @@ impl MemSink {
         self.failing.contains(&self.puts)
     }
 
-    // How many of so many bytes fit.
+    /// How many of so many bytes fit.
     fn fitting(&self, len: usize) -> usize
         ensures { result ≡ min len (room_left self.now) }
     {
@@ -108,7 +108,7 @@ impl MemSink {
         self.count = self.count.saturating_add(1);
     }
 
-    // The put of at least one byte.
+    /// The put of at least one byte.
     fn take_some(&mut self, bytes: &[u8]) -> Result<(), SinkFault>
         ensures after { self.new ≡ after_put self.old bytes.now }
         ensures fails { IsErr result ↔ IsTrue (put_fails self.old bytes.now) }

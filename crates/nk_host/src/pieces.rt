@@ -116,7 +116,7 @@ impl Pieces {
         Ok(())
     }
 
-    // Puts what waits, where a further byte has no room.
+    /// Puts what waits, where a further byte has no room.
     fn make_room<O: Sink>(&mut self, sink: &mut O) -> Result<(), SinkFault>
         ensures never_falls { O.faults sink.old ≤ O.faults sink.new }
         ensures failed { OnErr result (RoseTo (O.faults sink.old) (O.faults sink.new)) }

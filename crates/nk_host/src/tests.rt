@@ -35,6 +35,7 @@ fn sink(alloc: Global, room: usize, failing: &[u64], cut: usize) -> Result<MemSi
 }
 
 // These hide the exact contracts: the tests run the code, and their proofs stay short.
+
 fn fetch<S: Shelf>(
     shelf: &mut S,
     alloc: Global,
@@ -56,7 +57,7 @@ fn size<S: Shelf>(shelf: &mut S, alloc: Global, name: &str, most: u64) -> Result
     shelf.size(alloc, name, most)
 }
 
-// Whether the piece from a place on is these bytes.
+/// Whether the piece from a place on is these bytes.
 fn gives<S: Shelf>(
     shelf: &mut S,
     alloc: Global,
@@ -84,7 +85,7 @@ fn piece_fault<S: Shelf>(
     Ok(shelf.piece(alloc, name, at, &mut into).err())
 }
 
-// The same of a shelf in memory, whose file may not be asked for more than it has.
+/// The same of a shelf in memory, whose file may not be asked for more than it has.
 fn held_gives(shelf: &mut MemShelf, alloc: Global, at: u64, bytes: &[u8]) -> Result<bool, Fail> {
     if shelf.is_within("one", at, bytes.len()) {
         gives(shelf, alloc, "one", at, bytes)
@@ -194,7 +195,7 @@ fn a_put_is_cut_at_its_number_and_at_the_room(rt: HostRuntime) -> Result<(), Fai
     Ok(())
 }
 
-// How many bytes a sink took of so many zeros, where the put of one number fails and takes none.
+/// How many bytes a sink took of so many zeros, where the put of one number fails and takes none.
 fn taken_of(alloc: Global, len: usize, failing: u64) -> Result<(bool, usize), Fail> {
     let mut out = sink(alloc, 3 * PIECE, &[failing], 0)?;
     let zeros = vec![in alloc; 0; len]?;
@@ -227,8 +228,8 @@ fn push_line<O: Sink>(
     pieces.finish(out)
 }
 
-// What a sink took of a line of so many bytes `a`, two digits and a line's end, where the put of one
-// number fails and takes at most `cut` bytes.
+/// What a sink took of a line of so many bytes `a`, two digits and a line's end, where the put of one
+/// number fails and takes at most `cut` bytes.
 fn line_taken(
     alloc: Global,
     len: usize,
@@ -242,7 +243,7 @@ fn line_taken(
     Ok((all, out.taken().to_vec(alloc)?))
 }
 
-// Whether all went out, and how many bytes.
+/// Whether all went out, and how many bytes.
 fn line_size(alloc: Global, len: usize, failing: u64, cut: usize) -> Result<(bool, usize), Fail> {
     let (all, taken) = line_taken(alloc, len, 0, failing, cut)?;
     Ok((all, taken.len()))
@@ -288,7 +289,7 @@ fn a_cut_line_leaves_a_prefix(rt: HostRuntime) -> Result<(), Fail> {
     Ok(())
 }
 
-// A reader and a writer of so many single bytes, which then fails.
+/// A reader and a writer of so many single bytes, which then fails.
 #[derive(Drop)]
 struct Halting {
     left: u64,
@@ -408,8 +409,8 @@ fn a_block_is_filled_from_its_place(rt: HostRuntime) {
     assert_eq!(rt; from.faults(), 6);
 }
 
-// A reader of twelve bytes, each of which is its place. It gives one at a read, counts its reads and
-// how often it is moved, and fails once, at the read of that number.
+/// A reader of twelve bytes, each of which is its place. It gives one at a read, counts its reads and
+/// how often it is moved, and fails once, at the read of that number.
 #[derive(Drop)]
 struct Places {
     at: u8,
@@ -446,7 +447,7 @@ impl Seek for Places {
     }
 }
 
-// The two bytes from a place on, if they can be read, and the reader after that.
+/// The two bytes from a place on, if they can be read, and the reader after that.
 fn two_from(from: Placed<Places>, at: u64) -> (Placed<Places>, Option<[u8; 2]>) {
     let Placed { file, stands } = from;
     let mut stands = stands;
@@ -522,7 +523,7 @@ fn counting_bytes(alloc: Global, len: usize) -> Result<Vec<u8>, Fail> {
     Ok(bytes)
 }
 
-// Whether the piece of so many bytes from a place on is what stands there in all of the file.
+/// Whether the piece of so many bytes from a place on is what stands there in all of the file.
 fn gives_part<R: Files>(
     shelf: &mut FileShelf<'_, R>,
     alloc: Global,
@@ -619,7 +620,7 @@ fn what_has_no_piece_is_a_fault(rt: HostRuntime) -> Result<(), Fail> {
     Ok(())
 }
 
-// Many blocks of reads: nothing but memory and the caller's limit bounds a file.
+/// Many blocks of reads: nothing but memory and the caller's limit bounds a file.
 #[test]
 fn a_long_file_is_fetched(rt: HostRuntime) -> Result<(), Fail> {
     let alloc = rt.alloc();
@@ -644,7 +645,7 @@ fn standard_output_takes_bytes(rt: HostRuntime) {
     assert_eq!(rt; put_all(&mut out, b"a line\n"), Ok(()));
 }
 
-// A runtime whose standard output is an open file.
+/// A runtime whose standard output is an open file.
 #[derive(Drop)]
 struct Redirected<'a> {
     output: &'a File,

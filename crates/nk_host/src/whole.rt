@@ -10,7 +10,7 @@ use crate::{FetchFault, SinkFault};
 use std::alloc::Global;
 use std::io::{Read, Write};
 
-// The most bytes of one read.
+/// The most bytes of one read.
 const BLOCK: usize = 8_192;
 
 /// All that the reader has, where that is at most `most` bytes. It reads at most one byte past them,
@@ -42,15 +42,15 @@ pub(crate) fn read_whole<F: Read>(
     }
 }
 
-// How many bytes to read next, where `left` more are allowed: one byte past them shows that there
-// are more.
+/// How many bytes to read next, where `left` more are allowed: one byte past them shows that there
+/// are more.
 fn wanted_of(left: u64) -> usize
     ensures { result ≡ min left (BLOCK - 1) + 1 }
 {
     left.min(BLOCK as u64 - 1) as usize + 1
 }
 
-// One read, of at most a block, put behind the bytes.
+/// One read, of at most a block, put behind the bytes.
 fn read_more<F: Read>(
     from: &mut Counted<F>,
     block: &mut [u8],

@@ -18,7 +18,7 @@ use phys_mem::PhysMem;
 /// The number of entries of a table.
 const ENTRIES: u32 = 512;
 
-// The level of a table; 0 for every other kind.
+/// The level of a table; 0 for every other kind.
 fn level_of(kind: Kind) -> u8
     ensures { result ≡ level_of kind }
 {
@@ -38,7 +38,7 @@ pub fn entry(mem: &PhysMem, frame: u32, index: u32) -> Entry
     Entry(mem.load64(4096 * u64::from(frame) + 8 * u64::from(index)))
 }
 
-// The kind of a frame in memory.
+/// The kind of a frame in memory.
 fn kind_at(kinds: &[Kind], frame: u32) -> Kind
     requires { frame < length kinds.now }
     ensures { result ≡ kind_of kinds.now frame }
@@ -46,7 +46,7 @@ fn kind_at(kinds: &[Kind], frame: u32) -> Kind
     kinds[frame as usize]
 }
 
-// Counts each loose leaf in a frame.
+/// Counts each loose leaf in a frame.
 fn add_leaves(mem: &mut PhysMem, count: u32, frame: u32)
     requires memory { (length mem.old ≡ 4096 * count) × (65 ≤ count) }
     requires frame { frame < count }
@@ -62,7 +62,7 @@ fn add_leaves(mem: &mut PhysMem, count: u32, frame: u32)
     }
 }
 
-// Counts each link in a frame.
+/// Counts each link in a frame.
 fn add_links(mem: &mut PhysMem, count: u32, frame: u32)
     requires memory { (length mem.old ≡ 4096 * count) × (65 ≤ count) }
     requires frame { frame < count }
@@ -78,14 +78,14 @@ fn add_links(mem: &mut PhysMem, count: u32, frame: u32)
     }
 }
 
-// Whether a frame of this kind and with this mark holds a table of level 1.
+/// Whether a frame of this kind and with this mark holds a table of level 1.
 fn holds_leaves(kind: Kind, frame: u32, mark: u32) -> bool
     ensures { result ≡ (level_of kind == 1 || (frame == 8 || nat_lt 0 mark)) }
 {
     (level_of(kind) == 1) | ((frame == AREA_TABLE) | (mark > 0))
 }
 
-// Counts each loose leaf in a frame, where it holds leaves.
+/// Counts each loose leaf in a frame, where it holds leaves.
 fn count_loose_in(mem: &mut PhysMem, count: u32, kinds: &[Kind], frame: u32)
     requires count { count ≡ length kinds.now }
     requires frame { frame < count }
@@ -102,7 +102,7 @@ fn count_loose_in(mem: &mut PhysMem, count: u32, kinds: &[Kind], frame: u32)
     }
 }
 
-// Counts each link in a frame, where it holds links.
+/// Counts each link in a frame, where it holds links.
 fn count_links_in(mem: &mut PhysMem, count: u32, kinds: &[Kind], frame: u32)
     requires count { count ≡ length kinds.now }
     requires frame { frame < count }
@@ -117,7 +117,7 @@ fn count_links_in(mem: &mut PhysMem, count: u32, kinds: &[Kind], frame: u32)
     }
 }
 
-// Counts the loose leaves of every frame, by the marks that stand for the kernel slot's tables of level 1 but frame 8.
+/// Counts the loose leaves of every frame, by the marks that stand for the kernel slot's tables of level 1 but frame 8.
 fn count_loose(mem: &mut PhysMem, count: u32, kinds: &[Kind])
     requires count { count ≡ length kinds.now }
     requires most { count ≤ 65536 }
@@ -133,7 +133,7 @@ fn count_loose(mem: &mut PhysMem, count: u32, kinds: &[Kind])
     }
 }
 
-// Counts the links of every frame.
+/// Counts the links of every frame.
 fn count_links(mem: &mut PhysMem, count: u32, kinds: &[Kind])
     requires count { count ≡ length kinds.now }
     requires most { count ≤ 65536 }
@@ -147,7 +147,7 @@ fn count_links(mem: &mut PhysMem, count: u32, kinds: &[Kind])
     }
 }
 
-// No link is counted.
+/// No link is counted.
 fn clear_links(mem: &mut PhysMem, count: u32)
     requires memory { (length mem.old ≡ 4096 * count) × (65 ≤ count) }
     ensures each { (other : ℕ) → other < count → field_in mem.new 8 other ≡ 0 }

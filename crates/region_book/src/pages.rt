@@ -100,14 +100,14 @@ pub(crate) fn is_bad_range(va: u64, size: u64) -> bool
     !canonical(va) | is_uneven | (size == 0) | (size > MOST_BYTES)
 }
 
-// The frame stands in the list.
+/// The frame stands in the list.
 fn contains(list: &[u16], frame: u16) -> bool
     ensures { result ≡ list_any (λ other. other == frame) list.now }
 {
     list.iter().any(|other| *other == frame)
 }
 
-// Two places of the list hold the same frame.
+/// Two places of the list hold the same frame.
 fn has_twice(list: &[u16]) -> bool
     ensures twice { result ≡ has_twice list.now }
     ensures once { result ≡ false → IsEachOnce list.now }
@@ -120,7 +120,7 @@ fn has_twice(list: &[u16]) -> bool
     false
 }
 
-// The frame holds data.
+/// The frame holds data.
 fn is_data(frames: &Frames, mem: &PhysMem, frame: u16) -> bool
     requires held { HoldsDescriptors frames.now mem.now }
     ensures { result ≡ is_data (kind_of (kinds_in mem.now) frame) }
@@ -131,7 +131,7 @@ fn is_data(frames: &Frames, mem: &PhysMem, frame: u16) -> bool
     }
 }
 
-// A frame of the list isn't data.
+/// A frame of the list isn't data.
 fn has_other(frames: &Frames, mem: &PhysMem, list: &[u16]) -> bool
     requires held { HoldsDescriptors frames.now mem.now }
     ensures { result ≡ list_any (λ f. not (is_data (kind_of (kinds_in mem.now) f))) list.now }
@@ -139,7 +139,7 @@ fn has_other(frames: &Frames, mem: &PhysMem, list: &[u16]) -> bool
     list.iter().any(|frame| !is_data(frames, mem, *frame))
 }
 
-// A loose leaf names a frame of the list.
+/// A loose leaf names a frame of the list.
 fn has_loose(frames: &Frames, mem: &PhysMem, list: &[u16]) -> bool
     requires held { HoldsDescriptors frames.now mem.now }
     ensures { result ≡ list_any (λ f. not (slice_index (descriptors_in mem.now).loose f == 0)) list.now }
@@ -148,14 +148,14 @@ fn has_loose(frames: &Frames, mem: &PhysMem, list: &[u16]) -> bool
         .any(|frame| frames.loose(mem, u32::from(*frame)) != 0)
 }
 
-// The policy is one of the four.
+/// The policy is one of the four.
 fn is_policy(policy: u64) -> bool
     ensures { result ≡ is_policy policy }
 {
     (1 <= policy) & (policy <= 4)
 }
 
-// Judges the frames of a range, in a book of so many regions and of so many declared pages.
+/// Judges the frames of a range, in a book of so many regions and of so many declared pages.
 fn judge_frames(
     count: usize,
     declared: u32,

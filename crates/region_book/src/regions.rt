@@ -112,7 +112,7 @@ impl Regions {
         row_at(mem, self.slots.at(i)).shown()
     }
 
-    // The row of a live region.
+    /// The row of a live region.
     fn row(&self, mem: &PhysMem, id: u64) -> Option<Row>
         requires held { HoldsRegions self.now mem.now }
         ensures none { IfNone result (region_of (book_in self.now mem.now) id ≡ None) }
@@ -173,7 +173,7 @@ impl Regions {
         any_set(mem, row.first_bit() + offset, length)
     }
 
-    // Where the row of a live region stands in the order.
+    /// Where the row of a live region stands in the order.
     fn live_at(&self, mem: &PhysMem, id: u64) -> usize
         requires held { HoldsRegions self.now mem.now }
         requires live { IsSome (region_of (book_in self.now mem.now) id) }
@@ -183,7 +183,7 @@ impl Regions {
         locate(&self.slots, mem, id).unwrap()
     }
 
-    // The slot of a live region, by its place in the order.
+    /// The slot of a live region, by its place in the order.
     fn slot_at(&self, i: usize) -> u8
         requires number { i < length self.now.slots }
         ensures { slice_index self.now.slots i ≡ result }
@@ -216,7 +216,7 @@ impl Regions {
         self.mark_range(mem, id, offset, bytes.len() as u32);
     }
 
-    // Marks a range as written.
+    /// Marks a range as written.
     fn mark_range(&self, mem: &mut PhysMem, id: u64, offset: u32, count: u32)
         requires held { HoldsRegions self.now mem.old }
         requires book { IsBook (book_in self.now mem.old) }
@@ -290,14 +290,14 @@ impl Regions {
         }
     }
 
-    // How many pages were declared.
+    /// How many pages were declared.
     fn declared(&self) -> u32
         ensures { result ≡ self.now.declared }
     {
         self.declared
     }
 
-    // The row of a new region of pages.
+    /// The row of a new region of pages.
     fn page_row(&self, pages: &Pages, va: u64, size: u32, policy: u8) -> Row
         requires whole { size ≡ 4096 * pages.now.count }
         requires none { (i : ℕ) → i < 16 → pages.now.count ≤ i → slice_index pages.now.frames i ≡ 0 }
@@ -352,7 +352,7 @@ impl Regions {
         }
     }
 
-    // The place in the pool that an allocation gets, or the rule that it breaks.
+    /// The place in the pool that an allocation gets, or the rule that it breaks.
     #[tactic(auto, unfolding(crate::specs::RegionCalls::alloc_rule))]
     fn judge_alloc(&self, mem: &PhysMem, size: u64, policy: u64) -> Result<u32, Rule>
         requires held { HoldsRegions self.now mem.now }
@@ -377,7 +377,7 @@ impl Regions {
         }
     }
 
-    // The least multiple of 16 from which on so many bytes of the pool are free.
+    /// The least multiple of 16 from which on so many bytes of the pool are free.
     fn room(&self, mem: &PhysMem, size: u32) -> Option<u32>
         requires held { HoldsRegions self.now mem.now }
         requires size { (1 ≤ size) × (size ≤ 65536) }
@@ -387,7 +387,7 @@ impl Regions {
         room(&self.slots, mem, size)
     }
 
-    // The row of a new region at a place of the pool.
+    /// The row of a new region at a place of the pool.
     fn pool_row(&self, place: u32, size: u32, policy: u8) -> Row
         requires within { place + size ≤ 65536 }
         ensures region { (book : Book) → book.next ≡ self.now.next → region_of_row result ≡ pool_region book size policy place }
@@ -408,7 +408,7 @@ impl Regions {
         }
     }
 
-    // Makes a row that of the youngest region, with no byte written.
+    /// Makes a row that of the youngest region, with no byte written.
     fn admit(&mut self, mem: &mut PhysMem, row: Row, pages: u32)
         requires held { HoldsRegions self.old mem.old }
         requires next { self.old.next < 2 ^ 63 }
@@ -449,7 +449,7 @@ impl Regions {
         }
     }
 
-    // Lets a region go.
+    /// Lets a region go.
     fn remove(&mut self, mem: &mut PhysMem, id: u64)
         requires held { HoldsRegions self.old mem.old }
         requires book { IsBook (book_in self.old mem.old) }
@@ -466,7 +466,7 @@ impl Regions {
         self.slots.remove(i);
     }
 
-    // The rule that freeing a region breaks.
+    /// The rule that freeing a region breaks.
     fn judge_free(&self, mem: &PhysMem, id: u64) -> Option<Rule>
         requires held { HoldsRegions self.now mem.now }
         ensures { result ≡ free_rule (book_in self.now mem.now) id }

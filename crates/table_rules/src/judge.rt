@@ -12,14 +12,14 @@ use nk_bits::{Entry, Kind, Rights, Rule};
 use page_desc::{Frames, stored_law};
 use phys_mem::PhysMem;
 
-// The bits 8 and 7, which are clear in every form.
+/// The bits 8 and 7, which are clear in every form.
 fn lacks_size_and_global(value: u64) -> bool
     ensures { result ≡ (value / 128 % 4 == 0) }
 {
     (value >> 7) & 3 == 0
 }
 
-// In a table of level 2 to 4: present, writable, user and accessed, cached, and no bit set above the frame's.
+/// In a table of level 2 to 4: present, writable, user and accessed, cached, and no bit set above the frame's.
 #[tactic(auto, unfolding(nk_bits::specs::EntryForms::has_table_form))]
 fn has_table_form(value: u64) -> bool
     ensures { result ≡ has_table_form value }
@@ -27,8 +27,8 @@ fn has_table_form(value: u64) -> bool
     (value & 0x3F == 0x27) & lacks_size_and_global(value) & ((value >> 52) & 0xFFF == 0)
 }
 
-// In a table of level 1: present and accessed, dirty where it is writable, cached, and no bit set above the frame's but
-// the last.
+/// In a table of level 1: present and accessed, dirty where it is writable, cached, and no bit set above the frame's but
+/// the last.
 #[tactic(auto, unfolding(nk_bits::specs::EntryForms::has_leaf_form))]
 fn has_leaf_form(entry: Entry) -> bool
     ensures { result ≡ has_leaf_form entry.0 }
@@ -39,7 +39,7 @@ fn has_leaf_form(entry: Entry) -> bool
     is_accessed & is_dirty & lacks_size_and_global(value) & ((value >> 52) & 0x7FF == 0)
 }
 
-// In a table of this level.
+/// In a table of this level.
 fn has_form(level: u8, entry: Entry) -> bool
     ensures { result ≡ has_form level entry.0 }
 {
@@ -50,7 +50,7 @@ fn has_form(level: u8, entry: Entry) -> bool
     }
 }
 
-// The level of a table; 0 for every other kind.
+/// The level of a table; 0 for every other kind.
 fn level_of(kind: Kind) -> u8
     ensures { result ≡ level_of kind }
 {
@@ -60,7 +60,7 @@ fn level_of(kind: Kind) -> u8
     }
 }
 
-// Whether no leaf may name a frame of this kind.
+/// Whether no leaf may name a frame of this kind.
 fn is_hidden(kind: Kind) -> bool
     ensures { result ≡ is_hidden kind }
 {
@@ -70,7 +70,7 @@ fn is_hidden(kind: Kind) -> bool
     }
 }
 
-// Whether a leaf may name a frame of this kind with these rights.
+/// Whether a leaf may name a frame of this kind with these rights.
 fn allows(kind: Kind, rights: Rights) -> bool
     ensures { result ≡ allows kind rights }
 {
@@ -84,7 +84,7 @@ fn allows(kind: Kind, rights: Rights) -> bool
     }
 }
 
-// The frame is one of memory's.
+/// The frame is one of memory's.
 fn is_inside(frames: &Frames, mem: &PhysMem, frame: u64) -> bool
     requires held { HoldsDescriptors frames.now mem.now }
     ensures inside { result ≡ nat_lt frame (length (kinds_in mem.now)) }
@@ -94,7 +94,7 @@ fn is_inside(frames: &Frames, mem: &PhysMem, frame: u64) -> bool
     frame < u64::from(frames.frames())
 }
 
-// The kind of a frame; Hidden past the end of memory.
+/// The kind of a frame; Hidden past the end of memory.
 fn kind_of(frames: &Frames, mem: &PhysMem, frame: u64) -> Kind
     requires held { HoldsDescriptors frames.now mem.now }
     ensures { result ≡ kind_of (kinds_in mem.now) frame }
@@ -106,7 +106,7 @@ fn kind_of(frames: &Frames, mem: &PhysMem, frame: u64) -> Kind
     }
 }
 
-// Whether the value names a frame in memory: for a leaf one that isn't hidden, for a link a table one level below.
+/// Whether the value names a frame in memory: for a leaf one that isn't hidden, for a link a table one level below.
 fn is_target(frames: &Frames, mem: &PhysMem, level: u8, entry: Entry) -> bool
     requires held { HoldsDescriptors frames.now mem.now }
     ensures { result ≡ is_target (kinds_in mem.now) level entry.0 }
@@ -121,7 +121,7 @@ fn is_target(frames: &Frames, mem: &PhysMem, level: u8, entry: Entry) -> bool
     is_inside(frames, mem, frame) & is_named
 }
 
-// Whether a leaf grants no right that the kind of its frame forbids.
+/// Whether a leaf grants no right that the kind of its frame forbids.
 fn is_allowed(frames: &Frames, mem: &PhysMem, entry: Entry) -> bool
     requires held { HoldsDescriptors frames.now mem.now }
     ensures { result ≡ allows (kind_of (kinds_in mem.now) (frame_of entry.0)) (rights_of entry.0) }

@@ -20,7 +20,7 @@ use table_rules::judge_entry;
 /// The number of entries of a table.
 const ENTRIES: u64 = 512;
 
-// The number of frames, of which each has a kind.
+/// The number of frames, of which each has a kind.
 fn frame_count(frames: &Frames, mem: &PhysMem) -> u64
     requires held { HoldsDescriptors frames.now mem.now }
     ensures count { result ≡ length (kinds_in mem.now) }
@@ -30,7 +30,7 @@ fn frame_count(frames: &Frames, mem: &PhysMem) -> u64
     u64::from(frames.frames())
 }
 
-// The frame isn't one of memory's.
+/// The frame isn't one of memory's.
 fn is_outside(frames: &Frames, mem: &PhysMem, frame: u64) -> bool
     requires held { HoldsDescriptors frames.now mem.now }
     ensures outside { result ≡ not (nat_lt frame (length (kinds_in mem.now))) }
@@ -39,7 +39,7 @@ fn is_outside(frames: &Frames, mem: &PhysMem, frame: u64) -> bool
     frame >= frame_count(frames, mem)
 }
 
-// The kind of a frame; Hidden past the end of memory.
+/// The kind of a frame; Hidden past the end of memory.
 fn kind_of(frames: &Frames, mem: &PhysMem, frame: u64) -> Kind
     requires held { HoldsDescriptors frames.now mem.now }
     ensures { result ≡ kind_of (kinds_in mem.now) frame }
@@ -62,7 +62,7 @@ pub fn level_at(frames: &Frames, mem: &PhysMem, frame: u64) -> u8
     }
 }
 
-// The frame holds data.
+/// The frame holds data.
 fn is_data(frames: &Frames, mem: &PhysMem, frame: u64) -> bool
     requires held { HoldsDescriptors frames.now mem.now }
     ensures { result ≡ is_data (kind_of (kinds_in mem.now) frame) }
@@ -73,14 +73,14 @@ fn is_data(frames: &Frames, mem: &PhysMem, frame: u64) -> bool
     }
 }
 
-// The level is that of a page table.
+/// The level is that of a page table.
 fn is_level(level: u64) -> bool
     ensures { result ≡ (nat_le 1 level && nat_le level 4) }
 {
     (1 <= level) & (level <= 4)
 }
 
-// A loose leaf names the frame.
+/// A loose leaf names the frame.
 fn is_loose(frames: &Frames, mem: &PhysMem, frame: u64) -> bool
     requires held { HoldsDescriptors frames.now mem.now }
     requires frame { frame < frames.now }
@@ -90,7 +90,7 @@ fn is_loose(frames: &Frames, mem: &PhysMem, frame: u64) -> bool
     frames.loose(mem, frame as u32) != 0
 }
 
-// An entry names the table in the frame, or it is the root.
+/// An entry names the table in the frame, or it is the root.
 fn is_linked(frames: &Frames, mem: &PhysMem, root: u32, frame: u64) -> bool
     requires held { HoldsDescriptors frames.now mem.now }
     requires frame { frame < frames.now }
@@ -100,14 +100,14 @@ fn is_linked(frames: &Frames, mem: &PhysMem, root: u32, frame: u64) -> bool
     (frames.links(mem, frame as u32) != 0) | (frame == u64::from(root))
 }
 
-// The entry is the kernel slot's.
+/// The entry is the kernel slot's.
 fn is_slot_entry(level: u8, index: u64) -> bool
     ensures { result ≡ is_slot_entry level index }
 {
     (level == 4) & (index == 511)
 }
 
-// The entry is present, and not the kernel slot's.
+/// The entry is present, and not the kernel slot's.
 fn is_filled_at(mem: &PhysMem, level: u8, frame: u64, index: u64) -> bool
     requires frame { 4096 * frame + 4096 ≤ length mem.now }
     requires index { index < 512 }
@@ -116,7 +116,7 @@ fn is_filled_at(mem: &PhysMem, level: u8, frame: u64, index: u64) -> bool
     entry(mem, frame, index).is_present() & !is_slot_entry(level, index)
 }
 
-// An entry of the table is present, beside the kernel slot's.
+/// An entry of the table is present, beside the kernel slot's.
 fn is_filled(mem: &PhysMem, level: u8, frame: u64) -> bool
     requires { 4096 * frame + 4096 ≤ length mem.now }
     ensures { result ≡ list_any (λ i. is_present (entry_in mem.now frame i) && not (is_slot_entry level i)) (range_with_len 0 512) }

@@ -113,7 +113,7 @@ impl Tables4 {
         Ok(())
     }
 
-    // Makes the table that may be declared.
+    /// Makes the table that may be declared.
     fn make_table(&mut self, mem: &mut PhysMem, level: u8, frame: u32)
         requires books { HoldsTables self.old.frames self.old.root mem.old }
         requires frame { frame < self.old.frames }
@@ -138,7 +138,7 @@ impl Tables4 {
         self.frames.replace(mem, level, Entry(0), Entry(last));
     }
 
-    // Writes the entry that may be written.
+    /// Writes the entry that may be written.
     fn put_entry(&mut self, mem: &mut PhysMem, frame: u64, index: u64, value: u64)
         requires books { HoldsTables self.old.frames self.old.root mem.old }
         requires frame { frame < self.old.frames }
@@ -163,7 +163,7 @@ impl Tables4 {
         self.frames.replace(mem, level, old, Entry(value));
     }
 
-    // Makes the table data that may be removed.
+    /// Makes the table data that may be removed.
     fn clear_table(&mut self, mem: &mut PhysMem, table: u32)
         requires books { HoldsTables self.old.frames self.old.root mem.old }
         requires frame { table < self.old.frames }
@@ -190,7 +190,7 @@ impl Tables4 {
     }
 }
 
-// What the last entry of a new table of this level holds: at level 4 the kernel slot's.
+/// What the last entry of a new table of this level holds: at level 4 the kernel slot's.
 #[tactic(auto, unfolding(nk_bits::specs::Paging::slot_value))]
 fn last_value(level: u8) -> u64
     ensures { result ≡ last_value level }

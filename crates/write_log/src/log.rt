@@ -167,7 +167,7 @@ impl Log {
         }
     }
 
-    // Where the record of this number stands.
+    /// Where the record of this number stands.
     fn spot(&self, mem: &PhysMem, i: u64) -> Spot
         requires held { HoldsLog self.now mem.now }
         requires number { i < self.now.records }
@@ -180,7 +180,7 @@ impl Log {
         spot
     }
 
-    // A record ends within the log, where the next one stands or would, and what is read there is the record of its number.
+    /// A record ends within the log, where the next one stands or would, and what is read there is the record of its number.
     fn stands(&self, mem: &PhysMem, i: u64, spot: Spot)
         requires held { HoldsLog self.now mem.now }
         requires number { i < self.now.records }
@@ -193,7 +193,7 @@ impl Log {
     {}
 }
 
-// Makes the bytes of the log 0: frames 26 to 41.
+/// Makes the bytes of the log 0: frames 26 to 41.
 fn clear(mem: &mut PhysMem)
     requires size { 0x2A000 ≤ length mem.old }
     ensures zero { (p : ℕ) → 0x1A000 ≤ p → p < 0x2A000 → byte_at mem.new p ≡ 0 }

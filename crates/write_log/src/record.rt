@@ -55,7 +55,7 @@ pub fn put(mem: &mut PhysMem, at: u64, number: u64, region: u64, offset: u32, by
     put_bytes(mem, at + BYTES, bytes);
 }
 
-// Puts the four numbers of a record there.
+/// Puts the four numbers of a record there.
 #[tactic(auto, unfolding(crate::specs::RecordStores::with_head))]
 fn put_head(mem: &mut PhysMem, at: u64, number: u64, region: u64, offset: u32, count: u32)
     requires room { at + 24 ≤ length mem.old }
@@ -69,7 +69,7 @@ fn put_head(mem: &mut PhysMem, at: u64, number: u64, region: u64, offset: u32, c
     mem.store32(at + COUNT, count);
 }
 
-// Puts bytes one by one from there on.
+/// Puts bytes one by one from there on.
 fn put_bytes(mem: &mut PhysMem, at: u64, bytes: &[u8])
     requires room { at + length bytes.now ≤ length mem.old }
     ensures { mem.new ≡ stored mem.old (byte_stores at bytes.now) }

@@ -1,13 +1,7 @@
 use Rattle.std.proofs.Common.{◌≡◌, ◌-◌, sym, ◌∙◌, arith}
-use Rattle.std.proofs.lemmas.Bool.{eq-eqb}
 use Rattle.nk_bits.specs.Accesses.{address_of}
-use Rattle.mem_access.proofs.Canonical.{none_canonical, last_tells, first_not}
+use Rattle.mem_access.proofs.Canonical.{last_tells, first_not}
 use Rattle.mem_access.proofs.span.has_canonical_bytes.Goals as goal
-
-pub returns-then-width-eq0 : goal.returns-then-width-eq0
-returns-then-width-eq0 c =
-    let none : c.args.width ≡ 0 = c.if-width-eq0.true in
-    eq-eqb c.args.width 0 none ∙ sym (none_canonical c.args.va c.args.width none)
 
 pub returns-then-canonical : goal.returns-then-canonical
 returns-then-canonical c =
