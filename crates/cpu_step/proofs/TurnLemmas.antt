@@ -16,7 +16,7 @@ pub sound_with : (size : ℕ) (p q : Processor) (tlb : Translations) → p ≡ q
     → IsSound size (record p { tlb = tlb })
 sound_with size p q tlb is sound within =
     subst (λ (p : Processor). IsSound size (record p { tlb = tlb })) (sym is)
-    (record { cpl = sound.cpl; root = sound.root; frames = within })
+    (record { cpl = sound.cpl; context = record { root = sound.context.root; frames = within } })
 
 -- an instruction's turn, away from the body's place
 pub instructed_at_body : (p : Processor) (m : List ℕ) → is_at_body p.regs ≡ true → instructed p m ≡ refused_body p m
@@ -78,4 +78,4 @@ turned_by_vector p m vector is = ap (λ (v : Option ℕ). turned_unless v p m) i
 pub sound_without : (size : ℕ) (p q : Processor) (tlb : Translations) → (NamesFramesIn size p.tlb → NamesFramesIn size tlb)
     → p ≡ q → IsSound size q → IsSound size (record p { tlb = tlb })
 sound_without size p q tlb within is sound =
-    sound_with size p q tlb is sound (within (subst (λ (p : Processor). NamesFramesIn size p.tlb) (sym is) sound.frames))
+    sound_with size p q tlb is sound (within (subst (λ (p : Processor). NamesFramesIn size p.tlb) (sym is) sound.context.frames))

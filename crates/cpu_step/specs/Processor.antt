@@ -1,7 +1,7 @@
 -- The processor between two turns, and what it is about to deliver.
-use Rattle.std.specs.Prelude.{ℕ, ◌≡◌, ◌⊎◌, ◌+◌, ◌*◌, ◌<◌, ◌==◌, ◌&&◌, Bool, false, not, if◌then◌else◌, List, Option, Some, None}
+use Rattle.std.specs.Prelude.{ℕ, ◌≡◌, ◌⊎◌, ◌+◌, ◌==◌, ◌&&◌, Bool, false, not, if◌then◌else◌, List, Option, Some, None}
 use Rattle.nk_bits.specs.declared.control.Control.{Control}
-use Rattle.nk_bits.specs.Translations.{NamesFramesIn, Translations, flushed}
+use Rattle.nk_bits.specs.Translations.{IsAccessible, Translations, flushed}
 use Rattle.x86_alu.specs.Scans.{scanned}
 use Rattle.x86_alu.specs.SignedNumbers.{bit}
 use Rattle.x86_regs.specs.declared.delivery.Tables.{Tables}
@@ -45,5 +45,4 @@ deliverable p = if bit p.regs.flags interrupt_flag && not p.shielded then highes
 -- frame that a translation names lie in it
 pub record IsSound (size : ℕ) (p : Processor) : Type 0 where
   pub cpl : (p.regs.cpl ≡ 0) ⊎ (p.regs.cpl ≡ 3)
-  pub root : 4096 * p.control.root < size
-  pub frames : NamesFramesIn size p.tlb
+  pub context : IsAccessible size p.control.root p.tlb

@@ -1,7 +1,7 @@
 //! The effect of an instruction, by the crate that has its form.
 
-ghost use Rattle.std.specs.Prelude.{◌≡◌, ◌⊎◌, ◌*◌, ◌<◌, IfOk, length};
-ghost use Rattle.nk_bits.specs.Translations.{NamesFramesIn};
+ghost use Rattle.std.specs.Prelude.{◌≡◌, IfOk, length};
+ghost use Rattle.nk_bits.specs.Translations.{IsAccessible, NamesFramesIn};
 ghost use Rattle.nk_bits.specs.Outcomes.{outcome_of};
 ghost use Rattle.x86_decode.specs.WellFormed.{IsWellFormed};
 ghost use Rattle.x86_regs.specs.Effects.{FitsIn, HasAccessSize, LeavesToDelivery, LoadsFrameIn, effect_of};
@@ -22,9 +22,7 @@ pub(crate) fn effect_of(
     tlb: &mut Tlb,
 ) -> Result<Effect, Fault>
     requires formed { IsWellFormed instr.now }
-    requires cpl { (regs.now.cpl ≡ 0) ⊎ (regs.now.cpl ≡ 3) }
-    requires root { 4096 * control.now.root < length mem.now }
-    requires frames { NamesFramesIn (length mem.now) tlb.old }
+    requires context { IsAccessible (length mem.now) control.now.root tlb.old }
     ensures outcome { outcome_of result tlb.new
         ≡ effect_of instr.now size regs.now control.now mem.now tlb.old }
     ensures privilege { IfOk result (λ effect. effect.regs.cpl ≡ regs.now.cpl) }

@@ -1,8 +1,8 @@
 //! The fetch of an instruction.
 
-ghost use Rattle.std.specs.Prelude.{◌≡◌, ◌⊎◌, ◌+◌, ◌-◌, ◌*◌, ◌%◌, ◌<◌, ◌≤◌, ◌++◌, ℕ, true, false, IfErr, IfOk, IfSome, None, length, take};
+ghost use Rattle.std.specs.Prelude.{◌≡◌, ◌+◌, ◌-◌, ◌%◌, ◌<◌, ◌≤◌, ◌++◌, ℕ, true, false, IfErr, IfOk, IfSome, None, length, take};
 ghost use Rattle.nk_bits.specs.declared.control.Control.{Control};
-ghost use Rattle.nk_bits.specs.Translations.{NamesFramesIn, Translations};
+ghost use Rattle.nk_bits.specs.Translations.{IsAccessible, NamesFramesIn, Translations};
 ghost use Rattle.nk_bits.specs.Outcomes.{answered, outcome_of, refused};
 ghost use Rattle.page_walk.specs.MemoryAccess.{bytes_left, page_fetched, view_of};
 ghost use Rattle.x86_decode.specs.Decoding.{IfWhole};
@@ -48,9 +48,7 @@ fn bytes_at<'m>(
     cpl: u8,
     va: u64,
 ) -> Result<&'m [u8], Fault>
-    requires cpl { (cpl ≡ 0) ⊎ (cpl ≡ 3) }
-    requires root { 4096 * control.now.root < length mem.now }
-    requires frames { NamesFramesIn (length mem.now) tlb.old }
+    requires context { IsAccessible (length mem.now) control.now.root tlb.old }
     ensures found { IfOk result (λ bytes. answered bytes.now tlb.new
         ≡ in_fetch (page_fetched mem.now (view_of mem.now control.now cpl) tlb.old va)) }
     ensures refused { IfErr result (λ fault. refused fault tlb.new
@@ -93,9 +91,7 @@ pub(crate) fn code_on_page<'a>(
     control: &Control,
     regs: &Regs,
 ) -> Result<&'a Decoded, Fault>
-    requires cpl { (regs.now.cpl ≡ 0) ⊎ (regs.now.cpl ≡ 3) }
-    requires root { 4096 * control.now.root < length mem.now }
-    requires frames { NamesFramesIn (length mem.now) tlb.old }
+    requires context { IsAccessible (length mem.now) control.now.root tlb.old }
     requires page { regs.now.rip % 4096 ≤ 4080 }
     ensures answer { IfOk result (λ answer. IsFetched
         (instruction_at mem.now (view_of mem.now control.now regs.now.cpl) regs.now.rip tlb.old) tlb.new answer.now) }
@@ -177,9 +173,7 @@ fn fetch_across(
     regs: &Regs,
     first: &[u8],
 ) -> Result<Fetched, Fault>
-    requires cpl { (regs.now.cpl ≡ 0) ⊎ (regs.now.cpl ≡ 3) }
-    requires root { 4096 * control.now.root < length mem.now }
-    requires frames { NamesFramesIn (length mem.now) tlb.old }
+    requires context { IsAccessible (length mem.now) control.now.root tlb.old }
     requires first { length first.now ≡ bytes_left regs.now.rip }
     ensures outcome { outcome_of result tlb.new
         ≡ fetched_from (15 - length first.now) mem.now (view_of mem.now control.now regs.now.cpl)
@@ -211,9 +205,7 @@ pub(crate) fn fetch_by_pages(
     control: &Control,
     regs: &Regs,
 ) -> Result<Fetched, Fault>
-    requires cpl { (regs.now.cpl ≡ 0) ⊎ (regs.now.cpl ≡ 3) }
-    requires root { 4096 * control.now.root < length mem.now }
-    requires frames { NamesFramesIn (length mem.now) tlb.old }
+    requires context { IsAccessible (length mem.now) control.now.root tlb.old }
     ensures outcome { outcome_of result tlb.new
         ≡ instruction_at mem.now (view_of mem.now control.now regs.now.cpl) regs.now.rip tlb.old }
     ensures formed { IfOk result (λ it. IsWellFormed it.instr) }

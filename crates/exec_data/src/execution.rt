@@ -1,8 +1,8 @@
 //! The effect of an instruction: its conditions, its accesses in order, its outcome, and the check of its write.
 
-ghost use Rattle.std.specs.Prelude.{◌≡◌, ◌⊎◌, ◌*◌, ◌<◌, IfOk, length};
+ghost use Rattle.std.specs.Prelude.{◌≡◌, IfOk, length};
 ghost use Rattle.nk_bits.specs.Outcomes.{outcome_of};
-ghost use Rattle.nk_bits.specs.Translations.{NamesFramesIn};
+ghost use Rattle.nk_bits.specs.Translations.{IsAccessible, NamesFramesIn};
 ghost use Rattle.page_walk.specs.MemoryAccess.{view_of};
 ghost use Rattle.page_walk.specs.AccessPlans.{IsChecked, IsSized};
 ghost use Rattle.x86_decode.specs.WellFormed.{IsWellFormed};
@@ -38,9 +38,7 @@ pub fn effect(
 ) -> Result<Effect, Fault>
     requires formed { IsWellFormed instr.now }
     requires row { IsData (instr_form instr.now) }
-    requires cpl { (regs.now.cpl ≡ 0) ⊎ (regs.now.cpl ≡ 3) }
-    requires root { 4096 * control.now.root < length mem.now }
-    requires frames { NamesFramesIn (length mem.now) tlb.old }
+    requires context { IsAccessible (length mem.now) control.now.root tlb.old }
     ensures outcome { outcome_of result tlb.new
         ≡ effect_of instr.now size regs.now control.now mem.now tlb.old }
     ensures frames { NamesFramesIn (length mem.now) tlb.new }
@@ -66,9 +64,7 @@ pub fn effect_of(
 ) -> Result<Effect, Fault>
     requires form { Data form ≡ instr_form instr.now }
     requires formed { IsWellFormed instr.now }
-    requires cpl { (regs.now.cpl ≡ 0) ⊎ (regs.now.cpl ≡ 3) }
-    requires root { 4096 * control.now.root < length mem.now }
-    requires frames { NamesFramesIn (length mem.now) tlb.old }
+    requires context { IsAccessible (length mem.now) control.now.root tlb.old }
     ensures outcome { outcome_of result tlb.new
         ≡ effect_of instr.now size regs.now control.now mem.now tlb.old }
     ensures frames { NamesFramesIn (length mem.now) tlb.new }
@@ -92,9 +88,7 @@ fn planned_effect(
     tlb: &mut Tlb,
 ) -> Result<Effect, Fault>
     requires formed { IsWellFormed instr.now }
-    requires cpl { (regs.now.cpl ≡ 0) ⊎ (regs.now.cpl ≡ 3) }
-    requires root { 4096 * control.now.root < length mem.now }
-    requires frames { NamesFramesIn (length mem.now) tlb.old }
+    requires context { IsAccessible (length mem.now) control.now.root tlb.old }
     ensures outcome { outcome_of result tlb.new
         ≡ planned_effect (Data form) instr.now size regs.now control.now mem.now
         (view_of mem.now control.now regs.now.cpl) tlb.old }
@@ -121,12 +115,10 @@ fn conclude(
     found: &Gathered,
     outcome: Result<Change, Fault>,
 ) -> Result<Effect, Fault>
-    requires cpl { (cpl ≡ 0) ⊎ (cpl ≡ 3) }
     requires sized { IsSized plan.now.last }
     requires sized_both { IsSized plan.now.both }
     requires checked { IsChecked (length mem.now) plan.now.both found.now.both }
-    requires root { 4096 * control.now.root < length mem.now }
-    requires frames { NamesFramesIn (length mem.now) tlb.old }
+    requires context { IsAccessible (length mem.now) control.now.root tlb.old }
     ensures outcome { outcome_of result tlb.new
         ≡ concluded (view_of mem.now control.now cpl) plan.now found.now outcome tlb.old }
     ensures frames { NamesFramesIn (length mem.now) tlb.new }

@@ -1,7 +1,7 @@
 //! The effect of an instruction: its conditions, its accesses in order, its outcome, and the check of its write.
 
-ghost use Rattle.std.specs.Prelude.{◌≡◌, ◌⊎◌, ◌*◌, ◌<◌, IfOk, length};
-ghost use Rattle.nk_bits.specs.Translations.{NamesFramesIn};
+ghost use Rattle.std.specs.Prelude.{◌≡◌, IfOk, length};
+ghost use Rattle.nk_bits.specs.Translations.{IsAccessible, NamesFramesIn};
 ghost use Rattle.nk_bits.specs.Outcomes.{outcome_of};
 ghost use Rattle.page_walk.specs.AccessPlans.{IsChecked, IsAccessPlan};
 ghost use Rattle.page_walk.specs.MemoryAccess.{view_of};
@@ -40,9 +40,7 @@ pub fn effect(
 ) -> Result<Effect, Fault>
     requires formed { IsWellFormed instr.now }
     requires row { IsFlow (instr_form instr.now) }
-    requires cpl { (regs.now.cpl ≡ 0) ⊎ (regs.now.cpl ≡ 3) }
-    requires root { 4096 * control.now.root < length mem.now }
-    requires frames { NamesFramesIn (length mem.now) tlb.old }
+    requires context { IsAccessible (length mem.now) control.now.root tlb.old }
     ensures outcome { outcome_of result tlb.new
         ≡ effect_of instr.now size regs.now control.now mem.now tlb.old }
     ensures frames { NamesFramesIn (length mem.now) tlb.new }
@@ -68,9 +66,7 @@ pub fn effect_of(
 ) -> Result<Effect, Fault>
     requires form { Flow form ≡ instr_form instr.now }
     requires formed { IsWellFormed instr.now }
-    requires cpl { (regs.now.cpl ≡ 0) ⊎ (regs.now.cpl ≡ 3) }
-    requires root { 4096 * control.now.root < length mem.now }
-    requires frames { NamesFramesIn (length mem.now) tlb.old }
+    requires context { IsAccessible (length mem.now) control.now.root tlb.old }
     ensures outcome { outcome_of result tlb.new
         ≡ effect_of instr.now size regs.now control.now mem.now tlb.old }
     ensures frames { NamesFramesIn (length mem.now) tlb.new }
@@ -93,9 +89,7 @@ fn effect_by(
     tlb: &mut Tlb,
 ) -> Result<Effect, Fault>
     requires formed { IsWellFormed instr.now }
-    requires cpl { (regs.now.cpl ≡ 0) ⊎ (regs.now.cpl ≡ 3) }
-    requires root { 4096 * control.now.root < length mem.now }
-    requires frames { NamesFramesIn (length mem.now) tlb.old }
+    requires context { IsAccessible (length mem.now) control.now.root tlb.old }
     ensures outcome { outcome_of result tlb.new
         ≡ effect_by (Flow form) instr.now size regs.now control.now mem.now
         (view_of mem.now control.now regs.now.cpl) tlb.old }
@@ -119,9 +113,7 @@ fn planned_effect(
     tlb: &mut Tlb,
 ) -> Result<Effect, Fault>
     requires formed { IsWellFormed instr.now }
-    requires cpl { (regs.now.cpl ≡ 0) ⊎ (regs.now.cpl ≡ 3) }
-    requires root { 4096 * control.now.root < length mem.now }
-    requires frames { NamesFramesIn (length mem.now) tlb.old }
+    requires context { IsAccessible (length mem.now) control.now.root tlb.old }
     ensures outcome { outcome_of result tlb.new
         ≡ planned_effect (Flow form) instr.now size regs.now control.now mem.now
         (view_of mem.now control.now regs.now.cpl) tlb.old }
@@ -149,11 +141,9 @@ fn conclude(
     found: &Gathered,
     change: Result<Change, Fault>,
 ) -> Result<Effect, Fault>
-    requires cpl { (cpl ≡ 0) ⊎ (cpl ≡ 3) }
     requires plan { IsAccessPlan plan.now }
     requires both { IsChecked (length mem.now) plan.now.both found.now.both }
-    requires root { 4096 * control.now.root < length mem.now }
-    requires frames { NamesFramesIn (length mem.now) tlb.old }
+    requires context { IsAccessible (length mem.now) control.now.root tlb.old }
     ensures outcome { outcome_of result tlb.new
         ≡ concluded (view_of mem.now control.now cpl) plan.now found.now change tlb.old }
     ensures frames { NamesFramesIn (length mem.now) tlb.new }

@@ -1,7 +1,7 @@
 //! INT3 and INT (SDM volume 2, 3.3), and IRETQ with the frame that it pops (SDM volume 3, 6.14.3).
 
-ghost use Rattle.std.specs.Prelude.{◌≡◌, ◌⊎◌, ◌*◌, ◌<◌, None, Ok, IfOk, length};
-ghost use Rattle.nk_bits.specs.Translations.{NamesFramesIn};
+ghost use Rattle.std.specs.Prelude.{◌≡◌, None, Ok, IfOk, length};
+ghost use Rattle.nk_bits.specs.Translations.{IsAccessible, NamesFramesIn};
 ghost use Rattle.nk_bits.specs.Outcomes.{outcome_of};
 ghost use Rattle.page_walk.specs.MemoryAccess.{view_of};
 ghost use Rattle.x86_regs.specs.Effects.{frame_popped, popped, return_effect};
@@ -46,9 +46,7 @@ pub(crate) fn return_effect(
     mem: &PhysMem,
     tlb: &mut Tlb,
 ) -> Result<Effect, Fault>
-    requires cpl { (regs.now.cpl ≡ 0) ⊎ (regs.now.cpl ≡ 3) }
-    requires root { 4096 * control.now.root < length mem.now }
-    requires frames { NamesFramesIn (length mem.now) tlb.old }
+    requires context { IsAccessible (length mem.now) control.now.root tlb.old }
     ensures outcome { outcome_of result tlb.new
         ≡ return_effect mem.now (view_of mem.now control.now regs.now.cpl) regs.now next tlb.old }
     ensures frames { NamesFramesIn (length mem.now) tlb.new }
@@ -67,9 +65,7 @@ pub(crate) fn return_effect(
 /// The frame at the stack's top, read in ascending order.
 #[tactic(auto, unfolding(x86_regs::specs::Effects::frame_popped))]
 fn pop_frame(regs: &Regs, control: &Control, mem: &PhysMem, tlb: &mut Tlb) -> Result<Frame, Fault>
-    requires cpl { (regs.now.cpl ≡ 0) ⊎ (regs.now.cpl ≡ 3) }
-    requires root { 4096 * control.now.root < length mem.now }
-    requires frames { NamesFramesIn (length mem.now) tlb.old }
+    requires context { IsAccessible (length mem.now) control.now.root tlb.old }
     ensures outcome { outcome_of result tlb.new
         ≡ frame_popped mem.now (view_of mem.now control.now regs.now.cpl) regs.now tlb.old }
     ensures frames { NamesFramesIn (length mem.now) tlb.new }
@@ -111,9 +107,7 @@ fn pop(
     mem: &PhysMem,
     tlb: &mut Tlb,
 ) -> Result<u64, Fault>
-    requires cpl { (regs.now.cpl ≡ 0) ⊎ (regs.now.cpl ≡ 3) }
-    requires root { 4096 * control.now.root < length mem.now }
-    requires frames { NamesFramesIn (length mem.now) tlb.old }
+    requires context { IsAccessible (length mem.now) control.now.root tlb.old }
     ensures outcome { outcome_of result tlb.new
         ≡ popped mem.now (view_of mem.now control.now regs.now.cpl) regs.now place tlb.old }
     ensures frames { NamesFramesIn (length mem.now) tlb.new }

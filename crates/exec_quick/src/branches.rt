@@ -1,6 +1,6 @@
 //! Branches, which change RIP alone, or count down before: they are made where their target is canonical.
 
-ghost use Rattle.std.specs.Prelude.{◌≡◌, ◌⊎◌, ◌<◌, true, false, length};
+ghost use Rattle.std.specs.Prelude.{◌≡◌, true, false, length};
 ghost use Rattle.nk_bits.specs.Translations.{NamesFramesIn};
 ghost use Rattle.x86_regs.specs.declared.form.Form.TheVariants.{Flow};
 ghost use Rattle.x86_regs.specs.declared.form.FlowForm.TheVariants as FlowForm;
@@ -54,8 +54,6 @@ pub(crate) fn branch(
     tlb: &Tlb,
 ) -> bool
     requires ready { IsQuick quick.now }
-    requires cpl { (regs.old.cpl ≡ 0) ⊎ (regs.old.cpl ≡ 3) }
-    requires frames { NamesFramesIn (length mem.old) tlb.now }
     ensures made { result ≡ true → quiet_outcome regs.new mem.new tlb.now
         ≡ effect_made (Flow FlowForm.Branch)
         (record quick.now { kind = Kind.Branch; op = op }) regs.old control.now mem.old tlb.now }
@@ -89,7 +87,6 @@ pub(crate) fn branch_load(
 ) -> bool
     requires ready { IsQuick quick.now }
     requires kind { quick.now.kind ≡ Kind.BranchLoad }
-    requires cpl { (regs.old.cpl ≡ 0) ⊎ (regs.old.cpl ≡ 3) }
     requires frames { NamesFramesIn (length mem.old) tlb.now }
     requires window { IsWindow (length mem.old) control.now regs.old.cpl tlb.now window.old }
     ensures window { IsWindow (length mem.old) control.now regs.old.cpl tlb.now window.new }
@@ -127,8 +124,6 @@ pub(crate) fn count_down(
     tlb: &Tlb,
 ) -> bool
     requires ready { IsQuick quick.now }
-    requires cpl { (regs.old.cpl ≡ 0) ⊎ (regs.old.cpl ≡ 3) }
-    requires frames { NamesFramesIn (length mem.old) tlb.now }
     ensures made { result ≡ true → quiet_outcome regs.new mem.new tlb.now
         ≡ effect_made (Flow FlowForm.CountDown)
         (record quick.now { kind = Kind.CountDown; op = op }) regs.old control.now mem.old tlb.now }

@@ -1,7 +1,7 @@
 //! Kinds with an operand in memory: they are made where its page is kept and serves them. Most are calls of
 //! their own: the turns over registers alone stay smaller by it.
 
-ghost use Rattle.std.specs.Prelude.{◌≡◌, ◌⊎◌, ◌<◌, true, false, length};
+ghost use Rattle.std.specs.Prelude.{◌≡◌, ◌<◌, true, false, length};
 ghost use Rattle.decode_fields.specs.Widths.{IsWidth};
 ghost use Rattle.nk_bits.specs.Translations.{NamesFramesIn};
 ghost use Rattle.x86_regs.specs.declared.form.Form.TheVariants.{Data};
@@ -37,7 +37,6 @@ pub(crate) fn combine_load(
     requires ready { IsQuick quick.now }
     requires kind { quick.now.kind ≡ Kind.CombineLoad }
     requires register { quick.now.to < 16 }
-    requires cpl { (regs.old.cpl ≡ 0) ⊎ (regs.old.cpl ≡ 3) }
     requires frames { NamesFramesIn (length mem.old) tlb.now }
     requires window { IsWindow (length mem.old) control.now regs.old.cpl tlb.now window.old }
     ensures window { IsWindow (length mem.old) control.now regs.old.cpl tlb.now window.new }
@@ -80,7 +79,6 @@ pub(crate) fn combine_store(
 ) -> bool
     requires ready { IsQuick quick.now }
     requires kind { quick.now.kind ≡ Kind.CombineStore }
-    requires cpl { (regs.old.cpl ≡ 0) ⊎ (regs.old.cpl ≡ 3) }
     requires frames { NamesFramesIn (length mem.old) tlb.now }
     requires window { IsWindow (length mem.old) control.now regs.old.cpl tlb.now window.old }
     ensures window { IsWindow (length mem.old) control.now regs.old.cpl tlb.now window.new }
@@ -120,7 +118,6 @@ pub(crate) fn compare_load(
     requires ready { IsQuick quick.now }
     requires kind { quick.now.kind ≡ Kind.CompareLoad }
     requires register { quick.now.to < 16 }
-    requires cpl { (regs.old.cpl ≡ 0) ⊎ (regs.old.cpl ≡ 3) }
     requires frames { NamesFramesIn (length mem.old) tlb.now }
     requires window { IsWindow (length mem.old) control.now regs.old.cpl tlb.now window.old }
     ensures window { IsWindow (length mem.old) control.now regs.old.cpl tlb.now window.new }
@@ -156,7 +153,6 @@ pub(crate) fn compare_store(
 ) -> bool
     requires ready { IsQuick quick.now }
     requires kind { quick.now.kind ≡ Kind.CompareStore }
-    requires cpl { (regs.old.cpl ≡ 0) ⊎ (regs.old.cpl ≡ 3) }
     requires frames { NamesFramesIn (length mem.old) tlb.now }
     requires window { IsWindow (length mem.old) control.now regs.old.cpl tlb.now window.old }
     ensures window { IsWindow (length mem.old) control.now regs.old.cpl tlb.now window.new }
@@ -195,7 +191,6 @@ pub(crate) fn move_load(
     requires ready { IsQuick quick.now }
     requires width { IsWidth width }
     requires register { quick.now.to < 16 }
-    requires cpl { (regs.old.cpl ≡ 0) ⊎ (regs.old.cpl ≡ 3) }
     requires frames { NamesFramesIn (length mem.old) tlb.now }
     requires window { IsWindow (length mem.old) control.now regs.old.cpl tlb.now window.old }
     ensures window { IsWindow (length mem.old) control.now regs.old.cpl tlb.now window.new }
@@ -235,7 +230,6 @@ pub(crate) fn move_store(
 ) -> bool
     requires ready { IsQuick quick.now }
     requires width { IsWidth width }
-    requires cpl { (regs.old.cpl ≡ 0) ⊎ (regs.old.cpl ≡ 3) }
     requires frames { NamesFramesIn (length mem.old) tlb.now }
     requires window { IsWindow (length mem.old) control.now regs.old.cpl tlb.now window.old }
     ensures window { IsWindow (length mem.old) control.now regs.old.cpl tlb.now window.new }

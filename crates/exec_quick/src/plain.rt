@@ -1,8 +1,7 @@
 //! Kinds without an operand, over registers and flags alone.
 
-ghost use Rattle.std.specs.Prelude.{◌≡◌, ◌⊎◌, ◌-◌, ◌^◌, if◌then◌else◌, true, false, length};
+ghost use Rattle.std.specs.Prelude.{◌≡◌, ◌-◌, ◌^◌, if◌then◌else◌, true, false, length};
 ghost use Rattle.decode_fields.specs.Widths.{IsWidth};
-ghost use Rattle.nk_bits.specs.Translations.{NamesFramesIn};
 ghost use Rattle.x86_alu.specs.SignedNumbers.{cut, sign};
 ghost use Rattle.x86_regs.specs.declared.form.Form.TheVariants.{Data};
 ghost use Rattle.x86_regs.specs.declared.form.DataForm.TheVariants as DataForm;
@@ -30,8 +29,6 @@ pub(crate) fn nothing(
 ) -> bool
     requires ready { IsQuick quick.now }
     requires kind { quick.now.kind ≡ Kind.Nothing }
-    requires cpl { (regs.old.cpl ≡ 0) ⊎ (regs.old.cpl ≡ 3) }
-    requires frames { NamesFramesIn (length mem.old) tlb.now }
     ensures made { result ≡ true → quiet_outcome regs.new mem.new tlb.now
         ≡ effect_made (Data DataForm.Nothing) quick.now regs.old control.now mem.old tlb.now }
     ensures left { result ≡ false → (regs.new ≡ regs.old) × (mem.new ≡ mem.old) }
@@ -54,8 +51,6 @@ pub(crate) fn widen(
 ) -> bool
     requires ready { IsQuick quick.now }
     requires kind { quick.now.kind ≡ Kind.Widen }
-    requires cpl { (regs.old.cpl ≡ 0) ⊎ (regs.old.cpl ≡ 3) }
-    requires frames { NamesFramesIn (length mem.old) tlb.now }
     ensures made { result ≡ true → quiet_outcome regs.new mem.new tlb.now
         ≡ effect_made (Data DataForm.Widen) quick.now regs.old control.now mem.old tlb.now }
     ensures left { result ≡ false → (regs.new ≡ regs.old) × (mem.new ≡ mem.old) }
@@ -83,8 +78,6 @@ pub(crate) fn double(
 ) -> bool
     requires ready { IsQuick quick.now }
     requires kind { quick.now.kind ≡ Kind.Double }
-    requires cpl { (regs.old.cpl ≡ 0) ⊎ (regs.old.cpl ≡ 3) }
-    requires frames { NamesFramesIn (length mem.old) tlb.now }
     ensures made { result ≡ true → quiet_outcome regs.new mem.new tlb.now
         ≡ effect_made (Data DataForm.Double) quick.now regs.old control.now mem.old tlb.now }
     ensures left { result ≡ false → (regs.new ≡ regs.old) × (mem.new ≡ mem.old) }
@@ -123,8 +116,6 @@ pub(crate) fn change_flag(
 ) -> bool
     requires ready { IsQuick quick.now }
     requires kind { quick.now.kind ≡ Kind.ChangeFlag }
-    requires cpl { (regs.old.cpl ≡ 0) ⊎ (regs.old.cpl ≡ 3) }
-    requires frames { NamesFramesIn (length mem.old) tlb.now }
     ensures made { result ≡ true → quiet_outcome regs.new mem.new tlb.now
         ≡ effect_made (Data DataForm.ChangeFlag) quick.now regs.old control.now mem.old tlb.now }
     ensures left { result ≡ false → (regs.new ≡ regs.old) × (mem.new ≡ mem.old) }

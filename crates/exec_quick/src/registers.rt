@@ -1,8 +1,7 @@
 //! Kinds over registers alone: they are always made.
 
-ghost use Rattle.std.specs.Prelude.{◌≡◌, ◌⊎◌, ◌<◌, true, false, length};
+ghost use Rattle.std.specs.Prelude.{◌≡◌, ◌<◌, true, false, length};
 ghost use Rattle.decode_fields.specs.Widths.{IsWidth};
-ghost use Rattle.nk_bits.specs.Translations.{NamesFramesIn};
 ghost use Rattle.x86_regs.specs.declared.form.Form.TheVariants.{Data};
 ghost use Rattle.x86_regs.specs.declared.form.DataForm.TheVariants as DataForm;
 ghost use Rattle.exec_quick.specs.declared.quick.Kind.TheVariants as Kind;
@@ -35,8 +34,6 @@ pub(crate) fn combine(
     requires ready { IsQuick quick.now }
     requires width { IsWidth width }
     requires register { quick.now.to < 16 }
-    requires cpl { (regs.old.cpl ≡ 0) ⊎ (regs.old.cpl ≡ 3) }
-    requires frames { NamesFramesIn (length mem.old) tlb.now }
     ensures made { result ≡ true → quiet_outcome regs.new mem.new tlb.now
         ≡ effect_made (Data DataForm.Combine)
         (record quick.now { kind = Kind.Combine; op = op; width = width }) regs.old control.now mem.old tlb.now }
@@ -68,8 +65,6 @@ pub(crate) fn compare(
     requires ready { IsQuick quick.now }
     requires width { IsWidth width }
     requires register { quick.now.to < 16 }
-    requires cpl { (regs.old.cpl ≡ 0) ⊎ (regs.old.cpl ≡ 3) }
-    requires frames { NamesFramesIn (length mem.old) tlb.now }
     ensures made { result ≡ true → quiet_outcome regs.new mem.new tlb.now
         ≡ effect_made (Data DataForm.Compare)
         (record quick.now { kind = Kind.Compare; op = op; width = width }) regs.old control.now mem.old tlb.now }
@@ -100,8 +95,6 @@ pub(crate) fn move_over(
     requires ready { IsQuick quick.now }
     requires width { IsWidth width }
     requires register { quick.now.to < 16 }
-    requires cpl { (regs.old.cpl ≡ 0) ⊎ (regs.old.cpl ≡ 3) }
-    requires frames { NamesFramesIn (length mem.old) tlb.now }
     ensures made { result ≡ true → quiet_outcome regs.new mem.new tlb.now
         ≡ effect_made (Data DataForm.Move)
         (record quick.now { kind = Kind.Move; op = op; width = width }) regs.old control.now mem.old tlb.now }
@@ -131,8 +124,6 @@ pub(crate) fn load_address(
     requires ready { IsQuick quick.now }
     requires kind { quick.now.kind ≡ Kind.Address }
     requires register { quick.now.to < 16 }
-    requires cpl { (regs.old.cpl ≡ 0) ⊎ (regs.old.cpl ≡ 3) }
-    requires frames { NamesFramesIn (length mem.old) tlb.now }
     ensures made { result ≡ true → quiet_outcome regs.new mem.new tlb.now
         ≡ effect_made (Data DataForm.Address) quick.now regs.old control.now mem.old tlb.now }
     ensures left { result ≡ false → (regs.new ≡ regs.old) × (mem.new ≡ mem.old) }

@@ -1,6 +1,6 @@
 //! BSF and BSR.
 
-ghost use Rattle.std.specs.Prelude.{◌≡◌, ◌⊎◌, ◌<◌, true, false, length};
+ghost use Rattle.std.specs.Prelude.{◌≡◌, ◌<◌, true, false, length};
 ghost use Rattle.nk_bits.specs.Translations.{NamesFramesIn};
 ghost use Rattle.x86_alu.specs.SignedNumbers.{cut};
 ghost use Rattle.x86_regs.specs.declared.form.Form.TheVariants.{Data};
@@ -67,8 +67,6 @@ pub(crate) fn scan_bits(
     requires ready { IsQuick quick.now }
     requires kind { quick.now.kind ≡ Kind.ScanBits }
     requires register { quick.now.to < 16 }
-    requires cpl { (regs.old.cpl ≡ 0) ⊎ (regs.old.cpl ≡ 3) }
-    requires frames { NamesFramesIn (length mem.old) tlb.now }
     ensures made { result ≡ true → quiet_outcome regs.new mem.new tlb.now
         ≡ effect_made (Data DataForm.ScanBits) quick.now regs.old control.now mem.old tlb.now }
     ensures left { result ≡ false → (regs.new ≡ regs.old) × (mem.new ≡ mem.old) }
@@ -95,7 +93,6 @@ pub(crate) fn scan_bits_load(
     requires ready { IsQuick quick.now }
     requires kind { quick.now.kind ≡ Kind.ScanBitsLoad }
     requires register { quick.now.to < 16 }
-    requires cpl { (regs.old.cpl ≡ 0) ⊎ (regs.old.cpl ≡ 3) }
     requires frames { NamesFramesIn (length mem.old) tlb.now }
     requires window { IsWindow (length mem.old) control.now regs.old.cpl tlb.now window.old }
     ensures window { IsWindow (length mem.old) control.now regs.old.cpl tlb.now window.new }

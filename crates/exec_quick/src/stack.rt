@@ -1,7 +1,7 @@
 //! Kinds over the stack: they are made where its page is kept and serves them. Each is a call of its own: the
 //! turns over registers alone stay smaller by it.
 
-ghost use Rattle.std.specs.Prelude.{◌≡◌, ◌⊎◌, ◌<◌, true, false, length};
+ghost use Rattle.std.specs.Prelude.{◌≡◌, ◌<◌, true, false, length};
 ghost use Rattle.nk_bits.specs.Translations.{NamesFramesIn};
 ghost use Rattle.x86_regs.specs.declared.form.Form.TheVariants.{Data, Flow};
 ghost use Rattle.x86_regs.specs.declared.form.DataForm.TheVariants as DataForm;
@@ -50,7 +50,6 @@ pub(crate) fn push(
 ) -> bool
     requires ready { IsQuick quick.now }
     requires kind { quick.now.kind ≡ Kind.Push }
-    requires cpl { (regs.old.cpl ≡ 0) ⊎ (regs.old.cpl ≡ 3) }
     requires frames { NamesFramesIn (length mem.old) tlb.now }
     requires window { IsWindow (length mem.old) control.now regs.old.cpl tlb.now window.old }
     ensures window { IsWindow (length mem.old) control.now regs.old.cpl tlb.now window.new }
@@ -86,7 +85,6 @@ pub(crate) fn push_load(
 ) -> bool
     requires ready { IsQuick quick.now }
     requires kind { quick.now.kind ≡ Kind.PushLoad }
-    requires cpl { (regs.old.cpl ≡ 0) ⊎ (regs.old.cpl ≡ 3) }
     requires frames { NamesFramesIn (length mem.old) tlb.now }
     requires window { IsWindow (length mem.old) control.now regs.old.cpl tlb.now window.old }
     ensures window { IsWindow (length mem.old) control.now regs.old.cpl tlb.now window.new }
@@ -127,7 +125,6 @@ pub(crate) fn pop(
     requires ready { IsQuick quick.now }
     requires kind { quick.now.kind ≡ Kind.Pop }
     requires register { quick.now.to < 16 }
-    requires cpl { (regs.old.cpl ≡ 0) ⊎ (regs.old.cpl ≡ 3) }
     requires frames { NamesFramesIn (length mem.old) tlb.now }
     requires window { IsWindow (length mem.old) control.now regs.old.cpl tlb.now window.old }
     ensures window { IsWindow (length mem.old) control.now regs.old.cpl tlb.now window.new }
@@ -168,7 +165,6 @@ pub(crate) fn call(
 ) -> bool
     requires ready { IsQuick quick.now }
     requires kind { quick.now.kind ≡ Kind.Call }
-    requires cpl { (regs.old.cpl ≡ 0) ⊎ (regs.old.cpl ≡ 3) }
     requires frames { NamesFramesIn (length mem.old) tlb.now }
     requires window { IsWindow (length mem.old) control.now regs.old.cpl tlb.now window.old }
     ensures window { IsWindow (length mem.old) control.now regs.old.cpl tlb.now window.new }
@@ -206,7 +202,6 @@ pub(crate) fn call_load(
 ) -> bool
     requires ready { IsQuick quick.now }
     requires kind { quick.now.kind ≡ Kind.CallLoad }
-    requires cpl { (regs.old.cpl ≡ 0) ⊎ (regs.old.cpl ≡ 3) }
     requires frames { NamesFramesIn (length mem.old) tlb.now }
     requires window { IsWindow (length mem.old) control.now regs.old.cpl tlb.now window.old }
     ensures window { IsWindow (length mem.old) control.now regs.old.cpl tlb.now window.new }
@@ -248,7 +243,6 @@ pub(crate) fn ret(
 ) -> bool
     requires ready { IsQuick quick.now }
     requires kind { quick.now.kind ≡ Kind.Return }
-    requires cpl { (regs.old.cpl ≡ 0) ⊎ (regs.old.cpl ≡ 3) }
     requires frames { NamesFramesIn (length mem.old) tlb.now }
     requires window { IsWindow (length mem.old) control.now regs.old.cpl tlb.now window.old }
     ensures window { IsWindow (length mem.old) control.now regs.old.cpl tlb.now window.new }
@@ -285,7 +279,6 @@ pub(crate) fn leave(
 ) -> bool
     requires ready { IsQuick quick.now }
     requires kind { quick.now.kind ≡ Kind.Leave }
-    requires cpl { (regs.old.cpl ≡ 0) ⊎ (regs.old.cpl ≡ 3) }
     requires frames { NamesFramesIn (length mem.old) tlb.now }
     requires window { IsWindow (length mem.old) control.now regs.old.cpl tlb.now window.old }
     ensures window { IsWindow (length mem.old) control.now regs.old.cpl tlb.now window.new }

@@ -1,7 +1,7 @@
 //! Kinds of string instructions, one turn of each: it is made where the pages at RSI and RDI are kept and serve it. Where a
 //! repeated one's count is 0, the turn only goes on.
 
-ghost use Rattle.std.specs.Prelude.{◌≡◌, ◌⊎◌, ◌<◌, if◌then◌else◌, true, false, length};
+ghost use Rattle.std.specs.Prelude.{◌≡◌, ◌<◌, if◌then◌else◌, true, false, length};
 ghost use Rattle.decode_fields.specs.Widths.{IsWidth};
 ghost use Rattle.nk_bits.specs.Translations.{NamesFramesIn};
 ghost use Rattle.x86_regs.specs.declared.form.Form.TheVariants.{Data};
@@ -111,7 +111,6 @@ pub(crate) fn move_string(
 ) -> bool
     requires ready { IsQuick quick.now }
     requires kind { quick.now.kind ≡ Kind.MoveString }
-    requires cpl { (regs.old.cpl ≡ 0) ⊎ (regs.old.cpl ≡ 3) }
     requires frames { NamesFramesIn (length mem.old) tlb.now }
     requires window { IsWindow (length mem.old) control.now regs.old.cpl tlb.now window.old }
     ensures window { IsWindow (length mem.old) control.now regs.old.cpl tlb.now window.new }
@@ -156,7 +155,6 @@ pub(crate) fn store_string(
 ) -> bool
     requires ready { IsQuick quick.now }
     requires kind { quick.now.kind ≡ Kind.StoreString }
-    requires cpl { (regs.old.cpl ≡ 0) ⊎ (regs.old.cpl ≡ 3) }
     requires frames { NamesFramesIn (length mem.old) tlb.now }
     requires window { IsWindow (length mem.old) control.now regs.old.cpl tlb.now window.old }
     ensures window { IsWindow (length mem.old) control.now regs.old.cpl tlb.now window.new }
@@ -196,7 +194,6 @@ pub(crate) fn load_string(
 ) -> bool
     requires ready { IsQuick quick.now }
     requires kind { quick.now.kind ≡ Kind.LoadString }
-    requires cpl { (regs.old.cpl ≡ 0) ⊎ (regs.old.cpl ≡ 3) }
     requires frames { NamesFramesIn (length mem.old) tlb.now }
     requires window { IsWindow (length mem.old) control.now regs.old.cpl tlb.now window.old }
     ensures window { IsWindow (length mem.old) control.now regs.old.cpl tlb.now window.new }
@@ -236,7 +233,6 @@ pub(crate) fn compare_strings(
 ) -> bool
     requires ready { IsQuick quick.now }
     requires kind { quick.now.kind ≡ Kind.CompareStrings }
-    requires cpl { (regs.old.cpl ≡ 0) ⊎ (regs.old.cpl ≡ 3) }
     requires frames { NamesFramesIn (length mem.old) tlb.now }
     requires window { IsWindow (length mem.old) control.now regs.old.cpl tlb.now window.old }
     ensures window { IsWindow (length mem.old) control.now regs.old.cpl tlb.now window.new }
@@ -282,7 +278,6 @@ pub(crate) fn scan_string(
 ) -> bool
     requires ready { IsQuick quick.now }
     requires kind { quick.now.kind ≡ Kind.ScanString }
-    requires cpl { (regs.old.cpl ≡ 0) ⊎ (regs.old.cpl ≡ 3) }
     requires frames { NamesFramesIn (length mem.old) tlb.now }
     requires window { IsWindow (length mem.old) control.now regs.old.cpl tlb.now window.old }
     ensures window { IsWindow (length mem.old) control.now regs.old.cpl tlb.now window.new }

@@ -1,6 +1,6 @@
 //! One turn by a quick form.
 
-ghost use Rattle.std.specs.Prelude.{◌≡◌, ◌⊎◌, ◌<◌, true, false, length};
+ghost use Rattle.std.specs.Prelude.{◌≡◌, ◌<◌, true, false, length};
 ghost use Rattle.nk_bits.specs.Translations.{NamesFramesIn};
 ghost use Rattle.mem_access.specs.Windows.{IsWindow};
 ghost use Rattle.exec_quick.specs.QuickForms.{IsQuick, effect_made, form_by, has_register_first, is_slow, quiet_outcome};
@@ -35,7 +35,6 @@ pub fn make(
 ) -> bool
     requires ready { IsQuick quick.now }
     requires register { has_register_first quick.now.kind ≡ true → quick.now.to < 16 }
-    requires cpl { (regs.old.cpl ≡ 0) ⊎ (regs.old.cpl ≡ 3) }
     requires frames { NamesFramesIn (length mem.old) tlb.now }
     requires window { IsWindow (length mem.old) control.now regs.old.cpl tlb.now window.old }
     ensures window { IsWindow (length mem.old) control.now regs.old.cpl tlb.now window.new }
@@ -110,7 +109,6 @@ fn make_rest(
 ) -> bool
     requires ready { IsQuick quick.now }
     requires register { has_register_first quick.now.kind ≡ true → quick.now.to < 16 }
-    requires cpl { (regs.old.cpl ≡ 0) ⊎ (regs.old.cpl ≡ 3) }
     requires frames { NamesFramesIn (length mem.old) tlb.now }
     requires window { IsWindow (length mem.old) control.now regs.old.cpl tlb.now window.old }
     ensures window { IsWindow (length mem.old) control.now regs.old.cpl tlb.now window.new }

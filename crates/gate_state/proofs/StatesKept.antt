@@ -184,10 +184,12 @@ module _ (laws : LowerLaws) (o : Opening) (admitted : IsAdmitted o) where
   pub guarded_sound : (s : MachineState) → IsGuarded o s → IsSound (length s.memory) s.processor
   guarded_sound s guarded = record {
     cpl = guarded.control.cpl;
-    root =
-        let inside : s.processor.control.root < length s.kinds = laws.kind.table_in_memory s.kinds s.processor.control.root (omega (arith, guarded.tables.root_level)) in
-        omega (arith, inside, guarded.tables.size);
-    frames = (scenes_of s.kinds guarded.kinds).named s.memory s.processor.control s.processor.tlb (ready s guarded).scene guarded.translations;
+    context = record {
+      root =
+          let inside : s.processor.control.root < length s.kinds = laws.kind.table_in_memory s.kinds s.processor.control.root (omega (arith, guarded.tables.root_level)) in
+          omega (arith, inside, guarded.tables.size);
+      frames = (scenes_of s.kinds guarded.kinds).named s.memory s.processor.control s.processor.tlb (ready s guarded).scene guarded.translations;
+    };
   }
 
   -- each live translation respects the kinds

@@ -4,7 +4,7 @@
 ghost use Rattle.std.specs.Prelude.{◌≡◌, ◌≤◌, ◌<◌, ◌+◌, ◌*◌, ◌/◌, if◌then◌else◌, IfSome, IsTrue, None, Some, [], length, vec_capacity};
 ghost use Rattle.phys_mem.specs.Memory.{entry_in};
 ghost use Rattle.nk_bits.specs.Paging.{is_canonical, page_of};
-ghost use Rattle.nk_bits.specs.Translations.{NamesFramesIn, tlb_after, translation};
+ghost use Rattle.nk_bits.specs.Translations.{IsAccessible, NamesFramesIn, tlb_after, translation};
 ghost use Rattle.cpu_step.specs.Processor.{IsSound};
 ghost use Rattle.nk_body.specs.CallRules.{Sourced, bytes_read};
 ghost use Rattle.nk_body.specs.SourceWords.{sourced_of};
@@ -67,8 +67,7 @@ fn read_source(
     count: u64,
     into: &mut Vec<u8>,
 ) -> bool
-    requires root { 4096 * root < length mem.now }
-    requires frames { NamesFramesIn (length mem.now) tlb.old }
+    requires context { IsAccessible (length mem.now) root tlb.old }
     requires none { into.old.items ≡ [] }
     requires room { count ≤ vec_capacity into.old }
     ensures read { record { bytes = if result then Some into.new.items else None; tlb = tlb.new }
@@ -86,8 +85,7 @@ fn read_source(
 
 /// The byte that is so far behind an address, where that doesn't wrap, is canonical, and has a translation.
 fn read_byte(tlb: &mut Tlb, mem: &PhysMem, root: u32, va: u64, offset: u64) -> Option<u8>
-    requires root { 4096 * root < length mem.now }
-    requires frames { NamesFramesIn (length mem.now) tlb.old }
+    requires context { IsAccessible (length mem.now) root tlb.old }
     ensures byte { result ≡ source_byte mem.now root tlb.old (va + offset) }
     ensures tlb { tlb.new ≡ source_tlb mem.now root tlb.old (va + offset) }
     ensures frames { NamesFramesIn (length mem.now) tlb.new }
@@ -113,8 +111,7 @@ fn byte_by(mem: &PhysMem, va: u64, leaf: Option<Leaf>) -> Option<u8>
 
 /// The translation of a page. Where it has none, what a page fault drops goes.
 fn look_up(mem: &PhysMem, tlb: &mut Tlb, root: u32, va: u64) -> Option<Leaf>
-    requires root { 4096 * root < length mem.now }
-    requires frames { NamesFramesIn (length mem.now) tlb.old }
+    requires context { IsAccessible (length mem.now) root tlb.old }
     requires canonical { IsTrue (is_canonical va) }
     ensures found { result ≡ translation (entry_in mem.now) (length mem.now / 4096) root tlb.old (page_of va) }
     ensures tlb { tlb.new ≡ kept_by result

@@ -1,11 +1,11 @@
 //! Loads, stores and fetches. A width is in bytes: 1, 2, 4 or 8.
 
-ghost use Rattle.std.specs.Prelude.{◌≡◌, ◌+◌, ◌-◌, ◌*◌, ◌%◌, ◌^◌, ◌<◌, ◌≤◌, ◌⊎◌, if◌then◌else◌, IsTrue, IfErr, IfOk, OnErr, length};
+ghost use Rattle.std.specs.Prelude.{◌≡◌, ◌+◌, ◌-◌, ◌%◌, ◌^◌, ◌<◌, ◌≤◌, if◌then◌else◌, IsTrue, IfErr, IfOk, OnErr, length};
 ghost use Rattle.phys_mem.specs.Memory.{stored};
 ghost use Rattle.nk_bits.specs.declared.access.Access.TheVariants.{Write, Fetch};
 ghost use Rattle.nk_bits.specs.declared.fault.AccessFault.TheVariants.{NonCanonical};
 ghost use Rattle.nk_bits.specs.Paging.{is_canonical};
-ghost use Rattle.nk_bits.specs.Translations.{NamesFramesIn};
+ghost use Rattle.nk_bits.specs.Translations.{IsAccessible, NamesFramesIn};
 ghost use Rattle.nk_bits.specs.Outcomes.{answered, refused, and_then, outcome_of};
 ghost use Rattle.nk_bits.specs.Accesses.{IsAccessSize, IsTarget, accessed, completed, crosses, has_canonical_bytes, reached};
 ghost use Rattle.page_walk.specs.MemoryAccess.{bytes_left, fetched, loaded, page_fetched, saved, stores_at, view_of, bytes_written};
@@ -28,10 +28,8 @@ pub fn load(
     va: u64,
     width: u8,
 ) -> Result<u64, AccessFault>
-    requires cpl { (cpl ≡ 0) ⊎ (cpl ≡ 3) }
     requires width { IsAccessSize width }
-    requires root { 4096 * control.now.root < length mem.now }
-    requires frames { NamesFramesIn (length mem.now) tlb.old }
+    requires context { IsAccessible (length mem.now) control.now.root tlb.old }
     ensures outcome { outcome_of result tlb.new ≡ loaded mem.now (view_of mem.now control.now cpl) tlb.old va width }
     ensures bound { IfOk result (λ value. value < 256 ^ width) }
     ensures frames { NamesFramesIn (length mem.now) tlb.new }
@@ -53,10 +51,8 @@ pub fn check_store(
     va: u64,
     width: u8,
 ) -> Result<Target, AccessFault>
-    requires cpl { (cpl ≡ 0) ⊎ (cpl ≡ 3) }
     requires width { IsAccessSize width }
-    requires root { 4096 * control.now.root < length mem.now }
-    requires frames { NamesFramesIn (length mem.now) tlb.old }
+    requires context { IsAccessible (length mem.now) control.now.root tlb.old }
     ensures outcome { outcome_of result tlb.new ≡ accessed (view_of mem.now control.now cpl) Write tlb.old va width }
     ensures frames { NamesFramesIn (length mem.now) tlb.new }
     ensures places { IfOk result (λ target. IsTarget (length mem.now) va width target) }
@@ -87,10 +83,8 @@ pub fn store(
     width: u8,
     value: u64,
 ) -> Result<(), AccessFault>
-    requires cpl { (cpl ≡ 0) ⊎ (cpl ≡ 3) }
     requires width { IsAccessSize width }
-    requires root { 4096 * control.now.root < length mem.old }
-    requires frames { NamesFramesIn (length mem.old) tlb.old }
+    requires context { IsAccessible (length mem.old) control.now.root tlb.old }
     ensures outcome { outcome_of result tlb.new ≡ saved (view_of mem.old control.now cpl) tlb.old va width }
     ensures memory { mem.new ≡ bytes_written mem.old va width value
         (accessed (view_of mem.old control.now cpl) Write tlb.old va width).answer }
@@ -118,9 +112,7 @@ pub fn fetch_place(
     cpl: u8,
     va: u64,
 ) -> Result<u64, AccessFault>
-    requires cpl { (cpl ≡ 0) ⊎ (cpl ≡ 3) }
-    requires root { 4096 * control.now.root < length mem.now }
-    requires frames { NamesFramesIn (length mem.now) tlb.old }
+    requires context { IsAccessible (length mem.now) control.now.root tlb.old }
     ensures outcome { outcome_of result tlb.new
         ≡ and_then (accessed (view_of mem.now control.now cpl) Fetch tlb.old va 1)
         (λ target after. answered target.first after) }
@@ -141,9 +133,7 @@ pub fn fetch_byte(
     cpl: u8,
     va: u64,
 ) -> Result<u8, AccessFault>
-    requires cpl { (cpl ≡ 0) ⊎ (cpl ≡ 3) }
-    requires root { 4096 * control.now.root < length mem.now }
-    requires frames { NamesFramesIn (length mem.now) tlb.old }
+    requires context { IsAccessible (length mem.now) control.now.root tlb.old }
     ensures outcome { outcome_of result tlb.new ≡ fetched mem.now (view_of mem.now control.now cpl) tlb.old va }
     ensures frames { NamesFramesIn (length mem.now) tlb.new }
 {
@@ -164,9 +154,7 @@ pub fn page_bytes<'m>(
     cpl: u8,
     va: u64,
 ) -> Result<&'m [u8], AccessFault>
-    requires cpl { (cpl ≡ 0) ⊎ (cpl ≡ 3) }
-    requires root { 4096 * control.now.root < length mem.now }
-    requires frames { NamesFramesIn (length mem.now) tlb.old }
+    requires context { IsAccessible (length mem.now) control.now.root tlb.old }
     ensures found { IfOk result (λ bytes. answered bytes.now tlb.new
         ≡ page_fetched mem.now (view_of mem.now control.now cpl) tlb.old va) }
     ensures refused { IfErr result (λ fault. refused fault tlb.new
@@ -193,8 +181,7 @@ fn access(
     width: u8,
 ) -> Result<Target, AccessFault>
     requires width { (1 ≤ width) × (width ≤ 8) }
-    requires root { 4096 * control.now.root < length mem.now }
-    requires frames { NamesFramesIn (length mem.now) tlb.old }
+    requires context { IsAccessible (length mem.now) control.now.root tlb.old }
     ensures outcome { outcome_of result tlb.new ≡ accessed (view_of mem.now control.now cpl) access tlb.old va width }
     ensures frames { NamesFramesIn (length mem.now) tlb.new }
     ensures places { IfOk result (λ target. IsTarget (length mem.now) va width target) }
@@ -218,8 +205,7 @@ fn place(
     cpl: u8,
     va: u64,
 ) -> Result<u64, AccessFault>
-    requires root { 4096 * control.now.root < length mem.now }
-    requires frames { NamesFramesIn (length mem.now) tlb.old }
+    requires context { IsAccessible (length mem.now) control.now.root tlb.old }
     ensures outcome { outcome_of result tlb.new ≡ (if is_canonical va
         then reached (view_of mem.now control.now cpl) access tlb.old va else refused NonCanonical tlb.old) }
     ensures frames { NamesFramesIn (length mem.now) tlb.new }
@@ -245,8 +231,7 @@ fn access_across(
 ) -> Result<Target, AccessFault>
     requires width { (1 ≤ width) × (width ≤ 8) }
     requires two { IsTrue (crosses va width) }
-    requires root { 4096 * control.now.root < length mem.now }
-    requires frames { NamesFramesIn (length mem.now) tlb.old }
+    requires context { IsAccessible (length mem.now) control.now.root tlb.old }
     ensures outcome { outcome_of result tlb.new ≡ accessed (view_of mem.now control.now cpl) access tlb.old va width }
     ensures frames { NamesFramesIn (length mem.now) tlb.new }
     ensures places { IfOk result (λ target. IsTarget (length mem.now) va width target) }
@@ -274,8 +259,7 @@ fn complete(
 ) -> Result<Target, AccessFault>
     requires width { (1 ≤ width) × (width ≤ 8) }
     requires two { IsTrue (crosses va width) }
-    requires root { 4096 * control.now.root < length mem.now }
-    requires frames { NamesFramesIn (length mem.now) tlb.old }
+    requires context { IsAccessible (length mem.now) control.now.root tlb.old }
     requires canonical { IsTrue (has_canonical_bytes va width) }
     requires agrees { first % 4096 ≡ va % 4096 }
     requires inside { first + (4096 - va % 4096) ≤ length mem.now }

@@ -4,7 +4,7 @@ ghost use Rattle.std.specs.Prelude.{◌≡◌, ℕ, ◌+◌, ◌-◌, ◌*◌, �
 ghost use Rattle.phys_mem.specs.Memory.{entry_in};
 ghost use Rattle.nk_bits.specs.Paging.{page_of, is_canonical};
 ghost use Rattle.nk_bits.specs.UpperEntries.{kept_for, walk_by};
-ghost use Rattle.nk_bits.specs.Translations.{NamesFramesIn, translation, tlb_after};
+ghost use Rattle.nk_bits.specs.Translations.{IsAccessible, NamesFramesIn, translation, tlb_after};
 ghost use Rattle.nk_bits.specs.Outcomes.{outcome_of};
 ghost use Rattle.nk_bits.specs.Accesses.{reached, judged};
 ghost use Rattle.page_walk.specs.MemoryAccess.{view_of};
@@ -29,8 +29,7 @@ pub fn reach(
     cpl: u8,
     va: u64,
 ) -> Result<u64, AccessFault>
-    requires root { 4096 * control.now.root < length mem.now }
-    requires frames { NamesFramesIn (length mem.now) tlb.old }
+    requires context { IsAccessible (length mem.now) control.now.root tlb.old }
     requires canonical { IsTrue (is_canonical va) }
     ensures outcome { outcome_of result tlb.new ≡ reached (view_of mem.now control.now cpl) access tlb.old va }
     ensures frames { NamesFramesIn (length mem.now) tlb.new }
@@ -53,8 +52,7 @@ fn resolve(
     cpl: u8,
     va: u64,
 ) -> Result<u64, AccessFault>
-    requires root { 4096 * control.now.root < length mem.now }
-    requires frames { NamesFramesIn (length mem.now) tlb.old }
+    requires context { IsAccessible (length mem.now) control.now.root tlb.old }
     requires canonical { IsTrue (is_canonical va) }
     ensures outcome { outcome_of result tlb.new ≡ reached (view_of mem.now control.now cpl) access tlb.old va }
     ensures frames { NamesFramesIn (length mem.now) tlb.new }
@@ -73,8 +71,7 @@ fn resolve(
 /// The translation of a page of a canonical address: the one that is kept, or else the one that a walk finds, which is
 /// filled.
 pub fn translate(mem: &PhysMem, tlb: &mut Tlb, root: u32, va: u64) -> Option<Leaf>
-    requires root { 4096 * root < length mem.now }
-    requires frames { NamesFramesIn (length mem.now) tlb.old }
+    requires context { IsAccessible (length mem.now) root tlb.old }
     requires canonical { IsTrue (is_canonical va) }
     ensures found { result ≡ translation (entry_in mem.now) (length mem.now / 4096) root tlb.old (page_of va) }
     ensures tlb { tlb.new ≡ tlb_after (entry_in mem.now) (length mem.now / 4096) root tlb.old (page_of va) }
@@ -101,8 +98,7 @@ pub fn translate(mem: &PhysMem, tlb: &mut Tlb, root: u32, va: u64) -> Option<Lea
 /// Returns `Missing` with the first level whose entry is missing.
 #[tactic(auto, unfolding(nk_bits::specs::UpperEntries::walk_by))]
 pub fn walk_kept(mem: &PhysMem, tlb: &Tlb, root: u32, va: u64) -> Result<Leaf, Missing>
-    requires root { 4096 * root < length mem.now }
-    requires frames { NamesFramesIn (length mem.now) tlb.now }
+    requires context { IsAccessible (length mem.now) root tlb.now }
     requires canonical { IsTrue (is_canonical va) }
     ensures result { leaf_or_level result
         ≡ walk_by (entry_in mem.now) (length mem.now / 4096) root tlb.now.upper (page_of va) }

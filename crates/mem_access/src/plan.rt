@@ -1,7 +1,7 @@
 //! The accesses of an instruction's plan, made in the order of its faults: a fault leaves what comes after it undone.
 
-ghost use Rattle.std.specs.Prelude.{◌≡◌, ◌*◌, ◌<◌, ◌⊎◌, IfOk, IfSome, length};
-ghost use Rattle.nk_bits.specs.Translations.{NamesFramesIn};
+ghost use Rattle.std.specs.Prelude.{◌≡◌, IfOk, IfSome, length};
+ghost use Rattle.nk_bits.specs.Translations.{IsAccessible, NamesFramesIn};
 ghost use Rattle.nk_bits.specs.Outcomes.{outcome_of};
 ghost use Rattle.page_walk.specs.MemoryAccess.{view_of};
 ghost use Rattle.page_walk.specs.AccessPlans.{IsSized, IsSource, IsAccessPlan, IsChecked, FitsSource, checked, taken, gathered};
@@ -22,10 +22,8 @@ pub fn check_span(
     cpl: u8,
     span: Option<Span>,
 ) -> Result<Option<Target>, SpanFault>
-    requires cpl { (cpl ≡ 0) ⊎ (cpl ≡ 3) }
     requires width { IsSized span }
-    requires root { 4096 * control.now.root < length mem.now }
-    requires frames { NamesFramesIn (length mem.now) tlb.old }
+    requires context { IsAccessible (length mem.now) control.now.root tlb.old }
     ensures outcome { outcome_of result tlb.new ≡ checked (view_of mem.now control.now cpl) span tlb.old }
     ensures frames { NamesFramesIn (length mem.now) tlb.new }
     ensures places { IfOk result (λ target. IsChecked (length mem.now) span target) }
@@ -51,10 +49,8 @@ pub fn gather(
     cpl: u8,
     plan: &AccessPlan,
 ) -> Result<Gathered, SpanFault>
-    requires cpl { (cpl ≡ 0) ⊎ (cpl ≡ 3) }
     requires plan { IsAccessPlan plan.now }
-    requires root { 4096 * control.now.root < length mem.now }
-    requires frames { NamesFramesIn (length mem.now) tlb.old }
+    requires context { IsAccessible (length mem.now) control.now.root tlb.old }
     ensures outcome { outcome_of result tlb.new
         ≡ gathered mem.now (view_of mem.now control.now cpl) plan.now tlb.old }
     ensures frames { NamesFramesIn (length mem.now) tlb.new }
@@ -85,10 +81,8 @@ fn take(
     cpl: u8,
     source: &Origin,
 ) -> Result<u64, SpanFault>
-    requires cpl { (cpl ≡ 0) ⊎ (cpl ≡ 3) }
     requires width { IsSource source.now }
-    requires root { 4096 * control.now.root < length mem.now }
-    requires frames { NamesFramesIn (length mem.now) tlb.old }
+    requires context { IsAccessible (length mem.now) control.now.root tlb.old }
     ensures outcome { outcome_of result tlb.new
         ≡ taken mem.now (view_of mem.now control.now cpl) source.now tlb.old }
     ensures frames { NamesFramesIn (length mem.now) tlb.new }

@@ -92,6 +92,11 @@ pub record NamesFramesIn (size : ℕ) (tlb : Translations) : Type 0 where
   pub pairs : All (λ pair. 4096 * pair.1.frame < size) tlb.pairs
   pub upper : All (λ entry. 4096 * entry.2.frame < size) tlb.upper
 
+-- what an access takes for granted: the root table, in this frame, and every frame that is named lie in that memory
+pub record IsAccessible (size table : ℕ) (tlb : Translations) : Type 0 where
+  pub root : 4096 * table < size
+  pub frames : NamesFramesIn size tlb
+
 -- the walk that begins at one of the entries that serve the page gives this leaf
 pub record IsBelowKept (t : ℕ → ℕ → ℕ) (frames : ℕ) (upper : List KeptEntry) (page : ℕ) (leaf : Leaf) : Type 0 where
   pub place : ℕ

@@ -1,7 +1,7 @@
 //! A delivery, from the gate to the handler's registers (SDM volume 3, 6.14).
 
-ghost use Rattle.std.specs.Prelude.{◌≡◌, ◌⊎◌, ◌*◌, ◌/◌, ◌<◌, OnErr, OnOk, length};
-ghost use Rattle.nk_bits.specs.Translations.{NamesFramesIn};
+ghost use Rattle.std.specs.Prelude.{◌≡◌, ◌⊎◌, ◌*◌, ◌/◌, OnErr, OnOk, length};
+ghost use Rattle.nk_bits.specs.Translations.{IsAccessible, NamesFramesIn};
 ghost use Rattle.nk_bits.specs.Outcomes.{outcome_of};
 ghost use Rattle.trap_unit.specs.TrapDelivery.{at_handler, delivered, entry_found};
 
@@ -44,8 +44,7 @@ pub fn deliver(
     code: Option<u64>,
 ) -> Result<(), Shut>
     requires cpl { (regs.old.cpl ≡ 0) ⊎ (regs.old.cpl ≡ 3) }
-    requires root { 4096 * control.now.root < length mem.old }
-    requires frames { NamesFramesIn (length mem.old) tlb.old }
+    requires context { IsAccessible (length mem.old) control.now.root tlb.old }
     ensures delivered { record { regs = regs.new; memory = mem.new; tlb = tlb.new; answer = result }
         ≡ delivered regs.old control.now tables.now vector code mem.old tlb.old }
     ensures length { length mem.new ≡ length mem.old }
@@ -76,8 +75,7 @@ fn entry_found(
     tables: &Tables,
     vector: u8,
 ) -> Result<Entry, Shut>
-    requires root { 4096 * control.now.root < length mem.now }
-    requires frames { NamesFramesIn (length mem.now) tlb.old }
+    requires context { IsAccessible (length mem.now) control.now.root tlb.old }
     ensures outcome { outcome_of result tlb.new ≡ entry_found control.now tables.now vector mem.now tlb.old }
     ensures frames { NamesFramesIn (length mem.now) tlb.new }
 {

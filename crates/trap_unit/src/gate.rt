@@ -1,7 +1,7 @@
 //! The gate of a vector (SDM volume 3, 6.14.1).
 
-ghost use Rattle.std.specs.Prelude.{◌≡◌, ◌⊎◌, ◌+◌, ◌*◌, ◌<◌, length};
-ghost use Rattle.nk_bits.specs.Translations.{NamesFramesIn};
+ghost use Rattle.std.specs.Prelude.{◌≡◌, ◌+◌, length};
+ghost use Rattle.nk_bits.specs.Translations.{IsAccessible, NamesFramesIn};
 ghost use Rattle.nk_bits.specs.Outcomes.{outcome_of};
 ghost use Rattle.trap_unit.specs.TrapDelivery.{descriptor_address, gate_found, gate_level, gate_offset, gate_read, interrupt_allowed, is_good, passes_limit};
 
@@ -41,9 +41,7 @@ pub fn interrupt_allowed(
     cpl: u8,
     vector: u8,
 ) -> Result<bool, Shut>
-    requires cpl { (cpl ≡ 0) ⊎ (cpl ≡ 3) }
-    requires root { 4096 * control.now.root < length mem.now }
-    requires frames { NamesFramesIn (length mem.now) tlb.old }
+    requires context { IsAccessible (length mem.now) control.now.root tlb.old }
     ensures outcome { outcome_of result tlb.new
         ≡ interrupt_allowed control.now tables.now cpl vector mem.now tlb.old }
     ensures frames { NamesFramesIn (length mem.now) tlb.new }
@@ -67,8 +65,7 @@ pub(crate) fn gate_found(
     tables: &Tables,
     vector: u8,
 ) -> Result<Gate, Shut>
-    requires root { 4096 * control.now.root < length mem.now }
-    requires frames { NamesFramesIn (length mem.now) tlb.old }
+    requires context { IsAccessible (length mem.now) control.now.root tlb.old }
     ensures outcome { outcome_of result tlb.new ≡ gate_found control.now tables.now vector mem.now tlb.old }
     ensures frames { NamesFramesIn (length mem.now) tlb.new }
 {
@@ -89,8 +86,7 @@ fn gate_read(
     tables: &Tables,
     vector: u8,
 ) -> Result<Gate, Shut>
-    requires root { 4096 * control.now.root < length mem.now }
-    requires frames { NamesFramesIn (length mem.now) tlb.old }
+    requires context { IsAccessible (length mem.now) control.now.root tlb.old }
     ensures outcome { outcome_of result tlb.new ≡ gate_read control.now tables.now vector mem.now tlb.old }
     ensures frames { NamesFramesIn (length mem.now) tlb.new }
 {

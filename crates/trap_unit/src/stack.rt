@@ -1,7 +1,7 @@
 //! The pushes of a delivery, which are the supervisor's (SDM volume 3, 6.14.2).
 
-ghost use Rattle.std.specs.Prelude.{◌≡◌, ◌*◌, ◌<◌, length};
-ghost use Rattle.nk_bits.specs.Translations.{NamesFramesIn};
+ghost use Rattle.std.specs.Prelude.{◌≡◌, length};
+ghost use Rattle.nk_bits.specs.Translations.{IsAccessible, NamesFramesIn};
 ghost use Rattle.trap_unit.specs.TrapDelivery.{cs_of, frame_values, pushed, pushes};
 
 use crate::selectors::{SUPERVISOR_CODE, USER_CODE};
@@ -23,8 +23,7 @@ pub(crate) fn push_frame(
     code: Option<u64>,
     top: u64,
 ) -> Result<u64, Shut>
-    requires root { 4096 * control.now.root < length mem.old }
-    requires frames { NamesFramesIn (length mem.old) tlb.old }
+    requires context { IsAccessible (length mem.old) control.now.root tlb.old }
     ensures pushed { record { memory = mem.new; tlb = tlb.new; answer = result }
         ≡ pushes control.now (frame_values regs.now code) top mem.old tlb.old }
     ensures length { length mem.new ≡ length mem.old }
@@ -60,8 +59,7 @@ fn push_all(
     top: u64,
     values: &[u64],
 ) -> Result<u64, Shut>
-    requires root { 4096 * control.now.root < length mem.old }
-    requires frames { NamesFramesIn (length mem.old) tlb.old }
+    requires context { IsAccessible (length mem.old) control.now.root tlb.old }
     ensures pushed { record { memory = mem.new; tlb = tlb.new; answer = result }
         ≡ pushes control.now values.now top mem.old tlb.old }
     ensures length { length mem.new ≡ length mem.old }
@@ -86,8 +84,7 @@ fn push(
     top: u64,
     value: u64,
 ) -> Result<u64, Shut>
-    requires root { 4096 * control.now.root < length mem.old }
-    requires frames { NamesFramesIn (length mem.old) tlb.old }
+    requires context { IsAccessible (length mem.old) control.now.root tlb.old }
     ensures pushed { record { memory = mem.new; tlb = tlb.new; answer = result }
         ≡ pushed control.now value top mem.old tlb.old }
     ensures length { length mem.new ≡ length mem.old }

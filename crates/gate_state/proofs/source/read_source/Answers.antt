@@ -12,7 +12,7 @@ loop-k-init c =
       read =
           (λ i. with_front (c.requires.none i) (source_read c.args.mem.now c.args.root c.args.tlb.now (at i) (left i)))
           ∙ front_none (source_read c.args.mem.now c.args.root c.args.tlb.now c.args.va c.args.count);
-      frames = c.requires.frames;
+      frames = c.requires.context.frames;
       so_far = ap length c.requires.none;
       most = omega arith;
       room = omega arith;

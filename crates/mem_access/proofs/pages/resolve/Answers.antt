@@ -18,9 +18,9 @@ returns-else-is_err-clause-outcome c =
 pub returns-then-is_err-clause-frames : goal.returns-then-is_err-clause-frames
 returns-then-is_err-clause-frames c =
     subst (λ tlb. NamesFramesIn (length c.args.mem.now) tlb) (sym (ap (λ o. o.tlb) (returns-then-is_err-clause-outcome c)))
-    (c.access_law.ensures.within (view_of c.args.mem.now c.args.control.now c.args.cpl) c.args.access (length c.args.mem.now) c.args.tlb.now c.args.va refl c.requires.canonical c.requires.frames)
+    (c.access_law.ensures.within (view_of c.args.mem.now c.args.control.now c.args.cpl) c.args.access (length c.args.mem.now) c.args.tlb.now c.args.va refl c.requires.canonical c.requires.context.frames)
 
 pub returns-else-is_err-clause-frames : goal.returns-else-is_err-clause-frames
 returns-else-is_err-clause-frames c =
     subst (λ tlb. NamesFramesIn (length c.args.mem.now) tlb) (sym (ap (λ o. o.tlb) (returns-else-is_err-clause-outcome c)))
-    (c.access_law.ensures.within (view_of c.args.mem.now c.args.control.now c.args.cpl) c.args.access (length c.args.mem.now) c.args.tlb.now c.args.va refl c.requires.canonical c.requires.frames)
+    (c.access_law.ensures.within (view_of c.args.mem.now c.args.control.now c.args.cpl) c.args.access (length c.args.mem.now) c.args.tlb.now c.args.va refl c.requires.canonical c.requires.context.frames)
