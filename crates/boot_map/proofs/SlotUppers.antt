@@ -8,6 +8,7 @@ use Rattle.nk_bits.specs.declared.leaf.Upper.{Upper}
 use Rattle.nk_bits.specs.Paging.{all_rights, page_index, slot_value, upper_from, upper_walk, walk_below, walk_from}
 use Rattle.elf_image.specs.Pages.{IsPageList, pages_of}
 use Rattle.nk_bits.specs.KernelLayout.{opening_root, slot_table}
+use Rattle.nk_bits.specs.WalkLaws.{UpperLaws}
 use Rattle.boot_map.specs.Division.{IsLayout, division_of, free_start}
 use Rattle.boot_map.specs.OpeningEntries.{link, opening_entry}
 use Rattle.boot_map.specs.KernelSlot.{HoldsSlot, slot_leaf, slot_start, slot_upper}
@@ -75,8 +76,7 @@ slot_upper_in_memory b frames page (suc (suc level)) layout least most =
     some_weaker None P Q weaker h = tt
 
 -- what is left of a walk from any upper entry that a walk of the opening's entries came to
-module _ (walks : (t : ℕ → ℕ → ℕ) (frames page left level f : ℕ) (r : Rights) (it : Upper) → upper_from t frames page left level f r ≡ Some it
-    → walk_from t frames page level f r ≡ walk_from t frames page (level - left) it.frame it.rights) where
+module _ (laws : UpperLaws) where
   pub slot_upper_below : (b : List ℕ) (frames page level : ℕ) (it : Upper) (t : ℕ → ℕ → ℕ) → IsLayout b (division_of b frames) → IsPageList b (pages_of b) → HoldsSlot b frames t
       → slot_start ≤ page → page < 2 ^ 52 → 2 ≤ level → level ≤ 4 → slot_upper b frames page level ≡ Some it
       → result_ok (walk_below t frames page level it) ≡ slot_leaf b frames page
@@ -91,6 +91,6 @@ module _ (walks : (t : ℕ → ℕ → ℕ) (frames page left level f : ℕ) (r 
       ap result_ok
       (walk_alike opening frames page (IsSlotTableAt (division_of b frames)) (stays b frames page (small_layout b frames layout).1) t (agree b frames page t layout holds low high) (level - 1) it.frame it.rights reached
       ∙ ap (λ n. walk_from opening frames page n it.frame it.rights) (sym rest)
-      ∙ sym (walks opening frames page (5 - level) 4 opening_root all_rights it found)
+      ∙ sym (laws.walks opening frames page (5 - level) 4 opening_root all_rights it found)
       ∙ sym (walk_by_level opening frames opening_root page))
       ∙ slot_walk b frames page layout list low high

@@ -5,3 +5,6 @@ pub mod OpeningKinds
 pub mod OpeningEntries
 pub mod Opening
 pub mod KernelSlot
+-- Laws: what is proved of the definitions.
+pub mod OpeningLaws
+pub mod SlotLaws

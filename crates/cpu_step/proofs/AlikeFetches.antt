@@ -1,8 +1,7 @@
 -- Over two memories that are alike an instruction is fetched alike, and has the same effect.
-use Rattle.std.proofs.Common.{◌≡◌, ℕ, zero, suc, ◌+◌, ◌^◌, ◌<◌, ◌≤◌, List, [], ◌∷◌, ◌++◌, length, refl, ap, ◌∙◌, lit<, mod-lt, arith}
+use Rattle.std.proofs.Common.{◌≡◌, ℕ, zero, suc, ◌+◌, ◌^◌, ◌<◌, List, [], ◌∷◌, ◌++◌, length, refl, ap, ◌∙◌, lit<, mod-lt, arith}
 use Rattle.std.specs.Prelude.{IfOk, Result, Ok, Err}
 use Rattle.std.proofs.lemmas.Result.{IfOk-at_ok}
-use Rattle.nk_bits.specs.declared.access.Access.{Access}
 use Rattle.nk_bits.specs.declared.access.Access.TheVariants.{Fetch}
 use Rattle.nk_bits.specs.declared.control.Control.{Control}
 use Rattle.nk_bits.specs.declared.fault.AccessFault.{AccessFault}
@@ -11,37 +10,28 @@ use Rattle.nk_bits.specs.Translations.{Translations}
 use Rattle.nk_bits.specs.Claims.{AllPass, Claim}
 use Rattle.nk_bits.specs.Outcomes.{Outcome, and_then, answered, then_by, then_on}
 use Rattle.nk_bits.specs.Accesses.{IsWalked, View, accessed}
+use Rattle.nk_bits.specs.AccessLaws.{AccessLaws}
 use Rattle.phys_mem.specs.Memory.{byte_at}
-use Rattle.page_walk.specs.MemoryAccess.{fetched, view_of}
+use Rattle.page_walk.specs.MemoryAccess.{view_of}
 use Rattle.x86_decode.specs.Reader.{decoded_of}
 use Rattle.x86_decode.specs.WellFormed.{IsWellFormed}
 use Rattle.x86_decode.specs.declared.instruction.Decoded.{Decoded}
 use Rattle.x86_decode.specs.declared.instruction.Decoded.TheVariants.{Whole, Short, TooLong, Unknown}
-use Rattle.x86_decode.specs.declared.instruction.Instr.{Instr}
 use Rattle.x86_regs.specs.AlikeMemories.{AreAlike}
 use Rattle.x86_regs.specs.declared.faults.Fault.{Fault}
-use Rattle.x86_regs.specs.declared.registers.Regs.{Regs}
 use Rattle.x86_regs.specs.Effects.{effect_of}
 use Rattle.x86_regs.specs.EffectsKept.{AreRegisters}
 use Rattle.x86_regs.specs.Operands.{wrapped}
+use Rattle.x86_regs.specs.AlikeLaws.{AlikeLaws}
 use Rattle.cpu_step.specs.declared.fetch.Fetched.{Fetched}
 use Rattle.cpu_step.specs.InstructionFetch.{byte_fetched, decided_by, fetched_from, in_fetch, instruction_at}
 use Rattle.cpu_step.specs.Processor.{Processor}
 use Rattle.cpu_step.specs.Turns.{instruction_made}
 
--- what is used of the laws of accesses and of alike memories
-pub record FetchLaws : Type 0 where
-  pub kept : (view : View) (access : Access) (test : Claim) (tlb : Translations) (va width : ℕ)
-      → IsWalked view test → va < 2 ^ 64 → 1 ≤ width → AllPass test tlb
-      → AllPass test (accessed view access tlb va width).tlb
-  pub fetched_same : (test : Claim) (control : Control) (cpl : ℕ) (m n : List ℕ) (tlb : Translations) (va : ℕ)
-      → AreAlike test control.root m n → IsWalked (view_of m control cpl) test → AllPass test tlb → va < 2 ^ 64
-      → fetched m (view_of m control cpl) tlb va ≡ fetched n (view_of n control cpl) tlb va
-  pub effect_same : (i : Instr) (size : ℕ) (regs : Regs) (control : Control) (m n : List ℕ) (tlb : Translations)
-      (test : Claim)
-      → AreAlike test control.root m n → IsWalked (view_of m control regs.cpl) test → AllPass test tlb
-      → IsWellFormed i → AreRegisters regs
-      → effect_of i size regs control m tlb ≡ effect_of i size regs control n tlb
+-- what is used of the laws below
+pub record SameLaws : Type 0 where
+  pub access : AccessLaws
+  pub alike : AlikeLaws
 
 -- two steps are the same where the first ones are, and the next ones from each answer
 then_same : {F A B : Type 0} (answer : Result A F) (tlb : Translations) (next later : A → Translations → Outcome F B)
@@ -62,7 +52,7 @@ decided_passes test Short tlb more pass later = later
 decided_passes test TooLong tlb more pass later = pass
 decided_passes test Unknown tlb more pass later = pass
 
-module _ (laws : FetchLaws) (test : Claim) (control : Control) (cpl : ℕ) (m n : List ℕ)
+module _ (laws : SameLaws) (test : Claim) (control : Control) (cpl : ℕ) (m n : List ℕ)
     (alike : AreAlike test control.root m n) (walked : IsWalked (view_of m control cpl) test) (rip : ℕ) where
   abbrev here : View
   here = view_of m control cpl
@@ -78,7 +68,7 @@ module _ (laws : FetchLaws) (test : Claim) (control : Control) (cpl : ℕ) (m n 
   byte_passes k tlb pass =
       let va : ℕ = wrapped (rip + k) in
       let access : Outcome AccessFault Target = accessed here Fetch tlb va 1 in
-      let kept = laws.kept here Fetch test tlb va 1 walked (place k) (omega arith) pass in
+      let kept = laws.access.kept here Fetch test tlb va 1 walked (place k) (omega arith) pass in
       then_on (AllPass test) access.answer access.tlb (λ target after. answered (byte_at m target.first) after) kept
       (λ target. kept)
 
@@ -86,7 +76,7 @@ module _ (laws : FetchLaws) (test : Claim) (control : Control) (cpl : ℕ) (m n 
       → byte_fetched m here (wrapped (rip + k)) tlb ≡ byte_fetched n there (wrapped (rip + k)) tlb
   byte_same k tlb pass =
       ap (λ (o : Outcome AccessFault ℕ). in_fetch o)
-      (laws.fetched_same test control cpl m n tlb (wrapped (rip + k)) alike walked pass (place k))
+      (laws.alike.fetched test control cpl m n tlb (wrapped (rip + k)) alike walked pass (place k))
 
   from_passes : (left : ℕ) (bytes : List ℕ) (tlb : Translations) → AllPass test tlb
       → AllPass test (fetched_from left m here rip bytes tlb).tlb
@@ -126,7 +116,7 @@ module _ (laws : FetchLaws) (test : Claim) (control : Control) (cpl : ℕ) (m n 
   unfolding instruction_at
   fetch_same tlb pass = from_same 15 [] tlb pass
 
-module _ (laws : FetchLaws) (test : Claim) (p : Processor) (m n : List ℕ) (alike : AreAlike test p.control.root m n)
+module _ (laws : SameLaws) (test : Claim) (p : Processor) (m n : List ℕ) (alike : AreAlike test p.control.root m n)
     (walked : IsWalked (view_of m p.control p.regs.cpl) test) where
   pub made_same : AllPass test p.tlb → AreRegisters p.regs
       → IfOk (instruction_at m (view_of m p.control p.regs.cpl) p.regs.rip p.tlb).answer (λ it. IsWellFormed it.instr)
@@ -138,5 +128,5 @@ module _ (laws : FetchLaws) (test : Claim) (p : Processor) (m n : List ℕ) (ali
       (λ it after. effect_of it.instr it.size p.regs p.control m after)
       (λ it after. effect_of it.instr it.size p.regs p.control n after)
       (fetch_same laws test p.control p.regs.cpl m n alike walked p.regs.rip p.tlb pass)
-      (λ it is. laws.effect_same it.instr it.size p.regs p.control m n one.tlb test alike walked kept
+      (λ it is. laws.alike.effect it.instr it.size p.regs p.control m n one.tlb test alike walked kept
       (IfOk-at_ok _ is formed) registers)

@@ -1,21 +1,21 @@
 -- The fault of a fetch has numbers of 64 bits: that of each byte, and that of bytes which are no instruction.
-use Rattle.std.proofs.Common.{ℕ, zero, suc, ◌+◌, ◌^◌, ◌<◌, Bool, false, List, [], ◌∷◌, ◌++◌, length, lit<, mod-lt}
+use Rattle.std.proofs.Common.{ℕ, zero, suc, ◌+◌, ◌^◌, ◌<◌, false, List, [], ◌∷◌, ◌++◌, length, lit<, mod-lt}
 use Rattle.std.specs.Prelude.{IfErr, Result, Ok, Err}
-use Rattle.nk_bits.specs.declared.access.Access.{Access}
 use Rattle.nk_bits.specs.declared.access.Access.TheVariants.{Fetch}
 use Rattle.nk_bits.specs.declared.fault.AccessFault.{AccessFault}
 use Rattle.nk_bits.specs.declared.leaf.Target.{Target}
 use Rattle.nk_bits.specs.Accesses.{IsSmallAccessFault, View, accessed}
 use Rattle.nk_bits.specs.Outcomes.{Outcome, answered, then_by}
 use Rattle.nk_bits.specs.Translations.{Translations}
+use Rattle.nk_bits.specs.AccessLaws.{AccessLaws}
 use Rattle.phys_mem.specs.Memory.{byte_at}
 use Rattle.x86_decode.specs.Reader.{decoded_of}
 use Rattle.x86_decode.specs.declared.instruction.Decoded.{Decoded}
 use Rattle.x86_decode.specs.declared.instruction.Decoded.TheVariants.{Whole, Short, TooLong, Unknown}
 use Rattle.x86_regs.specs.declared.faults.Fault.{Fault}
 use Rattle.x86_regs.specs.EffectsKept.{IsSmallFault}
-use Rattle.x86_regs.specs.Effects.{access_raised}
 use Rattle.x86_regs.specs.Operands.{wrapped}
+use Rattle.x86_regs.specs.EffectLaws.{BoundLaws}
 use Rattle.cpu_step.specs.declared.fetch.Fetched.{Fetched}
 use Rattle.cpu_step.specs.InstructionFetch.{byte_fetched, decided_by, fetched_from, instruction_at, raised_by_fetch}
 
@@ -34,13 +34,11 @@ decided_small Short tlb more later = later
 decided_small TooLong tlb more later = lit< tt
 decided_small Unknown tlb more later = tt
 
-module _ (accesses : (view : View) (access : Access) (tlb : Translations) (va width : ℕ) → va < 2 ^ 64
-    → IfErr (accessed view access tlb va width).answer IsSmallAccessFault)
-    (raises : (stack : Bool) (it : AccessFault) → IsSmallAccessFault it → IsSmallFault (access_raised stack it)) where
+module _ (accesses : AccessLaws) (bounds : BoundLaws) where
   raised_small : {A : Type 0} (answer : Result A AccessFault) → IfErr answer IsSmallAccessFault
       → IfErr (raised_by_fetch answer) IsSmallFault
   raised_small (Ok x) small = tt
-  raised_small (Err it) small = raises false it small
+  raised_small (Err it) small = bounds.raised false it small
 
   module _ (m : List ℕ) (view : View) where
     byte_small : (va : ℕ) (tlb : Translations) → va < 2 ^ 64 → IfErr (byte_fetched m view va tlb).answer IsSmallFault
@@ -48,7 +46,7 @@ module _ (accesses : (view : View) (access : Access) (tlb : Translations) (va wi
         let access : Outcome AccessFault Target = accessed view Fetch tlb va 1 in
         raised_small _
         (then_err IsSmallAccessFault access.answer access.tlb (λ target after. answered (byte_at m target.first) after)
-        (accesses view Fetch tlb va 1 fits) (λ target. tt))
+        (accesses.fault view Fetch tlb va 1 fits) (λ target. tt))
 
     from_small : (left rip : ℕ) (bytes : List ℕ) (tlb : Translations)
         → IfErr (fetched_from left m view rip bytes tlb).answer IsSmallFault

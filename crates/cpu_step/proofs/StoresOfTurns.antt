@@ -1,12 +1,11 @@
 -- Memory after a turn is memory after its stores.
-use Rattle.std.proofs.Common.{◌≡◌, ℕ, ◌*◌, ◌+◌, ◌∙◌, Bool, true, false, if◌then◌else◌, List, [], ◌++◌, refl, sym, ap}
+use Rattle.std.proofs.Common.{◌≡◌, ℕ, ◌*◌, ◌+◌, ◌∙◌, Bool, true, false, if◌then◌else◌, List, [], refl, sym, ap}
 use Rattle.std.specs.Prelude.{Option, Some, None, Result, Ok, Err}
-use Rattle.nk_bits.specs.declared.control.Control.{Control}
 use Rattle.nk_bits.specs.Outcomes.{Outcome}
 use Rattle.nk_bits.specs.Translations.{Translations, faulted}
 use Rattle.phys_mem.specs.Memory.{stored}
+use Rattle.phys_mem.specs.MemoryLaws.{MemoryLaws}
 use Rattle.port_bus.specs.PortWords.{console_byte}
-use Rattle.x86_regs.specs.declared.delivery.Tables.{Tables}
 use Rattle.x86_regs.specs.declared.effects.Act.{Act}
 use Rattle.x86_regs.specs.declared.effects.Act.TheVariants as act
 use Rattle.x86_regs.specs.declared.effects.Effect.{Effect}
@@ -15,23 +14,13 @@ use Rattle.x86_regs.specs.declared.faults.Fault.{Fault}
 use Rattle.x86_regs.specs.declared.faults.Fault.TheVariants as fault
 use Rattle.x86_regs.specs.declared.registers.Regs.{Regs}
 use Rattle.trap_unit.specs.declared.shutdown.Shut.{Shut}
-use Rattle.trap_unit.specs.DeliveryStores.{delivery_stores}
-use Rattle.trap_unit.specs.TrapDelivery.{delivered, interrupt_allowed}
+use Rattle.trap_unit.specs.TrapDelivery.{interrupt_allowed}
 use Rattle.trap_unit.specs.TrapReturn.{returned}
+use Rattle.trap_unit.specs.DeliveryLaws.{DeliveryLaws}
 use Rattle.cpu_step.specs.Processor.{Processor, deliverable}
 use Rattle.x86_regs.specs.Effects.{memory_after}
 use Rattle.cpu_step.specs.Turns.{acted, error_code_of, control_after, instructed, instruction_made, interrupted_by, is_at_body, fault_raised, refused_body, returned_by, console_shown, trapped, turned, turned_by, turned_unless, vector_of, woken}
 use Rattle.cpu_step.specs.TurnStores.{act_stores, body_stores, effect_stores, fault_stores, instruction_stores, interrupt_stores, return_stores, stores_unless, trap_stores, turn_stores, write_stores}
-
--- stores behind others
-abbrev pub StoresAppend : Type 0
-StoresAppend = (m : List ℕ) (ws more : List (ℕ × ℕ)) → stored m (ws ++ more) ≡ stored (stored m ws) more
-
--- a delivery is memory after its stores
-abbrev pub DeliveryStores : Type 0
-DeliveryStores = (regs : Regs) (control : Control) (tables : Tables) (vector : ℕ) (code : Option ℕ) (m : List ℕ)
-    (tlb : Translations) → (delivered regs control tables vector code m tlb).memory
-    ≡ stored m (delivery_stores regs control tables vector code m tlb)
 
 stored_none : (m : List ℕ) → m ≡ stored m []
 unfolding stored
@@ -45,11 +34,11 @@ shown_stored : (byte : Option ℕ) (p : Processor) (m : List ℕ) → (console_s
 shown_stored None p m = stored_none m
 shown_stored (Some byte) p m = stored_none m
 
-module _ (append : StoresAppend) (deliveries : DeliveryStores) where
+module _ (memory : MemoryLaws) (deliveries : DeliveryLaws) where
   trapped_stored : (vector : ℕ) (code : Option ℕ) (p : Processor) (m : List ℕ)
       → (trapped vector code p m).memory ≡ stored m (trap_stores vector code p m)
   unfolding trapped
-  trapped_stored vector code p m = deliveries p.regs p.control p.tables vector code m p.tlb
+  trapped_stored vector code p m = deliveries.stores p.regs p.control p.tables vector code m p.tlb
 
   raised_stored : (it : Fault) (p : Processor) (m : List ℕ) → (fault_raised it p m).memory ≡ stored m (fault_stores it p m)
   raised_stored it p m =
@@ -93,7 +82,7 @@ module _ (append : StoresAppend) (deliveries : DeliveryStores) where
       let later : List (ℕ × ℕ) = act_stores effect.act p.regs q (memory_after effect.write m) in
       acted_stored effect.act p.regs q (memory_after effect.write m)
       ∙ ap (λ (l : List ℕ). stored l later) (write_stored effect.write m)
-      ∙ sym (append m (write_stores effect.write) later)
+      ∙ sym (memory.append m (write_stores effect.write) later)
 
   instructed_stored : (p : Processor) (m : List ℕ) → (instructed p m).memory ≡ stored m (instruction_stores p m)
   unfolding instructed instruction_stores

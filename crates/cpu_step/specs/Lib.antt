@@ -6,6 +6,8 @@ pub mod Turns
 pub mod TurnStores
 pub mod EventsTaken
 pub mod TranslationsLent
+-- Laws: what is proved of the definitions.
+pub mod TurnLaws
 -- Words of private clauses and proofs.
 pub mod DecodingMemo
 pub mod KeptFetches

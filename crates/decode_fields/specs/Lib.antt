@@ -5,3 +5,5 @@ pub mod Immediates
 pub mod ModRm
 pub mod Bounds
 pub mod Protected
+-- Laws: what is proved of the definitions.
+pub mod FieldLaws

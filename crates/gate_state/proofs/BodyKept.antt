@@ -108,40 +108,40 @@ module _ (laws : LowerLaws) (o : Opening) (admitted : IsAdmitted o) (s : Machine
       → IfSome found (λ leaf. leaf.rights.can_write ≡ true → is_storable (kind_of after.tables.kinds leaf.frame) ≡ true)
   still_storable None storable written = tt
   still_storable (Some leaf) storable written = λ write.
-      laws.call.loose s.kinds root leaf.frame s.ledger s.memory call source called
+      laws.call_leaves.loose s.kinds root leaf.frame s.ledger s.memory call source called
       (written_loose laws s.kinds (entry_in s.memory) leaf.frame o.frames guarded.kinds.count (written write)) (storable write)
 
   kinds_kept : AreKinds o after.tables.kinds
   kinds_kept = record {
-    count = laws.call.count s.kinds root s.ledger s.memory call source ∙ guarded.kinds.count;
+    count = laws.call_leaves.count s.kinds root s.ledger s.memory call source ∙ guarded.kinds.count;
     settled = λ f is.
         let here : kind_of s.kinds f ≡ kind_of (kinds o.image o.frames) f = guarded.kinds.settled f is in
-        laws.call.settled s.kinds root f s.ledger s.memory call source called (ap is_settled here ∙ is) ∙ here;
+        laws.call_leaves.settled s.kinds root f s.ledger s.memory call source called (ap is_settled here ∙ is) ∙ here;
     writable = λ page low high.
         still_storable (slot_leaf o.image o.frames page) (guarded.kinds.writable page low high)
-        (laws.opening.written o.image o.frames page (entry_in s.memory) admitted.layout admitted.pages
+        (laws.opening_entries.written o.image o.frames page (entry_in s.memory) admitted.layout admitted.pages
         guarded.memory.slot low high);
   }
 
   -- bytes that never change, and the slot's tables
   memory_kept : KeepsOpeningBytes o after.tables.kinds (memory_left s.kinds root s.ledger s.memory call source)
   memory_kept = record {
-    size = laws.call.length_is s.kinds root s.ledger s.memory call source called ∙ guarded.memory.size;
+    size = laws.call_leaves.length s.kinds root s.ledger s.memory call source called ∙ guarded.memory.size;
     are_bytes =
-        laws.call.are_bytes s.kinds root s.ledger s.memory call source called
+        laws.call_leaves.are_bytes s.kinds root s.ledger s.memory call source called
         (source_bytes s.memory root guarded.memory.are_bytes s.processor.tlb call.c (wanted s)) guarded.memory.are_bytes;
     bytes = λ place kept beside.
         let same : kind_of after.tables.kinds (place / 4096) ≡ kind_of s.kinds (place / 4096) =
-        laws.call.reserved s.kinds root (place / 4096) s.ledger s.memory call source called
+        laws.call_leaves.reserved s.kinds root (place / 4096) s.ledger s.memory call source called
         (kept_reserved (kind_of after.tables.kinds (place / 4096)) kept) in
         let here : is_unchanging (kind_of s.kinds (place / 4096)) ≡ true = ap is_unchanging (sym same) ∙ kept in
-        laws.call.bytes s.kinds root place s.ledger s.memory call source called
+        laws.call_leaves.bytes s.kinds root place s.ledger s.memory call source called
         (kept_settled (kind_of s.kinds (place / 4096)) here) (kept_unguarded (kind_of s.kinds (place / 4096)) here) beside
         ∙ guarded.memory.bytes place here beside;
     slot = record {
       entries = λ f i below small table.
           let fixed : kind_of s.kinds f ≡ Fixed = slot_fixed laws o s.kinds admitted guarded.kinds f below table in
-          laws.call.entries s.kinds root f i s.ledger s.memory call source called
+          laws.call_leaves.entries s.kinds root f i s.ledger s.memory call source called
           (ap is_settled fixed) (ap is_guarded fixed) (handler_apart o f table) small
           ∙ guarded.memory.slot.entries f i below small table;
     };
@@ -153,7 +153,7 @@ module _ (laws : LowerLaws) (o : Opening) (admitted : IsAdmitted o) (s : Machine
   pass_kept true is = laws.kept.flushed (respecting o after.tables.kinds)
   pass_kept false is =
       subst (λ (ks : List Kind). AllPass (respecting o ks) (after_reading s).processor.tlb)
-      (sym (laws.call.same s.kinds root s.ledger s.memory call source is).0) (reading_pass laws o admitted s guarded)
+      (sym (laws.call_leaves.same s.kinds root s.ledger s.memory call source is).0) (reading_pass laws o admitted s guarded)
 
   -- the registers behind the body
   registers_kept : (named : ℕ) → AreRegisters (answered_with (answer_in s) named (after_reading s).processor).regs
@@ -189,8 +189,8 @@ body_guarded laws o admitted s enters guarded =
       kinds = kinds_kept laws o admitted s guarded;
       tables = laws.call.sound s.kinds s.processor.control.root s.ledger s.memory (call_in s.processor.regs) (source_of s) may;
       memory = memory_kept laws o admitted s guarded;
-      ledger = laws.call.keeps s.kinds s.processor.control.root s.ledger s.memory (call_in s.processor.regs) (source_of s) may;
-      next = next_kept _ s.ledger.book.next s.turns (laws.call.next s.kinds s.processor.control.root s.ledger s.memory (call_in s.processor.regs) (source_of s)) guarded.next;
+      ledger = laws.call.kept s.kinds s.processor.control.root s.ledger s.memory (call_in s.processor.regs) (source_of s) may;
+      next = next_kept _ s.ledger.book.next s.turns (laws.call_leaves.next s.kinds s.processor.control.root s.ledger s.memory (call_in s.processor.regs) (source_of s)) guarded.next;
       translations = pass_kept laws o admitted s guarded (answer_in s).flush refl;
       window = λ clear. answered_point (after_reading s).processor (answer_in s) named stands.0 runs;
     }

@@ -74,11 +74,11 @@ module _ (laws : LowerLaws) (o : Opening)
           record {
             value = λ few.
                 let small : answer.value < 2 ^ 64 =
-                laws.call.value t.kinds p.control.root t.ledger t.memory (call_in p.regs) (source_of t) few in
+                laws.call_leaves.value t.kinds p.control.root t.ledger t.memory (call_in p.regs) (source_of t) few in
                 placed_other general answer.place 9 (λ e. absurd (omega arith)) ∙ held ∙ omega arith;
             place =
                 placed_there general answer.place count
-                (laws.call.place t.kinds p.control.root t.ledger t.memory (call_in p.regs) (source_of t));
+                (laws.call_leaves.place t.kinds p.control.root t.ledger t.memory (call_in p.regs) (source_of t));
           },
           placed_other general answer.place 10 (λ e. absurd (omega arith))
               ∙ register_other p.regs.general 9 answer.value 10 (λ e. absurd (omega arith)),

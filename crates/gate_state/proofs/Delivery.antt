@@ -83,7 +83,7 @@ module _ (laws : LowerLaws) (o : Opening) (ks : List Kind) (scenes : SceneLaws o
   first_kept m control scene =
       let least : 512 ≤ o.frames = scene.admitted.layout.least in
       ap is_unchanging (kind_is laws o ks scene.admitted scene.kinds_are 0 Fixed (omega arith)
-      (laws.opening.fixed o.image o.frames).0 refl)
+      (laws.opening_kinds.fixed o.image o.frames).0 refl)
 
   module _ (m : List ℕ) (control : Control) (scene : IsScene o ks m control) where
     -- a read of the first frame finds what the opening has there

@@ -59,7 +59,7 @@ module _ (laws : LowerLaws) (o : Opening) (ks : List Kind) (scenes : SceneLaws o
   trap_storable m control scene =
       let least : 512 ≤ o.frames = scene.admitted.layout.least in
       ap is_storable (kind_is laws o ks scene.admitted scene.kinds_are 3 Trap (omega arith)
-      (laws.opening.trap o.image o.frames) refl)
+      (laws.opening_kinds.trap o.image o.frames) refl)
 
   pub pushes_kept : (m : List ℕ) (control : Control) (ws : List (ℕ × ℕ)) → All (λ w. w.0 / 4096 ≡ 3) ws
       → All (λ w. w.1 < 256) ws → IsScene o ks m control → AreStores ks ws
@@ -92,8 +92,8 @@ module _ (laws : LowerLaws) (o : Opening) (ks : List Kind) (scenes : SceneLaws o
         answers = ap (made_at at) found ∙ ap Ok is;
         memory_is = ap (bytes_written m at 8 value) found;
         places = one_part (λ w. w.0 / 4096 ≡ 3) at 8 place value short
-            (laws.store.within_frame 8 place value 3 (omega arith) (omega (arith, short)));
-        bytes = one_part (λ w. w.1 < 256) at 8 place value short (laws.store.values 8 place value);
+            (laws.frame.within_frame 8 place value 3 (omega arith) (omega (arith, short)));
+        bytes = one_part (λ w. w.1 < 256) at 8 place value short (laws.memory.values 8 place value);
         pass = scenes.accessed_pass m control 0 Write tlb at 8 scene pass fits (omega arith);
       })
 
@@ -124,7 +124,7 @@ module _ (laws : LowerLaws) (o : Opening) (ks : List Kind) (scenes : SceneLaws o
       (ws ++ stores_on r first.memory first.tlb more)) (sym done.answers)
       (record {
         answers = later.answers;
-        memory_is = later.memory_is ∙ ap (λ l. stored l then) done.memory_is ∙ sym (laws.store.append m ws then);
+        memory_is = later.memory_is ∙ ap (λ l. stored l then) done.memory_is ∙ sym (laws.memory.append m ws then);
         places = All-append (λ w. w.0 / 4096 ≡ 3) ws then done.places later.places;
         bytes = All-append (λ w. w.1 < 256) ws then done.bytes later.bytes;
         pass = later.pass;

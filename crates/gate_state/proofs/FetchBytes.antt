@@ -139,7 +139,7 @@ module _ (laws : LowerLaws) (o : Opening) (ks : List Kind) (scenes : SceneLaws o
         let exec : leaf.rights.exec ≡ true = (and_parts leaf.rights.exec _ serves).0 in
         subst (λ (l : Option Leaf). IfSome l (λ leaf. leaf.rights.exec ≡ true
         → ((page ≡ slot_start + 1) × (leaf.frame ≡ gate_text)) ⊎ IsCodePage o.image o.frames page leaf.frame))
-        laid (laws.opening.executable o.image o.frames page) exec
+        laid (laws.slot_leaf.executable o.image o.frames page) exec
 
     gate_byte_served : (va place byte : ℕ) (leaf : Leaf) → place ≡ place_in leaf va → byte_at m place ≡ byte
         → va / 4096 ≡ slot_start + 1 → leaf.frame ≡ gate_text → code_byte o va ≡ Some byte

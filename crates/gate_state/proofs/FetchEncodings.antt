@@ -75,25 +75,25 @@ module _ (laws : LowerLaws) where
       → is_protected_at (slice_get bytes) place ≡ true
   protected_in_front size bytes place is =
       subst (λ (xs : List ℕ). is_protected_at (slice_get xs) place ≡ true) (take-append-drop size bytes)
-      (laws.code.longer (take size bytes) (drop size bytes) place is)
+      (laws.longer.protected (take size bytes) (drop size bytes) place is)
 
   -- each of the prefix bytes is one
   pub prefix_there : (bytes : List ℕ) (j : ℕ) → j < length (prefix_bytes bytes) → is_prefix (get_or bytes j 0) ≡ true
   prefix_there bytes j below =
       let front : List ℕ = prefix_bytes bytes in
       let same : get_or bytes j 0 ≡ get_or front j 0 =
-      sym (ap (λ (xs : List ℕ). get_or xs j 0) (laws.code.front bytes))
+      sym (ap (λ (xs : List ℕ). get_or xs j 0) (laws.prefixes.front bytes))
       ∙ get_or_append_left front (drop (length front) bytes) 0 j below in
       let there : is_prefix (get_or front j 0) ≡ true = elim (cases_Bool (is_prefix (get_or front j 0))) [
         | inl on ↦ on
-        | inr off ↦ absurd (both_ways _ (list_all_at is_prefix front j 0 below off) (laws.code.prefixes bytes))
+        | inr off ↦ absurd (both_ways _ (list_all_at is_prefix front j 0 below off) (laws.prefixes.all bytes))
       ] in
       ap is_prefix same ∙ there
 
   prefixes_within : (bytes : List ℕ) → length (prefix_bytes bytes) ≤ length bytes
   prefixes_within bytes =
       let front : List ℕ = prefix_bytes bytes in
-      omega (arith, ap length (laws.code.front bytes), length-append front (drop (length front) bytes))
+      omega (arith, ap length (laws.prefixes.front bytes), length-append front (drop (length front) bytes))
 
   -- and of the prefix bytes of the first bytes
   pub prefix_in_front : (size : ℕ) (bytes : List ℕ) (j : ℕ) → size ≤ length bytes

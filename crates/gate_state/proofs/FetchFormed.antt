@@ -26,7 +26,7 @@ pub front_of : (laws : LowerLaws) (P : ℕ → ℕ → Type 0) (rip : ℕ) (it :
     → AreBytes read.bytes
     → IsFront it.instr read.bytes it.size
 front_of laws P rip it read are =
-    subst (λ (d : Decoded). Decodes read.bytes d) read.whole (laws.code.right read.bytes are read.few)
+    subst (λ (d : Decoded). Decodes read.bytes d) read.whole (laws.decoding.right read.bytes are read.few)
 
 -- a claim that all that is kept passes
 abbrev anything : Claim
@@ -54,4 +54,4 @@ module _ (laws : LowerLaws) (o : Opening) (ks : List Kind) (scenes : SceneLaws o
       rip tlb it (any_pass tlb) is in
       let are : AreBytes read.bytes = All-from_get_or (λ byte. byte < 256) read.bytes 0 read.each in
       let front : IsFront it.instr read.bytes it.size = front_of laws (λ va byte. byte < 256) rip it read are in
-      laws.code.formed it.instr _ front.lawful.spells
+      laws.spelling.formed it.instr _ front.lawful.spells

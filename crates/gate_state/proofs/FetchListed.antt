@@ -94,5 +94,5 @@ module _ (laws : LowerLaws) (o : Opening) (ks : List Kind) (scenes : SceneLaws o
       let bytes : List ℕ = instruction_bytes offset in
       let read : IsRead bytes (instruction_at m (view_of m control 0) (gate_address + offset) tlb) =
       gate_read m control scene offset (instruction_bytes offset) tlb (omega (arith, few, inside)) few
-      (λ k below. laws.code.instructions offset k point below) (point_reads offset point) all in
+      (λ k below. laws.listing.instructions offset k point below) (point_reads offset point) all in
       (read.it, read.listed, read.found)

@@ -114,7 +114,7 @@ module _ (laws : LowerLaws) (o : Opening) (admitted : IsAdmitted o) where
         let k : ℕ = length (prefix_bytes (take it.size read.bytes)) in
         let is : is_protected_at (slice_get read.bytes) k ≡ true =
         protected_in_front laws it.size read.bytes k
-        (laws.code.protected it.instr (take it.size read.bytes) front.lawful.spells protected) in
+        (laws.spelling.protected it.instr (take it.size read.bytes) front.lawful.spells protected) in
         let load : IsLoadPlace (rip + k) = load_among k is in
         let none : k ≡ 0 = first_among it.size k front.within refl (protected_within read.bytes k is) load in
         let here : rip + k ≡ rip = omega (arith, none) in

@@ -35,7 +35,7 @@ module _ (laws : LowerLaws) (o : Opening) (ks : List Kind) where
       let least : 512 ≤ o.frames = admitted.layout.least in
       let opening : IsOpening o.image o.frames (opening_memory o) = opening_is o in
       sym (opening.bytes (4096 + p) (omega (arith, least, below)))
-      ∙ laws.opening.gates o.image (opening_memory o) o.frames p opening admitted.layout below
+      ∙ laws.opening_bytes.gates o.image (opening_memory o) o.frames p opening admitted.layout below
 
   opening_code : (page frame p : ℕ) → IsAdmitted o → IsCodePage o.image o.frames page frame → p < 4096
       → division_byte o.image o.frames (4096 * frame + p) ≡ byte_of o.image (4096 * page + p)
@@ -46,7 +46,7 @@ module _ (laws : LowerLaws) (o : Opening) (ks : List Kind) where
       let opening : IsOpening o.image o.frames (opening_memory o) = opening_is o in
       ap (λ (f : ℕ). division_byte o.image o.frames (4096 * f + p)) code.frame_is
       ∙ (sym (opening.bytes (4096 * (pages_start (division_of o.image o.frames) + code.place) + p) inside)
-      ∙ (laws.opening.image o.image (opening_memory o) o.frames code.place p opening admitted.layout code.within below
+      ∙ (laws.opening_bytes.image o.image (opening_memory o) o.frames code.place p opening admitted.layout code.within below
       ∙ ap (λ (n : ℕ). byte_of o.image (4096 * n + p)) code.page_is))
 
   module _ (m : List ℕ) (control : Control) (scene : IsScene o ks m control) where
@@ -65,7 +65,7 @@ module _ (laws : LowerLaws) (o : Opening) (ks : List Kind) where
     pub gate_there : (p : ℕ) → p < 4096 → byte_at m (4096 * 1 + p) ≡ gate_byte p
     gate_there p below =
         let least : 512 ≤ o.frames = scene.admitted.layout.least in
-        byte_there 1 p Fixed (omega (arith, least)) (laws.opening.fixed o.image o.frames).1 refl refl below
+        byte_there 1 p Fixed (omega (arith, least)) (laws.opening_kinds.fixed o.image o.frames).1 refl refl below
         (inl (omega (arith, below)))
         ∙ opening_gates p scene.admitted below
 
@@ -75,6 +75,6 @@ module _ (laws : LowerLaws) (o : Opening) (ks : List Kind) where
     code_there page frame p code below =
         let room : free_start (division_of o.image o.frames) ≤ o.frames = scene.admitted.layout.room in
         let inside : frame < o.frames = omega (arith, room, code.within, code.frame_is) in
-        byte_there frame p Code inside (laws.opening.code o.image o.frames page frame code) refl refl below
+        byte_there frame p Code inside (laws.slot_leaf.code o.image o.frames page frame code) refl refl below
         (inr (omega (arith, code.frame_is)))
         ∙ opening_code page frame p scene.admitted code below

@@ -65,7 +65,7 @@ module _ (laws : LowerLaws) (o : Opening) (admitted : IsAdmitted o) where
         (gates_stay address p here (omega arith))
         (gates_stay (address + 1) (p + 1) (omega (arith, here)) (omega (arith, below)))
         (gates_stay (address + 2) (p + 2) (omega (arith, here)) (omega (arith, below))) is in
-        record { offset = p; places = listed_load p (sym (laws.code.loads p) ∙ there); address_is = here }
+        record { offset = p; places = listed_load p (sym (laws.listing.loads p) ∙ there); address_is = here }
     | inr home ↦
         let there : is_protected_at (code_at o.image) address ≡ true =
         protected_stays (code_byte o) (code_at o.image) address address (image_stays address home.0)

@@ -105,10 +105,10 @@ module _ (laws : LowerLaws) (o : Opening) (ks : List Kind) (scenes : SceneLaws o
   made p m tlb it effect ready pass formed is =
       let whole : length m % 4096 ≡ 0 = omega (arith, ready.scene.memory.size) in
       record {
-        registers = ok_at (λ (e : Effect). AreRegisters e.regs) _ effect is (laws.effect.registers it.instr it.size p.regs p.control m tlb formed ready.control.registers);
+        registers = ok_at (λ (e : Effect). AreRegisters e.regs) _ effect is (laws.grant.registers it.instr it.size p.regs p.control m tlb formed ready.control.registers);
         cpl = (ok_at (λ (e : Effect). (e.regs.cpl ≡ p.regs.cpl) × (e.regs.ss ≡ p.regs.ss)) _ effect is (laws.effect.privilege it.instr it.size p.regs p.control m tlb)).0;
         granted = ok_at (λ (e : Effect). IfSome e.write (IsGranted (view_of m p.control p.regs.cpl) (respecting o ks) (length m))) _ effect is
-            (laws.effect.granted it.instr it.size p.regs p.control m tlb (respecting o ks) formed ready.control.registers whole (scenes.named m p.control tlb ready.scene pass) (scenes.walked m p.control p.regs.cpl ready.scene) pass);
+            (laws.grant.granted it.instr it.size p.regs p.control m tlb (respecting o ks) formed ready.control.registers whole (scenes.named m p.control tlb ready.scene pass) (scenes.walked m p.control p.regs.cpl ready.scene) pass);
       }
 
   -- the processor and memory behind the write
@@ -147,7 +147,7 @@ module _ (laws : LowerLaws) (o : Opening) (ks : List Kind) (scenes : SceneLaws o
       (All-nil (λ (s : ℕ × ℕ). s.1 < 256)) (λ w granted. stores_bytes laws w.va w.width w.target w.value) in
       let are : AreStores ks (write_stores effect.write) = on_trap_stack o ks facts storable (write_stores effect.write) places bytes in
       let q : Processor = record p { regs = effect.regs; tlb = tlb } in
-      kept_behind o ks laws.store wp p.control.root m (memory_after effect.write m) (write_stores effect.write) _ _ (memory_stored effect.write m) are (λ clear. places)
+      kept_behind o ks laws.memory wp p.control.root m (memory_after effect.write m) (write_stores effect.write) _ _ (memory_stored effect.write m) are (λ clear. places)
       (cr0_kept wp effect.act p.regs q (memory_after effect.write m) keeps.act_is (behind p m tlb effect ready pass done are) keeps.cr0_is
       (λ clear. let point : IsGatePoint (record p { regs = effect.regs; control = record p.control { cr0 = cr0_after effect.act p.control.cr0 } }) = keeps.window clear in
       record { offset = point.offset; stands = record { supervisor = point.stands.supervisor; runs = point.stands.runs; rip = point.stands.rip; point = point.stands.point; holds = point.stands.holds } }))
@@ -169,7 +169,7 @@ module _ (laws : LowerLaws) (o : Opening) (ks : List Kind) (scenes : SceneLaws o
       let are : AreStores ks (write_stores effect.write) = set_stores p m effect done set in
       let q : Processor = record p { regs = effect.regs; tlb = after } in
       let now : IsReady o ks q (memory_after effect.write m) = behind p m after effect ready pass_after done are in
-      kept_behind o ks laws.store true p.control.root m (memory_after effect.write m) (write_stores effect.write) _ _ (memory_stored effect.write m) are (λ never. absurd (false≢true (sym never)))
+      kept_behind o ks laws.memory true p.control.root m (memory_after effect.write m) (write_stores effect.write) _ _ (memory_stored effect.write m) are (λ never. absurd (false≢true (sym never)))
       (by_op (is_protected it.instr.op) refl now)
     where
       by_op : (b : Bool) → is_protected it.instr.op ≡ b → IsReady o ks (record p { regs = effect.regs; tlb = after }) (memory_after effect.write m)
@@ -178,12 +178,12 @@ module _ (laws : LowerLaws) (o : Opening) (ks : List Kind) (scenes : SceneLaws o
       by_op false calm now =
           act_kept o ks facts storable true effect.act p.regs (record p { regs = effect.regs; tlb = after }) (memory_after effect.write m)
           (ok_at (λ (e : Effect). LoadsNothing e.act) _ effect is
-          (laws.effect.calm it.instr it.size p.regs p.control m tlb calm))
+          (laws.grant.calm it.instr it.size p.regs p.control m tlb calm))
           (ok_at (λ (e : Effect). IsSmallAct e.act) _ effect is
           (laws.bound.act it.instr it.size p.regs p.control m tlb)) now
           (with_registers o ks (record p { regs = effect.regs; tlb = after }) (memory_after effect.write m) p.regs now ready.control.registers ready.control.cpl) set
       by_op true protected now =
-          let supervisor : p.regs.cpl ≡ 0 = ok_at (λ (e : Effect). p.regs.cpl ≡ 0) _ effect is (laws.effect.supervisor it.instr it.size p.regs p.control m tlb protected) in
+          let supervisor : p.regs.cpl ≡ 0 = ok_at (λ (e : Effect). p.regs.cpl ≡ 0) _ effect is (laws.grant.supervisor it.instr it.size p.regs p.control m tlb protected) in
           let load : IsLoad p.regs.rip it = loads supervisor protected in
           let left = ok_at (λ (e : Effect). ((value : ℕ) × (e.act ≡ act.Cr0 value)) × IsCr0 (cr0_after e.act p.control.cr0)
           × (wp_of (cr0_after e.act p.control.cr0) ≡ false → IsGatePoint (record p { regs = e.regs; control = record p.control { cr0 = cr0_after e.act p.control.cr0 } })) × (e.write ≡ None)) _ effect is

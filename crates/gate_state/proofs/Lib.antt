@@ -71,7 +71,6 @@ pub mod CallThrough
 mod WorkedOpening
 mod RefutedRecords
 mod RefutedRuns
-mod MaskLaws
 mod BookFrames
 mod MaskedTables
 mod MaskedScenes

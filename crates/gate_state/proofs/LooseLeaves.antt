@@ -37,7 +37,7 @@ pub written_loose : (laws : LowerLaws) (ks : List Kind) (t : ℕ → ℕ → ℕ
     → IsWrittenInSlot frames t frame → 1 ≤ loose_in ks t frame
 written_loose laws ks t frame frames count it = elim (cases_eq (loose_in ks t frame) 0) [
   | inl none ↦
-      let unwritten = laws.table.no_loose_leaf ks t frame it.table it.index none (omega (arith, count, it.in_memory)) it.inside
+      let unwritten = laws.count.no_loose_leaf ks t frame it.table it.index none (omega (arith, count, it.in_memory)) it.inside
       (holds_them ks t it.table (named_table t it.table it.slots)) it.present it.names in
       absurd (false≢true (sym unwritten.0 ∙ it.written))
   | inr some ↦ omega (arith, some)

@@ -27,7 +27,6 @@ use Rattle.gate_state.proofs.Delivery.{entry_gives}
 use Rattle.gate_state.proofs.DeliveryGates.{laid_gate, number_from, stack_is}
 use Rattle.gate_state.proofs.DeliveryPushes.{IsPushed, push_gives, pushes_kept}
 use Rattle.gate_state.proofs.LowerLaws.{LowerLaws}
-use Rattle.gate_state.proofs.MaskLaws.{MaskLaws}
 use Rattle.gate_state.proofs.MaskedScenes.{IsSeen, alike, seen_stored}
 use Rattle.gate_state.proofs.Scene.{AreStores, SceneLaws}
 
@@ -77,7 +76,7 @@ few_codes : (code : Option ℕ) → length (codes_of code) ≤ 1
 few_codes None = omega arith
 few_codes (Some code) = omega arith
 
-module _ (laws : LowerLaws) (masks : MaskLaws) (o : Opening) (ks : List Kind) (scenes : SceneLaws o ks) where
+module _ (laws : LowerLaws) (o : Opening) (ks : List Kind) (scenes : SceneLaws o ks) where
   first_same : (control : Control) (value top : ℕ) (m n : List ℕ) (tlb : Translations) → IsSeen o ks m n control
       → AllPass (respecting o ks) tlb
       → IsFirst m (pushed control value top n tlb) (pushed control value top m tlb)
@@ -89,7 +88,7 @@ module _ (laws : LowerLaws) (masks : MaskLaws) (o : Opening) (ks : List Kind) (s
       let one : Outcome AccessFault Target = accessed (view_of n control 0) Write tlb va 8 in
       let other : Outcome AccessFault Target = accessed (view_of m control 0) Write tlb va 8 in
       let same : one ≡ other =
-      masks.alike.accessed (respecting o ks) control 0 n m Write tlb va 8 (alike laws masks o ks m n control seen)
+      laws.alike.accessed (respecting o ks) control 0 n m Write tlb va 8 (alike laws o ks m n control seen)
       (scenes.walked n control 0 seen.scene) pass (omega arith) (omega arith) in
       record {
         answers = ap (λ (x : Outcome AccessFault Target). made_at va x.answer) same;
@@ -107,7 +106,7 @@ module _ (laws : LowerLaws) (masks : MaskLaws) (o : Opening) (ks : List Kind) (s
       let are : AreStores ks ws = pushes_kept laws o ks scenes n control ws done.places done.bytes seen.scene in
       subst (λ (x : List ℕ). IsSeen o ks x one.memory control) (sym first.memory)
       (subst (λ (x : List ℕ). IsSeen o ks (stored m ws) x control) (sym done.memory_is)
-      (seen_stored laws masks o ks m n control seen scenes ws are))
+      (seen_stored laws o ks m n control seen scenes ws are))
 
   pushes_same : (control : Control) (values : List ℕ) (top : ℕ) (m n : List ℕ) (tlb : Translations)
       → IsSeen o ks m n control → AllPass (respecting o ks) tlb → 0xFFFFFF8000003000 + 8 * length values ≤ top
@@ -166,7 +165,7 @@ module _ (laws : LowerLaws) (masks : MaskLaws) (o : Opening) (ks : List Kind) (s
         top = number_from idt_and_tss_byte 8 1060 / 16 * 16;
       } in
       let same : one ≡ other =
-      masks.alike.entry (respecting o ks) control opening_tables vector n m tlb (alike laws masks o ks m n control seen)
+      laws.alike_reads.entry (respecting o ks) control opening_tables vector n m tlb (alike laws o ks m n control seen)
       (scenes.walked n control 0 seen.scene) pass in
       ap (λ answer. Of answer n one.tlb) gives.answers
       ∙ entered_same regs control code entry m n one.tlb seen gives.pass (ap (λ x. x / 16 * 16) stack_is)

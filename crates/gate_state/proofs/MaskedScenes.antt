@@ -14,7 +14,6 @@ use Rattle.gate_state.specs.MachineStates.{Opening}
 use Rattle.gate_state.specs.RespectedKinds.{leads, respecting}
 use Rattle.gate_state.proofs.BookFrames.{respected_apart, storable_apart}
 use Rattle.gate_state.proofs.LowerLaws.{LowerLaws}
-use Rattle.gate_state.proofs.MaskLaws.{MaskLaws}
 use Rattle.gate_state.proofs.MaskedTables.{from_same, led_table, root_table}
 use Rattle.gate_state.proofs.Scene.{AreStores, IsScene, SceneLaws, scene_stored}
 
@@ -23,17 +22,17 @@ pub record IsSeen (o : Opening) (ks : List Kind) (m n : List ℕ) (control : Con
   pub scene : IsScene o ks n control
   pub masks : masked (is_book_frame o.frames) m ≡ n
 
-module _ (laws : LowerLaws) (masks : MaskLaws) (o : Opening) (ks : List Kind) (m n : List ℕ) (control : Control)
+module _ (laws : LowerLaws) (o : Opening) (ks : List Kind) (m n : List ℕ) (control : Control)
     (seen : IsSeen o ks m n control) where
   pub size_same : length n ≡ length m
-  size_same = sym (ap length seen.masks) ∙ masks.hidden.length (is_book_frame o.frames) m
+  size_same = sym (ap length seen.masks) ∙ laws.mask.length (is_book_frame o.frames) m
 
   pub frames_same : length n / 4096 ≡ length m / 4096
   frames_same = ap (λ size. size / 4096) size_same
 
   pub entry_same : (f i : ℕ) → i < 512 → is_book_frame o.frames f ≡ false → entry_in n f i ≡ entry_in m f i
   entry_same f i small apart =
-      ap (λ x. entry_in x f i) (sym seen.masks) ∙ masks.hidden.entry_seen (is_book_frame o.frames) m f i small apart
+      ap (λ x. entry_in x f i) (sym seen.masks) ∙ laws.mask.entry_seen (is_book_frame o.frames) m f i small apart
 
   pub byte_same : (frame offset : ℕ) → offset < 4096 → is_book_frame o.frames frame ≡ false
       → byte_at n (4096 * frame + offset) ≡ byte_at m (4096 * frame + offset)
@@ -41,25 +40,25 @@ module _ (laws : LowerLaws) (masks : MaskLaws) (o : Opening) (ks : List Kind) (m
       let place : ℕ = 4096 * frame + offset in
       let at : place / 4096 ≡ frame = omega (arith, within) in
       ap (λ x. byte_at x place) (sym seen.masks)
-      ∙ masks.hidden.byte_seen (is_book_frame o.frames) m place (ap (is_book_frame o.frames) at ∙ apart)
+      ∙ laws.mask.byte_seen (is_book_frame o.frames) m place (ap (is_book_frame o.frames) at ∙ apart)
 
   pub walk_same : (page : ℕ) → walk (entry_in n) (length n / 4096) control.root page
       ≡ walk (entry_in m) (length n / 4096) control.root page
   walk_same page =
       let frames : ℕ = length n / 4096 in
-      masks.walk.by_level (entry_in n) frames control.root page
-      ∙ from_same laws masks o ks seen.scene.admitted seen.scene.kinds_are n control.root seen.scene.tables (entry_in m)
+      laws.walk.by_level (entry_in n) frames control.root page
+      ∙ from_same laws o ks seen.scene.admitted seen.scene.kinds_are n control.root seen.scene.tables (entry_in m)
       entry_same frames page 4 control.root all_rights
-      (root_table laws masks o ks seen.scene.admitted seen.scene.kinds_are n control.root seen.scene.tables)
-      ∙ sym (masks.walk.by_level (entry_in m) frames control.root page)
+      (root_table laws o ks seen.scene.admitted seen.scene.kinds_are n control.root seen.scene.tables)
+      ∙ sym (laws.walk.by_level (entry_in m) frames control.root page)
 
   pub below_same : (entry : KeptEntry) (page : ℕ) → leads o ks entry ≡ true → serves_page page entry ≡ true
       → walk_below (entry_in n) (length n / 4096) page entry.0 entry.2
       ≡ walk_below (entry_in m) (length n / 4096) page entry.0 entry.2
   below_same entry page is covered =
-      from_same laws masks o ks seen.scene.admitted seen.scene.kinds_are n control.root seen.scene.tables (entry_in m)
+      from_same laws o ks seen.scene.admitted seen.scene.kinds_are n control.root seen.scene.tables (entry_in m)
       entry_same (length n / 4096) page (entry.0 - 1) entry.2.frame entry.2.rights
-      (led_table laws masks o ks seen.scene.admitted seen.scene.kinds_are n control.root seen.scene.tables
+      (led_table laws o ks seen.scene.admitted seen.scene.kinds_are n control.root seen.scene.tables
       seen.scene.memory entry page is covered)
 
   pub alike : AreAlike (respecting o ks) control.root n m
@@ -85,7 +84,7 @@ module _ (laws : LowerLaws) (masks : MaskLaws) (o : Opening) (ks : List Kind) (m
   pub masked_stored : (ws : List (ℕ × ℕ)) → AreStores ks ws
       → masked (is_book_frame o.frames) (stored m ws) ≡ stored n ws
   masked_stored ws are =
-      masks.hidden.stored_seen (is_book_frame o.frames) m ws (stores_apart ws are) ∙ ap (λ x. stored x ws) seen.masks
+      laws.mask.stored_seen (is_book_frame o.frames) m ws (stores_apart ws are) ∙ ap (λ x. stored x ws) seen.masks
 
   pub seen_stored : SceneLaws o ks → (ws : List (ℕ × ℕ)) → AreStores ks ws
       → IsSeen o ks (stored m ws) (stored n ws) control

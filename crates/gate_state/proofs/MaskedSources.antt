@@ -21,13 +21,12 @@ use Rattle.gate_state.specs.RespectedKinds.{respecting, respects}
 use Rattle.gate_state.specs.SourceBytes.{SourceRead, byte_through, is_readable, kept_by, read_on, source_byte, source_read, source_tlb}
 use Rattle.gate_state.proofs.BookFrames.{respected_apart}
 use Rattle.gate_state.proofs.LowerLaws.{LowerLaws}
-use Rattle.gate_state.proofs.MaskLaws.{MaskLaws}
 use Rattle.gate_state.proofs.MaskedScenes.{IsSeen, below_same, byte_same, entry_same, frames_same, walk_same}
 use Rattle.gate_state.proofs.MaskedTables.{root_table, upper_same}
 use Rattle.gate_state.proofs.Scene.{SceneLaws}
 use Rattle.gate_state.proofs.SourceReads.{byte_keeps}
 
-module _ (laws : LowerLaws) (masks : MaskLaws) (o : Opening) (ks : List Kind) (scenes : SceneLaws o ks) (m n : List ℕ)
+module _ (laws : LowerLaws) (o : Opening) (ks : List Kind) (scenes : SceneLaws o ks) (m n : List ℕ)
     (control : Control) (seen : IsSeen o ks m n control) where
   abbrev found_in : List ℕ → Translations → ℕ → Result Leaf ℕ
   found_in memory tlb page = walk_by (entry_in memory) (length memory / 4096) control.root tlb.upper page
@@ -35,28 +34,28 @@ module _ (laws : LowerLaws) (masks : MaskLaws) (o : Opening) (ks : List Kind) (s
   found_same : (tlb : Translations) (page : ℕ) → AllPass (respecting o ks) tlb
       → found_in n tlb page ≡ found_in m tlb page
   found_same tlb page pass =
-      masks.walk.by_same (entry_in n) (entry_in m) (length n / 4096) control.root control.root page
+      laws.kept.walk_by_same (entry_in n) (entry_in m) (length n / 4096) control.root control.root page
       (respecting o ks) tlb pass
-      (λ entry is covered. below_same laws masks o ks m n control seen entry page is covered)
-      (walk_same laws masks o ks m n control seen page)
+      (λ entry is covered. below_same laws o ks m n control seen entry page is covered)
+      (walk_same laws o ks m n control seen page)
       ∙ ap (λ frames. walk_by (entry_in m) frames control.root tlb.upper page)
-      (frames_same laws masks o ks m n control seen)
+      (frames_same laws o ks m n control seen)
 
   upper_found : (page level : ℕ) → upper_walk (entry_in n) (length n / 4096) control.root page level
       ≡ upper_walk (entry_in m) (length m / 4096) control.root page level
   upper_found page level =
-      upper_same laws masks o ks seen.scene.admitted seen.scene.kinds_are n control.root seen.scene.tables (entry_in m)
-      (entry_same laws masks o ks m n control seen) (length n / 4096) page (5 - level) 4 control.root all_rights
-      (root_table laws masks o ks seen.scene.admitted seen.scene.kinds_are n control.root seen.scene.tables)
+      upper_same laws o ks seen.scene.admitted seen.scene.kinds_are n control.root seen.scene.tables (entry_in m)
+      (entry_same laws o ks m n control seen) (length n / 4096) page (5 - level) 4 control.root all_rights
+      (root_table laws o ks seen.scene.admitted seen.scene.kinds_are n control.root seen.scene.tables)
       ∙ ap (λ frames. upper_walk (entry_in m) frames control.root page level)
-      (frames_same laws masks o ks m n control seen)
+      (frames_same laws o ks m n control seen)
 
   -- one byte of a source, and what is kept
   byte_found : (va : ℕ) (found : Option Leaf) → IfSome found (λ leaf. respects o ks (page_of va, leaf) ≡ true)
       → byte_through n va found ≡ byte_through m va found
   byte_found va None passes = refl
   byte_found va (Some leaf) passes =
-      ap Some (byte_same laws masks o ks m n control seen leaf.frame (va % 4096) (omega arith)
+      ap Some (byte_same laws o ks m n control seen leaf.frame (va % 4096) (omega arith)
       (respected_apart laws o ks seen.scene.admitted seen.scene.kinds_are (page_of va, leaf) passes))
 
   chosen : {A : Type 0} (b : Bool) (one other last : A) → (b ≡ true → one ≡ other)
@@ -72,7 +71,7 @@ module _ (laws : LowerLaws) (masks : MaskLaws) (o : Opening) (ks : List Kind) (s
   source_byte_same tlb va pass =
       chosen (is_readable va) _ _ None (λ readable.
       byte_found va (translation (entry_in n) (length n / 4096) control.root tlb (page_of va))
-      (masks.walk.translated (view_of n control 0) (respecting o ks) tlb va (scenes.walked n control 0 seen.scene) pass
+      (laws.kept.translated (view_of n control 0) (respecting o ks) tlb va (scenes.walked n control 0 seen.scene) pass
       (canonical_from va readable))
       ∙ ap (λ (found : Result Leaf ℕ). byte_through m va (or_walked (look tlb.pairs (page_of va)) found))
       (found_same tlb (page_of va) pass))
@@ -101,15 +100,15 @@ module _ (laws : LowerLaws) (masks : MaskLaws) (o : Opening) (ks : List Kind) (s
       (source_read m control.root last (va + 1) count)) (source_tlb_same tlb va pass)
 
 -- an event
-pub event_same : (laws : LowerLaws) (masks : MaskLaws) (o : Opening) (ks : List Kind) → SceneLaws o ks → (m n : List ℕ)
+pub event_same : (laws : LowerLaws) (o : Opening) (ks : List Kind) → SceneLaws o ks → (m n : List ℕ)
     (what : What) (p : Processor) → IsSeen o ks m n p.control → AllPass (respecting o ks) p.tlb
     → event_taken what n p ≡ event_taken what m p
-event_same laws masks o ks scenes m n (Irq vector) p seen pass = refl
-event_same laws masks o ks scenes m n (Drop page) p seen pass = refl
-event_same laws masks o ks scenes m n (Fill page) p seen pass =
+event_same laws o ks scenes m n (Irq vector) p seen pass = refl
+event_same laws o ks scenes m n (Drop page) p seen pass = refl
+event_same laws o ks scenes m n (Fill page) p seen pass =
     ap (λ (found : Result Leaf ℕ). record p { tlb = fill_walked p.tlb (page_of page) None found })
-    (found_same laws masks o ks scenes m n p.control seen p.tlb (page_of page) pass)
-event_same laws masks o ks scenes m n (Keep level page) p seen pass =
+    (found_same laws o ks scenes m n p.control seen p.tlb (page_of page) pass)
+event_same laws o ks scenes m n (Keep level page) p seen pass =
     ap (λ (found : Option Upper). record p { tlb = entry_kept p.tlb level (page_of page) found })
-    (upper_found laws masks o ks scenes m n p.control seen (page_of page) level)
-event_same laws masks o ks scenes m n (Forget level page) p seen pass = refl
+    (upper_found laws o ks scenes m n p.control seen (page_of page) level)
+event_same laws o ks scenes m n (Forget level page) p seen pass = refl

@@ -14,7 +14,6 @@ use Rattle.gate_state.specs.SafeStates.{TakesTurn}
 use Rattle.gate_state.specs.SourceBytes.{source_read}
 use Rattle.gate_state.proofs.BookFrames.{book_hidden}
 use Rattle.gate_state.proofs.LowerLaws.{LowerLaws}
-use Rattle.gate_state.proofs.MaskLaws.{MaskLaws}
 use Rattle.gate_state.proofs.MaskedScenes.{IsSeen, masked_stored}
 use Rattle.gate_state.proofs.MaskedSources.{event_same, source_same}
 use Rattle.gate_state.proofs.MaskedTurns.{Left, left_by, turned_same}
@@ -24,7 +23,7 @@ use Rattle.gate_state.proofs.SceneProofsStores.{place_apart}
 use Rattle.gate_state.proofs.StatesKept.{kept, ready}
 use Rattle.gate_state.proofs.TurnFacts.{TurnFacts}
 
-module _ (laws : LowerLaws) (masks : MaskLaws) (o : Opening) (admitted : IsAdmitted o) (s : MachineState)
+module _ (laws : LowerLaws) (o : Opening) (admitted : IsAdmitted o) (s : MachineState)
     (guarded : IsGuarded o s) (m : List ℕ) (is : masked (is_book_frame o.frames) m ≡ s.memory) where
   scenes : SceneLaws o s.kinds
   scenes = scene_laws laws o s.kinds admitted guarded.kinds
@@ -41,13 +40,13 @@ module _ (laws : LowerLaws) (masks : MaskLaws) (o : Opening) (admitted : IsAdmit
 
     turn_left : left_by (turned s.processor s.memory) made ≡ left_by (turned s.processor m) (turn_stores s.processor m)
     turn_left =
-        turned_same laws masks o s.kinds scenes facts s.processor m s.memory
+        turned_same laws o s.kinds scenes facts s.processor m s.memory
         (record { seen = seen; tables = guarded.control.tables; pass = guarded.translations }) guarded.control.registers
         guarded.control.pending storable
 
     turn_memory : (turned s.processor m).memory ≡ stored m made
     turn_memory =
-        masks.alike.stores s.processor m ∙ ap (λ (x : Left). stored m x.2) (sym turn_left)
+        laws.turn_stores.memory s.processor m ∙ ap (λ (x : Left). stored m x.2) (sym turn_left)
 
     pub masked_turn : ((turned s.processor m).processor ≡ (turned s.processor s.memory).processor)
         × ((turned s.processor m).stepped ≡ (turned s.processor s.memory).stepped)
@@ -56,25 +55,25 @@ module _ (laws : LowerLaws) (masks : MaskLaws) (o : Opening) (admitted : IsAdmit
       ap (λ (x : Left). x.0) (sym turn_left),
       ap (λ (x : Left). x.1) (sym turn_left),
       ap (masked (is_book_frame o.frames)) turn_memory
-          ∙ masked_stored laws masks o s.kinds m s.memory s.processor.control seen made storable
-          ∙ sym (masks.alike.stores s.processor s.memory),
+          ∙ masked_stored laws o s.kinds m s.memory s.processor.control seen made storable
+          ∙ sym (laws.turn_stores.memory s.processor s.memory),
     )
 
     pub masked_stays : (place : ℕ) → is_book_frame o.frames (place / 4096) ≡ true
         → byte_at (turned s.processor m).memory place ≡ byte_at m place
     masked_stays place book =
         ap (λ x. byte_at x place) turn_memory
-        ∙ laws.store.byte_elsewhere m made place
+        ∙ laws.memory.byte_elsewhere m made place
         (place_apart s.kinds made storable.places place (λ may.
         false≢true (sym (ap is_storable (book_hidden laws o s.kinds admitted guarded.kinds (place / 4096) book))
         ∙ may)))
 
   pub masked_event : (what : What) → event_taken what m s.processor ≡ event_taken what s.memory s.processor
   masked_event what =
-      sym (event_same laws masks o s.kinds scenes m s.memory what s.processor seen guarded.translations)
+      sym (event_same laws o s.kinds scenes m s.memory what s.processor seen guarded.translations)
 
   pub masked_source : (va count : ℕ) → source_read m s.processor.control.root s.processor.tlb va count
       ≡ source_read s.memory s.processor.control.root s.processor.tlb va count
   masked_source va count =
-      sym (source_same laws masks o s.kinds scenes m s.memory s.processor.control seen s.processor.tlb va count
+      sym (source_same laws o s.kinds scenes m s.memory s.processor.control seen s.processor.tlb va count
       guarded.translations)

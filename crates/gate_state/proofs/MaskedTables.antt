@@ -18,7 +18,6 @@ use Rattle.gate_state.specs.MachineStates.{Opening}
 use Rattle.gate_state.specs.RespectedKinds.{leads}
 use Rattle.gate_state.proofs.BookFrames.{fixed_apart, is_book, table_apart}
 use Rattle.gate_state.proofs.LowerLaws.{LowerLaws}
-use Rattle.gate_state.proofs.MaskLaws.{MaskLaws}
 use Rattle.gate_state.proofs.SceneProofsRespects.{slot_bounds}
 use Rattle.gate_state.proofs.SceneProofsUppers.{Leading, leading, same_laid, same_side}
 
@@ -52,7 +51,7 @@ slot_frame : frame_of slot_value ≡ 6
 unfolding frame_of slot_value
 slot_frame = refl
 
-module _ (laws : LowerLaws) (masks : MaskLaws) (o : Opening) (ks : List Kind) (admitted : IsAdmitted o)
+module _ (laws : LowerLaws) (o : Opening) (ks : List Kind) (admitted : IsAdmitted o)
     (kinds_are : AreKinds o ks) (n : List ℕ) (root : ℕ) (tables : HoldsSoundTables ks root n) where
   abbrev t : ℕ → ℕ → ℕ
   t = entry_in n
@@ -85,11 +84,11 @@ module _ (laws : LowerLaws) (masks : MaskLaws) (o : Opening) (ks : List Kind) (a
         let parts = and_parts (level_of (kind_of ks f) == 4) (i == 511) slots in
         let four : level_of (kind_of ks f) ≡ 4 = eqb-true (level_of (kind_of ks f)) 4 parts.0 in
         let value : t f i ≡ slot_value =
-        ap (t f) (eqb-true i 511 parts.1) ∙ laws.table.slot ks t f tables.tables four in
+        ap (t f) (eqb-true i 511 parts.1) ∙ laws.sound.slot ks t f tables.tables four in
         inr (inr (inl (omega (arith, four, is), ap frame_of value ∙ slot_frame)))
     | inr other ↦
         let below =
-        (masks.walk.link ks t f i tables.tables small (omega (arith, is)) (tables.levels f) other present).0 in
+        (laws.sound.link ks t f i tables.tables small (omega (arith, is)) (tables.levels f) other present).0 in
         inr (inl (omega (arith, below, is)))
   ]
 
@@ -206,8 +205,8 @@ module _ (laws : LowerLaws) (masks : MaskLaws) (o : Opening) (ks : List Kind) (a
             sym (same_laid laws o ks admitted kinds_are level entry.1 page lead.least lead.most under)
             ∙ lead.within (side ∙ on) in
             let found : upper_walk t o.frames root page level ≡ Some entry.2 =
-            laws.opening.upper_any o.image o.frames root page level t admitted.layout admitted.pages held.slot
-            (laws.table.slot ks t root tables.tables tables.root_level) bounds.0 bounds.1 lead.least lead.most ∙ laid in
+            laws.slot_upper.any o.image o.frames root page level t admitted.layout admitted.pages held.slot
+            (laws.sound.slot ks t root tables.tables tables.root_level) bounds.0 bounds.1 lead.least lead.most ∙ laid in
             upper_table (level - 1) (5 - level) 4 o.frames page root all_rights entry.2
             (omega (arith, lead.least, lead.most)) root_table found
         | inr off ↦

@@ -34,7 +34,6 @@ use Rattle.gate_state.specs.RespectedKinds.{respecting}
 use Rattle.gate_state.proofs.Delivery.{IsAsked}
 use Rattle.gate_state.proofs.Instructions.{memory_stored}
 use Rattle.gate_state.proofs.LowerLaws.{LowerLaws}
-use Rattle.gate_state.proofs.MaskLaws.{MaskLaws}
 use Rattle.gate_state.proofs.MaskedDeliveries.{Deliveries, delivered_same}
 use Rattle.gate_state.proofs.MaskedScenes.{IsSeen, alike, seen_stored}
 use Rattle.gate_state.proofs.Scene.{AreStores, SceneLaws}
@@ -65,7 +64,7 @@ front_storable ks ws more are = record {
   bytes = all_front (λ (w : ℕ × ℕ). w.1 < 256) ws more are.bytes;
 }
 
-module _ (laws : LowerLaws) (masks : MaskLaws) (o : Opening) (ks : List Kind) (scenes : SceneLaws o ks)
+module _ (laws : LowerLaws) (o : Opening) (ks : List Kind) (scenes : SceneLaws o ks)
     (facts : TurnFacts o ks) where
   trap_same : (vector : ℕ) (code : Option ℕ) (p : Processor) (m n : List ℕ) → IsOver o ks p m n → vector < 48
       → left_by (trapped vector code p n) (trap_stores vector code p n)
@@ -73,7 +72,7 @@ module _ (laws : LowerLaws) (masks : MaskLaws) (o : Opening) (ks : List Kind) (s
   unfolding trapped
   trap_same vector code p m n over few =
       ap (λ (x : Deliveries). (record p { regs = x.0; tlb = x.1 }, stepped_by x.2 (delivery_of vector code p), x.3))
-      (delivered_same laws masks o ks scenes p.regs p.control p.tables vector code m n p.tlb over.seen over.tables
+      (delivered_same laws o ks scenes p.regs p.control p.tables vector code m n p.tlb over.seen over.tables
       over.pass few)
 
   with_cr2 : (p : Processor) (m n : List ℕ) (value : ℕ) → IsOver o ks p m n
@@ -158,8 +157,8 @@ module _ (laws : LowerLaws) (masks : MaskLaws) (o : Opening) (ks : List Kind) (s
       let asked : IsAsked o ks vector one =
       facts.asks n p.control p.tables p.regs.cpl vector p.tlb over.seen.scene over.tables over.pass in
       let same : one ≡ other =
-      masks.alike.allowed (respecting o ks) p.control p.tables p.regs.cpl vector n m p.tlb
-      (alike laws masks o ks m n p.control over.seen) (scenes.walked n p.control 0 over.seen.scene) over.pass in
+      laws.alike_reads.allowed (respecting o ks) p.control p.tables p.regs.cpl vector n m p.tlb
+      (alike laws o ks m n p.control over.seen) (scenes.walked n p.control 0 over.seen.scene) over.pass in
       interrupt_same one.answer vector before (record p { tlb = one.tlb }) m n asked.answered
       (with_translations p m n one.tlb over asked.pass)
       ∙ ap (λ (x : Outcome Shut Bool). Of x m) same
@@ -182,7 +181,7 @@ module _ (laws : LowerLaws) (masks : MaskLaws) (o : Opening) (ks : List Kind) (s
       let ws : List (ℕ × ℕ) = write_stores effect.write in
       let q : Processor = record p { regs = effect.regs; tlb = tlb } in
       let written : IsSeen o ks (stored m ws) (stored n ws) p.control =
-      seen_stored laws masks o ks m n p.control over.seen scenes ws (front_storable ks ws _ are) in
+      seen_stored laws o ks m n p.control over.seen scenes ws (front_storable ks ws _ are) in
       let seen : IsSeen o ks (memory_after effect.write m) (memory_after effect.write n) p.control =
       subst (λ (x : List ℕ). IsSeen o ks x (memory_after effect.write n) p.control) (sym (memory_stored effect.write m))
       (subst (λ (x : List ℕ). IsSeen o ks (stored m ws) x p.control) (sym (memory_stored effect.write n)) written) in
@@ -203,8 +202,8 @@ module _ (laws : LowerLaws) (masks : MaskLaws) (o : Opening) (ks : List Kind) (s
         ≡ then_by answer fetched.tlb (λ it after. effect_of it.instr it.size p.regs p.control m after)
     behind_same (Err it) is = refl
     behind_same (Ok it) is =
-        masks.alike.effect it.instr it.size p.regs p.control n m fetched.tlb (respecting o ks)
-        (alike laws masks o ks m n p.control over.seen)
+        laws.alike.effect it.instr it.size p.regs p.control n m fetched.tlb (respecting o ks)
+        (alike laws o ks m n p.control over.seen)
         (scenes.walked n p.control p.regs.cpl over.seen.scene) fetch_passes
         (facts.fetch_formed n p.control p.regs.cpl p.regs.rip p.tlb over.seen.scene it is) registers
 
@@ -213,8 +212,8 @@ module _ (laws : LowerLaws) (masks : MaskLaws) (o : Opening) (ks : List Kind) (s
         behind_same fetched.answer refl
         ∙ ap (λ (x : Outcome Fault Fetched). then_by x.answer x.tlb
         (λ it after. effect_of it.instr it.size p.regs p.control m after))
-        (masks.alike.fetch (respecting o ks) p.control p.regs.cpl n m p.regs.rip p.tlb
-        (alike laws masks o ks m n p.control over.seen)
+        (laws.alike_fetch.instruction (respecting o ks) p.control p.regs.cpl n m p.regs.rip p.tlb
+        (alike laws o ks m n p.control over.seen)
         (scenes.walked n p.control p.regs.cpl over.seen.scene) over.pass)
 
     behind_passes : (answer : Result Fetched Fault) → fetched.answer ≡ answer
@@ -223,7 +222,7 @@ module _ (laws : LowerLaws) (masks : MaskLaws) (o : Opening) (ks : List Kind) (s
         AllPass (respecting o ks) made.tlb
     behind_passes (Err it) is = fetch_passes
     behind_passes (Ok it) is =
-        laws.effect.translations it.instr it.size p.regs p.control n fetched.tlb (respecting o ks)
+        laws.grant.translations it.instr it.size p.regs p.control n fetched.tlb (respecting o ks)
         (facts.fetch_formed n p.control p.regs.cpl p.regs.rip p.tlb over.seen.scene it is) registers
         (scenes.walked n p.control p.regs.cpl over.seen.scene) fetch_passes
 

@@ -13,7 +13,7 @@ use Rattle.nk_bits.specs.KernelLayout.{trap_stack_top}
 use Rattle.boot_map.specs.Opening.{division_byte, byte_of_number, byte_of_part, entry_byte, gate_of, gate_target, gate_type, halt_loop, handler_byte, idt_and_tss_byte}
 use Rattle.boot_map.specs.OpeningEntries.{entry_of_part, table_level}
 use Rattle.boot_map.specs.Parts.{part_at}
-use Rattle.gate_state.proofs.LowerLaws.{CodeLaws}
+use Rattle.gate_text.specs.ListingLaws.{ListingLaws}
 
 -- a choice of two bytes
 either_small : (b : Bool) (x y : ℕ) → x < 256 → y < 256 → (if b then x else y) < 256
@@ -98,13 +98,13 @@ image_small b va bytes = by_segment (find (λ s. loads s va) (segments b))
 table_small : (b : List ℕ) (d : Division) (part : Part) (o : ℕ) → (if table_level part == 0 then 0 else entry_byte (entry_of_part b d part) o) < 256
 table_small b d part o = either_small (table_level part == 0) _ _ (omega arith) (number_small (entry_of_part b d part (o / 8)) (o % 8))
 
-part_small : (laws : CodeLaws) (b : List ℕ) (d : Division) (part : Part) (o : ℕ) → ((i : ℕ) → slice_index b i < 256) → o < 4096 → byte_of_part b d part o < 256
+part_small : (laws : ListingLaws) (b : List ℕ) (d : Division) (part : Part) (o : ℕ) → ((i : ℕ) → slice_index b i < 256) → o < 4096 → byte_of_part b d part o < 256
 part_small laws b d IdtAndTss o bytes within = idt_small o
-part_small laws b d GateText o bytes within = laws.gate_bytes o within
+part_small laws b d GateText o bytes within = laws.bytes o within
 part_small laws b d HandlerSlot o bytes within = handler_small o
 part_small laws b d (ImagePage k) o bytes within = image_small b (4096 * slice_index (pages_of b) k + o) bytes
 part_small laws b d part o bytes within = table_small b d part o
 
-pub byte_small : (laws : CodeLaws) (b : List ℕ) (frames place : ℕ) → ((i : ℕ) → slice_index b i < 256) → division_byte b frames place < 256
+pub byte_small : (laws : ListingLaws) (b : List ℕ) (frames place : ℕ) → ((i : ℕ) → slice_index b i < 256) → division_byte b frames place < 256
 unfolding division_byte
 byte_small laws b frames place bytes = part_small laws b (division_of b frames) (part_at (division_of b frames) (place / 4096)) (place % 4096) bytes (mod_below place 4096 (omega arith))

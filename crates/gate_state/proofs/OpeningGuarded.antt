@@ -47,7 +47,7 @@ module _ (laws : LowerLaws) (o : Opening) (admitted : IsAdmitted o) (entry : ent
 
   memory_bytes : IsBytes (opening_memory o)
   memory_bytes = λ p. elim (cases_lt p (4096 * o.frames)) [
-    | inl within ↦ let P : ℕ → Type 0 = λ n. n < 256 in subst P (sym ((opening_is o).bytes p within)) (byte_small laws.code o.image o.frames p admitted.bytes)
+    | inl within ↦ let P : ℕ → Type 0 = λ n. n < 256 in subst P (sym ((opening_is o).bytes p within)) (byte_small laws.listing o.image o.frames p admitted.bytes)
     | inr past ↦ let P : ℕ → Type 0 = λ n. n < 256 in subst P (sym (get_or_past (opening_memory o) p 0 (omega (arith, (opening_is o).length, past)))) (omega arith)
   ]
 
@@ -59,25 +59,25 @@ module _ (laws : LowerLaws) (o : Opening) (admitted : IsAdmitted o) (entry : ent
       | inl within ↦ (opening_is o).bytes place within
       | inr past ↦ absurd (false≢true (sym (ap is_unchanging (hidden_past (place / 4096) (omega (arith, past)))) ∙ kept))
     ];
-    slot = laws.opening.held o.image (opening_memory o) o.frames (opening_is o) admitted.layout;
+    slot = laws.slot.held o.image (opening_memory o) o.frames (opening_is o) admitted.layout;
   }
     where
       hidden_past : (frame : ℕ) → o.frames ≤ frame → kind_of (kinds o.image o.frames) frame ≡ Hidden
-      hidden_past frame past = get_or_past (kinds o.image o.frames) frame Hidden (omega (arith, laws.opening.count o.image o.frames, past))
+      hidden_past frame past = get_or_past (kinds o.image o.frames) frame Hidden (omega (arith, laws.opening_kinds.count o.image o.frames, past))
 
   opening_kinds : AreKinds o (kinds o.image o.frames)
   opening_kinds = record {
-    count = laws.opening.count o.image o.frames;
+    count = laws.opening_kinds.count o.image o.frames;
     settled = λ f is. refl;
     writable = λ page low high. both (slot_leaf o.image o.frames page)
-        (laws.opening.in_memory o.image o.frames page admitted.layout) (laws.opening.writable o.image o.frames page);
+        (laws.slot_leaf.in_memory o.image o.frames page admitted.layout) (laws.slot_leaf.writable o.image o.frames page);
   }
     where
       both : (found : Option Leaf) → IfSome found (λ leaf. leaf.frame < o.frames)
           → IfSome found (λ leaf. leaf.rights.can_write ≡ true → is_storable (kind_at o.image o.frames leaf.frame) ≡ true)
           → IfSome found (λ leaf. leaf.rights.can_write ≡ true → is_storable (kind_of (kinds o.image o.frames) leaf.frame) ≡ true)
       both None inside storable = tt
-      both (Some leaf) inside storable = λ write. ap is_storable (laws.opening.each o.image o.frames leaf.frame inside) ∙ storable write
+      both (Some leaf) inside storable = λ write. ap is_storable (laws.opening_kinds.each o.image o.frames leaf.frame inside) ∙ storable write
 
   pub opening_guarded : (input : List ℕ) → IsGuarded o (opening_state o input)
   unfolding wp_of
@@ -93,9 +93,9 @@ module _ (laws : LowerLaws) (o : Opening) (admitted : IsAdmitted o) (entry : ent
       pending = omega arith;
     };
     kinds = opening_kinds;
-    tables = laws.opening.sound o.image (opening_memory o) o.frames admitted.layout admitted.pages (opening_is o);
+    tables = laws.opening_sound.sound o.image (opening_memory o) o.frames admitted.layout admitted.pages (opening_is o);
     memory = held;
-    ledger = laws.opening.kept o.image o.frames admitted.layout;
+    ledger = laws.opening_sound.kept o.image o.frames admitted.layout;
     next = omega arith;
     translations = laws.kept.flushed (respecting o (kinds o.image o.frames));
     window = λ clear. absurd (false≢true (sym clear ∙ wp_set));

@@ -6,6 +6,7 @@ use Rattle.nk_bits.specs.Accesses.{wp_of}
 use Rattle.nk_bits.specs.Claims.{AllPass}
 use Rattle.nk_bits.specs.Kinds.{is_storable, kind_of}
 use Rattle.phys_mem.specs.Memory.{stored}
+use Rattle.phys_mem.specs.MemoryLaws.{MemoryLaws}
 use Rattle.cpu_step.specs.declared.stepped.Stepped.TheVariants as stepped
 use Rattle.cpu_step.specs.Processor.{Processor}
 use Rattle.cpu_step.specs.Turns.{Turned, ran}
@@ -15,7 +16,6 @@ use Rattle.gate_state.specs.MachineStates.{Opening}
 use Rattle.gate_state.specs.MachineSteps.{shown_by_turn}
 use Rattle.gate_state.specs.RespectedKinds.{respecting}
 use Rattle.gate_state.specs.ShownSteps.{IsShown}
-use Rattle.gate_state.proofs.LowerLaws.{StoreLaws}
 use Rattle.gate_state.proofs.Scene.{AreStores, IsScene}
 
 pub record IsReady (o : Opening) (ks : List Kind) (p : Processor) (m : List ℕ) : Type 0 where
@@ -48,7 +48,7 @@ unfolding stored
 stored_none m = refl
 
 -- a turn behind stores
-pub kept_behind : (o : Opening) (ks : List Kind) (laws : StoreLaws) (wp : Bool) (root : ℕ) (m after : List ℕ) (ws more : List (ℕ × ℕ)) (t : Turned) → after ≡ stored m ws → AreStores ks ws
+pub kept_behind : (o : Opening) (ks : List Kind) (laws : MemoryLaws) (wp : Bool) (root : ℕ) (m after : List ℕ) (ws more : List (ℕ × ℕ)) (t : Turned) → after ≡ stored m ws → AreStores ks ws
     → (wp ≡ false → All (λ w. w.0 / 4096 ≡ 3) ws) → Kept o ks wp root after t more → Kept o ks wp root m t (ws ++ more)
 kept_behind o ks laws wp root m after ws more t is are in_trap kept = record {
   control = kept.control;

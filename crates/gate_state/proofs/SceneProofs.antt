@@ -59,7 +59,7 @@ module _ (laws : LowerLaws) (o : Opening) (ks : List Kind) (m : List ℕ) (contr
       (high : page < 2 ^ 52) (is : slot_leaf o.image o.frames page ≡ Some laid) where
     kept_below : (level : ℕ) → IfSome (kept_for tlb.upper level page)
         (λ it. walk_below (entry_in m) (length m / 4096) page level it ≡ Ok laid)
-    kept_below level = go (kept_for tlb.upper level page) (laws.kept.passes (respecting o ks) tlb level page pass)
+    kept_below level = go (kept_for tlb.upper level page) (laws.kept.kept_passes (respecting o ks) tlb level page pass)
       where
         go : (found : Option Upper) → IfSome found (λ it. leads o ks (level, span_of level page, it) ≡ true)
             → IfSome found (λ it. walk_below (entry_in m) (length m / 4096) page level it ≡ Ok laid)
@@ -114,5 +114,5 @@ scene_laws laws o ks admitted kinds_are = record {
       laws.access.kept (view_of m control cpl) access (respecting o ks) tlb va width
       (walk_respects laws o ks scene.admitted scene.kinds_are m scene.memory control cpl scene.tables) fits some pass;
   held_stored = λ m ws admitted kinds_are held are. stores_hold laws o ks m ws admitted kinds_are held are;
-  tables_stored = λ root m ws tables are. laws.table.sound_stays ks root m ws tables are.places;
+  tables_stored = λ root m ws tables are. laws.stores.sound ks root m ws tables are.places;
 }

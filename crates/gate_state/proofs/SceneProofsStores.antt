@@ -64,14 +64,14 @@ slot_fixed laws o ks admitted kinds_are frame inside table =
 pub stores_hold : LowerLaws → (o : Opening) (ks : List Kind) (m : List ℕ) (ws : List (ℕ × ℕ)) → IsAdmitted o
     → AreKinds o ks → KeepsOpeningBytes o ks m → AreStores ks ws → KeepsOpeningBytes o ks (stored m ws)
 stores_hold laws o ks m ws admitted kinds_are held are = record {
-  size = laws.store.length m ws ∙ held.size;
-  are_bytes = laws.store.bytes m ws are.bytes held.are_bytes;
+  size = laws.memory.length m ws ∙ held.size;
+  are_bytes = laws.memory.bytes m ws are.bytes held.are_bytes;
   bytes = λ place kept apart.
-      laws.store.byte_elsewhere m ws place (place_apart ks ws are.places place
+      laws.memory.byte_elsewhere m ws place (place_apart ks ws are.places place
       (kept_apart (kind_of ks (place / 4096)) kept)) ∙ held.bytes place kept apart;
   slot = record {
     entries = λ f i within small table.
-        laws.store.entry_elsewhere m ws f i small
+        laws.frame.entry_elsewhere m ws f i small
         (frame_apart ks ws are.places f (λ storable.
         false≢true (sym (ap is_storable (slot_fixed laws o ks admitted kinds_are f within table)) ∙ storable)))
         ∙ held.slot.entries f i within small table;

@@ -130,7 +130,7 @@ module _ (laws : LowerLaws) (o : Opening) (ks : List Kind) (admitted : IsAdmitte
         sym (same_laid level bits page lead.least lead.most under)
         ∙ lead.within (same_side level bits page lead.least lead.most under ∙ on) in
         ap (λ (frames : ℕ). result_ok (walk_below (entry_in m) frames page level it)) frames_are
-        ∙ laws.opening.upper_below o.image o.frames page level it (entry_in m) admitted.layout admitted.pages held.slot
+        ∙ laws.slot_upper.below o.image o.frames page level it (entry_in m) admitted.layout admitted.pages held.slot
         bounds.0 bounds.1 lead.least lead.most laid
 
     -- such an entry names a frame in memory
@@ -142,7 +142,7 @@ module _ (laws : LowerLaws) (o : Opening) (ks : List Kind) (admitted : IsAdmitte
           | inl on ↦
               let Is : Option Upper → Type 0 = λ found. IfSome found (λ it. it.frame < o.frames) in
               let inside : entry.2.frame < o.frames = subst Is (lead.within on)
-              (laws.opening.upper_in_memory o.image o.frames page entry.0 admitted.layout lead.least lead.most) in
+              (laws.slot_upper.in_memory o.image o.frames page entry.0 admitted.layout lead.least lead.most) in
               omega (arith, held.size, inside)
           | inr off ↦
               let below : level_of (kind_of ks entry.2.frame) + 1 ≡ entry.0 = (lead.outside off).0 in
@@ -160,7 +160,7 @@ module _ (laws : LowerLaws) (o : Opening) (ks : List Kind) (admitted : IsAdmitte
       allowed_below level bits page it leaf is under off found =
           let lead : Leading o ks (level, bits, it) = leading o ks (level, bits, it) is in
           let table = lead.outside (same_side level bits page lead.least lead.most under ∙ off) in
-          laws.table.below ks (entry_in m) (length m / 4096) page level it leaf tables.tables lead.least lead.most
+          laws.sound.below ks (entry_in m) (length m / 4096) page level it leaf tables.tables lead.least lead.most
           table.0 table.1 found
 
       -- the entry to which a walk comes leads
@@ -174,13 +174,13 @@ module _ (laws : LowerLaws) (o : Opening) (ks : List Kind) (admitted : IsAdmitte
             | inl on ↦
                 let bounds = slot_bounds page on in
                 let laid : slot_upper o.image o.frames page level ≡ Some it =
-                sym (laws.opening.upper_any o.image o.frames root page level (entry_in m) admitted.layout admitted.pages
-                held.slot (laws.table.slot ks (entry_in m) root tables.tables tables.root_level) bounds.0 bounds.1 least most)
+                sym (laws.slot_upper.any o.image o.frames root page level (entry_in m) admitted.layout admitted.pages
+                held.slot (laws.sound.slot ks (entry_in m) root tables.tables tables.root_level) bounds.0 bounds.1 least most)
                 ∙ (ap (λ (frames : ℕ). upper_walk (entry_in m) frames root page level) (sym frames_are) ∙ found) in
                 leads_within o ks level bits it least most (same_side level bits page least most refl ∙ on)
                 (same_laid level bits page least most refl ∙ laid)
             | inr off ↦
-                let table = laws.table.upper ks (entry_in m) (length m / 4096) root page level it tables.tables
+                let table = laws.sound.upper ks (entry_in m) (length m / 4096) root page level it tables.tables
                 tables.root_level least most off (canonical_page_of va canonical) found in
                 leads_outside o ks level bits it least most (same_side level bits page least most refl ∙ off) table.0 table.1
           ]

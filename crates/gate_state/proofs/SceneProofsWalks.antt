@@ -47,14 +47,14 @@ module _ (laws : LowerLaws) (o : Opening) (ks : List Kind) (admitted : IsAdmitte
   pub kind_is : (frame : ℕ) (kind : Kind) → frame < o.frames → kind_at o.image o.frames frame ≡ kind → is_settled kind ≡ true
       → kind_of ks frame ≡ kind
   kind_is frame kind inside is settled =
-      let opened : kind_of (kinds o.image o.frames) frame ≡ kind = laws.opening.each o.image o.frames frame inside ∙ is in
+      let opened : kind_of (kinds o.image o.frames) frame ≡ kind = laws.opening_kinds.each o.image o.frames frame inside ∙ is in
       kinds_are.settled frame (ap is_settled opened ∙ settled) ∙ opened
 
   -- a leaf of the layout names a frame in memory, whose kind its rights fit
   pub laid_in_memory : (page : ℕ) (leaf : Leaf) → slot_leaf o.image o.frames page ≡ Some leaf → leaf.frame < o.frames
   laid_in_memory page leaf laid =
       some_at (λ leaf. leaf.frame < o.frames) (slot_leaf o.image o.frames page) leaf laid
-      (laws.opening.in_memory o.image o.frames page admitted.layout)
+      (laws.slot_leaf.in_memory o.image o.frames page admitted.layout)
 
   laid_fits : (page : ℕ) (leaf : Leaf) → slot_start ≤ page → page < 2 ^ 52 → slot_leaf o.image o.frames page ≡ Some leaf
       → fits_kind ks leaf ≡ true
@@ -65,9 +65,9 @@ module _ (laws : LowerLaws) (o : Opening) (ks : List Kind) (admitted : IsAdmitte
       (λ exec. gate_or_code ks leaf.frame (IsCodePage o.image o.frames page leaf.frame)
       (some_at (λ leaf. leaf.rights.exec ≡ true
       → ((page ≡ slot_start + 1) × (leaf.frame ≡ gate_text)) ⊎ IsCodePage o.image o.frames page leaf.frame)
-      (slot_leaf o.image o.frames page) leaf laid (laws.opening.executable o.image o.frames page) exec)
+      (slot_leaf o.image o.frames page) leaf laid (laws.slot_leaf.executable o.image o.frames page) exec)
       (λ code. ap is_code (kind_is leaf.frame Code (laid_in_memory page leaf laid)
-      (laws.opening.code o.image o.frames page leaf.frame code) refl)))
+      (laws.slot_leaf.code o.image o.frames page leaf.frame code) refl)))
 
   module _ (m : List ℕ) (held : KeepsOpeningBytes o ks m) where
     -- the walk over memory, in the slot and outside it
@@ -76,8 +76,8 @@ module _ (laws : LowerLaws) (o : Opening) (ks : List Kind) (admitted : IsAdmitte
           → result_ok (walk (entry_in m) (length m / 4096) root page) ≡ slot_leaf o.image o.frames page
       laid_by_walk page low high =
           ap (λ (frames : ℕ). result_ok (walk (entry_in m) frames root page)) (frames_are laws o ks admitted kinds_are m held)
-          ∙ laws.opening.slot_walk o.image o.frames root page (entry_in m) admitted.layout admitted.pages held.slot
-          (laws.table.slot ks (entry_in m) root tables.tables tables.root_level) low high
+          ∙ laws.slot.any o.image o.frames root page (entry_in m) admitted.layout admitted.pages held.slot
+          (laws.sound.slot ks (entry_in m) root tables.tables tables.root_level) low high
 
       found_respects : (va : ℕ) (leaf : Leaf) → is_canonical va ≡ true
           → walk (entry_in m) (length m / 4096) root (page_of va) ≡ Ok leaf → respects o ks (page_of va, leaf) ≡ true
@@ -90,7 +90,7 @@ module _ (laws : LowerLaws) (o : Opening) (ks : List Kind) (admitted : IsAdmitte
             respects_within o ks (page_of va) leaf within laid (laid_fits (page_of va) leaf bounds.0 bounds.1 laid)
         | inr outside ↦
             respects_outside o ks (page_of va) leaf outside
-            ∙ laws.table.walk ks (entry_in m) (length m / 4096) root (page_of va) leaf tables.tables tables.root_level
+            ∙ laws.sound.walk ks (entry_in m) (length m / 4096) root (page_of va) leaf tables.tables tables.root_level
             (canonical_page_of va canonical) outside found
       ]
 

@@ -41,6 +41,6 @@ call_shown laws o s guarded few =
       c = registers.bounds 1;
       d = registers.bounds 8;
       source = source_bytes s.memory root guarded.memory.are_bytes s.processor.tlb call.c (wanted s);
-      value = laws.call.value s.kinds root s.ledger s.memory call source (omega (arith, guarded.next, few));
-      place = laws.call.place s.kinds root s.ledger s.memory call source;
+      value = laws.call_leaves.value s.kinds root s.ledger s.memory call source (omega (arith, guarded.next, few));
+      place = laws.call_leaves.place s.kinds root s.ledger s.memory call source;
     }

@@ -10,11 +10,11 @@ use Rattle.nk_bits.specs.Accesses.{IsWalked}
 use Rattle.nk_bits.specs.Claims.{AllPass, Claim}
 use Rattle.nk_bits.specs.Paging.{is_canonical, page_of}
 use Rattle.nk_bits.specs.Translations.{Translations, tlb_after, translation}
+use Rattle.nk_bits.specs.TranslationLaws.{KeptLaws}
 use Rattle.phys_mem.specs.Memory.{IsBytes, entry_in}
 use Rattle.page_walk.specs.MemoryAccess.{view_of}
 use Rattle.nk_body.specs.CallRules.{IsSourceOf, bytes_read}
 use Rattle.gate_state.specs.SourceBytes.{SourceRead, byte_through, in_front, is_readable, kept_by, read_on, source_byte, source_through, source_read, source_tlb, source_with, tlb_by}
-use Rattle.gate_state.proofs.LowerLaws.{KeptLaws}
 
 -- so many bytes
 abbrev AreSo : ℕ → List ℕ → Type 0

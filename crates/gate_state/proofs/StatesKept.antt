@@ -12,6 +12,7 @@ use Rattle.nk_bits.specs.Kinds.{is_storable, kind_of}
 use Rattle.nk_bits.specs.Paging.{is_canonical, page_of, upper_walk, walk, walk_below}
 use Rattle.nk_bits.specs.Translations.{IsLive, Translations, fill_walked}
 use Rattle.nk_bits.specs.UpperEntries.{serves_page, span_of, walk_by}
+use Rattle.nk_bits.specs.TranslationLaws.{KeptLaws}
 use Rattle.phys_mem.specs.Memory.{entry_in, stored}
 use Rattle.page_walk.specs.MemoryAccess.{view_of}
 use Rattle.irq_plan.specs.declared.event.What.{What}
@@ -31,7 +32,7 @@ use Rattle.gate_state.specs.MachineSteps.{after_event, after_reading, after_turn
 use Rattle.gate_state.specs.RespectedKinds.{leads, respecting, respects}
 use Rattle.gate_state.specs.SafeStates.{IsSafe, TakesTurn}
 use Rattle.gate_state.specs.ShownSteps.{IsShown}
-use Rattle.gate_state.proofs.LowerLaws.{KeptLaws, LowerLaws}
+use Rattle.gate_state.proofs.LowerLaws.{LowerLaws}
 use Rattle.gate_state.proofs.Ready.{IsReady, Kept}
 use Rattle.gate_state.proofs.Scene.{SceneLaws}
 use Rattle.gate_state.proofs.SceneProofs.{scene_laws}
@@ -66,7 +67,7 @@ module _ (laws : LowerLaws) (o : Opening) (admitted : IsAdmitted o) where
 
   -- the trap stack may be stored to
   pub stack_storable : (ks : List Kind) → AreKinds o ks → is_storable (kind_of ks 3) ≡ true
-  stack_storable ks are = ap is_storable (kind_is laws o ks admitted are 3 Trap (omega (arith, admitted.layout.least)) (laws.opening.trap o.image o.frames) refl)
+  stack_storable ks are = ap is_storable (kind_is laws o ks admitted are 3 Trap (omega (arith, admitted.layout.least)) (laws.opening_kinds.trap o.image o.frames) refl)
 
   pub ready : (s : MachineState) → IsGuarded o s → IsReady o s.kinds s.processor s.memory
   ready s guarded = record {
@@ -96,7 +97,7 @@ module _ (laws : LowerLaws) (o : Opening) (admitted : IsAdmitted o) where
       kinds = guarded.kinds;
       tables =
           let after : ((turn_of s).processor.control.root, (turn_of s).memory) ≡ (s.processor.control.root, stored s.memory made) = λ i. (kept.same_root i, kept.memory_is i) in
-          subst (λ (x : ℕ × List ℕ). HoldsSoundTables s.kinds x.0 x.1) (sym after) (laws.table.sound_stays s.kinds s.processor.control.root s.memory made guarded.tables kept.are.places);
+          subst (λ (x : ℕ × List ℕ). HoldsSoundTables s.kinds x.0 x.1) (sym after) (laws.stores.sound s.kinds s.processor.control.root s.memory made guarded.tables kept.are.places);
       memory = subst (KeepsOpeningBytes o s.kinds) (sym kept.memory_is) ((scenes_of s.kinds guarded.kinds).held_stored s.memory made admitted guarded.kinds guarded.memory kept.are);
       ledger = guarded.ledger;
       next = omega (arith, guarded.next);
@@ -109,13 +110,13 @@ module _ (laws : LowerLaws) (o : Opening) (admitted : IsAdmitted o) where
     turn_stays =
         ap (λ (root : ℕ). nested_in s.kinds root s.ledger (turn_of s).memory) kept.same_root
         ∙ ap (nested_in s.kinds s.processor.control.root s.ledger) kept.memory_is
-        ∙ laws.table.nested_stays s.kinds s.processor.control.root s.ledger s.memory made guarded.tables.handler kept.are.places
+        ∙ laws.stores.nested s.kinds s.processor.control.root s.ledger s.memory made guarded.tables.handler kept.are.places
 
     pub turn_books : (books : Books) → books.frames.kinds ≡ s.kinds → AreBooks books s.memory → AreBooks books (after_turn s).memory
     unfolding after_turn
     turn_books books same are =
         subst (AreBooks books) (sym kept.memory_is)
-        (laws.table.books_stay books s.memory made are
+        (laws.stores.books books s.memory made are
         (subst (λ (ks : List Kind). All (λ w. is_storable (kind_of ks (w.0 / 4096)) ≡ true) made) (sym same) kept.are.places))
 
     pub turn_runs : (turn_of s).stepped ≢ stepped.Shutdown

@@ -78,7 +78,7 @@ module _ (laws : LowerLaws) (o : Opening) (ks : List Kind) (scenes : SceneLaws o
       let formed = facts.fetch_formed m p.control p.regs.cpl p.regs.rip p.tlb ready.scene it gate.found in
       let it_makes = facts.window_effect p m fetched.tlb gate.offset it ready.control ready.scene after clear gate.point gate.elsewhere gate.listed in
       let outcome : Outcome Fault Effect = effect_of it.instr it.size p.regs p.control m fetched.tlb in
-      let pass : AllPass (respecting o ks) outcome.tlb = laws.effect.translations it.instr it.size p.regs p.control m fetched.tlb (respecting o ks) formed ready.control.registers (scenes.walked m p.control p.regs.cpl ready.scene) after in
+      let pass : AllPass (respecting o ks) outcome.tlb = laws.grant.translations it.instr it.size p.regs p.control m fetched.tlb (respecting o ks) formed ready.control.registers (scenes.walked m p.control p.regs.cpl ready.scene) after in
       let done : IsMade laws o ks scenes facts storable p m it_makes.0 = made laws o ks scenes facts storable p m fetched.tlb it it_makes.0 ready after formed it_makes.1 in
       subst (λ (x : Outcome Fault Effect). Kept o ks wp p.control.root m (turned_by x.answer p m x.tlb) (effect_stores x.answer p m x.tlb)) (sym (made_from p m it gate.found))
       (subst (λ (a : Result Effect Fault). Kept o ks wp p.control.root m (turned_by a p m outcome.tlb) (effect_stores a p m outcome.tlb)) (sym it_makes.1)
@@ -92,14 +92,14 @@ module _ (laws : LowerLaws) (o : Opening) (ks : List Kind) (scenes : SceneLaws o
       raise_kept o ks facts storable true (record p { tlb = fetched.tlb }) m it
       (IfErr-at_err IsSmallFault is
       (subst (λ (x : Outcome Fault Fetched). IfErr x.answer IsSmallFault) (sym same)
-      (laws.bound.fetch m (view_of m p.control p.regs.cpl) p.regs.rip p.tlb)))
+      (laws.fetch.small m (view_of m p.control p.regs.cpl) p.regs.rip p.tlb)))
       (with_translations o ks p m fetched.tlb ready (subst (λ (x : Outcome Fault Fetched). AllPass (respecting o ks) x.tlb) (sym same) (facts.fetch_pass m p.control p.regs.cpl p.regs.rip p.tlb ready.scene ready.pass))) set
   fetched_kept p m fetched ready set runs same (Ok it) is =
       let after : AllPass (respecting o ks) fetched.tlb = subst (λ (x : Outcome Fault Fetched). AllPass (respecting o ks) x.tlb) (sym same) (facts.fetch_pass m p.control p.regs.cpl p.regs.rip p.tlb ready.scene ready.pass) in
       let found : (instruction_at m (view_of m p.control p.regs.cpl) p.regs.rip p.tlb).answer ≡ Ok it = ap (λ (x : Outcome Fault Fetched). x.answer) (sym same) ∙ is in
       let formed = facts.fetch_formed m p.control p.regs.cpl p.regs.rip p.tlb ready.scene it found in
       let outcome : Outcome Fault Effect = effect_of it.instr it.size p.regs p.control m fetched.tlb in
-      let pass : AllPass (respecting o ks) outcome.tlb = laws.effect.translations it.instr it.size p.regs p.control m fetched.tlb (respecting o ks) formed ready.control.registers (scenes.walked m p.control p.regs.cpl ready.scene) after in
+      let pass : AllPass (respecting o ks) outcome.tlb = laws.grant.translations it.instr it.size p.regs p.control m fetched.tlb (respecting o ks) formed ready.control.registers (scenes.walked m p.control p.regs.cpl ready.scene) after in
       by_answer outcome.answer refl after pass found formed
     where
       by_answer : (answer : Result Effect Fault) → (effect_of it.instr it.size p.regs p.control m fetched.tlb).answer ≡ answer → AllPass (respecting o ks) fetched.tlb → AllPass (respecting o ks) (effect_of it.instr it.size p.regs p.control m fetched.tlb).tlb

@@ -35,7 +35,7 @@ size_small width is = omega (arith, is)
 pub stores_bytes : (laws : LowerLaws) (va width : ℕ) (target : Target) (value : ℕ) → All (λ w. w.1 < 256) (stores_at va width target value)
 stores_bytes laws va width target value =
     All-append (λ (w : ℕ × ℕ). w.1 < 256) (stores (first_part va width) target.first value) (stores (width - first_part va width) target.second (value / 256 ^ first_part va width))
-    (laws.store.values (first_part va width) target.first value) (laws.store.values (width - first_part va width) target.second (value / 256 ^ first_part va width))
+    (laws.memory.values (first_part va width) target.first value) (laws.memory.values (width - first_part va width) target.second (value / 256 ^ first_part va width))
 
 -- a translation that may be written, and respects the kinds, names a frame that may be stored to
 pub writable_storable : (laws : LowerLaws) (o : Opening) (ks : List Kind) (page : ℕ) (leaf : Leaf) → respects o ks (page, leaf) ≡ true → leaf.rights.can_write ≡ true
@@ -86,7 +86,7 @@ module _ (laws : LowerLaws) where
       → All (λ w. P (w.0 / 4096)) (stores n place value)
   part_places P n place value frame offset is within holds =
       All-weaker (λ (w : ℕ × ℕ). w.0 / 4096 ≡ frame) (λ (w : ℕ × ℕ). P (w.0 / 4096)) (λ w at. subst P (sym at) holds) (stores n place value)
-      (laws.store.within_frame n place value frame (omega arith) (omega arith))
+      (laws.frame.within_frame n place value frame (omega arith) (omega arith))
 
   -- what holds of the frames of translations that serve a write holds of the frame of each byte that it stores
   pub granted_places : (view : View) (test : Claim) (size : ℕ) (w : Write) → IsGranted view test size w → (P : ℕ → Type 0)

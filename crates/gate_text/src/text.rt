@@ -1,10 +1,9 @@
 //! The bytes of the text: the entry and the exit gate, from 64 on eight bytes a vector, and from 448 on the trap gate.
 
-ghost use Rattle.std.specs.Prelude.{◌≡◌, ℕ, ◌+◌, ◌<◌, ◌==◌, true, length, slice_index};
-ghost use Rattle.std.specs.List.{list_any};
-ghost use Rattle.decode_fields.specs.Protected.{is_protected_at};
-ghost use Rattle.gate_text.specs.GatePoints.{instruction_bytes, is_point, is_stub_point};
-ghost use Rattle.gate_text.specs.Listing.{ascend, cr0_loads, gate_at, gate_byte, listing};
+ghost use Rattle.std.specs.Prelude.{◌≡◌, ◌<◌};
+ghost use Rattle.gate_text.specs.GatePoints.{is_point, is_stub_point};
+ghost use Rattle.gate_text.specs.Listing.{gate_byte};
+ghost use Rattle.gate_text.specs.ListingLaws.{ListingLaws};
 
 /// The offsets in the entry, exit and trap gates from which on WP may be clear.
 static POINTS: [usize; 14] = [16, 17, 27, 29, 32, 37, 40, 45, 448, 449, 452, 457, 460, 465];
@@ -124,12 +123,6 @@ fn is_stub_point(offset: usize) -> bool
 
 /// The listing is a text of 4,096 bytes, and the loads of CR0 in its gates are the only protected encodings that its
 /// bytes hold, at whatever offset one begins to read.
-#[tactic(auto, using(crate::proofs::Places::rows_ascend, crate::proofs::Places::byte_fits, crate::proofs::Places::loads_at, crate::proofs::Instructions::instruction_stands))]
 pub fn listing_law()
-    ensures rows { ascend 0 4096 listing ≡ true }
-    ensures bytes { (at : ℕ) → at < 4096 → gate_byte at < 256 }
-    ensures loads { (at : ℕ) →
-        is_protected_at gate_at at ≡ list_any (λ place. place == at) cr0_loads }
-    ensures instructions { (at k : ℕ) → is_point at ≡ true → k < length (instruction_bytes at)
-        → gate_byte (at + k) ≡ slice_index (instruction_bytes at) k }
+    ensures { ListingLaws }
 {}

@@ -10,3 +10,8 @@ pub mod Translations
 pub mod Claims
 pub mod Outcomes
 pub mod Accesses
+-- Laws: what is proved of the definitions.
+pub mod WalkLaws
+pub mod TranslationLaws
+pub mod AccessLaws
+pub mod KindLaws

@@ -67,7 +67,7 @@ module _ (laws : ReplayLaws) (opened : ℕ → ℕ → ℕ) (tabled : ℕ → Bo
     stored_beside : (after : Ledger) → All (IsTold opened tabled run_after held_after) after.book.regions
         → IsBeside opened tabled (record nk { held = run_after; ledger = after }) held_after (stored m ws)
     stored_beside after regions = record {
-      size = laws.byte.size m ws ∙ beside.size;
+      size = laws.byte.memory.length m ws ∙ beside.size;
       free = λ f offset free inside.
           spared laws.byte opened tabled nk held m beside ws
           (All-weaker (λ (w : ℕ × ℕ). kind_of kinds (w.0 / 4096) ≡ Guarded) (λ w. kind_of kinds (w.0 / 4096) ≢ Data)

@@ -35,7 +35,7 @@ module _ (laws : ByteLaws) (opened : ℕ → ℕ → ℕ) (tabled : ℕ → Bool
   pub spared : (ws : List (ℕ × ℕ)) → Spares ws → (f offset : ℕ) → kind_of kinds f ≡ Data → offset < 4096
       → byte_at (stored m ws) (4096 * f + offset) ≡ byte_at m (4096 * f + offset)
   spared ws spares f offset free inside =
-      laws.byte_elsewhere m ws (4096 * f + offset)
+      laws.memory.byte_elsewhere m ws (4096 * f + offset)
       (All-weaker (λ (w : ℕ × ℕ). kind_of kinds (w.0 / 4096) ≢ Data) (λ w. w.0 ≢ 4096 * f + offset)
       (λ w apart same.
       let frame : w.0 / 4096 ≡ f = omega (arith, same, inside) in apart (ap (kind_of kinds) frame ∙ free))
@@ -58,13 +58,13 @@ module _ (laws : ByteLaws) (opened : ℕ → ℕ → ℕ) (tabled : ℕ → Bool
   pub beside_trap : (a : ℕ) → kind_of kinds 2 ≡ Fixed → IsBeside opened tabled (record nk { trap = a }) held
       (stored m (stores 8 0x2000 a))
   beside_trap a fixed =
-      stays a nk.tables.root nk.tables.entries (stored m (stores 8 0x2000 a)) (laws.size m (stores 8 0x2000 a))
+      stays a nk.tables.root nk.tables.entries (stored m (stores 8 0x2000 a)) (laws.memory.length m (stores 8 0x2000 a))
       (spared (stores 8 0x2000 a)
       (All-weaker (λ (w : ℕ × ℕ). (0x2000 ≤ w.0) × (w.0 < 0x2000 + 8)) (λ w. kind_of kinds (w.0 / 4096) ≢ Data)
       (λ w at free.
       let frame : w.0 / 4096 ≡ 2 = omega (arith, at.0, at.1) in
       fixed_data (sym fixed ∙ ap (kind_of kinds) (sym frame) ∙ free))
-      (stores 8 0x2000 a) (laws.places 8 0x2000 a)))
+      (stores 8 0x2000 a) (laws.memory.places 8 0x2000 a)))
 
   pub beside_root : (frame : ℕ) → IsBeside opened tabled (record nk { tables = root_loaded nk.tables frame }) held m
   beside_root frame = stays nk.trap frame nk.tables.entries m refl (λ f offset free inside. refl)
@@ -74,7 +74,7 @@ module _ (laws : ByteLaws) (opened : ℕ → ℕ → ℕ) (tabled : ℕ → Bool
       (memory_written m frame index value)
   beside_entry frame index value is =
       let ws = stores 8 (4096 * frame + 8 * index) value in
-      stays nk.trap nk.tables.root _ (stored m ws) (laws.size m ws)
+      stays nk.trap nk.tables.root _ (stored m ws) (laws.memory.length m ws)
       (spared ws
       (All-weaker (λ (w : ℕ × ℕ). (4096 * frame + 8 * index ≤ w.0) × (w.0 < 4096 * frame + 8 * index + 8))
       (λ w. kind_of kinds (w.0 / 4096) ≢ Data)
@@ -82,7 +82,7 @@ module _ (laws : ByteLaws) (opened : ℕ → ℕ → ℕ) (tabled : ℕ → Bool
       let there : w.0 / 4096 ≡ frame = omega (arith, at.0, at.1, is.small) in
       let none : level_of (kind_of kinds frame) ≡ 0 = ap level_of (ap (kind_of kinds) (sym there) ∙ free) in
       omega (arith, none, is.table))
-      ws (laws.places 8 (4096 * frame + 8 * index) value)))
+      ws (laws.memory.places 8 (4096 * frame + 8 * index) value)))
 
   -- a frame's kind changes
   kind_here : (a : ℕ) (kind : Kind) → a < length kinds → kind_of (slice_set kinds a kind) a ≡ kind
@@ -101,7 +101,7 @@ module _ (laws : ByteLaws) (opened : ℕ → ℕ → ℕ) (tabled : ℕ → Bool
   pub beside_removed : (frame : ℕ) → IsRemovable nk.tables frame
       → IsBeside opened tabled (record nk { tables = removed nk.tables frame }) held (memory_removed m frame)
   beside_removed frame is = record {
-    size = laws.size_zeroed m frame whole ∙ beside.size ∙ ap (λ n. 4096 * n) (sym (length-set kinds frame Data));
+    size = laws.frame.length_zeroed m frame whole ∙ beside.size ∙ ap (λ n. 4096 * n) (sym (length-set kinds frame Data));
     free = free;
     tables = tables;
     pool = beside.pool;
@@ -115,12 +115,12 @@ module _ (laws : ByteLaws) (opened : ℕ → ℕ → ℕ) (tabled : ℕ → Bool
           → byte_at (frame_zeroed m frame) (4096 * f + offset) ≡ left_alone opened tabled f offset
       free f offset is_data_now inside = elim (cases_eq f frame) [
         | inl here ↦
-            laws.byte_zeroed m frame (4096 * f + offset) whole (frame_of_place f offset inside ∙ here)
+            laws.frame.byte_zeroed m frame (4096 * f + offset) whole (frame_of_place f offset inside ∙ here)
             ∙ ap (λ b. if b then 0 else opened f offset)
             (sym (beside.tables f (ap (λ n. is_table (kind_of kinds n)) here
             ∙ lt-ltb 0 (level_of (kind_of kinds frame)) is.table)))
         | inr apart ↦
-            laws.byte_zeroed_elsewhere m frame (4096 * f + offset) whole
+            laws.frame.byte_zeroed_elsewhere m frame (4096 * f + offset) whole
             (λ same. apart (sym (frame_of_place f offset inside) ∙ same))
             ∙ beside.free f offset (sym (kind_there frame Data f apart) ∙ is_data_now) inside
       ]
@@ -153,12 +153,12 @@ module _ (laws : ByteLaws) (opened : ℕ → ℕ → ℕ) (tabled : ℕ → Bool
         ≡ byte_at m (4096 * f + offset)
     unfolding ws
     elsewhere f offset apart inside =
-        laws.byte_elsewhere (frame_zeroed m frame) ws (4096 * f + offset)
+        laws.memory.byte_elsewhere (frame_zeroed m frame) ws (4096 * f + offset)
         (All-weaker (λ (w : ℕ × ℕ). (4096 * frame + 8 * 511 ≤ w.0) × (w.0 < 4096 * frame + 8 * 511 + 8))
         (λ w. w.0 ≢ 4096 * f + offset)
         (λ w at same. apart (omega (arith, same, inside, at.0, at.1)))
-        ws (laws.places 8 (4096 * frame + 8 * 511) (last_value level)))
-        ∙ laws.byte_zeroed_elsewhere m frame (4096 * f + offset) (whole_frame frame is.inside)
+        ws (laws.memory.places 8 (4096 * frame + 8 * 511) (last_value level)))
+        ∙ laws.frame.byte_zeroed_elsewhere m frame (4096 * f + offset) (whole_frame frame is.inside)
         (λ same. apart (sym (frame_of_place f offset inside) ∙ same))
 
     other_frame : (f : ℕ) → kind_of kinds f ≡ Guarded → f ≢ frame
@@ -178,7 +178,7 @@ module _ (laws : ByteLaws) (opened : ℕ → ℕ → ℕ) (tabled : ℕ → Bool
         (memory_declared m level frame)
     unfolding ws
     beside_declared = record {
-      size = laws.size (frame_zeroed m frame) ws ∙ laws.size_zeroed m frame (whole_frame frame is.inside) ∙ beside.size
+      size = laws.memory.length (frame_zeroed m frame) ws ∙ laws.frame.length_zeroed m frame (whole_frame frame is.inside) ∙ beside.size
           ∙ ap (λ n. 4096 * n) (sym (length-set kinds frame (Table level)));
       free = λ f offset is_data_now inside. elim (cases_eq f frame) [
         | inl here ↦ absurd (table_data (sym (ap (kind_of after) here ∙ kind_here frame (Table level) is.inside)

@@ -65,11 +65,11 @@ guarded_left laws kinds m source ws are small = record {
   settled = λ f is. refl;
   reserved = λ f is. refl;
   loose = λ f some is. is;
-  bytes = λ place is unguarded beside. laws.byte.byte_elsewhere m ws place
+  bytes = λ place is unguarded beside. laws.byte.memory.byte_elsewhere m ws place
       (All-weaker (λ (w : ℕ × ℕ). kind_of kinds (w.0 / 4096) ≡ Guarded) (λ (w : ℕ × ℕ). w.0 ≢ place)
       (λ w at same. false≢true (sym unguarded ∙ ap (λ p. is_guarded (kind_of kinds (p / 4096))) (sym same) ∙ ap is_guarded at)) ws are);
-  size = laws.byte.size m ws;
-  are_bytes = λ bytes is. laws.byte.bytes m ws (small bytes) is;
+  size = laws.byte.memory.length m ws;
+  are_bytes = λ bytes is. laws.byte.memory.bytes m ws (small bytes) is;
 }
 
 -- frames of data that become guarded

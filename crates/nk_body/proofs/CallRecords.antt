@@ -11,7 +11,7 @@ use Rattle.nk_bits.specs.declared.kind.Kind.TheVariants.{Data, Fixed, Guarded}
 use Rattle.nk_bits.specs.declared.rule.Rule.{Rule}
 use Rattle.nk_bits.specs.Kinds.{is_data, is_guarded, kind_of, level_of}
 use Rattle.phys_mem.specs.Memory.{byte_at, frame_zeroed, number_at, stored, stores}
-use Rattle.page_desc.specs.PageTables.{HoldsSoundTables, Tables, loose_of}
+use Rattle.page_desc.specs.PageTables.{HoldsSoundTables, Tables, loose_of, tables_in}
 use Rattle.policy_book.specs.PolicyRules.{stores_written}
 use Rattle.region_book.specs.RegionCalls.{guarded}
 use Rattle.region_book.specs.RegionRecords.{IsEachOnce, region_of}
@@ -27,7 +27,7 @@ use Rattle.nk_body.proofs.GuardedFrames.{among, frames_count, guarded_sound, kin
 use Rattle.nk_body.proofs.HandlerStores.{handler_stores}
 use Rattle.nk_body.proofs.HeldBytes.{held_stored}
 use Rattle.nk_body.proofs.KeptLedgers.{kept_free, kept_pages, kept_pool, kept_written}
-use Rattle.nk_body.proofs.LowerLaws.{LowerLaws, Stands}
+use Rattle.nk_body.proofs.LowerLaws.{LowerLaws}
 use Rattle.nk_body.proofs.NumbersLeft.{number_same}
 use Rattle.nk_body.proofs.RegionFrames.{InGuarded, handler_aside, in_memory, unguarded}
 use Rattle.nk_body.proofs.RegionRules.{alloc_facts, declare_facts, free_facts}
@@ -59,6 +59,10 @@ stand_is : (nk : Nested) (call : CallWords) (m : List ℕ) (fs : List ℕ) → c
     → (f o : ℕ) → stand_of nk call m f o ≡ (if among f fs && nat_lt o 4096 then byte_at m (4096 * f + o) else 0)
 unfolding stand_of
 stand_is nk call m fs number found f o = λ i. if number i == 6 then bytes_standing m (found i) f o else 0
+
+-- what a call on page tables leaves
+abbrev Stands : Tables → List ℕ → Type 0
+Stands after m = (tables_in after.kinds after.root m ≡ after) × HoldsSoundTables after.kinds after.root m
 
 module _ (laws : LowerLaws) (kinds : List Kind) (root : ℕ) (ledger : Ledger) (m : List ℕ) (call : CallWords) (source : Sourced)
     (is_called : IsCalled kinds root ledger m call source) where
@@ -96,9 +100,9 @@ module _ (laws : LowerLaws) (kinds : List Kind) (root : ℕ) (ledger : Ledger) (
       → handler_in (stored l (stores 8 place v)) ≡ handler_in l
   unfolding handler_in
   handler_same f place v l apart low high =
-      laws.byte.number_elsewhere l (stores 8 place v) 8 0x2000
+      laws.byte.memory.number_elsewhere l (stores 8 place v) 8 0x2000
       (All-weaker (λ (w : ℕ × ℕ). (place ≤ w.0) × (w.0 < place + 8)) (λ (w : ℕ × ℕ). (w.0 < 0x2000) ⊎ (0x2000 + 8 ≤ w.0))
-      (λ w at. beside w.0 at.0 at.1) (stores 8 place v) (laws.byte.places 8 place v))
+      (λ w at. beside w.0 at.0 at.1) (stores 8 place v) (laws.byte.memory.places 8 place v))
     where
       beside : (p : ℕ) → place ≤ p → p < place + 8 → (p < 0x2000) ⊎ (0x2000 + 8 ≤ p)
       beside p least most = elim (cases_lt p 0x2000) [
@@ -113,7 +117,7 @@ module _ (laws : LowerLaws) (kinds : List Kind) (root : ℕ) (ledger : Ledger) (
   unfolding handler_in
   handler_zeroed f inside apart =
       number_same (frame_zeroed m f) m 8 0x2000
-      (λ q low high. laws.byte.byte_zeroed_elsewhere m f q (omega (arith, inside, sound.size)) (λ same. apart (omega (arith, same, low, high))))
+      (λ q low high. laws.byte.frame.byte_zeroed_elsewhere m f q (omega (arith, inside, sound.size)) (λ same. apart (omega (arith, same, low, high))))
 
   -- a page table isn't the handler's frame
   table_apart : (frame : ℕ) → 1 ≤ level_of (kind_of kinds frame) → frame ≢ 2
@@ -125,12 +129,12 @@ module _ (laws : LowerLaws) (kinds : List Kind) (root : ℕ) (ledger : Ledger) (
   unfolding handler_in
   trap_met =
       let ws : List (ℕ × ℕ) = stores 8 0x2000 call.a in
-      let unguarded = handler_stores kinds call.a laws.byte.places sound.handler in
+      let unguarded = handler_stores kinds call.a laws.byte.memory.places sound.handler in
       let held : held_bytes kinds (stored m ws) ≡ held_bytes kinds m =
       held_left kinds kinds m (stored m ws) (handler_left laws kinds root m sound call.a) sound.handler in
       let long : 0x2000 + 8 ≤ length m = omega (arith, sound.size, second) in
       let trap : number_at (stored m ws) 8 0x2000 ≡ call.a =
-      laws.byte.number_stored m 8 0x2000 call.a long ∙ mod-eq_of_lt is_called.first in
+      laws.byte.memory.number_stored m 8 0x2000 call.a long ∙ mod-eq_of_lt is_called.first in
       record {
         nested = λ i. record { tables = laws.store.stays kinds root m ws unguarded i; trap = trap i; held = held i; ledger = ledger };
         holds = laws.store.sound kinds root m ws sound unguarded;
@@ -188,8 +192,8 @@ module _ (laws : LowerLaws) (kinds : List Kind) (root : ℕ) (ledger : Ledger) (
       let facts = declare_facts ledger.book kinds (loose_of nk.tables) (mapped_by nk) call.a call.b call.c rule in
       let fs : List ℕ = facts.0 in
       let inside : All (λ f. f < length kinds) fs = free_inside kinds fs facts.2.free in
-      let once : IsEachOnce fs = laws.guard.once fs facts.2.distinct in
-      let guards = guarded_sound laws.guard root m fs kinds sound once
+      let once : IsEachOnce fs = laws.declared.once fs facts.2.distinct in
+      let guards = guarded_sound laws.guard laws.declared root m fs kinds sound once
       (λ k d below. (facts.2.free k d below, sym (laws.store.loose kinds root m _ sound) ∙ facts.2.none k d below)) in
       both (with_pages nk call stand (Some fs)) m
       (made_is nk call source stand ∙ number_6 call.number _ _ _ _ _ _ _ _ _ _ number ∙ ap (with_pages nk call stand) facts.1)

@@ -143,7 +143,7 @@ module _ (laws : ReplayLaws) (opened : ℕ → ℕ → ℕ) (tabled : ℕ → Bo
       let fs : List ℕ = facts.0 in
       let found : frames_of_call nk call ≡ Some fs = facts.1 in
       let kept = kept_pages kinds nk.ledger accepted.kept (loose_of nk.tables) call.a call.b call.c fs facts.2
-      (laws.once fs facts.2.distinct) (frames_count (mapped_by nk) (call.b / 4096) (call.a / 4096) fs found) in
+      (laws.declared.once fs facts.2.distinct) (frames_count (mapped_by nk) (call.b / 4096) (call.a / 4096) fs found) in
       let region = last_holds (IsRegion (nk.ledger.book.next + 1)) nk.ledger.book.regions
       (page_region nk.ledger.book call.a call.b call.c fs) kept.book.each in
       along tabled (with_pages nk call stand (Some fs))

@@ -14,13 +14,15 @@ use Rattle.nk_bits.specs.declared.leaf.Leaf.{Leaf}
 use Rattle.nk_bits.specs.declared.rule.Rule.TheVariants.{BadPolicy, BadRange, NoRoom, NotData, StillLoose, TooManyRegions}
 use Rattle.nk_bits.specs.Kinds.{is_data, kind_of}
 use Rattle.nk_bits.specs.Paging.{is_canonical_page, walk}
+use Rattle.nk_bits.specs.WalkLaws.{WalkLaws}
 use Rattle.phys_mem.specs.Memory.{entry_in}
 use Rattle.page_desc.specs.FrameCounts.{loose_in}
 use Rattle.page_desc.specs.FrameDescriptors.{Descriptors}
 use Rattle.page_desc.specs.PageTables.{AreDescribed, HoldsSoundTables, tables_in, value_in}
+use Rattle.page_desc.specs.PageTableLaws.{GuardedLaws, RecordWalkLaws}
 use Rattle.region_book.specs.RegionCalls.{pages_rule, else_rule, frames_from, frames_rule, guarded, has_twice, is_bad_range, is_policy, pages_joined, leaf_frame, mapped}
 use Rattle.region_book.specs.RegionRecords.{Book, IsEachOnce}
-use Rattle.nk_body.proofs.LowerLaws.{GuardLaws, WalkLaws}
+use Rattle.region_book.specs.RegionLaws.{DeclaredLaws}
 
 pub guarded_data : Guarded ≡ Data → ⊥
 guarded_data same = false≢true (ap is_data same)
@@ -69,7 +71,7 @@ abbrev pub AreFree : List ℕ → List Kind → List ℕ → Type 0
 AreFree m kinds fs = All (λ f. (kind_of kinds f ≡ Data) × (loose_in kinds (entry_in m) f ≡ 0)) fs
 
 -- the tables stand, and the descriptors
-module _ (laws : GuardLaws) (root : ℕ) (m : List ℕ) where
+module _ (laws : GuardedLaws) (declared : DeclaredLaws) (root : ℕ) (m : List ℕ) where
   free_later : (kinds : List Kind) (f : ℕ) (fs : List ℕ) → HoldsSoundTables kinds root m → kind_of kinds f ≡ Data → All (λ g. f ≢ g) fs
       → AreFree m kinds fs → AreFree m (slice_set kinds f Guarded) fs
   free_later kinds f fs sound was apart free k d below =
@@ -90,22 +92,22 @@ module _ (laws : GuardLaws) (root : ℕ) (m : List ℕ) where
       × (tables_in (guarded kinds fs) root m ≡ record (tables_in kinds root m) { kinds = guarded kinds fs })
   guarded_sound [] kinds sound once free =
       subst (λ ks. HoldsSoundTables ks root m × (tables_in ks root m ≡ record (tables_in kinds root m) { kinds = ks }))
-      (sym (laws.none kinds)) (sound, refl)
+      (sym (declared.none kinds)) (sound, refl)
   guarded_sound (f ∷ fs) kinds sound once free =
       let here = free 0 f (omega arith) in
       let later = guarded_sound fs (slice_set kinds f Guarded) (laws.sound kinds root f m sound here.0 here.1) (once_later f fs once)
       (free_later kinds f fs sound here.0 (apart_first f fs once) (λ k d below. free (suc k) d (omega (arith, below)))) in
       subst (λ ks. HoldsSoundTables ks root m × (tables_in ks root m ≡ record (tables_in kinds root m) { kinds = ks }))
-      (sym (laws.more kinds f fs))
+      (sym (declared.more kinds f fs))
       (later.0, later.1 ∙ (λ i. record (laws.tables kinds root f m sound here.0 i) { kinds = guarded (slice_set kinds f Guarded) fs }))
 
   pub guarded_described : (fs : List ℕ) (d : Descriptors) → AreDescribed d root m → IsEachOnce fs → AreFree m d.kinds fs
       → AreDescribed (record d { kinds = guarded d.kinds fs }) root m
   guarded_described [] d are once free =
-      subst (λ ks. AreDescribed (record d { kinds = ks }) root m) (sym (laws.none d.kinds)) are
+      subst (λ ks. AreDescribed (record d { kinds = ks }) root m) (sym (declared.none d.kinds)) are
   guarded_described (f ∷ fs) d are once free =
       let here = free 0 f (omega arith) in
-      subst (λ ks. AreDescribed (record d { kinds = ks }) root m) (sym (laws.more d.kinds f fs))
+      subst (λ ks. AreDescribed (record d { kinds = ks }) root m) (sym (declared.more d.kinds f fs))
       (guarded_described fs (record d { kinds = slice_set d.kinds f Guarded }) (laws.described d root f m are here.0 here.1)
       (once_later f fs once)
       (free_later d.kinds f fs are.sound here.0 (apart_first f fs once) (λ k e below. free (suc k) e (omega (arith, below)))))
@@ -148,7 +150,7 @@ mapped_inside laws t frames root page f is = by_page (is_canonical_page page) is
     by_page true is = by_walk (walk t frames root page) refl is
     by_page false is = let no : None ≡ Some f = is in cc
 
-pub mapped_same : WalkLaws → (kinds : List Kind) (root : ℕ) (m : List ℕ) → HoldsSoundTables kinds root m
+pub mapped_same : RecordWalkLaws → (kinds : List Kind) (root : ℕ) (m : List ℕ) → HoldsSoundTables kinds root m
     → mapped (entry_in m) (length m / 4096) root ≡ mapped (value_in (tables_in kinds root m)) (length kinds) root
 mapped_same laws kinds root m sound =
     λ i page. if is_canonical_page page

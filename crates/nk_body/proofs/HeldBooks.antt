@@ -10,42 +10,32 @@ use Rattle.nk_bits.specs.declared.rule.Rule.{Rule}
 use Rattle.nk_bits.specs.Kinds.{is_hidden, kind_of}
 use Rattle.phys_mem.specs.MaskedMemory.{is_book_frame, seen}
 use Rattle.phys_mem.specs.Memory.{byte_at, stored, stores}
+use Rattle.phys_mem.specs.MemoryLaws.{MemoryLaws}
 use Rattle.page_desc.specs.DescriptorBytes.{HoldsDescriptors, HoldsTables, descriptors_in, kinds_in}
 use Rattle.page_desc.specs.PageTables.{is_unguarded}
-use Rattle.region_book.specs.RegionBytes.{HoldsRegions, RegionIndex, book_in}
-use Rattle.write_log.specs.LogBytes.{HoldsLog, LogCounts, log_in}
+use Rattle.page_desc.specs.StoredLaws.{HeldTablesLaws, StoredLaws}
+use Rattle.region_book.specs.RegionBytes.{HoldsRegions, book_in}
+use Rattle.region_book.specs.RegionLaws.{HeldRegionsLaws}
+use Rattle.write_log.specs.LogBytes.{HoldsLog, log_in}
+use Rattle.write_log.specs.LogLaws.{HeldLogLaws}
 use Rattle.vmmu.specs.declared.tables.Tables4.{Tables4}
 use Rattle.nk_body.specs.CallLeft.{IsCalled, left_in, memory_left}
 use Rattle.nk_body.specs.CallMade.{IsMade, KeepsForm, left_by}
 use Rattle.nk_body.specs.CallRules.{IsSourceOf, Sourced, wants, written_unless}
 use Rattle.nk_body.specs.KindsKept.{is_settled}
-use Rattle.nk_body.specs.NestedRecord.{AreBooks, Books, HoldsBooks, Ledger, Nested, OwnState, books_in, handler_in, nested_by, nested_in}
+use Rattle.nk_body.specs.NestedRecord.{AreBooks, Books, HoldsBooks, Ledger, Nested, OwnState, books_in, handler_in, nested_by}
+use Rattle.nk_body.specs.CallLaws.{CallLaws, CallLeavesLaws}
 use Rattle.nk_body.proofs.HandlerStores.{Places, handler_stores}
 
 -- what is used of the laws on tables that memory holds, and on stores
 pub record HeldLaws : Type 0 where
-  pub stores : (frames root : ℕ) (m : List ℕ) (ws : List (ℕ × ℕ)) → HoldsTables frames root m
-      → All (λ w. is_unguarded (kinds_in m) w.0 ≡ true) ws → All (λ w. is_hidden (kind_of (kinds_in m) (w.0 / 4096)) ≡ false) ws
-      → (seen (stored m ws) ≡ stored (seen m) ws) × (descriptors_in (stored m ws) ≡ descriptors_in m)
-      × HoldsTables frames root (stored m ws)
-  pub byte_elsewhere : (m : List ℕ) (ws : List (ℕ × ℕ)) (p : ℕ) → All (λ w. w.0 ≢ p) ws → byte_at (stored m ws) p ≡ byte_at m p
+  pub tables : HeldTablesLaws
+  pub memory : MemoryLaws
 
--- descriptors, regions and log stay where their bytes do
-abbrev pub DescriptorsAgree : Type 0
-DescriptorsAgree = (frames : ℕ) (m n : List ℕ) → HoldsDescriptors frames m → length n ≡ length m
-    → ((p : ℕ) → 0x40000 ≤ p → is_book_frame frames (p / 4096) ≡ true → byte_at n p ≡ byte_at m p)
-    → (descriptors_in n ≡ descriptors_in m) × HoldsDescriptors frames n
-
-abbrev pub LogAgrees : Type 0
-LogAgrees = (counts : LogCounts) (m n : List ℕ) → HoldsLog counts m → length n ≡ length m
-    → ((p : ℕ) → 0x1A000 ≤ p → p < 0x2A000 → byte_at n p ≡ byte_at m p)
-    → (log_in counts n ≡ log_in counts m) × HoldsLog counts n
-
+-- regions and log stay where their bytes do
 pub record LedgerLaws : Type 0 where
-  pub regions : (index : RegionIndex) (m n : List ℕ) → HoldsRegions index m → length n ≡ length m
-      → ((p : ℕ) → 0x2A000 ≤ p → p < 0x40000 → byte_at n p ≡ byte_at m p)
-      → (book_in index n ≡ book_in index m) × HoldsRegions index n
-  pub log : LogAgrees
+  pub regions : HeldRegionsLaws
+  pub log : HeldLogLaws
 
 -- regions and log stand as they stood
 pub record StandsLedger (own : OwnState) (m later : List ℕ) : Type 0 where
@@ -54,17 +44,10 @@ pub record StandsLedger (own : OwnState) (m later : List ℕ) : Type 0 where
   pub regions : HoldsRegions own.regions later
   pub counts : HoldsLog own.log later
 
--- what a call leaves: the record of memory, how many kinds there are, and kinds that are settled
+-- what a call leaves
 pub record LeftLaws : Type 0 where
-  pub nested : (kinds : List Kind) (root : ℕ) (ledger : Ledger) (m : List ℕ) (call : CallWords) (source : Sourced)
-      → IsCalled kinds root ledger m call source
-      → let after : Nested = left_in kinds root ledger m call source in
-      nested_in after.tables.kinds after.tables.root after.ledger (memory_left kinds root ledger m call source) ≡ after
-  pub count : (kinds : List Kind) (root : ℕ) (ledger : Ledger) (m : List ℕ) (call : CallWords) (source : Sourced)
-      → length (left_in kinds root ledger m call source).tables.kinds ≡ length kinds
-  pub settled : (kinds : List Kind) (root f : ℕ) (ledger : Ledger) (m : List ℕ) (call : CallWords) (source : Sourced)
-      → IsCalled kinds root ledger m call source → is_settled (kind_of kinds f) ≡ true
-      → kind_of (left_in kinds root ledger m call source).tables.kinds f ≡ kind_of kinds f
+  pub call : CallLaws
+  pub leaves : CallLeavesLaws
 
 pub tables_of : (own : OwnState) (m : List ℕ) → HoldsBooks own m → HoldsTables own.frames own.root m
 tables_of own m held = record { stored = held.stored; described = held.books.described; hidden = held.hidden }
@@ -87,8 +70,8 @@ unchanged t u m later (Err b) same = (ap descriptors_in same.1, ap (λ (it : Tab
 pub ledger_stands : LedgerLaws → (own : OwnState) (m later : List ℕ) → HoldsBooks own m → length later ≡ length m
     → ((p : ℕ) → 0x1A000 ≤ p → p < 0x40000 → byte_at later p ≡ byte_at m p) → StandsLedger own m later
 ledger_stands laws own m later held size same =
-    let book = laws.regions own.regions m later held.regions size (λ p low high. same p (omega (arith, low)) high) in
-    let log = laws.log own.log m later held.log size (λ p low high. same p low (omega (arith, high))) in
+    let book = laws.regions.agree own.regions m later held.regions size (λ p low high. same p (omega (arith, low)) high) in
+    let log = laws.log.agree own.log m later held.log size (λ p low high. same p low (omega (arith, high))) in
     record { book = book.0; log = log.0; regions = book.1; counts = log.1 }
 
 -- a call on page tables
@@ -106,7 +89,7 @@ module _ (laws : HeldLaws) (own : OwnState) (m : List ℕ) (held : HoldsBooks ow
     (shown : All (λ w. is_hidden (kind_of (kinds_in m) (w.0 / 4096)) ≡ false) ws) where
   all : (seen (stored m ws) ≡ stored (seen m) ws) × (descriptors_in (stored m ws) ≡ descriptors_in m)
       × HoldsTables own.frames own.root (stored m ws)
-  all = laws.stores own.frames own.root m ws (tables_of own m held) places shown
+  all = laws.tables.stores own.frames own.root m ws (tables_of own m held) places shown
 
   pub stores_seen : seen (stored m ws) ≡ stored (seen m) ws
   stores_seen = all.0
@@ -120,7 +103,7 @@ module _ (laws : HeldLaws) (own : OwnState) (m : List ℕ) (held : HoldsBooks ow
   pub stores_others : (p : ℕ) → 0x1A000 ≤ p → p < 0x40000 → byte_at (stored m ws) p ≡ byte_at m p
   stores_others p low high =
       let hidden : kind_of (kinds_in m) (p / 4096) ≡ Hidden = held.hidden (p / 4096) (book_place own.frames p low high) in
-      laws.byte_elsewhere m ws p
+      laws.memory.byte_elsewhere m ws p
       (All-weaker (λ (w : ℕ × ℕ). is_hidden (kind_of (kinds_in m) (w.0 / 4096)) ≡ false) (λ (w : ℕ × ℕ). w.0 ≢ p)
       (λ w is same. false≢true (sym is ∙ ap (λ q. is_hidden (kind_of (kinds_in m) (q / 4096))) same ∙ ap is_hidden hidden)) ws shown)
 
@@ -140,19 +123,19 @@ held_after laws own after m later call source rule held sourced first third made
     let kinds : kinds_in later ≡ left.tables.kinds = made.kinds ∙ ap (λ (n : Nested). n.tables.kinds) by in
     let memory : seen later ≡ memory_left ks own.root ledger (seen m) call source =
     made.memory ∙ ap (λ r. written_unless r (nested_by (books_in own m) (seen m)) call source (seen m)) made.judged in
-    let count : length (kinds_in later) ≡ length ks = ap length kinds ∙ laws.count ks own.root ledger (seen m) call source in
+    let count : length (kinds_in later) ≡ length ks = ap length kinds ∙ laws.leaves.count ks own.root ledger (seen m) call source in
     record {
       books = record {
         described = made.described;
         least = omega (arith, count, held.books.least);
         trap = made.trap ∙ ap (λ (n : Nested). n.trap) by
-            ∙ sym (ap (λ (n : Nested). n.trap) (laws.nested ks own.root ledger (seen m) call source called)) ∙ ap handler_in (sym memory);
+            ∙ sym (ap (λ (n : Nested). n.trap) (laws.call.nested ks own.root ledger (seen m) call source called)) ∙ ap handler_in (sym memory);
         kept = made.keeps;
       };
       stored = form.stored;
       hidden = λ f is.
           let was : kind_of ks f ≡ Hidden = held.hidden f (sym (ap (λ n. is_book_frame n f) frames) ∙ is) in
-          ap (λ l. kind_of l f) kinds ∙ laws.settled ks own.root f ledger (seen m) call source called (ap is_settled was) ∙ was;
+          ap (λ l. kind_of l f) kinds ∙ laws.leaves.settled ks own.root f ledger (seen m) call source called (ap is_settled was) ∙ was;
       regions = form.regions;
       log = form.log;
     }
@@ -185,12 +168,12 @@ module _ (laws : HeldLaws) (ledger : LedgerLaws) (own : OwnState) (m : List ℕ)
       ledger_stands ledger own m (stored m slot_stores) held (handler_holds.size ∙ sym held.stored.size) (stores_others laws own m held slot_stores slot_free slot_shown)
 
 -- other bytes in frames that aren't the books'
-pub held_still : DescriptorsAgree → LedgerLaws
+pub held_still : StoredLaws → LedgerLaws
     → (own : OwnState) (m n : List ℕ) → HoldsBooks own m → AreBooks (books_in own m) (seen n) → length n ≡ length m
     → ((p : ℕ) → is_book_frame own.frames (p / 4096) ≡ true → byte_at n p ≡ byte_at m p)
     → (books_in own n ≡ books_in own m) × HoldsBooks own n
-held_still agree laws own m n held are size same =
-    let stands = agree own.frames m n held.stored size (λ p high is. same p is) in
+held_still stored laws own m n held are size same =
+    let stands = stored.agree own.frames m n held.stored size (λ p high is. same p is) in
     let ledger : StandsLedger own m n = ledger_stands laws own m n held size (λ p low high. same p (book_place own.frames p low high)) in
     let books : books_in own n ≡ books_in own m = λ i. record {
       frames = stands.0 i;

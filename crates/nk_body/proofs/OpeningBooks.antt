@@ -17,12 +17,14 @@ use Rattle.boot_map.specs.Parts.{common_part, part_at, sized_part}
 use Rattle.page_desc.specs.DescriptorBytes.{DiffersInDescriptors, HoldsDescriptors, descriptors_in, kinds_in}
 use Rattle.page_desc.specs.FrameDescriptors.{AreCounted}
 use Rattle.page_desc.specs.PageTables.{HoldsSoundTables}
+use Rattle.page_desc.specs.StoredLaws.{StoredLaws}
 use Rattle.region_book.specs.RegionBytes.{DiffersInRegions, HoldsRegions, RegionIndex, book_in}
+use Rattle.region_book.specs.RegionLaws.{HeldRegionsLaws}
 use Rattle.write_log.specs.LogBytes.{DiffersInLog, HoldsLog, LogCounts}
+use Rattle.write_log.specs.LogLaws.{HeldLogLaws}
 use Rattle.nk_body.specs.CallMade.{KeepsForm}
 use Rattle.nk_body.specs.NestedRecord.{HoldsBooks, IsLedgerKept, Ledger, OwnState, books_in, handler_in}
 use Rattle.nk_body.specs.SourceWords.{opening_ledger}
-use Rattle.nk_body.proofs.HeldBooks.{DescriptorsAgree, LedgerLaws}
 
 -- where they lie
 book_bounds : (frames f : ℕ) → is_book_frame frames f ≡ true → (26 ≤ f) × (f < 64 + (frames + 255) / 256)
@@ -113,11 +115,9 @@ opened_zero b m frames p opening least is =
     ∙ no_byte b (division_of b frames) (part_at (division_of b frames) (p / 4096)) (p % 4096) (opened_hidden b frames (p / 4096) is)
 
 -- descriptors that were put there don't show
-pub unseen_back : (frames : ℕ) (m later : List ℕ)
-    → ((m n : List ℕ) → HoldsDescriptors frames m → DiffersInDescriptors m n → seen n ≡ seen m)
-    → HoldsDescriptors frames later → DiffersInDescriptors m later → seen later ≡ seen m
-unseen_back frames m later unseen holds differs =
-    sym (unseen later m holds (record {
+pub unseen_back : (frames : ℕ) (m later : List ℕ) → StoredLaws → HoldsDescriptors frames later → DiffersInDescriptors m later → seen later ≡ seen m
+unseen_back frames m later laws holds differs =
+    sym (laws.unseen frames later m holds (record {
       size = sym differs.size;
       elsewhere = λ p at. sym (differs.elsewhere p (subst (λ n. (p < 0x40000) ⊎ (0x40000 + 16 * (n / 4096) ≤ p)) differs.size at));
     }))
@@ -133,17 +133,16 @@ module _ (frames : ℕ) (index : RegionIndex) (counts : LogCounts) (m with_regio
   outside p (inl low) = second.elsewhere p (inl low) ∙ first.elsewhere p (inl (omega (arith, low)))
   outside p (inr high) = second.elsewhere p (inr (omega (arith, high))) ∙ first.elsewhere p (inr high)
 
-  pub put_descriptors : DescriptorsAgree → (descriptors_in later ≡ descriptors_in m) × HoldsDescriptors frames later
-  put_descriptors agree = agree frames m later holds size (λ p high is. outside p (inr high))
+  pub put_descriptors : StoredLaws → (descriptors_in later ≡ descriptors_in m) × HoldsDescriptors frames later
+  put_descriptors laws = laws.agree frames m later holds size (λ p high is. outside p (inr high))
 
-  pub put_regions : LedgerLaws → (book_in index later ≡ book_in index with_regions) × HoldsRegions index later
-  put_regions laws = laws.regions index with_regions later regions second.size (λ p low high. second.elsewhere p (inr low))
+  pub put_regions : HeldRegionsLaws → (book_in index later ≡ book_in index with_regions) × HoldsRegions index later
+  put_regions laws = laws.agree index with_regions later regions second.size (λ p low high. second.elsewhere p (inr low))
 
-  pub put_unseen : ((m n : List ℕ) → 0x40000 ≤ length m → DiffersInRegions m n → seen n ≡ seen m)
-      → ((m n : List ℕ) → 0x40000 ≤ length m → DiffersInLog m n → seen n ≡ seen m) → seen later ≡ seen m
-  put_unseen region_law log_law =
-      log_law with_regions later (omega (arith, holds.size, holds.least, first.size)) second
-      ∙ region_law m with_regions (omega (arith, holds.size, holds.least)) first
+  pub put_unseen : HeldRegionsLaws → HeldLogLaws → seen later ≡ seen m
+  put_unseen region log =
+      log.unseen with_regions later (omega (arith, holds.size, holds.least, first.size)) second
+      ∙ region.unseen m with_regions (omega (arith, holds.size, holds.least)) first
 
 -- the opening's memory holds the books, with descriptors of the opening's kinds in it
 pub opened_books : (b m later : List ℕ) (frames : ℕ) (own : OwnState) → 512 ≤ frames → seen later ≡ m

@@ -7,12 +7,14 @@ use Rattle.nk_bits.specs.Paging.{is_canonical_page, walk}
 use Rattle.nk_bits.specs.declared.call.CallWords.{CallWords}
 use Rattle.nk_bits.specs.declared.kind.Kind.{Kind}
 use Rattle.nk_bits.specs.declared.rule.Rule.{Rule}
-use Rattle.page_desc.specs.FrameCounts.{loose_in}
 use Rattle.page_desc.specs.FrameDescriptors.{Descriptors}
-use Rattle.page_desc.specs.PageTables.{AreDescribed, HoldsSoundTables, loose_of, tables_in}
+use Rattle.page_desc.specs.PageTables.{AreDescribed, loose_of}
+use Rattle.page_desc.specs.PageTableLaws.{GuardedLaws, PageTablesLaws, RecordWalkLaws}
 use Rattle.region_book.specs.RegionCalls.{with_one_more, pages_rule, frames_from, guarded, leaf_frame, mapped, page_region}
 use Rattle.region_book.specs.RegionRecords.{Book, IsEachOnce}
+use Rattle.region_book.specs.RegionLaws.{DeclaredLaws}
 use Rattle.nk_bits.specs.Rules.{rule_of}
+use Rattle.nk_bits.specs.WalkLaws.{WalkLaws}
 use Rattle.write_log.specs.LogRecords.{LogRecord}
 use Rattle.nk_body.specs.CallMade.{IsMade}
 use Rattle.nk_body.specs.CallRules.{Sourced, mapped_by, stand_of, with_pages}
@@ -21,13 +23,7 @@ use Rattle.nk_body.proofs.CallNumbers.{declaring_rule, made_is, number_6, verdic
 use Rattle.nk_body.proofs.CallsMade.{accepted_made, books_of, refused_made}
 use Rattle.nk_body.proofs.GuardedFrames.{AreFree, frames_count, guarded_described, mapped_inside, mapped_same, rule_same}
 use Rattle.nk_body.proofs.KeptLedgers.{kept_pages}
-use Rattle.nk_body.proofs.LowerLaws.{GuardLaws, WalkLaws}
 use Rattle.nk_body.proofs.RegionRules.{IsDeclarable, declare_facts}
-
--- counts over the record are those over memory
-abbrev pub LooseLaw : Type 0
-LooseLaw = (kinds : List Kind) (root : ℕ) (m : List ℕ) (frame : ℕ) → HoldsSoundTables kinds root m
-    → loose_of (tables_in kinds root m) frame ≡ loose_in kinds (entry_in m) frame
 
 -- where a page is mapped by all of memory, and by what is seen of it
 pub seen_map : (m : List ℕ) (root : ℕ) → length (seen m) ≡ length m
@@ -37,8 +33,8 @@ seen_map m root size walks =
     (λ i page. if is_canonical_page page then leaf_frame (walks page i) else None)
     ∙ ap (λ n. mapped (entry_in (seen m)) (n / 4096) root) (sym size)
 
-module _ (guard : GuardLaws) (walks : WalkLaws) (loose : LooseLaw) (d e : Descriptors) (root trap : ℕ) (book after : Book)
-    (log : List LogRecord) (m : List ℕ) (call : CallWords) (source : Sourced) (are : AreBooks (books_of d root trap book log) m) where
+module _ (guard : GuardedLaws) (declared : DeclaredLaws) (recorded : RecordWalkLaws) (walks : WalkLaws) (tables : PageTablesLaws)
+    (d e : Descriptors) (root trap : ℕ) (book after : Book) (log : List LogRecord) (m : List ℕ) (call : CallWords) (source : Sourced) (are : AreBooks (books_of d root trap book log) m) where
   abbrev before : Books
   before = books_of d root trap book log
 
@@ -53,7 +49,7 @@ module _ (guard : GuardLaws) (walks : WalkLaws) (loose : LooseLaw) (d e : Descri
   by_memory = mapped (entry_in m) (length m / 4096) root
 
   same_map : by_memory ≡ mapped_by nk
-  same_map = mapped_same walks kinds root m are.described.sound
+  same_map = mapped_same recorded kinds root m are.described.sound
 
   judged_same : pages_rule book kinds (slice_index d.loose) by_memory call.a call.b call.c ≡ declaring_rule nk call
   judged_same =
@@ -61,7 +57,7 @@ module _ (guard : GuardLaws) (walks : WalkLaws) (loose : LooseLaw) (d e : Descri
       (λ page f found.
       let within : f < length m / 4096 = mapped_inside walks (entry_in m) (length m / 4096) root page f found in
       let inside : f < length kinds = omega (arith, within, are.described.sound.size) in
-      are.described.counted.loose f inside ∙ sym (loose kinds root m f are.described.sound))
+      are.described.counted.loose f inside ∙ sym (tables.loose kinds root m f are.described.sound))
       ∙ ap (λ at. pages_rule book kinds (loose_of nk.tables) at call.a call.b call.c) same_map
 
   pub pages_made : call.number ≡ 6 → (r : Result ℕ Rule)
@@ -80,21 +76,21 @@ module _ (guard : GuardLaws) (walks : WalkLaws) (loose : LooseLaw) (d e : Descri
       let facts = declare_facts book kinds (loose_of nk.tables) (mapped_by nk) call.a call.b call.c none in
       let fs : List ℕ = facts.0 in
       let is : IsDeclarable book kinds (loose_of nk.tables) call.b call.c fs = facts.2 in
-      let once : IsEachOnce fs = guard.once fs is.distinct in
+      let once : IsEachOnce fs = declared.once fs is.distinct in
       let found : frames_from by_memory (call.a / 4096) (call.b / 4096) ≡ Some fs =
       ap (λ at. frames_from at (call.a / 4096) (call.b / 4096)) same_map ∙ facts.1 in
       let becomes : (after ≡ with_one_more book (page_region book call.a call.b call.c fs) (length fs)) × (e ≡ record d { kinds = guarded kinds fs }) =
       subst (λ (o : Option (List ℕ)). IfSome o (λ fs. (after ≡ with_one_more book (page_region book call.a call.b call.c fs) (length fs))
       × (e ≡ record d { kinds = guarded kinds fs }))) found region in
       let free : AreFree m kinds fs =
-      λ k d below. (is.free k d below, sym (loose kinds root m _ are.described.sound) ∙ is.none k d below) in
+      λ k d below. (is.free k d below, sym (tables.loose kinds root m _ are.described.sound) ∙ is.none k d below) in
       accepted_made before m call source (books_of e root trap after log) m
       (with_pages nk call (stand_of nk call m) (Some fs)) m
       (verdict_is nk call source ∙ number_6 call.number _ _ _ _ _ _ _ _ _ _ number ∙ none)
       (made_is nk call source _ ∙ number_6 call.number _ _ _ _ _ _ _ _ _ _ number ∙ ap (with_pages nk call (stand_of nk call m)) facts.1)
       (written_6 nk call source m number)
       (ap (λ (d : Descriptors). d.kinds) becomes.1) refl are.trap (λ i. record { book = becomes.0 i; log = log }) refl
-      (subst (λ d. AreDescribed d root m) (sym becomes.1) (guarded_described guard root m fs d are.described once free))
+      (subst (λ d. AreDescribed d root m) (sym becomes.1) (guarded_described guard declared root m fs d are.described once free))
       (subst (λ (it : List Kind × Book). IsLedgerKept it.0 (record { book = it.1; log = log })) (λ i. (ap (λ (d : Descriptors). d.kinds) (sym becomes.1) i, sym becomes.0 i))
       (kept_pages kinds before.ledger are.kept (loose_of nk.tables) call.a call.b call.c fs is once
       (frames_count (mapped_by nk) (call.b / 4096) (call.a / 4096) fs facts.1)))

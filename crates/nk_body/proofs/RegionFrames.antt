@@ -88,7 +88,7 @@ module _ (kinds : List Kind) (ws : List (ℕ × ℕ)) (are : InGuarded kinds ws)
   pub handler_aside : LowerLaws → (m : List ℕ) → kind_of kinds 2 ≡ Fixed → handler_in (stored m ws) ≡ handler_in m
   unfolding handler_in
   handler_aside laws m fixed =
-      laws.byte.number_elsewhere m ws 8 0x2000
+      laws.byte.memory.number_elsewhere m ws 8 0x2000
       (All-weaker (λ (w : ℕ × ℕ). kind_of kinds (w.0 / 4096) ≡ Guarded) (λ (w : ℕ × ℕ). (w.0 < 0x2000) ⊎ (0x2000 + 8 ≤ w.0))
       (λ w is. beside w.0 (λ two. false≢true (sym (ap is_guarded fixed) ∙ ap (λ n. is_guarded (kind_of kinds n)) (sym two) ∙ ap is_guarded is))) ws are)
     where

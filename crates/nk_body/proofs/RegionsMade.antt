@@ -10,7 +10,8 @@ use Rattle.nk_bits.specs.declared.rule.Rule.{Rule}
 use Rattle.nk_bits.specs.declared.rule.Rule.TheVariants.{BadSource, OutOfBounds}
 use Rattle.nk_bits.specs.Kinds.{kind_of}
 use Rattle.page_desc.specs.FrameDescriptors.{Descriptors}
-use Rattle.page_desc.specs.PageTables.{AreDescribed, is_unguarded}
+use Rattle.page_desc.specs.PageTables.{AreDescribed}
+use Rattle.page_desc.specs.PageTableLaws.{PageTablesLaws}
 use Rattle.policy_book.specs.PolicyRules.{book_written, bounds_of, first_rule, log_written, policy_of, stores_written, write_rule}
 use Rattle.region_book.specs.declared.regions.Granted.{Granted}
 use Rattle.region_book.specs.RegionCalls.{with_one_more, alloc_rule, else_rule, fits_in, fits_region, free_rule, freed, pool_region, room}
@@ -38,11 +39,6 @@ frames_within books m id are =
     (λ f is. omega (arith, in_memory books.frames.kinds f Guarded refl is, are.described.sound.size)) r.frames all)
     books.ledger.book id are.kept.frames
 
--- descriptors after stores elsewhere
-abbrev pub DescribedLaw : Type 0
-DescribedLaw = (d : Descriptors) (root : ℕ) (m : List ℕ) (ws : List (ℕ × ℕ)) → AreDescribed d root m
-    → All (λ w. is_unguarded d.kinds w.0 ≡ true) ws → AreDescribed d root (stored m ws)
-
 module _ (d : Descriptors) (root trap : ℕ) (book after : Book) (log later_log : List LogRecord) (m later : List ℕ) (call : CallWords) (source : Sourced)
     (are : AreBooks (books_of d root trap book log) m) where
   abbrev before : Books
@@ -58,16 +54,16 @@ module _ (d : Descriptors) (root trap : ℕ) (book after : Book) (log later_log 
       (λ i. (sym books i, sym logs i, sym memory i)) (refused_made before m call source rule are judged)
 
   -- a region of the pool is allocated
-  pub pool_made : call.number ≡ 7 → DescribedLaw → later_log ≡ log → (r : Result Granted Rule) → rule_of r ≡ alloc_rule book call.a call.b
+  pub pool_made : call.number ≡ 7 → PageTablesLaws → later_log ≡ log → (r : Result Granted Rule) → rule_of r ≡ alloc_rule book call.a call.b
       → OnErr r ((after ≡ book) × (later ≡ m))
       → IfOk r (λ it. (it.id ≡ book.next) × (pool_start ≤ it.place) × (it.place < pool_start + 65536)
       × (room book.regions call.a ≡ Some (it.place - pool_start)))
       → IfOk r (λ it. after ≡ with_one_more book (pool_region book call.a call.b (it.place - pool_start)) 0)
       → IfOk r (λ it. later ≡ stored m (region_stores (pool_region book call.a call.b (it.place - pool_start)) 0 (replicate call.a 0)))
       → IsMade before m call source (rule_of r) (books_of d root trap after later_log) later
-  pool_made number described logs (Err rule) judged err found allocated memory =
+  pool_made number tables logs (Err rule) judged err found allocated memory =
       refused rule (judged ∙ sym (verdict_is nk call source ∙ number_7 call.number _ _ _ _ _ _ _ _ _ _ number)) err.0 logs err.1
-  pool_made number described logs (Ok it) judged err found allocated memory =
+  pool_made number tables logs (Ok it) judged err found allocated memory =
       let p : ℕ = it.place - pool_start in
       let is = alloc_facts book call.a call.b (sym judged) in
       let ws : List (ℕ × ℕ) = region_stores (pool_region book call.a call.b p) 0 (replicate call.a 0) in
@@ -78,7 +74,7 @@ module _ (d : Descriptors) (root trap : ℕ) (book after : Book) (log later_log 
       (written_7 nk call source m number ∙ ap (λ (o : Option ℕ). stored m (zeros_of nk call o)) found.3)
       refl refl are.trap (λ i. record { book = allocated i; log = logs i }) memory
       (subst (AreDescribed d root) (sym memory)
-      (described d root m ws are.described (unguarded d.kinds ws (zeros_guarded d.kinds _ kept call p is found.3))))
+      (tables.described d root m ws are.described (unguarded d.kinds ws (zeros_guarded d.kinds _ kept call p is found.3))))
       (subst (IsLedgerKept d.kinds) (λ i. record { book = sym allocated i; log = sym logs i })
       (kept_pool d.kinds _ kept call.a call.b p is found.3))
 
@@ -109,14 +105,14 @@ module _ (d : Descriptors) (root trap : ℕ) (book after : Book) (log later_log 
       verdict_is writing call (Bytes bytes) ∙ number_9 call.number _ _ _ _ _ _ _ _ _ _ number
       ∙ ap (λ n. write_rule book log call.a call.b n) (sym count)
 
-  pub write_made : DescribedLaw → {A : Type 0} (r : Result A Rule) → rule_of r ≡ write_rule book log call.a call.b (length bytes)
+  pub write_made : PageTablesLaws → {A : Type 0} (r : Result A Rule) → rule_of r ≡ write_rule book log call.a call.b (length bytes)
       → OnErr r ((after ≡ book) × (later_log ≡ log) × (later ≡ m)) → OnOk r (after ≡ book_written book call.a call.b (length bytes))
       → OnOk r (later_log ≡ log_written book log call.a call.b bytes)
       → OnOk r (later ≡ stored m (stores_written book call.a call.b bytes))
       → IsMade (books_of d root trap book log) m call (Bytes bytes) (rule_of r) (books_of d root trap after later_log) later
-  write_made described (Err rule) judged err book_is log_is memory =
+  write_made tables (Err rule) judged err book_is log_is memory =
       refused d root trap book after log later_log m later call (Bytes bytes) are rule (judged ∙ sym verdict_write) err.0 err.1 err.2
-  write_made described (Ok it) judged err book_is log_is memory =
+  write_made tables (Ok it) judged err book_is log_is memory =
       let facts = writing_facts (bounds_of (region_of book call.a) call.b (length bytes)) None
       (policy_of log (region_of book call.a) call.b (length bytes)) (sym judged) in
       let live = bounds_facts (region_of book call.a) call.b (length bytes) facts.0 in
@@ -126,7 +122,7 @@ module _ (d : Descriptors) (root trap : ℕ) (book after : Book) (log later_log 
       (made_is writing call (Bytes bytes) _ ∙ number_9 call.number _ _ _ _ _ _ _ _ _ _ number) (written_9 writing call (Bytes bytes) m number)
       refl refl are.trap (λ i. record { book = book_is i; log = log_is i }) memory
       (subst (AreDescribed d root) (sym memory)
-      (described d root m ws are.described
+      (tables.described d root m ws are.described
       (unguarded d.kinds ws (written_guarded d.kinds _ are.kept call.a call.b bytes live.0 live.1 live.3))))
       (subst (IsLedgerKept d.kinds) (λ i. record { book = sym book_is i; log = sym log_is i })
       (kept_written d.kinds _ are.kept call.a call.b bytes live.0 live.1 live.3

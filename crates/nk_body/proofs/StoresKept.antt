@@ -5,21 +5,17 @@ use Rattle.std.proofs.lemmas.List.Elements.{All-weaker}
 use Rattle.nk_bits.specs.declared.kind.Kind.{Kind}
 use Rattle.nk_bits.specs.declared.kind.Kind.TheVariants.{Data, Code, Table, Fixed, Trap, Guarded, Hidden}
 use Rattle.nk_bits.specs.Kinds.{is_guarded, is_storable, kind_of}
-use Rattle.phys_mem.specs.Memory.{byte_at, number_at, stored}
-use Rattle.page_desc.specs.FrameDescriptors.{Descriptors}
-use Rattle.page_desc.specs.PageTables.{AreDescribed, is_handler_byte, is_unchanging, is_table, is_unguarded, tables_in}
+use Rattle.phys_mem.specs.Memory.{stored}
+use Rattle.phys_mem.specs.MemoryLaws.{MemoryLaws}
+use Rattle.page_desc.specs.PageTables.{is_handler_byte, is_unchanging, is_table, is_unguarded}
+use Rattle.page_desc.specs.PageTableLaws.{PageTablesLaws}
 use Rattle.nk_body.specs.NestedRecord.{AreBooks, Books, Ledger, handler_in, held_bytes, nested_in}
 use Rattle.nk_body.proofs.HeldBytes.{held_same}
 
 -- what is used of the laws of memory and of page tables
 pub record StoringLaws : Type 0 where
-  pub byte_elsewhere : (m : List ℕ) (ws : List (ℕ × ℕ)) (p : ℕ) → All (λ w. w.0 ≢ p) ws → byte_at (stored m ws) p ≡ byte_at m p
-  pub number_elsewhere : (m : List ℕ) (ws : List (ℕ × ℕ)) (n p : ℕ) → All (λ w. (w.0 < p) ⊎ (p + n ≤ w.0)) ws
-      → number_at (stored m ws) n p ≡ number_at m n p
-  pub stays : (kinds : List Kind) (root : ℕ) (m : List ℕ) (ws : List (ℕ × ℕ)) → All (λ w. is_unguarded kinds w.0 ≡ true) ws
-      → tables_in kinds root (stored m ws) ≡ tables_in kinds root m
-  pub described : (d : Descriptors) (root : ℕ) (m : List ℕ) (ws : List (ℕ × ℕ)) → AreDescribed d root m
-      → All (λ w. is_unguarded d.kinds w.0 ≡ true) ws → AreDescribed d root (stored m ws)
+  pub memory : MemoryLaws
+  pub tables : PageTablesLaws
 
 -- a frame that may be stored to is no page table, its bytes may change, and no region lies in it
 unguarded_by : (kind : Kind) (b : Bool) → is_storable kind ≡ true → (not (is_table kind) && (not (is_unchanging kind) || b)) ≡ true
@@ -50,7 +46,7 @@ module _ (laws : StoringLaws) (kinds : List Kind) (ws : List (ℕ × ℕ)) (are 
   pub handler_stays : (m : List ℕ) → kind_of kinds 2 ≡ Fixed → handler_in (stored m ws) ≡ handler_in m
   unfolding handler_in
   handler_stays m fixed =
-      laws.number_elsewhere m ws 8 0x2000
+      laws.memory.number_elsewhere m ws 8 0x2000
       (All-weaker (λ (w : ℕ × ℕ). is_storable (kind_of kinds (w.0 / 4096)) ≡ true) (λ (w : ℕ × ℕ). (w.0 < 0x2000) ⊎ (0x2000 + 8 ≤ w.0))
       (λ w is. beside w.0 (λ two. false≢true (sym (ap is_storable fixed) ∙ ap (λ n. is_storable (kind_of kinds n)) (sym two) ∙ is))) ws are)
     where
@@ -63,19 +59,19 @@ module _ (laws : StoringLaws) (kinds : List Kind) (ws : List (ℕ × ℕ)) (are 
   pub held_stays : (m : List ℕ) → held_bytes kinds (stored m ws) ≡ held_bytes kinds m
   held_stays m =
       held_same kinds kinds m (stored m ws) (λ f. refl)
-      (λ p guarded. laws.byte_elsewhere m ws p
+      (λ p guarded. laws.memory.byte_elsewhere m ws p
       (All-weaker (λ (w : ℕ × ℕ). is_storable (kind_of kinds (w.0 / 4096)) ≡ true) (λ (w : ℕ × ℕ). w.0 ≢ p)
       (λ w is same. storable_apart (kind_of kinds (w.0 / 4096)) is (ap (λ q. is_guarded (kind_of kinds (q / 4096))) same ∙ guarded)) ws are))
 
   pub nested_stays : (root : ℕ) (ledger : Ledger) (m : List ℕ) → kind_of kinds 2 ≡ Fixed
       → nested_in kinds root ledger (stored m ws) ≡ nested_in kinds root ledger m
   nested_stays root ledger m fixed =
-      λ i. record { tables = laws.stays kinds root m ws unguarded i; trap = handler_stays m fixed i; held = held_stays m i; ledger = ledger }
+      λ i. record { tables = laws.tables.stays kinds root m ws unguarded i; trap = handler_stays m fixed i; held = held_stays m i; ledger = ledger }
 
 pub books_stay : (laws : StoringLaws) (books : Books) (m : List ℕ) (ws : List (ℕ × ℕ)) → AreBooks books m
     → All (λ w. is_storable (kind_of books.frames.kinds (w.0 / 4096)) ≡ true) ws → AreBooks books (stored m ws)
 books_stay laws books m ws are places = record {
-  described = laws.described books.frames books.root m ws are.described (unguarded laws books.frames.kinds ws places);
+  described = laws.tables.described books.frames books.root m ws are.described (unguarded laws books.frames.kinds ws places);
   least = are.least;
   trap = are.trap ∙ sym (handler_stays laws books.frames.kinds ws places m are.described.sound.handler);
   kept = are.kept;

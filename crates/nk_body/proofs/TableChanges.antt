@@ -100,26 +100,26 @@ module _ (laws : LowerLaws) (kinds : List Kind) (root : ℕ) (m : List ℕ) (sou
   stored_elsewhere : (l : List ℕ) (f place v p : ℕ) → 4096 * f ≤ place → place + 8 ≤ 4096 * f + 4096 → p / 4096 ≢ f
       → byte_at (stored l (stores 8 place v)) p ≡ byte_at l p
   stored_elsewhere l f place v p low high apart =
-      laws.byte.byte_elsewhere l (stores 8 place v) p
+      laws.byte.memory.byte_elsewhere l (stores 8 place v) p
       (All-weaker (λ (w : ℕ × ℕ). (place ≤ w.0) × (w.0 < place + 8)) (λ (w : ℕ × ℕ). w.0 ≢ p)
-      (λ w at same. apart (omega (arith, same, at.0, at.1, low, high))) (stores 8 place v) (laws.byte.places 8 place v))
+      (λ w at same. apart (omega (arith, same, at.0, at.1, low, high))) (stores 8 place v) (laws.byte.memory.places 8 place v))
 
   stored_bytes : (l : List ℕ) (place v : ℕ) → IsBytes l → IsBytes (stored l (stores 8 place v))
-  stored_bytes l place v are = laws.byte.bytes l (stores 8 place v) (laws.byte.values 8 place v) are
+  stored_bytes l place v are = laws.byte.memory.bytes l (stores 8 place v) (laws.byte.memory.values 8 place v) are
 
   zeroed_bytes : (f : ℕ) → f < length kinds → IsBytes m → IsBytes (frame_zeroed m f)
   zeroed_bytes f inside are p = elim (eqb_tells (p / 4096) f) [
-    | inl same ↦ subst (λ n. n < 256) (sym (laws.byte.byte_zeroed m f p (frame_within f inside) same.1)) (omega arith)
-    | inr apart ↦ subst (λ n. n < 256) (sym (laws.byte.byte_zeroed_elsewhere m f p (frame_within f inside) apart.1)) (are p)
+    | inl same ↦ subst (λ n. n < 256) (sym (laws.byte.frame.byte_zeroed m f p (frame_within f inside) same.1)) (omega arith)
+    | inr apart ↦ subst (λ n. n < 256) (sym (laws.byte.frame.byte_zeroed_elsewhere m f p (frame_within f inside) apart.1)) (are p)
   ]
 
   pub handler_left : (address : ℕ) → IsTablesLeft kinds kinds m (stored m (stores 8 0x2000 address))
   handler_left address =
       kinds_same kinds m _
-      (λ place is beside. laws.byte.byte_elsewhere m (stores 8 0x2000 address) place
+      (λ place is beside. laws.byte.memory.byte_elsewhere m (stores 8 0x2000 address) place
       (All-weaker (λ (w : ℕ × ℕ). (0x2000 ≤ w.0) × (w.0 < 0x2000 + 8)) (λ (w : ℕ × ℕ). w.0 ≢ place)
-      (λ w at same. apart w.0 place at beside same) (stores 8 0x2000 address) (laws.byte.places 8 0x2000 address)))
-      (laws.byte.size m (stores 8 0x2000 address)) (stored_bytes m 0x2000 address)
+      (λ w at same. apart w.0 place at beside same) (stores 8 0x2000 address) (laws.byte.memory.places 8 0x2000 address)))
+      (laws.byte.memory.length m (stores 8 0x2000 address)) (stored_bytes m 0x2000 address)
     where
       apart : (at place : ℕ) → (0x2000 ≤ at) × (at < 0x2000 + 8) → (place < 0x2000) ⊎ (0x2008 ≤ place) → at ≡ place → ⊥
       apart at place within (inl below) same = absurd (omega (arith, within.0, below, same))
@@ -133,8 +133,8 @@ module _ (laws : LowerLaws) (kinds : List Kind) (root : ℕ) (m : List ℕ) (sou
       kind_changed kinds m _ frame (Table level) is.inside (ap is_settled is.free) refl
       (λ some storable. absurd (omega (arith, some, none)))
       (λ place apart. stored_elsewhere (frame_zeroed m frame) frame (4096 * frame + 8 * 511) (last_value level) place (omega arith) (omega arith) apart
-      ∙ laws.byte.byte_zeroed_elsewhere m frame place fits apart)
-      (laws.byte.size (frame_zeroed m frame) _ ∙ laws.byte.size_zeroed m frame fits)
+      ∙ laws.byte.frame.byte_zeroed_elsewhere m frame place fits apart)
+      (laws.byte.memory.length (frame_zeroed m frame) _ ∙ laws.byte.frame.length_zeroed m frame fits)
       (λ are. stored_bytes (frame_zeroed m frame) _ _ (zeroed_bytes frame is.inside are))
 
   pub written_left : (frame index value : ℕ) → IsWritable (tables_in kinds root m) frame index value
@@ -144,14 +144,14 @@ module _ (laws : LowerLaws) (kinds : List Kind) (root : ℕ) (m : List ℕ) (sou
       (λ place settled beside. stored_elsewhere m frame (4096 * frame + 8 * index) value place (omega arith) (omega (arith, is.small))
       (λ same. false≢true (sym (table_unsettled (kind_of kinds frame) is.table)
       ∙ ap (λ n. is_settled (kind_of kinds n)) (sym same) ∙ settled)))
-      (laws.byte.size m _) (stored_bytes m _ value)
+      (laws.byte.memory.length m _) (stored_bytes m _ value)
 
   pub removed_left : (frame : ℕ) → IsRemovable (tables_in kinds root m) frame
       → IsTablesLeft kinds (slice_set kinds frame Data) m (frame_zeroed m frame)
   removed_left frame is =
       let fits : 4096 * frame + 4096 ≤ length m = frame_within frame is.inside in
       kind_changed kinds m _ frame Data is.inside (table_unsettled (kind_of kinds frame) is.table) refl (λ some storable. refl)
-      (λ place apart. laws.byte.byte_zeroed_elsewhere m frame place fits apart) (laws.byte.size_zeroed m frame fits)
+      (λ place apart. laws.byte.frame.byte_zeroed_elsewhere m frame place fits apart) (laws.byte.frame.length_zeroed m frame fits)
       (zeroed_bytes frame is.inside)
 
   pub nothing_left : IsTablesLeft kinds kinds m m

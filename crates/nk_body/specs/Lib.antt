@@ -5,5 +5,8 @@ pub mod CallLeft
 pub mod KindsKept
 pub mod SourceWords
 pub mod ReplayBeside
+-- Laws: what is proved of the definitions.
+pub mod CallLaws
+pub mod BookLaws
 -- Words of private clauses and proofs.
 pub mod CallMade

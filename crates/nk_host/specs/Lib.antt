@@ -8,5 +8,7 @@ pub mod CountedStream
 pub mod Attempts
 pub mod ShelfInMemory
 pub mod SinkInMemory
+-- Laws: what is proved of the definitions.
+pub mod PieceLaws
 -- Words of private clauses and proofs.
 pub mod Streams

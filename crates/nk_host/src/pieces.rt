@@ -1,11 +1,12 @@
 //! Texts of any length, put in pieces. `Pieces` takes a text's bytes one by one, so that it needs no
 //! copy of the text.
-ghost use Rattle.std.specs.Prelude.{◌≡◌, ◌<◌, ◌≤◌, ℕ, List, [], ◌∷◌, ◌++◌, length, Option, OnOk, OnErr, IsOk};
+ghost use Rattle.std.specs.Prelude.{◌≡◌, ◌<◌, ◌≤◌, ℕ, List, [], ◌∷◌, ◌++◌, length, OnOk, OnErr, IsOk};
 ghost use Rattle.std.specs.Io.KnownBytes.{Appends};
 ghost use Rattle.hex.specs.Hex.{encode_lower};
 ghost use Rattle.nk_host.specs.FaultCounts.{RoseTo};
 ghost use Rattle.nk_host.specs.PiecesOut.{MovedOn};
 ghost use Rattle.nk_host.specs.Taken.{AppendsPrefix};
+ghost use Rattle.nk_host.specs.PieceLaws.{PiecesLaws};
 
 use crate::{Sink, SinkFault};
 use arrayvec::ArrayVec;
@@ -135,11 +136,5 @@ impl Pieces {
 /// What follows where bytes are taken up: none, some behind others, and a fault behind others; what
 /// went out once none waits; and a prefix of a text as one of a longer text.
 pub fn pieces_law()
-    ensures moved_none { (a : Option (List ℕ)) (h : List ℕ) → MovedOn a a h h [] }
-    ensures moved_on { (a b c : Option (List ℕ)) (h l m x y : List ℕ)
-        → MovedOn a b h l x → MovedOn b c l m y → MovedOn a c h m (x ++ y) }
-    ensures moved_cut { (a b c : Option (List ℕ)) (h l x y : List ℕ)
-        → MovedOn a b h l x → AppendsPrefix b c (l ++ y) → AppendsPrefix a c (h ++ (x ++ y)) }
-    ensures moved_all { (a b : Option (List ℕ)) (h x : List ℕ) → MovedOn a b h [] x → Appends a b (h ++ x) }
-    ensures prefix_longer { (a b : Option (List ℕ)) (x y : List ℕ) → AppendsPrefix a b x → AppendsPrefix a b (x ++ y) }
+    ensures { PiecesLaws }
 {}

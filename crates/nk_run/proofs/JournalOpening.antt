@@ -4,10 +4,10 @@ use Rattle.std.proofs.Math.Bool.{or-false}
 use Rattle.std.proofs.lemmas.List.FromFn.{get_or-map-range_with_len, length-map-range_with_len}
 use Rattle.boot_map.specs.Opening.{IsOpening, division_byte}
 use Rattle.nk_body.specs.ReplayBeside.{IsBeside, is_opening_table}
+use Rattle.nk_body.specs.BookLaws.{BesideLaws}
 use Rattle.gate_state.specs.MachineOpening.{opening_memory, opening_state}
 use Rattle.gate_state.specs.MachineStates.{Opening, nested_of}
 use Rattle.nk_run.specs.ReplayedRuns.{was_table}
-use Rattle.nk_run.proofs.LawsBelow.{BesideLaws}
 use Rattle.nk_run.proofs.ToldSections.{opened}
 
 is_opening : (o : Opening) → IsOpening o.image o.frames (opening_memory o)

@@ -7,6 +7,7 @@ use Rattle.text_lines.specs.TextLines.{lines}
 use Rattle.nk_body.specs.CallRules.{made}
 use Rattle.nk_body.specs.NestedRecord.{Nested}
 use Rattle.nk_body.specs.ReplayBeside.{IsBeside}
+use Rattle.nk_body.specs.BookLaws.{BesideLaws}
 use Rattle.gate_state.specs.declared.moves.Move.{Move}
 use Rattle.gate_state.specs.GuardedStates.{IsGuarded}
 use Rattle.gate_state.specs.MachineStates.{MachineState, Opening, nested_of}
@@ -24,7 +25,6 @@ use Rattle.nk_run.specs.RunStates.{closing, ended, ending_at, is_halted, one_unl
 use Rattle.nk_run.specs.RunStates.{lines_from}
 use Rattle.gate_state.specs.ShownSteps.{IsShown, IsShownCall}
 use Rattle.nk_run.proofs.HeardLines.{ending_heard}
-use Rattle.nk_run.proofs.LawsBelow.{BesideLaws}
 use Rattle.nk_run.proofs.ReplaySteps.{replay_line}
 use Rattle.nk_run.proofs.Runs.{counted, left, not_resting, turn_left}
 use Rattle.nk_run.proofs.RunSteps.{IsStepped, called_first, replay_beside, step_beside}

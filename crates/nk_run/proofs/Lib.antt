@@ -23,7 +23,6 @@ pub mod Splits
 pub mod Glyphs
 pub mod SpelledNumbers
 pub mod HeardLines
-pub mod LawsBelow
 pub mod ReplaySteps
 pub mod ToldSections
 pub mod RunSteps

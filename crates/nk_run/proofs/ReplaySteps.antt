@@ -7,10 +7,10 @@ use Rattle.nk_bits.specs.declared.call.CallWords.{CallWords}
 use Rattle.text_lines.specs.TextLines.{lines}
 use Rattle.nk_body.specs.CallRules.{Bytes, IsSourceOf, NotTaken, Sourced, Unreadable, answer_to, wants}
 use Rattle.nk_body.specs.NestedRecord.{Nested}
+use Rattle.nk_body.specs.BookLaws.{BesideLaws}
 use Rattle.replay_core.specs.JournalLines.{Calls, Heard}
 use Rattle.replay_core.specs.ReplayedCalls.{WholeReplay, Replayed, is_answer, is_given, is_same_place, replay_from, replayed, stops_at, with_line}
 use Rattle.nk_run.proofs.HeardLines.{IsHeard, noted_of}
-use Rattle.nk_run.proofs.LawsBelow.{BesideLaws}
 
 pub replay_line : (number : ℕ) (line rest : List ℕ) (says : Option Heard) (s : Replayed) → IsHeard line says
     → replay_from number (lines (line ++ rest)) s ≡ with_line number s says (replay_from (number + 1) (lines rest))

@@ -16,6 +16,7 @@ use Rattle.cpu_step.specs.declared.stepped.Stepped.TheVariants as stepped
 use Rattle.nk_body.specs.CallRules.{IsSourceOf, Sourced, made, made_unless, stand_of, verdict, wants, accepted_memory, written_unless}
 use Rattle.nk_body.specs.NestedRecord.{Nested}
 use Rattle.nk_body.specs.ReplayBeside.{IsAccepted, IsBeside, declares_table, is_opening_table}
+use Rattle.nk_body.specs.BookLaws.{BesideLaws}
 use Rattle.gate_state.specs.declared.moves.Move.{Move}
 use Rattle.gate_state.specs.declared.moves.Move.TheVariants as move
 use Rattle.gate_state.specs.GuardedStates.{IsGuarded}
@@ -28,7 +29,6 @@ use Rattle.nk_run.specs.ReplayedRuns.{was_table}
 use Rattle.nk_run.specs.RunStates.{shown, shown_by}
 use Rattle.gate_state.specs.ShownSteps.{IsShown, IsShownCall, IsShownDelivery}
 use Rattle.nk_run.proofs.HeardLines.{IsSmallCall, IsSmallDelivery, call_heard, console_heard, delivery_heard, noted_of}
-use Rattle.nk_run.proofs.LawsBelow.{BesideLaws}
 use Rattle.nk_run.proofs.ToldSections.{opened}
 use Rattle.nk_run.proofs.ReplaySteps.{replay_call, replay_line}
 

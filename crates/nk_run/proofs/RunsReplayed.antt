@@ -7,11 +7,11 @@ use Rattle.gate_state.specs.MachineStates.{MachineState, Opening, nested_of}
 use Rattle.gate_state.specs.MachineSteps.{calls, made_by_all, state}
 use Rattle.replay_core.specs.ReplayedCalls.{Replayed, replay_of}
 use Rattle.report_text.specs.ClosingSection.{section}
+use Rattle.nk_body.specs.BookLaws.{BesideLaws}
 use Rattle.nk_run.specs.JournalLaw.{IsReplayedRun}
 use Rattle.nk_run.specs.RunStates.{run_length, run_text}
 use Rattle.nk_run.proofs.JournalOpening.{opening_beside}
 use Rattle.nk_run.proofs.Journals.{Follows, StepLaws, replays}
-use Rattle.nk_run.proofs.LawsBelow.{BesideLaws}
 use Rattle.nk_run.proofs.ToldSections.{told_section}
 
 -- what is known of a run

@@ -1,21 +1,11 @@
 -- The fields of descriptors after one of them is stored: there the value, and everywhere else what stood there.
-use Rattle.std.proofs.Common.{◌≡◌, ◌≢◌, ◌⊎◌, ℕ, ◌+◌, ◌*◌, ◌%◌, ◌^◌, ◌<◌, ◌≤◌, List, length, All, arith, inl, inr}
+use Rattle.std.proofs.Common.{◌≡◌, ◌≢◌, ◌⊎◌, ℕ, ◌+◌, ◌*◌, ◌%◌, ◌^◌, ◌<◌, ◌≤◌, List, length, arith, inl, inr}
 use Rattle.std.proofs.lemmas.Bool.{cases_lt}
 use Rattle.std.proofs.lemmas.List.Elements.{All-weaker}
 use Rattle.phys_mem.specs.Memory.{byte_at, number_at, stored, stores}
+use Rattle.phys_mem.specs.MemoryLaws.{MemoryLaws}
 use Rattle.page_desc.specs.DescriptorBytes.{field_in}
 use Rattle.page_desc.specs.FieldChanges.{DiffersInField}
-
--- what is used of the laws of memory
-pub record FieldLaws : Type 0 where
-  pub byte_elsewhere : (m : List ℕ) (ws : List (ℕ × ℕ)) (p : ℕ) → All (λ w. w.0 ≢ p) ws
-      → byte_at (stored m ws) p ≡ byte_at m p
-  pub number_elsewhere : (m : List ℕ) (ws : List (ℕ × ℕ)) (n p : ℕ) → All (λ w. (w.0 < p) ⊎ (p + n ≤ w.0)) ws
-      → number_at (stored m ws) n p ≡ number_at m n p
-  pub number_stored : (m : List ℕ) (n p v : ℕ) → p + n ≤ length m
-      → number_at (stored m (stores n p v)) n p ≡ v % 256 ^ n
-  pub places : (n p v : ℕ) → All (λ w. (p ≤ w.0) × (w.0 < p + n)) (stores n p v)
-  pub length : (m : List ℕ) (ws : List (ℕ × ℕ)) → length (stored m ws) ≡ length m
 
 -- what a store of one field leaves
 pub record IsPut (frames at frame value : ℕ) (before after : List ℕ) : Type 0 where
@@ -23,7 +13,7 @@ pub record IsPut (frames at frame value : ℕ) (before after : List ℕ) : Type 
   pub apart : (f : ℕ) → f ≢ frame → field_in after at f ≡ field_in before at f
   pub differs : DiffersInField frames at before after
 
-module _ (laws : FieldLaws) (m : List ℕ) (at frame value : ℕ) where
+module _ (laws : MemoryLaws) (m : List ℕ) (at frame value : ℕ) where
   abbrev after : List ℕ
   after = stored m (stores 4 (0x40000 + 16 * frame + at) value)
 

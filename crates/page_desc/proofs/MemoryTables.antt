@@ -5,20 +5,11 @@ use Rattle.std.proofs.lemmas.List.{length-append, length-drop, length-replicate,
 use Rattle.std.proofs.lemmas.Bool.{and_from, and_left, and_right, cases_eq, cond-false, cond_both, eq-eqb, ne_eqb}
 use Rattle.nk_bits.specs.Paging.{emptied, replaced, slot_value, zeroed}
 use Rattle.phys_mem.specs.Memory.{entry_in, frame_zeroed, patched, stored, stores}
+use Rattle.phys_mem.specs.MemoryLaws.{FrameLaws}
 use Rattle.page_desc.specs.FrameDescriptors.{last_value}
 use Rattle.page_desc.proofs.CountLaws.{replaced_elsewhere, replaced_here}
 use Rattle.page_desc.proofs.NewTables.{emptied_elsewhere, emptied_here, emptied_slot, zeroed_elsewhere}
 use Rattle.page_desc.proofs.TableDescriptors.{last_slot}
-
--- what is used of the laws of frames
-pub record EntryLaws : Type 0 where
-  pub stored_here : (m : List ℕ) (f i v : ℕ) → 4096 * f + 4096 ≤ length m → i < 512 → v < 2 ^ 64
-      → entry_in (stored m (stores 8 (4096 * f + 8 * i) v)) f i ≡ v
-  pub stored_apart : (m : List ℕ) (a b v f i : ℕ) → b < 512 → i < 512 → (f ≡ a → i ≡ b → ⊥)
-      → entry_in (stored m (stores 8 (4096 * a + 8 * b) v)) f i ≡ entry_in m f i
-  pub zeroed_here : (m : List ℕ) (a i : ℕ) → 4096 * a + 4096 ≤ length m → i < 512 → entry_in (frame_zeroed m a) a i ≡ 0
-  pub zeroed_apart : (m : List ℕ) (a f i : ℕ) → 4096 * a + 4096 ≤ length m → i < 512 → f ≢ a
-      → entry_in (frame_zeroed m a) f i ≡ entry_in m f i
 
 -- the tables with a frame's entries 0, there
 zero_here : (t : ℕ → ℕ → ℕ) (a i : ℕ) → zeroed t a a i ≡ 0
@@ -47,7 +38,7 @@ last_small : (level : ℕ) → last_value level < 2 ^ 64
 unfolding slot_value
 last_small level = cond_both (level == 4) slot_value 0 (λ v. v < 2 ^ 64) (λ is. omega arith) (λ is. omega arith)
 
-module _ (laws : EntryLaws) (m : List ℕ) (a : ℕ) (inside : 4096 * a + 4096 ≤ length m) where
+module _ (laws : FrameLaws) (m : List ℕ) (a : ℕ) (inside : 4096 * a + 4096 ≤ length m) where
   pub entry_replaced : (b v f i : ℕ) → b < 512 → v < 2 ^ 64 → i < 512
       → entry_in (stored m (stores 8 (4096 * a + 8 * b) v)) f i ≡ replaced (entry_in m) a b v f i
   entry_replaced b v f i at_b fits small =
@@ -55,21 +46,21 @@ module _ (laws : EntryLaws) (m : List ℕ) (a : ℕ) (inside : 4096 * a + 4096 �
         | inl frame ↦ elim (cases_eq i b) [
           | inl index ↦
               (λ j. entry_in (stored m (stores 8 (4096 * a + 8 * b) v)) (frame j) (index j))
-              ∙ laws.stored_here m a b v inside at_b fits
+              ∙ laws.entry_stored m a b v inside at_b fits
               ∙ sym (replaced_here (entry_in m) a b v) ∙ sym (λ j. replaced (entry_in m) a b v (frame j) (index j))
-          | inr apart ↦ laws.stored_apart m a b v f i at_b small (λ _ e. apart e)
+          | inr apart ↦ laws.entry_apart m a b v f i at_b small (λ _ e. apart e)
               ∙ sym (replaced_elsewhere (entry_in m) a b v f i (λ _ e. apart e))
         ]
-        | inr apart ↦ laws.stored_apart m a b v f i at_b small (λ e _. apart e)
+        | inr apart ↦ laws.entry_apart m a b v f i at_b small (λ e _. apart e)
             ∙ sym (replaced_elsewhere (entry_in m) a b v f i (λ e _. apart e))
       ]
 
   pub entry_zeroed : (f i : ℕ) → i < 512 → entry_in (frame_zeroed m a) f i ≡ zeroed (entry_in m) a f i
   entry_zeroed f i small =
       elim (cases_eq f a) [
-        | inl frame ↦ ap (λ g. entry_in (frame_zeroed m a) g i) frame ∙ laws.zeroed_here m a i inside small
+        | inl frame ↦ ap (λ g. entry_in (frame_zeroed m a) g i) frame ∙ laws.entry_zeroed m a i inside small
             ∙ sym (zero_here (entry_in m) a i) ∙ sym (ap (λ g. zeroed (entry_in m) a g i) frame)
-        | inr apart ↦ laws.zeroed_apart m a f i inside small apart ∙ sym (zeroed_elsewhere (entry_in m) a f i apart)
+        | inr apart ↦ laws.entry_zeroed_elsewhere m a f i inside small apart ∙ sym (zeroed_elsewhere (entry_in m) a f i apart)
       ]
 
   -- the last entry of a new table, and its others
@@ -93,14 +84,14 @@ module _ (laws : EntryLaws) (m : List ℕ) (a : ℕ) (inside : 4096 * a + 4096 �
         | inl frame ↦ elim (cases_eq i 511) [
           | inl index ↦
               (λ j. entry_in (stored zero (stores 8 (4096 * a + 8 * 511) (last_value level))) (frame j) (index j))
-              ∙ laws.stored_here zero a 511 (last_value level) (omega (arith, inside, length_zeroed m a inside)) (omega arith) (last_small level)
+              ∙ laws.entry_stored zero a 511 (last_value level) (omega (arith, inside, length_zeroed m a inside)) (omega arith) (last_small level)
               ∙ new_last level ∙ sym (λ j. emptied (entry_in m) a level (frame j) (index j))
           | inr apart ↦
-              laws.stored_apart zero a 511 (last_value level) f i (omega arith) small (λ _ e. apart e)
-              ∙ ap (λ g. entry_in zero g i) frame ∙ laws.zeroed_here m a i inside small ∙ sym (new_other level i apart)
+              laws.entry_apart zero a 511 (last_value level) f i (omega arith) small (λ _ e. apart e)
+              ∙ ap (λ g. entry_in zero g i) frame ∙ laws.entry_zeroed m a i inside small ∙ sym (new_other level i apart)
               ∙ sym (ap (λ g. emptied (entry_in m) a level g i) frame)
         ]
         | inr apart ↦
-            laws.stored_apart zero a 511 (last_value level) f i (omega arith) small (λ e _. apart e)
-            ∙ laws.zeroed_apart m a f i inside small apart ∙ sym (emptied_elsewhere (entry_in m) a level f i apart)
+            laws.entry_apart zero a 511 (last_value level) f i (omega arith) small (λ e _. apart e)
+            ∙ laws.entry_zeroed_elsewhere m a f i inside small apart ∙ sym (emptied_elsewhere (entry_in m) a level f i apart)
       ]

@@ -1,13 +1,14 @@
 -- Stores outside page tables and outside the bytes that never change leave what memory's tables stand for, and keep the
 -- tables sound and described.
-use Rattle.std.proofs.Common.{◌≡◌, ◌≢◌, ℕ, ◌+◌, ◌*◌, ◌/◌, ◌%◌, ◌<◌, Bool, true, false, not, ◌&&◌, ◌||◌, ◌==◌, List, length, All, arith, refl, sym, ap, ◌∙◌, inl, inr}
+use Rattle.std.proofs.Common.{◌≡◌, ◌≢◌, ℕ, ◌+◌, ◌*◌, ◌/◌, ◌%◌, ◌<◌, Bool, true, false, not, ◌&&◌, ◌||◌, ◌==◌, List, All, arith, refl, sym, ap, ◌∙◌, inl, inr}
 use Rattle.std.specs.Prelude.{nat_lt, if◌then◌else◌}
 use Rattle.std.proofs.lemmas.Bool.{and_parts, eqb-true, false≢true, ltb-true, or_cases}
 use Rattle.std.proofs.lemmas.List.Elements.{All-weaker}
 use Rattle.nk_bits.specs.declared.kind.Kind.{Kind}
 use Rattle.nk_bits.specs.declared.kind.Kind.TheVariants.{Fixed}
 use Rattle.nk_bits.specs.Kinds.{kind_of}
-use Rattle.phys_mem.specs.Memory.{byte_at, entry_in, stored}
+use Rattle.phys_mem.specs.Memory.{entry_in, stored}
+use Rattle.phys_mem.specs.MemoryLaws.{FrameLaws, MemoryLaws}
 use Rattle.page_desc.specs.FrameCounts.{links_in, loose_in}
 use Rattle.page_desc.specs.FrameDescriptors.{Descriptors}
 use Rattle.page_desc.specs.PageTables.{AreDescribed, HoldsSoundTables, Tables, is_handler_byte, is_unchanging, is_table, is_unguarded, unchanging_bytes, links_of, loose_of, table_entries, tables_in}
@@ -16,11 +17,8 @@ use Rattle.page_desc.proofs.SoundWhere.{sound_where}
 
 -- what is used of the laws of memory
 pub record StoreLaws : Type 0 where
-  pub length : (m : List ℕ) (ws : List (ℕ × ℕ)) → length (stored m ws) ≡ length m
-  pub byte_elsewhere : (m : List ℕ) (ws : List (ℕ × ℕ)) (p : ℕ) → All (λ w. w.0 ≢ p) ws
-      → byte_at (stored m ws) p ≡ byte_at m p
-  pub entry_elsewhere : (m : List ℕ) (ws : List (ℕ × ℕ)) (f i : ℕ) → i < 512 → All (λ w. w.0 / 4096 ≢ f) ws
-      → entry_in (stored m ws) f i ≡ entry_in m f i
+  pub memory : MemoryLaws
+  pub frame : FrameLaws
 
 pub choice_same : {A : Type 0} (b : Bool) (x y z : A) → (b ≡ true → x ≡ y) → (if b then x else z) ≡ (if b then y else z)
 choice_same true x y z same = same refl
@@ -74,7 +72,7 @@ module _ (laws : StoreLaws) (kinds : List Kind) (m : List ℕ) (ws : List (ℕ �
   frame_stays : (f i : ℕ) → i < 512 → ((place : ℕ) → is_unguarded kinds place ≡ true → place / 4096 ≢ f)
       → entry_in (stored m ws) f i ≡ entry_in m f i
   frame_stays f i small apart =
-      laws.entry_elsewhere m ws f i small
+      laws.frame.entry_elsewhere m ws f i small
       (All-weaker (λ (w : ℕ × ℕ). is_unguarded kinds w.0 ≡ true) (λ (w : ℕ × ℕ). w.0 / 4096 ≢ f) (λ w. apart w.0) ws free)
 
   -- as it does outside a fixed frame but 2
@@ -96,7 +94,7 @@ module _ (laws : StoreLaws) (kinds : List Kind) (m : List ℕ) (ws : List (ℕ �
   unfolding unchanging_bytes
   bytes_stay f offset =
       choice_same (is_unchanging (kind_of kinds f) && nat_lt offset 4096 && not (is_handler_byte f offset)) _ _ 0
-      (λ kept. laws.byte_elsewhere m ws (4096 * f + offset)
+      (λ kept. laws.memory.byte_elsewhere m ws (4096 * f + offset)
       (All-weaker (λ (w : ℕ × ℕ). is_unguarded kinds w.0 ≡ true) (λ (w : ℕ × ℕ). w.0 ≢ 4096 * f + offset)
       (λ w is. unguarded_kept kinds w.0 f offset is kept) ws free))
 
@@ -108,7 +106,7 @@ module _ (laws : StoreLaws) (kinds : List Kind) (m : List ℕ) (ws : List (ℕ �
 
   module _ (root : ℕ) (sound : HoldsSoundTables kinds root m) where
     pub sound_stays : HoldsSoundTables kinds root (stored m ws)
-    sound_stays = sound_where kinds root m (stored m ws) (laws.length m ws) table_stays fixed_stays sound
+    sound_stays = sound_where kinds root m (stored m ws) (laws.memory.length m ws) table_stays fixed_stays sound
 
     loose_stays : (frame : ℕ) → loose_in kinds (entry_in (stored m ws)) frame ≡ loose_in kinds (entry_in m) frame
     loose_stays frame =

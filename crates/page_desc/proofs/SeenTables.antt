@@ -1,11 +1,12 @@
 -- Tables in two memories that agree outside hidden frames: they are one record, sound in both where they are in one, and
 -- every walk finds the same.
-use Rattle.std.proofs.Common.{◌≡◌, ◌≢◌, ℕ, ◌+◌, ◌*◌, ◌/◌, ◌<◌, ◌≤◌, Bool, true, false, not, ◌&&◌, List, length, All, arith, refl, sym, ap, subst, ◌∙◌}
+use Rattle.std.proofs.Common.{◌≡◌, ◌≢◌, ℕ, ◌+◌, ◌*◌, ◌/◌, ◌<◌, ◌≤◌, true, false, not, ◌&&◌, List, length, All, arith, refl, sym, ap, subst, ◌∙◌}
 use Rattle.std.specs.Prelude.{nat_lt}
 use Rattle.std.proofs.lemmas.Bool.{and_parts, false_from_ne_true, ltb-true, true≢false}
 use Rattle.std.proofs.lemmas.List.Elements.{All-weaker}
 use Rattle.phys_mem.specs.MaskedMemory.{is_book_frame, masked, seen}
 use Rattle.phys_mem.specs.Memory.{byte_at, entry_in, stored}
+use Rattle.phys_mem.specs.MaskLaws.{MaskLaws}
 use Rattle.nk_bits.specs.declared.kind.Kind.{Kind}
 use Rattle.nk_bits.specs.declared.kind.Kind.TheVariants.{Data, Code, Table, Fixed, Trap, Guarded, Hidden}
 use Rattle.nk_bits.specs.Kinds.{is_hidden, kind_of}
@@ -37,16 +38,6 @@ kept_shown Fixed is = refl
 kept_shown Trap is = refl
 kept_shown Guarded is = refl
 kept_shown Hidden is = sym is
-
--- what is used of the laws of masks
-pub record MaskLaws : Type 0 where
-  pub byte_seen : (hidden : ℕ → Bool) (m : List ℕ) (p : ℕ) → hidden (p / 4096) ≡ false
-      → byte_at (masked hidden m) p ≡ byte_at m p
-  pub entry_seen : (hidden : ℕ → Bool) (m : List ℕ) (f i : ℕ) → i < 512 → hidden f ≡ false
-      → entry_in (masked hidden m) f i ≡ entry_in m f i
-  pub stored_seen : (hidden : ℕ → Bool) (m : List ℕ) (ws : List (ℕ × ℕ))
-      → All (λ w. hidden (w.0 / 4096) ≡ false) ws → masked hidden (stored m ws) ≡ stored (masked hidden m) ws
-  pub length : (hidden : ℕ → Bool) (m : List ℕ) → length (masked hidden m) ≡ length m
 
 -- memories of one size that agree outside hidden frames
 pub record AreAlike (kinds : List Kind) (l m : List ℕ) : Type 0 where
@@ -129,7 +120,7 @@ module _ (masks : MaskLaws) (frames root : ℕ) (m : List ℕ) (held : HoldsTabl
       (shown : All (λ w. is_hidden (kind_of (kinds_in m) (w.0 / 4096)) ≡ false) ws) where
     pub stores_seen : seen (stored m ws) ≡ stored (seen m) ws
     stores_seen =
-        ap (λ k. masked (is_book_frame (k / 4096)) (stored m ws)) (laws.length m ws)
+        ap (λ k. masked (is_book_frame (k / 4096)) (stored m ws)) (laws.memory.length m ws)
         ∙ masks.stored_seen (is_book_frame (length m / 4096)) m ws
         (All-weaker (λ (w : ℕ × ℕ). is_hidden (kind_of (kinds_in m) (w.0 / 4096)) ≡ false)
         (λ (w : ℕ × ℕ). is_book_frame (length m / 4096) (w.0 / 4096) ≡ false)
@@ -137,17 +128,17 @@ module _ (masks : MaskLaws) (frames root : ℕ) (m : List ℕ) (held : HoldsTabl
 
     book_bytes_stay : (p : ℕ) → 0x40000 ≤ p → is_book_frame frames (p / 4096) ≡ true → byte_at (stored m ws) p ≡ byte_at m p
     book_bytes_stay p least book =
-        laws.byte_elsewhere m ws p
+        laws.memory.byte_elsewhere m ws p
         (All-weaker (λ (w : ℕ × ℕ). is_hidden (kind_of (kinds_in m) (w.0 / 4096)) ≡ false) (λ (w : ℕ × ℕ). w.0 ≢ p)
         (λ w is same. true≢false (sym book ∙ ap (λ q. is_book_frame frames (q / 4096)) (sym same) ∙ unhidden (w.0 / 4096) is))
         ws shown)
 
     pub descriptors_stay : descriptors_in (stored m ws) ≡ descriptors_in m
-    descriptors_stay = descriptors_same frames m (stored m ws) held.stored (laws.length m ws) book_bytes_stay
+    descriptors_stay = descriptors_same frames m (stored m ws) held.stored (laws.memory.length m ws) book_bytes_stay
 
     pub tables_held_after : HoldsTables frames root (stored m ws)
     tables_held_after = record {
-      stored = descriptors_held frames m (stored m ws) held.stored (laws.length m ws) book_bytes_stay;
+      stored = descriptors_held frames m (stored m ws) held.stored (laws.memory.length m ws) book_bytes_stay;
       described =
           subst (λ (d : Descriptors). AreDescribed d root (seen (stored m ws))) (sym descriptors_stay)
           (subst (λ l. AreDescribed (descriptors_in m) root l) (sym stores_seen)

@@ -4,11 +4,12 @@ use Rattle.std.specs.List.{range_with_len}
 use Rattle.std.proofs.lemmas.Grind.{same_number_lists}
 use Rattle.std.proofs.lemmas.List.FromFn.{get_or-map-range_with_len, length-map-range_with_len}
 use Rattle.phys_mem.specs.Memory.{byte_at, number_at, stored, stores}
+use Rattle.phys_mem.specs.MemoryLaws.{MemoryLaws}
 use Rattle.region_book.specs.declared.row.Row.{Row}
 use Rattle.region_book.specs.RegionBytes.{HasRowForm, row_in, slot_place}
 use Rattle.region_book.specs.SlotChanges.{DiffersInSlot, DiffersWithin, Holds, IsStorableRow, head_of}
 use Rattle.region_book.proofs.ListEdits.{map_run_agree}
-use Rattle.region_book.proofs.SlotStores.{AreBetween, StoreLaws, differs_more, differs_wider, holds_stays, number_beside, one_differs}
+use Rattle.region_book.proofs.SlotStores.{AreBetween, differs_more, differs_wider, holds_stays, number_beside, one_differs}
 
 pub slot_differs : (s : ℕ) (m n : List ℕ) → DiffersWithin (slot_place s) (slot_place s + 64) m n → DiffersInSlot s m n
 slot_differs s m n differs = record { size = differs.size; elsewhere = differs.elsewhere }
@@ -145,7 +146,7 @@ pub record IsTailPut (s tail : ℕ) (before after : List ℕ) : Type 0 where
   pub form : HasRowForm before s → HasRowForm after s
   pub elsewhere : DiffersInSlot s before after
 
-pub tail_is_put : StoreLaws → (m : List ℕ) (s tail : ℕ) → 0x40000 ≤ length m → s < 256 → tail < 2 ^ 32
+pub tail_is_put : MemoryLaws → (m : List ℕ) (s tail : ℕ) → 0x40000 ≤ length m → s < 256 → tail < 2 ^ 32
     → IsTailPut s tail m (stored m (stores 4 (slot_place s + 20) tail))
 tail_is_put laws m s tail room small fits =
     let after = stored m (stores 4 (slot_place s + 20) tail) in

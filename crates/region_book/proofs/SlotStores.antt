@@ -1,21 +1,13 @@
 -- Numbers that are stored one behind another: each is found again, and no other byte changes.
-use Rattle.std.proofs.Common.{◌≡◌, ◌≢◌, ◌⊎◌, ℕ, zero, suc, ◌+◌, ◌*◌, ◌%◌, ◌^◌, ◌<◌, ◌≤◌, List, [], ◌∷◌, length, All, arith, refl, ap, ◌∙◌, inl, inr}
+use Rattle.std.proofs.Common.{◌≡◌, ◌≢◌, ◌⊎◌, ℕ, zero, suc, ◌+◌, ◌*◌, ◌^◌, ◌<◌, ◌≤◌, List, [], ◌∷◌, length, arith, refl, ap, ◌∙◌, inl, inr}
 use Rattle.std.specs.Prelude.{⊤}
 use Rattle.std.proofs.lemmas.Bool.{cases_eq, cases_lt}
 use Rattle.std.proofs.lemmas.List.Elements.{All-weaker}
 use Rattle.std.proofs.Math.Nat.{mod-eq_of_lt}
 use Rattle.phys_mem.specs.Memory.{byte_at, number_at, stored, stores}
+use Rattle.phys_mem.specs.MemoryLaws.{MemoryLaws}
 use Rattle.region_book.specs.SlotChanges.{DiffersWithin, Holds}
 use Rattle.region_book.proofs.SlotRows.{number_same}
-
--- what is used of the laws of memory
-pub record StoreLaws : Type 0 where
-  pub byte_elsewhere : (m : List ℕ) (ws : List (ℕ × ℕ)) (p : ℕ) → All (λ w. w.0 ≢ p) ws
-      → byte_at (stored m ws) p ≡ byte_at m p
-  pub number_stored : (m : List ℕ) (n p v : ℕ) → p + n ≤ length m
-      → number_at (stored m (stores n p v)) n p ≡ v % 256 ^ n
-  pub places : (n p v : ℕ) → All (λ w. (p ≤ w.0) × (w.0 < p + n)) (stores n p v)
-  pub length : (m : List ℕ) (ws : List (ℕ × ℕ)) → length (stored m ws) ≡ length m
 
 -- changes within bounds, behind one another
 pub differs_none : (from to : ℕ) (m : List ℕ) → DiffersWithin from to m m
@@ -48,7 +40,7 @@ number_beside from to a b k p apart differs =
     ]))
 
 -- one number
-pub one_differs : StoreLaws → (m : List ℕ) (k p v : ℕ) → DiffersWithin p (p + k) m (stored m (stores k p v))
+pub one_differs : MemoryLaws → (m : List ℕ) (k p v : ℕ) → DiffersWithin p (p + k) m (stored m (stores k p v))
 one_differs laws m k p v = record {
   size = laws.length m (stores k p v);
   elsewhere = λ q apart. laws.byte_elsewhere m (stores k p v) q
@@ -91,7 +83,7 @@ bounds_ordered : (a b : ℕ) (fs : List (ℕ × ℕ × ℕ)) → AreBetween a b 
 bounds_ordered a b [] between = between
 bounds_ordered a b (f ∷ fs) between = omega (arith, between.0, bounds_ordered (f.0 + f.1) b fs between.1)
 
-module _ (laws : StoreLaws) where
+module _ (laws : MemoryLaws) where
   pub laid_differs : (m : List ℕ) (a b : ℕ) (fs : List (ℕ × ℕ × ℕ)) → AreBetween a b fs → DiffersWithin a b m (laid m fs)
   laid_differs m a b [] between = differs_none a b m
   laid_differs m a b (f ∷ fs) between =

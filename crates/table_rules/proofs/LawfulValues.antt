@@ -1,5 +1,5 @@
 -- A value that breaks no rule is lawful in a table of its level.
-use Rattle.std.proofs.Common.{◌≡◌, ◌≢◌, ℕ, ◌+◌, Bool, true, false, not, ◌&&◌, ◌==◌, List, Option, None, refl, sym, ap, subst, ◌∙◌, inl, inr}
+use Rattle.std.proofs.Common.{◌≡◌, ℕ, ◌+◌, Bool, true, false, not, ◌&&◌, ◌==◌, List, Option, None, refl, sym, ap, subst, ◌∙◌, inl, inr}
 use Rattle.std.proofs.lemmas.Bool.{and_parts, cases_eq, cond-false, eq-eqb, eqb-true, ne_eqb, not-false}
 use Rattle.nk_bits.specs.declared.kind.Kind.{Kind}
 use Rattle.nk_bits.specs.declared.rule.Rule.{Rule}
@@ -8,6 +8,7 @@ use Rattle.nk_bits.specs.EntryForms.{has_form, has_leaf_form, has_table_form}
 use Rattle.nk_bits.specs.Kinds.{allows, kind_of, level_of}
 use Rattle.nk_bits.specs.Paging.{frame_of, is_present, is_slot_entry, rights_of}
 use Rattle.page_desc.specs.SoundTables.{is_lawful}
+use Rattle.page_desc.specs.SoundLaws.{SoundLaws}
 use Rattle.table_rules.specs.ValueRules.{broken, is_target, value_rule}
 
 -- where no rule of a list is broken, the first isn't, and none of the later ones
@@ -50,22 +51,17 @@ admitted kinds level e none present = record {
       present (eq-eqb level 1 one);
 }
 
-module _ (lawful_leaf : (kinds : List Kind) (i e : ℕ)
-    → (is_present e ≡ true → (has_leaf_form e ≡ true) × (allows (kind_of kinds (frame_of e)) (rights_of e) ≡ true))
-    → is_lawful kinds 1 i e ≡ true)
-    (lawful_link : (kinds : List Kind) (level i e : ℕ) → level ≢ 1 → is_slot_entry level i ≡ false
-    → (is_present e ≡ true → (has_table_form e ≡ true) × (level_of (kind_of kinds (frame_of e)) + 1 ≡ level))
-    → is_lawful kinds level i e ≡ true) where
+module _ (laws : SoundLaws) where
   pub lawful_value : (kinds : List Kind) (level i e : ℕ) → is_slot_entry level i ≡ false
       → value_rule kinds level e ≡ None → is_lawful kinds level i e ≡ true
   lawful_value kinds level i e other none =
       elim (cases_eq level 1) [
         | inl one ↦
             subst (λ l. is_lawful kinds l i e ≡ true) (sym one)
-            (lawful_leaf kinds i e (λ present.
+            (laws.lawful_leaf kinds i e (λ present.
             let all = admitted kinds level e none present in
             (ap (λ l. has_form l e) (sym one) ∙ all.form, all.rights one)))
-        | inr upper ↦ lawful_link kinds level i e upper other (λ present.
+        | inr upper ↦ laws.lawful_link kinds level i e upper other (λ present.
             let all = admitted kinds level e none present in
             let test : (level == 1) ≡ false = ne_eqb level 1 upper in
             let named : (level_of (kind_of kinds (frame_of e)) + 1 == level) ≡ true =

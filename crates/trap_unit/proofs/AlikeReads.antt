@@ -1,7 +1,6 @@
 -- The reads of a delivery over two memories that are alike are the same.
-use Rattle.std.proofs.Common.{◌≡◌, ℕ, ◌+◌, ◌*◌, ◌^◌, ◌<◌, ◌≤◌, Bool, true, false, List, refl, ap, ◌∙◌, inr, lit<, mod-lt, arith}
+use Rattle.std.proofs.Common.{◌≡◌, ℕ, ◌+◌, ◌*◌, ◌^◌, ◌<◌, Bool, true, false, List, refl, ap, ◌∙◌, inr, lit<, mod-lt, arith}
 use Rattle.std.specs.Prelude.{Result, Ok, Err, if◌then◌else◌, nat_le}
-use Rattle.nk_bits.specs.declared.access.Access.{Access}
 use Rattle.nk_bits.specs.declared.access.Access.TheVariants.{Read}
 use Rattle.nk_bits.specs.declared.control.Control.{Control}
 use Rattle.nk_bits.specs.declared.fault.AccessFault.{AccessFault}
@@ -9,24 +8,21 @@ use Rattle.nk_bits.specs.declared.leaf.Target.{Target}
 use Rattle.nk_bits.specs.Translations.{Translations}
 use Rattle.nk_bits.specs.Claims.{AllPass, Claim}
 use Rattle.nk_bits.specs.Outcomes.{Outcome, and_then, answered, choice_on, outcome_of, refused, then_by, then_on}
-use Rattle.nk_bits.specs.Accesses.{IsAccessSize, IsWalked, View, accessed}
-use Rattle.page_walk.specs.MemoryAccess.{loaded, value_at, view_of}
+use Rattle.nk_bits.specs.Accesses.{IsWalked, accessed}
+use Rattle.nk_bits.specs.AccessLaws.{AccessLaws}
+use Rattle.page_walk.specs.MemoryAccess.{value_at, view_of}
 use Rattle.x86_regs.specs.declared.delivery.Tables.{Tables}
 use Rattle.x86_regs.specs.AlikeMemories.{AreAlike}
 use Rattle.x86_regs.specs.Operands.{wrapped}
+use Rattle.x86_regs.specs.AlikeLaws.{AlikeLaws}
 use Rattle.trap_unit.specs.declared.gate.Gate.{Gate}
 use Rattle.trap_unit.specs.declared.shutdown.Shut.{Shut}
 use Rattle.trap_unit.specs.TrapDelivery.{entry_found, descriptor_address, gate_found, gate_read, gate_level, if_good, interrupt_allowed, is_good, or_shut, passes_limit, read_at, shut}
 
--- what is used of the laws of accesses and of alike memories
+-- what is used of the laws below
 pub record ReadLaws : Type 0 where
-  pub kept : (view : View) (access : Access) (test : Claim) (tlb : Translations) (va width : ℕ)
-      → IsWalked view test → va < 2 ^ 64 → 1 ≤ width → AllPass test tlb
-      → AllPass test (accessed view access tlb va width).tlb
-  pub loaded_same : (test : Claim) (control : Control) (cpl : ℕ) (m n : List ℕ) (tlb : Translations) (va width : ℕ)
-      → AreAlike test control.root m n → IsWalked (view_of m control cpl) test → AllPass test tlb
-      → va < 2 ^ 64 → IsAccessSize width
-      → loaded m (view_of m control cpl) tlb va width ≡ loaded n (view_of n control cpl) tlb va width
+  pub access : AccessLaws
+  pub alike : AlikeLaws
 
 -- two steps are the same where the first ones are, and the next ones from each answer
 then_same : {F A B : Type 0} (answer : Result A F) (tlb : Translations) (next later : A → Translations → Outcome F B) →
@@ -53,7 +49,7 @@ module _ (laws : ReadLaws) (test : Claim) (control : Control) (tables : Tables) 
       read_at control (wrapped address) m tlb ≡ read_at control (wrapped address) n tlb
   read_same address tlb pass =
       ap (λ (read : Outcome AccessFault ℕ). outcome_of (or_shut read.answer) read.tlb)
-      (laws.loaded_same test control 0 m n tlb (wrapped address) 8 alike walked pass (below_64 address)
+      (laws.alike.loaded test control 0 m n tlb (wrapped address) 8 alike walked pass (below_64 address)
       (inr (inr (inr refl))))
 
   read_passes : (address : ℕ) (tlb : Translations) → AllPass test tlb →
@@ -61,7 +57,7 @@ module _ (laws : ReadLaws) (test : Claim) (control : Control) (tables : Tables) 
   read_passes address tlb pass =
       let va : ℕ = wrapped address in
       let access : Outcome AccessFault Target = accessed (view_of m control 0) Read tlb va 8 in
-      let kept = laws.kept (view_of m control 0) Read test tlb va 8 walked (below_64 address) (omega arith) pass in
+      let kept = laws.access.kept (view_of m control 0) Read test tlb va 8 walked (below_64 address) (omega arith) pass in
       then_on (AllPass test) access.answer access.tlb (λ target after. answered (value_at m va 8 target) after) kept
       (λ target. kept)
 

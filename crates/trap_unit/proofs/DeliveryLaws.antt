@@ -10,7 +10,7 @@ use Rattle.nk_bits.specs.Outcomes.{Outcome}
 use Rattle.nk_bits.specs.Accesses.{accessed}
 use Rattle.nk_bits.specs.Translations.{Translations}
 use Rattle.page_walk.specs.MemoryAccess.{view_of, bytes_written}
-use Rattle.phys_mem.specs.Memory.{stored}
+use Rattle.phys_mem.specs.MemoryLaws.{MemoryLaws}
 use Rattle.x86_regs.specs.declared.delivery.Frame.{Frame}
 use Rattle.x86_regs.specs.declared.delivery.Tables.{Tables}
 use Rattle.x86_regs.specs.declared.faults.Fault.TheVariants as fault
@@ -47,20 +47,16 @@ delivered_leaves regs control tables vector code m tlb =
     let entry : Outcome Shut Entry = entry_found control tables vector m tlb in
     entered_leaves regs control code entry.answer m entry.tlb
 
--- stores keep the size of memory
-abbrev pub StoresKeepLength : Type 0
-StoresKeepLength = (m : List ℕ) (ws : List (ℕ × ℕ)) → length (stored m ws) ≡ length m
-
-written_length : StoresKeepLength → (m : List ℕ) (va width value : ℕ) (answer : Result Target AccessFault) →
+written_length : MemoryLaws → (m : List ℕ) (va width value : ℕ) (answer : Result Target AccessFault) →
     length (bytes_written m va width value answer) ≡ length m
-written_length keep m va width value (Ok target) = keep m _
-written_length keep m va width value (Err fault) = refl
+written_length laws m va width value (Ok target) = laws.length m _
+written_length laws m va width value (Err fault) = refl
 
-pushed_length : StoresKeepLength → (control : Control) (value top : ℕ) (m : List ℕ) (tlb : Translations) →
+pushed_length : MemoryLaws → (control : Control) (value top : ℕ) (m : List ℕ) (tlb : Translations) →
     length (pushed control value top m tlb).memory ≡ length m
 unfolding pushed
-pushed_length keep control value top m tlb =
-    written_length keep m (lowered top 8) 8 value (accessed (view_of m control 0) Write tlb (lowered top 8) 8).answer
+pushed_length laws control value top m tlb =
+    written_length laws m (lowered top 8) 8 value (accessed (view_of m control 0) Write tlb (lowered top 8) 8).answer
 
 on_length : (control : Control) (values : List ℕ) (answer : Result ℕ Shut) (m : List ℕ) (tlb : Translations) →
     ((top : ℕ) → length (pushes control values top m tlb).memory ≡ length m) →
@@ -68,37 +64,37 @@ on_length : (control : Control) (values : List ℕ) (answer : Result ℕ Shut) (
 on_length control values (Ok top) m tlb next = next top
 on_length control values (Err it) m tlb next = refl
 
-pushes_length : StoresKeepLength → (control : Control) (values : List ℕ) (top : ℕ) (m : List ℕ) (tlb : Translations) →
+pushes_length : MemoryLaws → (control : Control) (values : List ℕ) (top : ℕ) (m : List ℕ) (tlb : Translations) →
     length (pushes control values top m tlb).memory ≡ length m
-pushes_length keep control [] top m tlb = refl
-pushes_length keep control (value ∷ values) top m tlb =
+pushes_length laws control [] top m tlb = refl
+pushes_length laws control (value ∷ values) top m tlb =
     let first : Pushed = pushed control value top m tlb in
     on_length control values first.answer first.memory first.tlb
-    (λ at. pushes_length keep control values at first.memory first.tlb)
-    ∙ pushed_length keep control value top m tlb
+    (λ at. pushes_length laws control values at first.memory first.tlb)
+    ∙ pushed_length laws control value top m tlb
 
 arrived_memory : (regs : Regs) (handler : ℕ) (answer : Result ℕ Shut) (m : List ℕ) (tlb : Translations) →
     (arrived regs handler answer m tlb).memory ≡ m
 arrived_memory regs handler (Ok top) m tlb = refl
 arrived_memory regs handler (Err it) m tlb = refl
 
-entered_length : StoresKeepLength → (regs : Regs) (control : Control) (code : Option ℕ) (answer : Result Entry Shut)
+entered_length : MemoryLaws → (regs : Regs) (control : Control) (code : Option ℕ) (answer : Result Entry Shut)
     (m : List ℕ) (tlb : Translations) →
     length (entered regs control code answer m tlb).memory ≡ length m
-entered_length keep regs control code (Ok entry) m tlb =
+entered_length laws regs control code (Ok entry) m tlb =
     let last : Pushed = pushes control (frame_values regs code) entry.top m tlb in
     let same : (arrived regs entry.handler last.answer last.memory last.tlb).memory ≡ last.memory =
     arrived_memory regs entry.handler last.answer last.memory last.tlb in
-    rw same (pushes_length keep control (frame_values regs code) entry.top m tlb)
-entered_length keep regs control code (Err it) m tlb = refl
+    rw same (pushes_length laws control (frame_values regs code) entry.top m tlb)
+entered_length laws regs control code (Err it) m tlb = refl
 
-pub delivered_length : StoresKeepLength → (regs : Regs) (control : Control) (tables : Tables) (vector : ℕ)
+pub delivered_length : MemoryLaws → (regs : Regs) (control : Control) (tables : Tables) (vector : ℕ)
     (code : Option ℕ) (m : List ℕ) (tlb : Translations) →
     length (delivered regs control tables vector code m tlb).memory ≡ length m
 unfolding delivered
-delivered_length keep regs control tables vector code m tlb =
+delivered_length laws regs control tables vector code m tlb =
     let entry : Outcome Shut Entry = entry_found control tables vector m tlb in
-    entered_length keep regs control code entry.answer m entry.tlb
+    entered_length laws regs control code entry.answer m entry.tlb
 
 -- where a return may go
 abbrev ReturnsTo : ℕ → ℕ → Type 0

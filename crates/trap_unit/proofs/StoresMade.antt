@@ -1,5 +1,5 @@
 -- Memory after a delivery is memory after its stores.
-use Rattle.std.proofs.Common.{◌≡◌, ℕ, ◌∙◌, List, [], ◌∷◌, ◌++◌, refl, sym, ap}
+use Rattle.std.proofs.Common.{◌≡◌, ℕ, ◌∙◌, List, [], ◌∷◌, refl, sym, ap}
 use Rattle.std.specs.Prelude.{Option, Result, Ok, Err}
 use Rattle.nk_bits.specs.declared.access.Access.TheVariants.{Write}
 use Rattle.nk_bits.specs.declared.control.Control.{Control}
@@ -10,6 +10,7 @@ use Rattle.nk_bits.specs.Outcomes.{Outcome}
 use Rattle.nk_bits.specs.Translations.{Translations}
 use Rattle.page_walk.specs.MemoryAccess.{view_of, bytes_written}
 use Rattle.phys_mem.specs.Memory.{stored}
+use Rattle.phys_mem.specs.MemoryLaws.{MemoryLaws}
 use Rattle.x86_regs.specs.declared.delivery.Tables.{Tables}
 use Rattle.x86_regs.specs.declared.registers.Regs.{Regs}
 use Rattle.x86_regs.specs.Operands.{lowered}
@@ -17,10 +18,6 @@ use Rattle.trap_unit.specs.declared.shutdown.Shut.{Shut}
 use Rattle.trap_unit.specs.declared.delivery.Entry.{Entry}
 use Rattle.trap_unit.specs.DeliveryStores.{delivery_stores, frame_stores, push_stores, pushes_stores, stores_found, stores_on}
 use Rattle.trap_unit.specs.TrapDelivery.{Pushed, arrived, delivered, entered, entry_found, frame_values, pushed, pushed_on, pushes}
-
--- stores behind others
-abbrev pub StoresAppend : Type 0
-StoresAppend = (m : List ℕ) (ws more : List (ℕ × ℕ)) → stored m (ws ++ more) ≡ stored (stored m ws) more
 
 stored_none : (m : List ℕ) → m ≡ stored m []
 unfolding stored
@@ -45,36 +42,36 @@ on_stored : (control : Control) (values : List ℕ) (answer : Result ℕ Shut) (
 on_stored control values (Ok top) m tlb next = next top
 on_stored control values (Err it) m tlb next = stored_none m
 
-pushes_stored : StoresAppend → (control : Control) (values : List ℕ) (top : ℕ) (m : List ℕ) (tlb : Translations)
+pushes_stored : MemoryLaws → (control : Control) (values : List ℕ) (top : ℕ) (m : List ℕ) (tlb : Translations)
     → (pushes control values top m tlb).memory ≡ stored m (pushes_stores control values top m tlb)
-pushes_stored append control [] top m tlb = stored_none m
-pushes_stored append control (value ∷ values) top m tlb =
+pushes_stored laws control [] top m tlb = stored_none m
+pushes_stored laws control (value ∷ values) top m tlb =
     let first : Pushed = pushed control value top m tlb in
     let later : List (ℕ × ℕ) = stores_on first.answer first.memory first.tlb (pushes_stores control values) in
     on_stored control values first.answer first.memory first.tlb
-    (λ last. pushes_stored append control values last first.memory first.tlb)
+    (λ last. pushes_stored laws control values last first.memory first.tlb)
     ∙ ap (λ (l : List ℕ). stored l later) (pushed_stored control value top m tlb)
-    ∙ sym (append m (push_stores control value top m tlb) later)
+    ∙ sym (laws.append m (push_stores control value top m tlb) later)
 
 arrived_memory : (regs : Regs) (handler : ℕ) (answer : Result ℕ Shut) (m : List ℕ) (tlb : Translations)
     → (arrived regs handler answer m tlb).memory ≡ m
 arrived_memory regs handler (Ok top) m tlb = refl
 arrived_memory regs handler (Err it) m tlb = refl
 
-entered_stored : StoresAppend → (regs : Regs) (control : Control) (code : Option ℕ) (answer : Result Entry Shut)
+entered_stored : MemoryLaws → (regs : Regs) (control : Control) (code : Option ℕ) (answer : Result Entry Shut)
     (m : List ℕ) (tlb : Translations)
     → (entered regs control code answer m tlb).memory ≡ stored m (frame_stores regs control code answer m tlb)
-entered_stored append regs control code (Ok entry) m tlb =
+entered_stored laws regs control code (Ok entry) m tlb =
     let last : Pushed = pushes control (frame_values regs code) entry.top m tlb in
     arrived_memory regs entry.handler last.answer last.memory last.tlb
-    ∙ pushes_stored append control (frame_values regs code) entry.top m tlb
-entered_stored append regs control code (Err it) m tlb = stored_none m
+    ∙ pushes_stored laws control (frame_values regs code) entry.top m tlb
+entered_stored laws regs control code (Err it) m tlb = stored_none m
 
-pub delivered_stored : StoresAppend → (regs : Regs) (control : Control) (tables : Tables) (vector : ℕ)
+pub delivered_stored : MemoryLaws → (regs : Regs) (control : Control) (tables : Tables) (vector : ℕ)
     (code : Option ℕ) (m : List ℕ) (tlb : Translations)
     → (delivered regs control tables vector code m tlb).memory
     ≡ stored m (delivery_stores regs control tables vector code m tlb)
 unfolding delivered delivery_stores
-delivered_stored append regs control tables vector code m tlb =
+delivered_stored laws regs control tables vector code m tlb =
     let entry : Outcome Shut Entry = entry_found control tables vector m tlb in
-    entered_stored append regs control code entry.answer m entry.tlb
+    entered_stored laws regs control code entry.answer m entry.tlb

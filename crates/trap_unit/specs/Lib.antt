@@ -2,3 +2,5 @@
 pub mod TrapDelivery
 pub mod DeliveryStores
 pub mod TrapReturn
+-- Laws: what is proved of the definitions.
+pub mod DeliveryLaws

@@ -5,19 +5,20 @@ use Rattle.nk_bits.specs.declared.kind.Kind.TheVariants.{Data, Table}
 use Rattle.nk_bits.specs.Kinds.{kind_of, level_of}
 use Rattle.nk_bits.specs.Paging.{emptied, is_present, is_slot_entry, replaced, slot_value, zeroed}
 use Rattle.phys_mem.specs.Memory.{entry_in}
+use Rattle.page_desc.specs.CountLaws.{DescriptorLaws}
 use Rattle.page_desc.specs.FrameDescriptors.{Descriptors, IsReplaced, last_value}
+use Rattle.page_desc.specs.PageTableLaws.{MemoryTablesLaws}
 use Rattle.page_desc.specs.PageTables.{AreDescribed, HoldsSoundTables, tables_in}
 use Rattle.vmmu.specs.TableCalls.{memory_declared, memory_removed, memory_written}
 use Rattle.vmmu.specs.AcceptedCalls.{IsDeclarable, IsRemovable, IsWritable}
 use Rattle.vmmu.proofs.ChangedFrames.{entries_at}
-use Rattle.vmmu.proofs.LowerLaws.{DescriptorLaws, EntryLaws}
 
 -- an entry that is 0 isn't present
 pub absent_zero : is_present 0 ≡ false
 unfolding is_present
 absent_zero = refl
 
-module _ (laws : DescriptorLaws) (entries : EntryLaws) (before : Descriptors) (root : ℕ) (m : List ℕ)
+module _ (laws : DescriptorLaws) (entries : MemoryTablesLaws) (before : Descriptors) (root : ℕ) (m : List ℕ)
     (books : AreDescribed before root m) where
   frame_inside : (frame : ℕ) → frame < length before.kinds → 4096 * frame + 4096 ≤ length m
   frame_inside frame small = omega (arith, books.sound.size, small)

@@ -9,11 +9,11 @@ use Rattle.nk_bits.specs.Kinds.{is_data, kind_of, level_of}
 use Rattle.nk_bits.specs.Paging.{is_present, is_slot_entry}
 use Rattle.phys_mem.specs.Memory.{entry_in}
 use Rattle.page_desc.specs.FrameDescriptors.{Descriptors}
+use Rattle.page_desc.specs.PageTableLaws.{PageTablesLaws}
 use Rattle.page_desc.specs.PageTables.{AreDescribed, is_table, tables_in}
 use Rattle.table_rules.specs.ValueRules.{broken}
 use Rattle.vmmu.specs.TableCalls.{declare_rule, is_filled, remove_rule}
 use Rattle.vmmu.proofs.ChangedFrames.{entries_at}
-use Rattle.vmmu.proofs.LowerLaws.{CountLaws}
 
 -- later rules count only where the first isn't broken
 broken_same : (is_broken : Bool) (rule : Rule) (x y : Option Rule) → (is_broken ≡ false → x ≡ y)
@@ -35,7 +35,7 @@ any_same (suc n) a p q same =
 abbrev pub fills : List ℕ → ℕ → ℕ → Bool
 fills m level frame = list_any (λ i. is_present (entry_in m frame i) && not (is_slot_entry level i)) (range_with_len 0 512)
 
-module _ (laws : CountLaws) (d : Descriptors) (root : ℕ) (m : List ℕ) (books : AreDescribed d root m) where
+module _ (laws : PageTablesLaws) (d : Descriptors) (root : ℕ) (m : List ℕ) (books : AreDescribed d root m) where
   pub declare_carried : (level frame : ℕ) →
       broken (not (nat_lt frame (length d.kinds))) BadFrame
       (broken (not (nat_le 1 level && nat_le level 4)) BadLevel

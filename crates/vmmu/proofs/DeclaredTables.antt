@@ -37,11 +37,11 @@ module _ (laws : LowerLaws) (kinds : List Kind) (root level frame : ℕ) (m : Li
 
   byte_apart : (p : ℕ) → p / 4096 ≢ frame → byte_at (memory_declared m level frame) p ≡ byte_at m p
   byte_apart p apart =
-      laws.bytes.byte_elsewhere (frame_zeroed m frame) (stores 8 (4096 * frame + 8 * 511) (last_value level)) p
+      laws.memory.byte_elsewhere (frame_zeroed m frame) (stores 8 (4096 * frame + 8 * 511) (last_value level)) p
       (All-weaker (λ (w : ℕ × ℕ). w.0 / 4096 ≡ frame) (λ (w : ℕ × ℕ). w.0 ≢ p) (λ w here same. apart (ap (λ q. q / 4096) (sym same) ∙ here))
       (stores 8 (4096 * frame + 8 * 511) (last_value level))
-      (laws.bytes.within_frame 8 (4096 * frame + 8 * 511) (last_value level) frame (omega arith) (omega arith)))
-      ∙ laws.bytes.zeroed_elsewhere m frame p inside apart
+      (laws.frame.within_frame 8 (4096 * frame + 8 * 511) (last_value level) frame (omega arith) (omega arith)))
+      ∙ laws.frame.byte_zeroed_elsewhere m frame p inside apart
 
   is_new : kind_of (set kinds frame (Table level)) frame ≡ Table level
   is_new = get_or-set_same kinds frame (Table level) Hidden call.inside
@@ -49,8 +49,8 @@ module _ (laws : LowerLaws) (kinds : List Kind) (root level frame : ℕ) (m : Li
   pub declared_change : IsChange kinds (set kinds frame (Table level)) m (memory_declared m level frame) frame
   declared_change = record {
     kinds_length = length-set kinds frame (Table level);
-    length = laws.bytes.stored_length (frame_zeroed m frame) (stores 8 (4096 * frame + 8 * 511) (last_value level))
-        ∙ laws.bytes.zeroed_length m frame inside;
+    length = laws.memory.length (frame_zeroed m frame) (stores 8 (4096 * frame + 8 * 511) (last_value level))
+        ∙ laws.frame.length_zeroed m frame inside;
     kind = λ f apart. get_or-set_other kinds frame f (Table level) Hidden apart;
     entry = λ f i apart small. laws.entries.emptied m frame level f i inside small
         ∙ emptied_elsewhere (entry_in m) frame level f i apart;

@@ -34,10 +34,10 @@ module _ (laws : LowerLaws) (kinds : List Kind) (root frame : ℕ) (m : List ℕ
   pub removed_change : IsChange kinds (set kinds frame Data) m (memory_removed m frame) frame
   removed_change = record {
     kinds_length = length-set kinds frame Data;
-    length = laws.bytes.zeroed_length m frame inside;
+    length = laws.frame.length_zeroed m frame inside;
     kind = λ f apart. get_or-set_other kinds frame f Data Hidden apart;
     entry = λ f i apart small. laws.entries.zeroed m frame f i inside small ∙ zeroed_elsewhere (entry_in m) frame f i apart;
-    byte = λ p apart. laws.bytes.zeroed_elsewhere m frame p inside apart;
+    byte = λ p apart. laws.frame.byte_zeroed_elsewhere m frame p inside apart;
     was = table_changes (kind_of kinds frame) call.table;
     becomes = ap is_unchanging is_data;
   }

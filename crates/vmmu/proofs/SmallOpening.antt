@@ -5,13 +5,16 @@ use Rattle.nk_bits.specs.declared.kind.Kind.{Kind}
 use Rattle.nk_bits.specs.declared.kind.Kind.TheVariants.{Fixed, Hidden, Table}
 use Rattle.nk_bits.specs.Kinds.{kind_of, level_of}
 use Rattle.nk_bits.specs.Paging.{frame_of, is_present, slot_value}
-use Rattle.phys_mem.specs.MaskedMemory.{is_book_frame, masked, seen}
+use Rattle.phys_mem.specs.MaskedMemory.{is_book_frame, seen}
 use Rattle.phys_mem.specs.Memory.{entry_in}
+use Rattle.phys_mem.specs.MaskLaws.{MaskLaws}
 use Rattle.page_desc.specs.DescriptorBytes.{DiffersInDescriptors, HoldsDescriptors, HoldsTables, descriptors_in, kinds_in}
 use Rattle.page_desc.specs.FrameCounts.{IsSlotFixed, may_hold_table}
-use Rattle.page_desc.specs.FrameDescriptors.{AreCounted, Descriptors}
+use Rattle.page_desc.specs.FrameDescriptors.{AreCounted}
 use Rattle.page_desc.specs.PageTables.{HoldsSoundTables}
 use Rattle.page_desc.specs.SoundTables.{is_lawful}
+use Rattle.page_desc.specs.CountLaws.{DescriptorLaws}
+use Rattle.page_desc.specs.StoredLaws.{StoredLaws}
 
 pub record IsSmall (kinds : List Kind) (m : List ℕ) : Type 0 where
   pub size : length m ≡ 4096 * 80
@@ -102,22 +105,19 @@ shown_9 = refl
 
 -- what is used of the laws below
 pub record SeenLaws : Type 0 where
-  pub length : (hidden : ℕ → Bool) (m : List ℕ) → length (masked hidden m) ≡ length m
-  pub entry : (hidden : ℕ → Bool) (m : List ℕ) (f i : ℕ) → i < 512 → hidden f ≡ false
-      → entry_in (masked hidden m) f i ≡ entry_in m f i
-  pub elsewhere : (d : Descriptors) (t u : ℕ → ℕ → ℕ) → AreCounted d t → IsSlotFixed d.kinds t
-      → ((f i : ℕ) → i < 512 → may_hold_table (kind_of d.kinds f) ≡ true → u f i ≡ t f i) → AreCounted d u
-  pub unseen : (frames : ℕ) (m n : List ℕ) → HoldsDescriptors frames m → DiffersInDescriptors m n → seen n ≡ seen m
+  pub mask : MaskLaws
+  pub descriptor : DescriptorLaws
+  pub stored : StoredLaws
 
 module _ (laws : SeenLaws) (kinds : List Kind) (m : List ℕ) (small : IsSmall kinds m) where
   seen_entry : (f i : ℕ) → i < 512 → is_book_frame 80 f ≡ false → entry_in (seen m) f i ≡ entry_in m f i
   seen_entry f i inside shown =
       let count : length m / 4096 ≡ 80 = omega (arith, small.size) in
-      laws.entry (is_book_frame (length m / 4096)) m f i inside (ap (λ n. is_book_frame n f) count ∙ shown)
+      laws.mask.entry_seen (is_book_frame (length m / 4096)) m f i inside (ap (λ n. is_book_frame n f) count ∙ shown)
 
   small_seen : IsSmall kinds (seen m)
   small_seen = record {
-    size = laws.length (is_book_frame (length m / 4096)) m ∙ small.size;
+    size = laws.mask.length (is_book_frame (length m / 4096)) m ∙ small.size;
     count = small.count;
     hidden = small.hidden;
     root = small.root;
@@ -150,13 +150,13 @@ module _ (laws : SeenLaws) (kinds : List Kind) (m : List ℕ) (small : IsSmall k
         size = sym differs.size;
         elsewhere = λ p outside. sym (differs.elsewhere p (subst (λ k. (p < 0x40000) ⊎ (0x40000 + 16 * (k / 4096) ≤ p)) differs.size outside));
       } in
-      let same : seen m ≡ seen n = laws.unseen frames n m held before in
+      let same : seen m ≡ seen n = laws.stored.unseen frames n m held before in
       record {
         stored = held;
         described = record {
           sound = subst (λ ks. HoldsSoundTables ks 5 (seen n)) (sym stand) (subst (HoldsSoundTables kinds 5) same (small_holds kinds (seen m) small_seen));
           counted = subst (λ l. AreCounted (descriptors_in n) (entry_in l)) same
-              (laws.elsewhere (descriptors_in n) (entry_in m) (entry_in (seen m)) counted
+              (laws.descriptor.elsewhere (descriptors_in n) (entry_in m) (entry_in (seen m)) counted
               (subst (λ ks. IsSlotFixed ks (entry_in m)) (sym stand) (small_slot kinds m small))
               (λ f i inside may. seen_entry f i inside (shown_table f (ap (λ ks. may_hold_table (kind_of ks f)) (sym stand) ∙ may))));
         };

@@ -44,10 +44,10 @@ module _ (laws : LowerLaws) (kinds : List Kind) (root frame index value : ℕ) (
 
   byte_apart : (p : ℕ) → p / 4096 ≢ frame → byte_at (memory_written m frame index value) p ≡ byte_at m p
   byte_apart p apart =
-      laws.bytes.byte_elsewhere m (stores 8 (4096 * frame + 8 * index) value) p
+      laws.memory.byte_elsewhere m (stores 8 (4096 * frame + 8 * index) value) p
       (All-weaker (λ (w : ℕ × ℕ). w.0 / 4096 ≡ frame) (λ (w : ℕ × ℕ). w.0 ≢ p) (λ w here same. apart (ap (λ q. q / 4096) (sym same) ∙ here))
       (stores 8 (4096 * frame + 8 * index) value)
-      (laws.bytes.within_frame 8 (4096 * frame + 8 * index) value frame (omega arith) (omega (arith, call.small))))
+      (laws.frame.within_frame 8 (4096 * frame + 8 * index) value frame (omega arith) (omega (arith, call.small))))
 
   stored_entry : (f i : ℕ) → i < 512
       → entry_in (memory_written m frame index value) f i ≡ replaced (entry_in m) frame index value f i
@@ -56,7 +56,7 @@ module _ (laws : LowerLaws) (kinds : List Kind) (root frame index value : ℕ) (
   pub written_change : IsChange kinds kinds m (memory_written m frame index value) frame
   written_change = record {
     kinds_length = refl;
-    length = laws.bytes.stored_length m (stores 8 (4096 * frame + 8 * index) value);
+    length = laws.memory.length m (stores 8 (4096 * frame + 8 * index) value);
     kind = λ f apart. refl;
     entry = λ f i apart small. stored_entry f i small ∙ replaced_elsewhere (entry_in m) frame index value f i apart;
     byte = byte_apart;
@@ -91,7 +91,7 @@ module _ (laws : LowerLaws) (kinds : List Kind) (root frame index value : ℕ) (
   written_tables =
       laws.sound.elsewhere kinds (replaced (entry_in m) frame index value) (entry_in (memory_written m frame index value))
       (laws.sound.replaced kinds (entry_in m) frame index value holds.tables
-      (laws.sound.lawful kinds (level_of (kind_of kinds frame)) index value call.table (holds.levels frame) call.other call.admitted))
+      (laws.value.lawful kinds (level_of (kind_of kinds frame)) index value call.table (holds.levels frame) call.other call.admitted))
       (λ f i small table. stored_entry f i small)
 
   pub written_stands : tables_in kinds root (memory_written m frame index value)

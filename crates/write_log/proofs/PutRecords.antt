@@ -2,21 +2,11 @@
 use Rattle.std.proofs.Common.{◌≡◌, ◌≢◌, ◌⊎◌, ℕ, ◌+◌, ◌%◌, ◌^◌, ◌<◌, ◌≤◌, List, length, All, arith, ◌∙◌, inl, inr}
 use Rattle.std.proofs.lemmas.List.Elements.{All-weaker}
 use Rattle.phys_mem.specs.Memory.{byte_at, number_at, stored, stores}
+use Rattle.phys_mem.specs.MemoryLaws.{MemoryLaws}
 use Rattle.write_log.specs.RecordStores.{IsPut, byte_stores}
 use Rattle.write_log.proofs.RecordBytes.{byte_places, byte_stored, run_is}
 
--- what is used of the laws of memory
-pub record StoreLaws : Type 0 where
-  pub byte_elsewhere : (m : List ℕ) (ws : List (ℕ × ℕ)) (p : ℕ) → All (λ w. w.0 ≢ p) ws
-      → byte_at (stored m ws) p ≡ byte_at m p
-  pub number_elsewhere : (m : List ℕ) (ws : List (ℕ × ℕ)) (n p : ℕ) → All (λ w. (w.0 < p) ⊎ (p + n ≤ w.0)) ws
-      → number_at (stored m ws) n p ≡ number_at m n p
-  pub number_stored : (m : List ℕ) (n p v : ℕ) → p + n ≤ length m
-      → number_at (stored m (stores n p v)) n p ≡ v % 256 ^ n
-  pub places : (n p v : ℕ) → All (λ w. (p ≤ w.0) × (w.0 < p + n)) (stores n p v)
-  pub length : (m : List ℕ) (ws : List (ℕ × ℕ)) → length (stored m ws) ≡ length m
-
-module _ (laws : StoreLaws) where
+module _ (laws : MemoryLaws) where
   -- stores behind a number leave it
   behind : (m : List ℕ) (ws : List (ℕ × ℕ)) (p size n q : ℕ) → All (λ w. (p ≤ w.0) × (w.0 < p + size)) ws → q + n ≤ p
       → number_at (stored m ws) n q ≡ number_at m n q

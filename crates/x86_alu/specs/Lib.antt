@@ -7,3 +7,5 @@ pub mod Shifts
 pub mod Products
 pub mod Quotients
 pub mod Scans
+-- Laws: what is proved of the definitions.
+pub mod FlagLaws

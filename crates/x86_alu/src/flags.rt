@@ -1,9 +1,9 @@
 //! The status flags in a flags word (SDM volume 1, 3.4.3.1): `specs/Flags.antt`.
 
-ghost use Rattle.std.specs.Prelude.{◌≡◌, ◌≢◌, ◌<◌, ℕ, Bool};
+ghost use Rattle.std.specs.Prelude.{◌≡◌, ◌<◌};
 ghost use Rattle.decode_fields.specs.Widths.{IsWidth};
 ghost use Rattle.x86_alu.specs.Flags.{with_flag, even_parity, result_flags};
-ghost use Rattle.x86_alu.specs.SignedNumbers.{bit};
+ghost use Rattle.x86_alu.specs.FlagLaws.{FlagLaws};
 
 use crate::width::top;
 
@@ -31,9 +31,7 @@ pub fn with_flag(flags: u64, place: u8, set: bool) -> u64
 
 /// A flag that is written reads as written, and each other bit of the flags word stays.
 pub fn flag_law()
-    ensures same { (place flags : ℕ) (set : Bool) → bit (with_flag place set flags) place ≡ set }
-    ensures others { (other place flags : ℕ) (set : Bool) → other ≢ place
-        → bit (with_flag place set flags) other ≡ bit flags other }
+    ensures { FlagLaws }
 {}
 
 /// Whether the low byte has an even number of ones.

@@ -5,18 +5,14 @@ use Rattle.std.specs.List.{list_all}
 use Rattle.std.proofs.Math.ListN.{get_or-append}
 use Rattle.std.proofs.lemmas.Bool.{cases_Bool, cases_lt, cond-true, cond-false, le-ltb}
 use Rattle.decode_fields.specs.declared.parts.ModRm.{ModRm}
-use Rattle.decode_fields.specs.Immediates.{immediate_of, signed_number}
-use Rattle.decode_fields.specs.ModRm.{displacement_size, front_size, has_sib, modrm_byte, modrm_length, modrm_of, place_of, reg_of, sib_byte}
+use Rattle.decode_fields.specs.Immediates.{signed_number}
+use Rattle.decode_fields.specs.ModRm.{displacement_size, front_size, has_sib, modrm_byte, modrm_length, place_of, reg_of, sib_byte}
 use Rattle.decode_fields.specs.Prefixes.{is_prefix, prefix_bytes}
+use Rattle.decode_fields.specs.FieldLaws.{LongerLaws, PrefixesLaws}
 
 pub record FieldLaws : Type 0 where
-  pub front : (bytes : List ℕ) → prefix_bytes bytes ++ drop (length (prefix_bytes bytes)) bytes ≡ bytes
-  pub all : (bytes : List ℕ) → list_all is_prefix (prefix_bytes bytes) ≡ true
-  pub ends : (bytes : List ℕ) (byte : ℕ) (more : List ℕ) → drop (length (prefix_bytes bytes)) bytes ≡ byte ∷ more → is_prefix byte ≡ false
-  pub prefixes : (front more : List ℕ) (byte : ℕ) → list_all is_prefix front ≡ true → is_prefix byte ≡ false → prefix_bytes (front ++ (byte ∷ more)) ≡ front
-  pub modrm : (bytes more : List ℕ) (rex : ℕ) → modrm_length bytes ≤ length bytes → modrm_of (bytes ++ more) rex ≡ modrm_of bytes rex
-  pub needed : (bytes more : List ℕ) → modrm_length (bytes ++ more) ≤ length bytes → modrm_length bytes ≡ modrm_length (bytes ++ more)
-  pub immediate : (bytes more : List ℕ) (width : ℕ) → width / 8 ≤ length bytes → immediate_of (bytes ++ more) width ≡ immediate_of bytes width
+  pub prefixes : PrefixesLaws
+  pub longer : LongerLaws
 
 -- a list splits into prefix bytes and a rest that begins with none
 pub record Splits (bytes front rest : List ℕ) : Type 0 where
@@ -25,10 +21,10 @@ pub record Splits (bytes front rest : List ℕ) : Type 0 where
   pub ends : (byte : ℕ) (more : List ℕ) → rest ≡ byte ∷ more → is_prefix byte ≡ false
 
 pub splits-rest : (laws : FieldLaws) (bytes : List ℕ) → Splits bytes (prefix_bytes bytes) (drop (length (prefix_bytes bytes)) bytes)
-splits-rest laws bytes = record { parts = sym (laws.front bytes); front_all = laws.all bytes; ends = laws.ends bytes }
+splits-rest laws bytes = record { parts = sym (laws.prefixes.front bytes); front_all = laws.prefixes.all bytes; ends = laws.prefixes.ends bytes }
 
 pub prefix_bytes-append : (laws : FieldLaws) (front : List ℕ) (byte : ℕ) (rest : List ℕ) → list_all is_prefix front ≡ true → is_prefix byte ≡ false → prefix_bytes (front ++ (byte ∷ rest)) ≡ front
-prefix_bytes-append laws front byte rest all ends = laws.prefixes front rest byte all ends
+prefix_bytes-append laws front byte rest all ends = laws.longer.prefixes front rest byte all ends
 
 -- the fields of ModRM, whole or not
 abbrev pub modrm_fields : List ℕ → ℕ → ModRm
@@ -48,7 +44,7 @@ kept false x y e = some_same x y e
 pub modrm_fields-append : (laws : FieldLaws) (bytes more : List ℕ) (rex : ℕ) → modrm_length bytes ≤ length bytes → modrm_fields (bytes ++ more) rex ≡ modrm_fields bytes rex
 modrm_fields-append laws bytes more rex there =
     kept (nat_lt (length (bytes ++ more)) (modrm_length (bytes ++ more))) (modrm_fields (bytes ++ more) rex) (modrm_fields bytes rex)
-    (laws.modrm bytes more rex there ∙ cond-false (nat_lt (length bytes) (modrm_length bytes)) None (Some (modrm_fields bytes rex)) (le-ltb (length bytes) (modrm_length bytes) there))
+    (laws.longer.modrm bytes more rex there ∙ cond-false (nat_lt (length bytes) (modrm_length bytes)) None (Some (modrm_fields bytes rex)) (le-ltb (length bytes) (modrm_length bytes) there))
 
 pub modrm_length-append : (laws : FieldLaws) (bytes more : List ℕ) → modrm_length bytes ≤ length bytes → modrm_length (bytes ++ more) ≡ modrm_length bytes
 modrm_length-append laws bytes more there = ap (λ (m : ModRm). m.length) (modrm_fields-append laws bytes more 0 there)
@@ -56,7 +52,7 @@ modrm_length-append laws bytes more there = ap (λ (m : ModRm). m.length) (modrm
 pub signed_number-append : (laws : FieldLaws) (bytes more : List ℕ) (width : ℕ) → width / 8 ≤ length bytes → signed_number width (bytes ++ more) ≡ signed_number width bytes
 signed_number-append laws bytes more width there =
     kept (nat_lt (length (bytes ++ more)) (width / 8)) (signed_number width (bytes ++ more)) (signed_number width bytes)
-    (laws.immediate bytes more width there ∙ cond-false (nat_lt (length bytes) (width / 8)) None (Some (signed_number width bytes)) (le-ltb (length bytes) (width / 8) there))
+    (laws.longer.immediate bytes more width there ∙ cond-false (nat_lt (length bytes) (width / 8)) None (Some (signed_number width bytes)) (le-ltb (length bytes) (width / 8) there))
 
 -- ModRM has a byte at least
 pub modrm_length-above : (bytes : List ℕ) → 1 ≤ modrm_length bytes

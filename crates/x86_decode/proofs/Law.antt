@@ -209,7 +209,7 @@ two_byte_law laws bytes front opcode row operands prefixes all spelled byte h pr
     (agree_below_at (λ o. list_all (is_guarded o) (entry_rows (entry_at TwoByte o))) (λ _. true) 256 opcode two_byte_guarded byte) h in
     let spelling : List ℕ = front ++ (0x0F ∷ (opcode ∷ operands)) in
     let P : List ℕ → Type 0 = λ b. is_protected_at (slice_get spelling) (length b) ≡ true in
-    subst BeginsProtected (sym spelled) (subst P (sym (laws.prefixes front (opcode ∷ operands) 0x0F all refl))
+    subst BeginsProtected (sym spelled) (subst P (sym (laws.longer.prefixes front (opcode ∷ operands) 0x0F all refl))
     (stands_behind front opcode operands (guarded_length opcode row prefixes operands guarded protected stands whole)))
 
 one_byte_free : (opcode : ℕ) (row : OpcodeRow) → opcode < 256 → IsIn row (entry_rows (entry_at OneByte opcode)) → is_protected row.op ≡ true → ⊥

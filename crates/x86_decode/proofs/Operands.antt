@@ -27,9 +27,9 @@ layout_length-append laws Ignored bytes more there = refl
 
 layout_length-within : (laws : FieldLaws) (layout : RowLayout) (bytes more : List ℕ) → layout_length layout (bytes ++ more) ≤ length bytes → layout_length layout bytes ≡ layout_length layout (bytes ++ more)
 layout_length-within laws Plain bytes more there = refl
-layout_length-within laws AnyForm bytes more there = laws.needed bytes more there
-layout_length-within laws Memory bytes more there = laws.needed bytes more there
-layout_length-within laws Register bytes more there = laws.needed bytes more there
+layout_length-within laws AnyForm bytes more there = laws.longer.needed bytes more there
+layout_length-within laws Memory bytes more there = laws.longer.needed bytes more there
+layout_length-within laws Register bytes more there = laws.longer.needed bytes more there
 layout_length-within laws Ignored bytes more there = refl
 
 layout_length-zeros : (layout : RowLayout) (bytes : List ℕ) (n : ℕ) → layout_length layout (bytes ++ replicate n 0) ≡ layout_length layout bytes

@@ -9,3 +9,5 @@ pub mod WellFormed
 -- Computations that a law says are right.
 pub mod Reader
 pub mod Grid
+-- Laws: what is proved of the definitions.
+pub mod SpellingLaws

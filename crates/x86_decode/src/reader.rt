@@ -1,17 +1,16 @@
 //! From bytes to an instruction: prefixes, opcode, row, and the bytes behind the opcode.
 
-ghost use Rattle.std.specs.Prelude.{◌≡◌, ◌<◌, ◌≤◌, ◌+◌, ◌++◌, List, ℕ, true, length, slice_get, take, drop};
+ghost use Rattle.std.specs.Prelude.{◌≡◌, ◌<◌, ◌≤◌, ◌+◌, true, length, slice_get, take, drop};
 ghost use Rattle.decode_fields.specs.Prefixes.{prefix_bytes, prefixes_of};
 ghost use Rattle.decode_fields.specs.ModRm.{IsRex};
 ghost use Rattle.x86_decode.specs.Conditions.{is_protected};
 ghost use Rattle.x86_decode.specs.Decoding.{BeginsProtected, Decodes, IfWhole};
 ghost use Rattle.x86_decode.specs.declared.instruction.Decoded.{Decoded};
-ghost use Rattle.x86_decode.specs.declared.instruction.Instr.{Instr};
 ghost use Rattle.x86_decode.specs.WellFormed.{IsWellFormed};
-ghost use Rattle.x86_decode.specs.Spelling.{AreBytes, SameSpelling, Spells};
 ghost use Rattle.x86_decode.specs.Grid.{entry_at};
 ghost use Rattle.x86_decode.specs.Meaning.{rex_number};
 ghost use Rattle.x86_decode.specs.Reader.{answer_of, decoded_of, finished, read_choice, read_escaped, read_of, read_rest, read_row};
+ghost use Rattle.x86_decode.specs.SpellingLaws.{DecodingLaws, SpellingLaws};
 
 use crate::choice::{Choice, choose, rex};
 use crate::entry::OpcodeEntry;
@@ -163,10 +162,7 @@ pub fn decode(bytes: &[u8]) -> Decoded
 
 /// The computed answer is right, and no other is.
 pub fn decoding_law()
-    ensures right { (bytes : List ℕ) → AreBytes bytes → length bytes ≤ 15
-        → Decodes bytes (decoded_of bytes) }
-    ensures only { (bytes : List ℕ) (other : Decoded) → AreBytes bytes → length bytes ≤ 15
-        → Decodes bytes other → other ≡ decoded_of bytes }
+    ensures { DecodingLaws }
 {
     prefixes_law();
     longer_law();
@@ -175,11 +171,7 @@ pub fn decoding_law()
 /// No spelling is a proper prefix of another, and bytes spell at most one instruction, which is well formed and,
 /// where it loads a protected register, has a protected encoding right behind its prefix bytes.
 pub fn spelling_law()
-    ensures one { (instr other : Instr) (bytes more : List ℕ)
-        → Spells instr bytes → Spells other (bytes ++ more) → SameSpelling instr other more }
-    ensures formed { (instr : Instr) (bytes : List ℕ) → Spells instr bytes → IsWellFormed instr }
-    ensures protected { (instr : Instr) (bytes : List ℕ) → Spells instr bytes
-        → is_protected instr.op ≡ true → BeginsProtected bytes }
+    ensures { SpellingLaws }
 {
     prefixes_law();
     longer_law();

@@ -8,12 +8,13 @@ use Rattle.nk_bits.specs.declared.control.Control.{Control}
 use Rattle.nk_bits.specs.declared.fault.AccessFault.{AccessFault}
 use Rattle.nk_bits.specs.declared.leaf.Leaf.{Leaf}
 use Rattle.nk_bits.specs.declared.leaf.Target.{Target}
-use Rattle.nk_bits.specs.Paging.{is_canonical, page_of, walk, walk_below}
-use Rattle.nk_bits.specs.UpperEntries.{KeptEntry, serves_page, walk_by}
+use Rattle.nk_bits.specs.Paging.{page_of, walk, walk_below}
+use Rattle.nk_bits.specs.UpperEntries.{walk_by}
 use Rattle.nk_bits.specs.Translations.{Translations, fill_walked, look, or_walked}
 use Rattle.nk_bits.specs.Claims.{AllPass, Claim}
 use Rattle.nk_bits.specs.Outcomes.{Outcome, and_then, answered, outcome_of, then_by}
 use Rattle.nk_bits.specs.Accesses.{IsAccessSize, IsWalked, Serves, View, accessed, completed, crosses, first_part, has_canonical_bytes, judged, kept_after, next_page, reached}
+use Rattle.nk_bits.specs.AccessLaws.{SpanLaws}
 use Rattle.phys_mem.specs.Memory.{byte_at, entry_in, number_at}
 use Rattle.page_walk.specs.declared.plan.AccessPlan.{AccessPlan}
 use Rattle.page_walk.specs.declared.plan.Origin.{Origin}
@@ -22,20 +23,12 @@ use Rattle.page_walk.specs.declared.plan.Span.{Span}
 use Rattle.page_walk.specs.MemoryAccess.{fetched, loaded, value_at, view_of}
 use Rattle.page_walk.specs.AccessPlans.{checked, gathered, in_span, taken}
 use Rattle.x86_regs.specs.AlikeMemories.{AreAlike}
-use Rattle.x86_regs.proofs.GrantedAccesses.{AccessLaws, IsPlanned, IsSpan, IsSpanOf, checked_kept, next_starts, part_room, part_whole, size_few, size_some, taken_kept}
+use Rattle.x86_regs.proofs.GrantedAccesses.{IsPlanned, IsSpan, IsSpanOf, KeepingLaws, checked_kept, next_starts, part_room, part_whole, size_few, size_some, taken_kept}
 
--- what is used of the laws of accesses, of spans and of walks
-pub record AlikeLaws : Type 0 where
-  pub accesses : AccessLaws
-  pub reached_kept : (view : View) (access : Access) (test : Claim) (tlb : Translations) (va : ℕ)
-      → IsWalked view test → is_canonical va ≡ true → AllPass test tlb
-      → AllPass test (reached view access tlb va).tlb
-  pub first : (va width : ℕ) → va < 2 ^ 64 → 1 ≤ width → has_canonical_bytes va width ≡ true → is_canonical va ≡ true
-  pub walk_by_same : (t u : ℕ → ℕ → ℕ) (frames root other page : ℕ) (test : Claim) (tlb : Translations)
-      → AllPass test tlb → ((entry : KeptEntry) → test.upper entry ≡ true → serves_page page entry ≡ true
-      → walk_below t frames page entry.0 entry.2 ≡ walk_below u frames page entry.0 entry.2)
-      → walk t frames root page ≡ walk u frames other page
-      → walk_by t frames root tlb.upper page ≡ walk_by u frames other tlb.upper page
+-- what is used of the laws on accesses, on what is kept, and on spans
+pub record SameLaws : Type 0 where
+  pub keeping : KeepingLaws
+  pub span : SpanLaws
 
 -- two steps are the same where the first ones are, and the next ones from each answer
 then_same : {F A B : Type 0} (answer : Result A F) (tlb : Translations) (next later : A → Translations → Outcome F B) →
@@ -65,7 +58,7 @@ numbers_same m n (suc count) p same =
     let rest = numbers_same m n count (p + 1) (λ q above below. same q (omega (arith, above)) (omega (arith, below))) in
     ap (λ x. x + 256 * number_at m count (p + 1)) first ∙ ap (λ x. byte_at n p + 256 * x) rest
 
-module _ (laws : AlikeLaws) (test : Claim) (control : Control) (cpl : ℕ) (m n : List ℕ)
+module _ (laws : SameLaws) (test : Claim) (control : Control) (cpl : ℕ) (m n : List ℕ)
     (alike : AreAlike test control.root m n) (walked : IsWalked (view_of m control cpl) test) where
   abbrev here : View
   here = view_of m control cpl
@@ -80,7 +73,7 @@ module _ (laws : AlikeLaws) (test : Claim) (control : Control) (cpl : ℕ) (m n 
       walk_by (entry_in m) (length m / 4096) control.root tlb.upper page
       ≡ walk_by (entry_in n) (length n / 4096) control.root tlb.upper page
   walks_same tlb page pass =
-      laws.walk_by_same (entry_in m) (entry_in n) (length m / 4096) control.root control.root page test tlb pass
+      laws.keeping.kept.walk_by_same (entry_in m) (entry_in n) (length m / 4096) control.root control.root page test tlb pass
       (λ entry passes serves_page.
       alike.below entry page passes serves_page
       ∙ ap (λ frames. walk_below (entry_in n) frames page entry.0 entry.2) (sym frames_same))
@@ -123,7 +116,7 @@ module _ (laws : AlikeLaws) (test : Claim) (control : Control) (cpl : ℕ) (m n 
   accessed_same access tlb va width fits some pass =
       chosen_same (has_canonical_bytes va width) _ _ _
       (λ canonical.
-      let kept = laws.reached_kept here access test tlb va walked (laws.first va width fits some canonical) pass in
+      let kept = laws.keeping.access.reached_kept here access test tlb va walked (laws.span.first va width fits some canonical) pass in
       same_on (reached here access tlb va) (reached there access tlb va) (completed here access va width)
       (completed there access va width) (reached_same access tlb va pass)
       (λ first _. completed_same access va width first (reached here access tlb va).tlb kept))
@@ -168,7 +161,7 @@ module _ (laws : AlikeLaws) (test : Claim) (control : Control) (cpl : ℕ) (m n 
       same_on one (accessed there Read tlb va width) (λ target after. answered (value_at m va width target) after)
       (λ target after. answered (value_at n va width target) after) (accessed_same Read tlb va width fits some pass)
       (λ target found.
-      let serve = laws.accesses.served here Read test tlb va width walked fits some pass in
+      let serve = laws.keeping.access.served here Read test tlb va width walked fits some pass in
       let serves = IfOk-at_ok _ found serve in
       ap (λ x. answered {F = AccessFault} x one.tlb)
       (value_same va width target (size_few width sized) serves.0 serves.1))
@@ -180,7 +173,7 @@ module _ (laws : AlikeLaws) (test : Claim) (control : Control) (cpl : ℕ) (m n 
       same_on one (accessed there Fetch tlb va 1) (λ target after. answered (byte_at m target.first) after)
       (λ target after. answered (byte_at n target.first) after) (accessed_same Fetch tlb va 1 fits (omega arith) pass)
       (λ target found.
-      let serve = laws.accesses.served here Fetch test tlb va 1 walked fits (omega arith) pass in
+      let serve = laws.keeping.access.served here Fetch test tlb va 1 walked fits (omega arith) pass in
       let serves = IfOk-at_ok _ found serve in
       ap (λ x. answered {F = AccessFault} x one.tlb)
       (byte_same Fetch va target.first target.first serves.0 (omega arith) (omega arith)))
@@ -203,9 +196,9 @@ module _ (laws : AlikeLaws) (test : Claim) (control : Control) (cpl : ℕ) (m n 
   unfolding gathered
   gathered_same plan tlb is pass =
       let both = checked here plan.both tlb in
-      let kept_both = checked_kept laws.accesses here test walked plan.both tlb is.both pass in
+      let kept_both = checked_kept laws.keeping here test walked plan.both tlb is.both pass in
       let to = taken m here plan.to both.tlb in
-      let kept_to = taken_kept laws.accesses here test walked m plan.to both.tlb is.to kept_both in
+      let kept_to = taken_kept laws.keeping here test walked m plan.to both.tlb is.to kept_both in
       let from = taken m here plan.from to.tlb in
       same_on both (checked there plan.both tlb) _ _ (checked_same plan.both tlb is.both pass)
       (λ _ _. same_on to (taken n there plan.to both.tlb) _ _ (taken_same plan.to both.tlb is.to kept_both)

@@ -28,12 +28,12 @@ use Rattle.x86_regs.specs.OperandOutcomes.{outcome_by}
 use Rattle.x86_regs.specs.EffectsKept.{AreRegisters}
 use Rattle.x86_regs.specs.AlikeMemories.{AreAlike}
 use Rattle.x86_regs.specs.Effects.{concluded, effect_by, effect_of, frame_popped, in_faults, planned_effect, popped, refusal, unless_refused}
-use Rattle.x86_regs.proofs.AlikeAccesses.{AlikeLaws, checked_same, frames_same, gathered_same, same_on, taken_same}
+use Rattle.x86_regs.proofs.AlikeAccesses.{SameLaws, checked_same, frames_same, gathered_same, same_on, taken_same}
 use Rattle.x86_regs.proofs.GrantedAccesses.{IsSpan, gathered_kept}
 use Rattle.x86_regs.proofs.GrantedEffects.{popped_kept}
 use Rattle.x86_regs.proofs.PlannedSpans.{below_64, planned}
 
-module _ (laws : AlikeLaws) (test : Claim) (control : Control) (regs : Regs) (m n : List ℕ)
+module _ (laws : SameLaws) (test : Claim) (control : Control) (regs : Regs) (m n : List ℕ)
     (alike : AreAlike test control.root m n) (walked : IsWalked (view_of m control regs.cpl) test) where
   abbrev one : View
   one = view_of m control regs.cpl
@@ -50,7 +50,7 @@ module _ (laws : AlikeLaws) (test : Claim) (control : Control) (regs : Regs) (m 
       (record { address = below_64 _; sized = inr (inr (inr refl)) }) pass)
 
   popped_passes : (place : ℕ) (tlb : Translations) → AllPass test tlb → AllPass test (popped m one regs place tlb).tlb
-  popped_passes place tlb pass = popped_kept laws.accesses one test walked m regs place tlb pass
+  popped_passes place tlb pass = popped_kept laws.keeping one test walked m regs place tlb pass
 
   -- five times eight bytes
   frame_same : (tlb : Translations) → AllPass test tlb → frame_popped m one regs tlb ≡ frame_popped n other regs tlb
@@ -86,7 +86,7 @@ module _ (laws : AlikeLaws) (test : Claim) (control : Control) (regs : Regs) (m 
     planned_same by =
         let plan = plan_by by i size regs in
         let is = planned i size regs formed registers by in
-        let kept = gathered_kept laws.accesses one test walked m plan tlb is pass in
+        let kept = gathered_kept laws.keeping one test walked m plan tlb is pass in
         let after : Translations = (gathered m one plan tlb).tlb in
         same_on (in_faults (gathered m one plan tlb)) (in_faults (gathered n other plan tlb)) _ _
         (ap in_faults (gathered_same laws test control regs.cpl m n alike walked plan tlb is pass))

@@ -9,10 +9,12 @@ use Rattle.nk_bits.specs.declared.access.Access.{Access}
 use Rattle.nk_bits.specs.declared.access.Access.TheVariants as access
 use Rattle.nk_bits.specs.declared.fault.AccessFault.{AccessFault}
 use Rattle.nk_bits.specs.declared.leaf.Target.{Target}
-use Rattle.nk_bits.specs.Translations.{NamesFramesIn, Translations}
+use Rattle.nk_bits.specs.Translations.{Translations}
 use Rattle.nk_bits.specs.Claims.{AllPass, Claim, lies_in}
 use Rattle.nk_bits.specs.Outcomes.{Outcome, and_then, answered, then_by, then_on}
 use Rattle.nk_bits.specs.Accesses.{IsAccessSize, IsTarget, IsWalked, Serves, View, accessed, completed, crosses, first_part, has_canonical_bytes, next_page, reached}
+use Rattle.nk_bits.specs.AccessLaws.{AccessLaws}
+use Rattle.nk_bits.specs.TranslationLaws.{KeptLaws}
 use Rattle.page_walk.specs.declared.plan.Gathered.{Gathered}
 use Rattle.page_walk.specs.declared.plan.AccessPlan.{AccessPlan}
 use Rattle.page_walk.specs.declared.plan.Origin.{Origin}
@@ -24,17 +26,10 @@ use Rattle.x86_regs.specs.declared.effects.Write.{Write}
 use Rattle.x86_regs.specs.EffectsKept.{IsGranted}
 use Rattle.x86_regs.specs.Effects.{write_at}
 
--- what is used of the laws of accesses and of walks
-pub record AccessLaws : Type 0 where
-  pub kept : (view : View) (access : Access) (test : Claim) (tlb : Translations) (va width : ℕ)
-      → IsWalked view test → va < 2 ^ 64 → 1 ≤ width → AllPass test tlb
-      → AllPass test (accessed view access tlb va width).tlb
-  pub served : (view : View) (access : Access) (test : Claim) (tlb : Translations) (va width : ℕ)
-      → IsWalked view test → va < 2 ^ 64 → 1 ≤ width → AllPass test tlb
-      → IfOk (accessed view access tlb va width).answer (λ target. Serves view access test va target.first
-      × (crosses va width ≡ true → Serves view access test (next_page va) target.second))
-  pub lies : (size : ℕ) (tlb : Translations) → NamesFramesIn size tlb → AllPass (lies_in size) tlb
-  pub lies_walked : (view : View) (size : ℕ) → view.frames ≡ size / 4096 → IsWalked view (lies_in size)
+-- what is used of the laws on accesses, and on what is kept
+pub record KeepingLaws : Type 0 where
+  pub access : AccessLaws
+  pub kept : KeptLaws
 
 -- the bytes of an operand have addresses of 64 bits, and are 1, 2, 4 or 8
 pub record IsSpan (span : Span) : Type 0 where
@@ -140,7 +135,7 @@ module _ (size va width : ℕ) (target : Target) (whole : size % 4096 ≡ 0) (fe
     second_fits = second_ends (crosses va width) refl;
   }
 
-module _ (laws : AccessLaws) (view : View) where
+module _ (laws : KeepingLaws) (view : View) where
   named_at : (size va place : ℕ) → Serves view access.Write (lies_in size) va place → IsNamed size va place
   named_at size va place serves = record {
     frame = serves.leaf.frame;
@@ -152,7 +147,7 @@ module _ (laws : AccessLaws) (view : View) where
     span_kept : (access : Access) (span : Span) (tlb : Translations) → IsSpan span → AllPass test tlb →
         AllPass test (accessed view access tlb span.va span.width).tlb
     span_kept access span tlb is pass =
-        laws.kept view access test tlb span.va span.width walked is.address (size_some span.width is.sized) pass
+        laws.access.kept view access test tlb span.va span.width walked is.address (size_some span.width is.sized) pass
 
     pub checked_kept : (span : Option Span) (tlb : Translations) → IfSome span IsSpan → AllPass test tlb →
         AllPass test (checked view span tlb).tlb
@@ -196,10 +191,10 @@ module _ (laws : AccessLaws) (view : View) where
       target_grants span tlb is pass lie target found value =
           let some = size_some span.width is.sized in
           let few = size_few span.width is.sized in
-          let named = laws.lies_walked view size frames in
-          let serve = laws.served view access.Write test tlb span.va span.width walked is.address some pass in
+          let named = laws.kept.lies_walked view size frames in
+          let serve = laws.access.served view access.Write test tlb span.va span.width walked is.address some pass in
           let serves = IfOk-at_ok _ found serve in
-          let serve_within = laws.served view access.Write (lies_in size) tlb span.va span.width named is.address some lie in
+          let serve_within = laws.access.served view access.Write (lies_in size) tlb span.va span.width named is.address some lie in
           let lies = IfOk-at_ok _ found serve_within in
           let first = named_at size span.va target.first lies.0 in
           record {

@@ -28,7 +28,7 @@ use Rattle.x86_regs.specs.OperandOutcomes.{outcome_by}
 use Rattle.x86_regs.specs.EffectsKept.{AreRegisters, IsGranted}
 use Rattle.x86_regs.specs.Effects.{concluded, effect_by, effect_of, frame_popped, in_faults, planned_effect, popped, raised_by, refusal, unless_refused}
 use Rattle.x86_regs.proofs.CalmActs.{unless_refused_ok}
-use Rattle.x86_regs.proofs.GrantedAccesses.{AccessLaws, Grants, IsSpan, checked_grants, checked_kept, gathered_grants, gathered_kept, kept_on, ok_on, taken_kept, write_grants}
+use Rattle.x86_regs.proofs.GrantedAccesses.{Grants, IsSpan, KeepingLaws, checked_grants, checked_kept, gathered_grants, gathered_kept, kept_on, ok_on, taken_kept, write_grants}
 use Rattle.x86_regs.proofs.PlannedSpans.{below_64, planned}
 
 -- the answer of a step, before its fault is raised
@@ -36,7 +36,7 @@ raised_ok : {A : Type 0} (answer : Result A SpanFault) (x : A) → raised_by ans
 raised_ok (Ok answer) x is = cc
 raised_ok (Err fault) x is = cc
 
-module _ (laws : AccessLaws) (view : View) (test : Claim) (walked : IsWalked view test) where
+module _ (laws : KeepingLaws) (view : View) (test : Claim) (walked : IsWalked view test) where
   concluded_kept : (plan : AccessPlan) (found : Gathered) (outcome : Result Change Fault) (tlb : Translations) →
       IfSome plan.last IsSpan → AllPass test tlb → AllPass test (concluded view plan found outcome tlb).tlb
   concluded_kept plan found (Err fault) tlb is pass = pass
@@ -114,7 +114,7 @@ module _ (laws : AccessLaws) (view : View) (test : Claim) (walked : IsWalked vie
           let accesses = plan_by by i count regs in
           let is = planned i count regs formed registers by in
           let kept = gathered_kept laws view test walked m accesses tlb is pass in
-          let lie_on = gathered_kept laws view (lies_in size) (laws.lies_walked view size frames) m accesses tlb is lie in
+          let lie_on = gathered_kept laws view (lies_in size) (laws.kept.lies_walked view size frames) m accesses tlb is lie in
           let grants = gathered_grants laws view test walked size whole frames m accesses tlb is pass lie in
           ok_on Granted (in_faults (gathered m view accesses tlb)) _
           (λ found is_found.
@@ -126,7 +126,7 @@ module _ (laws : AccessLaws) (view : View) (test : Claim) (walked : IsWalked vie
       form_granted (Flow flow_form.TrapReturn) = ok_on Granted (frame_popped m view regs tlb) _ (λ frame _. tt)
       form_granted by = planned_granted by
 
-module _ (laws : AccessLaws) (i : Instr) (size : ℕ) (regs : Regs) (control : Control) (m : List ℕ) (tlb : Translations)
+module _ (laws : KeepingLaws) (i : Instr) (size : ℕ) (regs : Regs) (control : Control) (m : List ℕ) (tlb : Translations)
     (test : Claim) (formed : IsWellFormed i) (registers : AreRegisters regs) where
   pub keeps_translations : IsWalked (view_of m control regs.cpl) test → AllPass test tlb →
       AllPass test (effect_of i size regs control m tlb).tlb
@@ -142,7 +142,7 @@ module _ (laws : AccessLaws) (i : Instr) (size : ℕ) (regs : Regs) (control : C
   unfolding effect_of
   is_granted whole named walked pass =
       let view = view_of m control regs.cpl in
-      let lie = laws.lies (length m) tlb named in
+      let lie = laws.kept.lies (length m) tlb named in
       unless_refused_ok (λ effect. IfSome effect.write (IsGranted view test (length m))) (refusal i regs.cpl) tlb _
       (form_granted laws view test walked (length m) whole refl i size regs control m formed registers tlb pass lie
       (instr_form i))

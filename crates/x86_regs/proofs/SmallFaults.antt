@@ -4,7 +4,6 @@ use Rattle.std.specs.Prelude.{◌==◌, ◌&&◌, IfErr, IfSome, Option, None, S
 use Rattle.x86_decode.specs.WellFormed.{IsWellFormed}
 use Rattle.x86_decode.specs.Conditions.{conditions_of}
 use Rattle.x86_decode.specs.declared.instruction.Instr.{Instr}
-use Rattle.nk_bits.specs.declared.access.Access.{Access}
 use Rattle.nk_bits.specs.declared.access.Access.TheVariants.{Read, Write}
 use Rattle.nk_bits.specs.declared.control.Control.{Control}
 use Rattle.nk_bits.specs.declared.fault.AccessFault.{AccessFault}
@@ -13,6 +12,7 @@ use Rattle.nk_bits.specs.declared.leaf.Target.{Target}
 use Rattle.nk_bits.specs.Accesses.{IsSmallAccessFault, View, accessed}
 use Rattle.nk_bits.specs.Outcomes.{Outcome, answered, then_by}
 use Rattle.nk_bits.specs.Translations.{Translations}
+use Rattle.nk_bits.specs.AccessLaws.{AccessLaws}
 use Rattle.page_walk.specs.declared.plan.Gathered.{Gathered}
 use Rattle.page_walk.specs.declared.plan.AccessPlan.{AccessPlan}
 use Rattle.page_walk.specs.declared.plan.Origin.{Origin}
@@ -79,19 +79,14 @@ refusal_small i cpl =
     (either IsSmallRefusal (conditions.needs_cpl_0 && not (cpl == 0)) _ _ none_small
     (either IsSmallRefusal (is_undefined_at_cpl_0 conditions.undefined) _ _ tt tt))))
 
--- what is used of the law of accesses
-abbrev FaultLaw : Type 0
-FaultLaw = (view : View) (access : Access) (tlb : Translations) (va width : ℕ) → va < 2 ^ 64 →
-    IfErr (accessed view access tlb va width).answer IsSmallAccessFault
-
-module _ (law : FaultLaw) (view : View) where
+module _ (laws : AccessLaws) (view : View) where
   checked_small : (span : Option Span) (tlb : Translations) → IfSome span IsSpan →
       IfErr (checked view span tlb).answer IsSmallSpanFault
   checked_small None tlb is = tt
   checked_small (Some span) tlb is =
       let access : Outcome AccessFault Target = accessed view Write tlb span.va span.width in
       then_err IsSmallSpanFault (with_stack span access.answer) access.tlb (λ target after. answered (Some target) after)
-      (marked_small span access.answer (law view Write tlb span.va span.width is.address)) (λ target. tt)
+      (marked_small span access.answer (laws.fault view Write tlb span.va span.width is.address)) (λ target. tt)
 
   taken_small : (m : List ℕ) (source : Origin) (tlb : Translations) → IsSpanOf source →
       IfErr (taken m view source tlb).answer IsSmallSpanFault
@@ -101,7 +96,7 @@ module _ (law : FaultLaw) (view : View) where
       marked_small span _
       (then_err IsSmallAccessFault access.answer access.tlb
       (λ target after. answered (value_at m span.va span.width target) after)
-      (law view Read tlb span.va span.width is.address) (λ target. tt))
+      (laws.fault view Read tlb span.va span.width is.address) (λ target. tt))
 
   gathered_small : (m : List ℕ) (plan : AccessPlan) (tlb : Translations) → IsPlanned plan →
       IfErr (gathered m view plan tlb).answer IsSmallSpanFault
@@ -169,10 +164,10 @@ refused_small : (refused : Option Fault) (tlb : Translations) (effect : Outcome 
 refused_small (Some fault) tlb effect small later = small
 refused_small None tlb effect small later = later
 
-pub faults_small : FaultLaw → (i : Instr) (size : ℕ) (regs : Regs) (control : Control) (m : List ℕ)
+pub faults_small : AccessLaws → (i : Instr) (size : ℕ) (regs : Regs) (control : Control) (m : List ℕ)
     (tlb : Translations) → IsWellFormed i → AreRegisters regs →
     IfErr (effect_of i size regs control m tlb).answer IsSmallFault
 unfolding effect_of
-faults_small law i size regs control m tlb formed registers =
+faults_small laws i size regs control m tlb formed registers =
     refused_small (refusal i regs.cpl) tlb _ (refusal_small i regs.cpl)
-    (form_small law (view_of m control regs.cpl) i size regs control m tlb formed registers (instr_form i))
+    (form_small laws (view_of m control regs.cpl) i size regs control m tlb formed registers (instr_form i))

@@ -8,3 +8,6 @@ pub mod OperandOutcomes
 pub mod Effects
 pub mod EffectsKept
 pub mod AlikeMemories
+-- Laws: what is proved of the definitions.
+pub mod EffectLaws
+pub mod AlikeLaws

@@ -5,5 +5,5 @@ pub returns : goal.returns
 returns c = record {
   any = slot_upper_any;
   in_memory = slot_upper_in_memory;
-  below = slot_upper_below c.upper_law.ensures.walks;
+  below = slot_upper_below c.upper_law.ensures;
 }

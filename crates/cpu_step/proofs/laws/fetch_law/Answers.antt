@@ -5,5 +5,5 @@ pub returns : goal.returns
 returns c = record {
   right = c.decoding_law.ensures.right;
   only = c.decoding_law.ensures.only;
-  small = fetch_small c.access_law.ensures.fault c.bound_law.ensures.raised;
+  small = fetch_small c.access_law.ensures c.bound_law.ensures;
 }

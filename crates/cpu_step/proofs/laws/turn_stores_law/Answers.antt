@@ -2,4 +2,4 @@ use Rattle.cpu_step.proofs.StoresOfTurns.{turned_stored}
 use Rattle.cpu_step.proofs.laws.turn_stores_law.Goals as goal
 
 pub returns : goal.returns
-returns c = turned_stored c.memory_law.ensures.append c.delivery_law.ensures.stores
+returns c = record { memory = turned_stored c.memory_law.ensures c.delivery_law.ensures }

@@ -37,7 +37,7 @@ start-requires-clause-slot c =
 pub returns-in-Ok-clause-seen : goal.returns-in-Ok-clause-seen
 returns-in-Ok-clause-seen c =
     let frames : ℕ = c.args.layout.now.frames in
-    unseen_back c.start.result c.args.mem.now c.start.new.mem (c.stored_law.ensures.unseen c.start.result) c.start.ensures.held c.start.ensures.elsewhere
+    unseen_back c.start.result c.args.mem.now c.start.new.mem c.stored_law.ensures c.start.ensures.held c.start.ensures.elsewhere
     ∙ unseen_opening c.args.image.now c.args.mem.now frames c.requires.opening c.requires.layout.least c.mask_law.ensures.unhidden
 
 pub returns-in-Err-clause-seen : goal.returns-in-Err-clause-seen

@@ -3,14 +3,7 @@ use Rattle.nk_run.proofs.laws.journal_law.Goals as goal
 
 pub returns : goal.returns
 returns c o input plan steps admitted in_form most =
-    replayed_run
-    (record {
-      begins = c.beside_law.ensures.begins;
-      judged = c.beside_law.ensures.judged;
-      answered = c.beside_law.ensures.answered;
-      stays = c.beside_law.ensures.stays;
-    })
-    o input plan
+    replayed_run c.beside_law.ensures o input plan
     (record {
       guarded = λ k. c.shown_law.ensures.guarded o input plan k admitted in_form;
       made = λ k. c.safety_law.ensures.nested o input plan k admitted in_form;

@@ -4,11 +4,7 @@ use Rattle.page_desc.proofs.laws.page_tables_law.Goals as goal
 
 pub returns : goal.returns
 returns c =
-    let laws : StoreLaws = record {
-      length = c.memory_law.ensures.length;
-      byte_elsewhere = c.memory_law.ensures.byte_elsewhere;
-      entry_elsewhere = c.frame_law.ensures.entry_elsewhere;
-    } in
+    let laws : StoreLaws = record { memory = c.memory_law.ensures; frame = c.frame_law.ensures } in
     record {
       loose = λ kinds root m frame sound. loose_is kinds root m sound frame;
       links = λ kinds root m frame sound. links_are kinds root m sound frame;

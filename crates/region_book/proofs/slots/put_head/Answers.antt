@@ -1,16 +1,8 @@
 use Rattle.std.proofs.Common.{◌≡◌, ◌+◌, arith, subst, sym}
 use Rattle.region_book.specs.SlotChanges.{DiffersWithin, Holds, head_of}
 use Rattle.region_book.proofs.SlotForms.{bool_fits, head_between}
-use Rattle.region_book.proofs.SlotStores.{HaveRoom, StoreLaws, laid, laid_differs, laid_holds}
+use Rattle.region_book.proofs.SlotStores.{HaveRoom, laid, laid_differs, laid_holds}
 use Rattle.region_book.proofs.slots.put_head.Goals as goal
-
-laws : (c : goal.After-store32-3) → StoreLaws
-laws c = record {
-  byte_elsewhere = c.memory_law.ensures.byte_elsewhere;
-  number_stored = c.memory_law.ensures.number_stored;
-  places = c.memory_law.ensures.places;
-  length = c.memory_law.ensures.length;
-}
 
 stands : (c : goal.After-store32-3) → c.store32-3.new.self ≡ laid c.args.mem.now (head_of c.args.place c.args.row.now)
 stands c = grind (arith)
@@ -23,11 +15,11 @@ room c =
 pub returns-clause-holds : goal.returns-clause-holds
 returns-clause-holds c =
     subst (λ m. Holds m (head_of c.args.place c.args.row.now)) (sym (stands c))
-    (laid_holds (laws c) c.args.mem.now c.args.place (c.args.place + 32) (head_of c.args.place c.args.row.now)
+    (laid_holds c.memory_law.ensures c.args.mem.now c.args.place (c.args.place + 32) (head_of c.args.place c.args.row.now)
     (head_between c.args.place c.args.row.now) (room c) (omega arith))
 
 pub returns-clause-differs : goal.returns-clause-differs
 returns-clause-differs c =
     subst (DiffersWithin c.args.place (c.args.place + 32) c.args.mem.now) (sym (stands c))
-    (laid_differs (laws c) c.args.mem.now c.args.place (c.args.place + 32) (head_of c.args.place c.args.row.now)
+    (laid_differs c.memory_law.ensures c.args.mem.now c.args.place (c.args.place + 32) (head_of c.args.place c.args.row.now)
     (head_between c.args.place c.args.row.now))

@@ -2,21 +2,14 @@ use Rattle.std.proofs.Common.{◌≡◌, ◌+◌, arith, subst, sym, ap, ◌∙�
 use Rattle.phys_mem.specs.Memory.{stored, stores}
 use Rattle.region_book.specs.RegionBytes.{slot_place}
 use Rattle.region_book.proofs.SlotForms.{IsTailPut, tail_is_put}
-use Rattle.region_book.proofs.SlotStores.{StoreLaws}
 use Rattle.region_book.proofs.slots.put_tail.Goals as goal
 
 put : (c : goal.After-store32) → IsTailPut c.args.slot c.args.tail c.args.mem.now c.store32.new.self
 put c =
-    let laws : StoreLaws = record {
-      byte_elsewhere = c.memory_law.ensures.byte_elsewhere;
-      number_stored = c.memory_law.ensures.number_stored;
-      places = c.memory_law.ensures.places;
-      length = c.memory_law.ensures.length;
-    } in
     let stands : c.store32.new.self ≡ stored c.args.mem.now (stores 4 (slot_place c.args.slot + 20) c.args.tail) =
     c.store32.ensures.stored ∙ ap (λ p. stored c.args.mem.now (stores 4 (p + 20) c.args.tail)) c.slot_place.ensures.place in
     subst (IsTailPut c.args.slot c.args.tail c.args.mem.now) (sym stands)
-    (tail_is_put laws c.args.mem.now c.args.slot c.args.tail c.requires.memory (omega arith) (omega arith))
+    (tail_is_put c.memory_law.ensures c.args.mem.now c.args.slot c.args.tail c.requires.memory (omega arith) (omega arith))
 
 pub returns-clause-row : goal.returns-clause-row
 returns-clause-row c = (put c).row

@@ -7,7 +7,7 @@ use Rattle.region_book.specs.RegionBytes.{book_in}
 use Rattle.region_book.specs.RegionRecords.{Region, byte_place}
 use Rattle.report_text.proofs.LedgerLines.{place_of, shown_at}
 use Rattle.report_text.proofs.LineParts.{region_parts}
-use Rattle.report_text.proofs.TakenUp.{PiecesLaws, end_cut, first_cut, second_cut, third_cut, went_out}
+use Rattle.report_text.proofs.TakenUp.{end_cut, first_cut, second_cut, third_cut, went_out}
 use Rattle.report_text.proofs.Known.{is_some_from, some_at, some_from}
 use Rattle.report_text.proofs.ledger_lines.put_region.Goals as goal
 
@@ -34,75 +34,60 @@ take_region-requires-clause-frames g c =
 
 pub returns-in-Err-clause-some : goal.returns-in-Err-clause-some
 returns-in-Err-clause-some g c =
-    let e = c.pieces_law.ensures in
-    let laws : PiecesLaws =
-    record { none = e.moved_none; on = e.moved_on; cut = e.moved_cut; all = e.moved_all; longer = e.prefix_longer } in
     let it = shown_at (book_in c.args.regions.now c.args.mem.now) c.requires.book c.args.i c.nth-region.result c.requires.number
     c.nth-region.ensures in
     let bytes = map (λ o. byte_at c.args.mem.now (byte_place it.region o)) (range_with_len 0 it.region.size) in
     let line = region_parts it.region c.nth-region.result bytes c.region_head.result.now it.same
     c.region_head.ensures in
-    some_from _ it.at (first_cut laws _ _ _ c.region_head.result.now (encode_lower bytes ++ codes "\n") _
+    some_from _ it.at (first_cut c.pieces_law.ensures _ _ _ c.region_head.result.now (encode_lower bytes ++ codes "\n") _
     c.new-pieces.ensures line c.in-Err.ensures.cut)
 
 pub returns-in-Err-take_region-clause-some : goal.returns-in-Err-take_region-clause-some
 returns-in-Err-take_region-clause-some g c =
-    let e = c.pieces_law.ensures in
-    let laws : PiecesLaws =
-    record { none = e.moved_none; on = e.moved_on; cut = e.moved_cut; all = e.moved_all; longer = e.prefix_longer } in
     let it = shown_at (book_in c.args.regions.now c.args.mem.now) c.requires.book c.args.i c.nth-region.result c.requires.number
     c.nth-region.ensures in
     let bytes = map (λ o. byte_at c.args.mem.now (byte_place it.region o)) (range_with_len 0 it.region.size) in
     let line = region_parts it.region c.nth-region.result bytes c.region_head.result.now it.same
     c.region_head.ensures in
     some_from _ it.at
-    (second_cut laws _ _ c.region_head.result.now (encode_lower bytes) (codes "\n") _ c.new-pieces.ensures line _ _
+    (second_cut c.pieces_law.ensures _ _ c.region_head.result.now (encode_lower bytes) (codes "\n") _ c.new-pieces.ensures line _ _
     c.in_default.ensures.moved
     _ (some_at _ it.live c.in-Err-take_region.ensures.cut))
 
 pub returns-in-Err-push-clause-some : goal.returns-in-Err-push-clause-some
 returns-in-Err-push-clause-some g c =
-    let e = c.pieces_law.ensures in
-    let laws : PiecesLaws =
-    record { none = e.moved_none; on = e.moved_on; cut = e.moved_cut; all = e.moved_all; longer = e.prefix_longer } in
     let it = shown_at (book_in c.args.regions.now c.args.mem.now) c.requires.book c.args.i c.nth-region.result c.requires.number
     c.nth-region.ensures in
     let bytes = map (λ o. byte_at c.args.mem.now (byte_place it.region o)) (range_with_len 0 it.region.size) in
     let line = region_parts it.region c.nth-region.result bytes c.region_head.result.now it.same
     c.region_head.ensures in
     some_from _ it.at
-    (third_cut laws _ _ c.region_head.result.now (encode_lower bytes) (codes "\n") _ c.new-pieces.ensures line _ _
+    (third_cut c.pieces_law.ensures _ _ c.region_head.result.now (encode_lower bytes) (codes "\n") _ c.new-pieces.ensures line _ _
     c.in_default.ensures.moved
     _ _ (some_at _ it.live c.in_default-take_region.ensures.moved) _ c.in-Err-push.ensures.cut)
 
 pub returns-clause-all : goal.returns-clause-all
 returns-clause-all g c =
-    let e = c.pieces_law.ensures in
-    let laws : PiecesLaws =
-    record { none = e.moved_none; on = e.moved_on; cut = e.moved_cut; all = e.moved_all; longer = e.prefix_longer } in
     let it = shown_at (book_in c.args.regions.now c.args.mem.now) c.requires.book c.args.i c.nth-region.result c.requires.number
     c.nth-region.ensures in
     let bytes = map (λ o. byte_at c.args.mem.now (byte_place it.region o)) (range_with_len 0 it.region.size) in
     let line = region_parts it.region c.nth-region.result bytes c.region_head.result.now it.same
     c.region_head.ensures in
     some_from _ it.at
-    (went_out laws _ _ c.region_head.result.now (encode_lower bytes) (codes "\n") _ c.new-pieces.ensures line _ _
+    (went_out c.pieces_law.ensures _ _ c.region_head.result.now (encode_lower bytes) (codes "\n") _ c.new-pieces.ensures line _ _
     c.in_default.ensures.moved
     _ _ (some_at _ it.live c.in_default-take_region.ensures.moved) _ _ c.in_default-push.ensures.moved c.finish.result
     _ _ c.finish.ensures.moved c.finish.ensures.none)
 
 pub returns-clause-some : goal.returns-clause-some
 returns-clause-some g c =
-    let e = c.pieces_law.ensures in
-    let laws : PiecesLaws =
-    record { none = e.moved_none; on = e.moved_on; cut = e.moved_cut; all = e.moved_all; longer = e.prefix_longer } in
     let it = shown_at (book_in c.args.regions.now c.args.mem.now) c.requires.book c.args.i c.nth-region.result c.requires.number
     c.nth-region.ensures in
     let bytes = map (λ o. byte_at c.args.mem.now (byte_place it.region o)) (range_with_len 0 it.region.size) in
     let line = region_parts it.region c.nth-region.result bytes c.region_head.result.now it.same
     c.region_head.ensures in
     some_from _ it.at
-    (end_cut laws _ _ c.region_head.result.now (encode_lower bytes) (codes "\n") _ c.new-pieces.ensures line _ _
+    (end_cut c.pieces_law.ensures _ _ c.region_head.result.now (encode_lower bytes) (codes "\n") _ c.new-pieces.ensures line _ _
     c.in_default.ensures.moved
     _ _ (some_at _ it.live c.in_default-take_region.ensures.moved) _ _ c.in_default-push.ensures.moved c.finish.result
     _ c.finish.ensures.cut)

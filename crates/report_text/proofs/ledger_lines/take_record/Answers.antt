@@ -8,15 +8,12 @@ use Rattle.write_log.specs.LogRecords.{LogRecord}
 use Rattle.report_text.specs.ClosingSection.{lines_of}
 use Rattle.report_text.proofs.LedgerLines.{there}
 use Rattle.report_text.proofs.LineParts.{bytes_taken}
-use Rattle.report_text.proofs.TakenUp.{PiecesLaws, takes_ended, takes_on, takes_were_cut}
+use Rattle.report_text.proofs.TakenUp.{takes_ended, takes_on, takes_were_cut}
 use Rattle.report_text.proofs.Known.{some_at, some_from}
 use Rattle.report_text.proofs.ledger_lines.take_record.Goals as goal
 
 pub returns-in-Err-clause-cut : goal.returns-in-Err-clause-cut
 returns-in-Err-clause-cut g c =
-    let e = c.pieces_law.ensures in
-    let laws : PiecesLaws =
-    record { none = e.moved_none; on = e.moved_on; cut = e.moved_cut; all = e.moved_all; longer = e.prefix_longer } in
     let log = log_in c.args.log.now c.args.mem.now in
     let count = (c.held_log_law.ensures.counts c.args.log.now c.args.mem.now c.requires.held).0 in
     let below : c.args.i < length log = omega (arith, c.requires.number, count) in
@@ -28,7 +25,7 @@ returns-in-Err-clause-cut g c =
     let here = subst (λ b. AppendsPrefix (g.O.Sink.taken c.loop-at.sink) (g.O.Sink.taken c.push_hex.new.sink)
     (c.loop-at.pieces ++ encode_lower (b ∷ [])))
     byte c.in-Err.ensures.cut in
-    let cut = takes_were_cut laws g.O.Sink.taken g.O.Sink.faults _ _ _ _ _ _ _ _ going c.push_hex.new.sink
+    let cut = takes_were_cut c.pieces_law.ensures g.O.Sink.taken g.O.Sink.faults _ _ _ _ _ _ _ _ going c.push_hex.new.sink
     (omega arith) here in
     let text : lines_of (λ o. encode_lower (slice_index of.bytes o ∷ [])) c.args.it.now.length 0
     ≡ encode_lower of.bytes =
@@ -39,9 +36,6 @@ returns-in-Err-clause-cut g c =
 
 pub loop-at-preserved : goal.loop-at-preserved
 loop-at-preserved g c =
-    let e = c.pieces_law.ensures in
-    let laws : PiecesLaws =
-    record { none = e.moved_none; on = e.moved_on; cut = e.moved_cut; all = e.moved_all; longer = e.prefix_longer } in
     let log = log_in c.args.log.now c.args.mem.now in
     let count = (c.held_log_law.ensures.counts c.args.log.now c.args.mem.now c.requires.held).0 in
     let below : c.args.i < length log = omega (arith, c.requires.number, count) in
@@ -53,7 +47,7 @@ loop-at-preserved g c =
     (encode_lower (b ∷ []))) byte c.in_default.ensures.moved in
     record {
       taken = some_from _ is
-          (takes_on laws g.O.Sink.taken g.O.Sink.faults _ _ _ _ _ _ _ _ going c.push_hex.new.sink c.push_hex.new.self
+          (takes_on c.pieces_law.ensures g.O.Sink.taken g.O.Sink.faults _ _ _ _ _ _ _ _ going c.push_hex.new.sink c.push_hex.new.self
           (omega arith) here
           c.push_hex.ensures.never_falls);
       counted = omega (arith, c.loop-at.invariant.counted, c.push_hex.ensures.never_falls);
@@ -61,9 +55,6 @@ loop-at-preserved g c =
 
 pub returns-clause-moved : goal.returns-clause-moved
 returns-clause-moved g c =
-    let e = c.pieces_law.ensures in
-    let laws : PiecesLaws =
-    record { none = e.moved_none; on = e.moved_on; cut = e.moved_cut; all = e.moved_all; longer = e.prefix_longer } in
     let log = log_in c.args.log.now c.args.mem.now in
     let count = (c.held_log_law.ensures.counts c.args.log.now c.args.mem.now c.requires.held).0 in
     let below : c.args.i < length log = omega (arith, c.requires.number, count) in
@@ -77,4 +68,4 @@ returns-clause-moved g c =
     some_from _ is
     (subst (MovedOn (g.O.Sink.taken c.args.sink.now) (g.O.Sink.taken c.loop-at.sink) c.args.pieces.now
     c.loop-at.pieces) text
-    (takes_ended laws g.O.Sink.taken g.O.Sink.faults _ _ _ _ _ _ _ _ going (omega arith)))
+    (takes_ended c.pieces_law.ensures g.O.Sink.taken g.O.Sink.faults _ _ _ _ _ _ _ _ going (omega arith)))

@@ -8,15 +8,12 @@ use Rattle.region_book.specs.RegionBytes.{book_in}
 use Rattle.region_book.specs.RegionRecords.{Region, byte_place, region_of}
 use Rattle.report_text.specs.ClosingSection.{lines_of}
 use Rattle.report_text.proofs.LineParts.{range_taken}
-use Rattle.report_text.proofs.TakenUp.{PiecesLaws, takes_ended, takes_on, takes_were_cut}
+use Rattle.report_text.proofs.TakenUp.{takes_ended, takes_on, takes_were_cut}
 use Rattle.report_text.proofs.Known.{some_at, some_from, some_is}
 use Rattle.report_text.proofs.ledger_lines.take_region.Goals as goal
 
 pub returns-in-Err-clause-cut : goal.returns-in-Err-clause-cut
 returns-in-Err-clause-cut g c =
-    let e = c.pieces_law.ensures in
-    let laws : PiecesLaws =
-    record { none = e.moved_none; on = e.moved_on; cut = e.moved_cut; all = e.moved_all; longer = e.prefix_longer } in
     let (r, is) = some_is (region_of (book_in c.args.regions.now c.args.mem.now) c.args.region.now.id) c.requires.live in
     let going = some_at _ is c.loop-offset.invariant.taken in
     let size : r.size ≡ c.args.region.now.size =
@@ -26,7 +23,7 @@ returns-in-Err-clause-cut g c =
     let here = subst (λ b. AppendsPrefix (g.O.Sink.taken c.loop-offset.sink) (g.O.Sink.taken c.push_hex.new.sink)
     (c.loop-offset.pieces ++ encode_lower (b ∷ [])))
     byte c.in-Err.ensures.cut in
-    let cut = takes_were_cut laws g.O.Sink.taken g.O.Sink.faults _ _ _ _ _ _ _ _ going c.push_hex.new.sink
+    let cut = takes_were_cut c.pieces_law.ensures g.O.Sink.taken g.O.Sink.faults _ _ _ _ _ _ _ _ going c.push_hex.new.sink
     (omega arith) here in
     let text : lines_of (λ o. encode_lower (byte_at c.args.mem.now (byte_place r o) ∷ [])) c.args.region.now.size 0
     ≡ encode_lower (map (λ o. byte_at c.args.mem.now (byte_place r o)) (range_with_len 0 r.size)) =
@@ -38,9 +35,6 @@ returns-in-Err-clause-cut g c =
 
 pub loop-offset-preserved : goal.loop-offset-preserved
 loop-offset-preserved g c =
-    let e = c.pieces_law.ensures in
-    let laws : PiecesLaws =
-    record { none = e.moved_none; on = e.moved_on; cut = e.moved_cut; all = e.moved_all; longer = e.prefix_longer } in
     let (r, is) = some_is (region_of (book_in c.args.regions.now c.args.mem.now) c.args.region.now.id) c.requires.live in
     let going = some_at _ is c.loop-offset.invariant.taken in
     let byte : c.byte-byte.result ≡ byte_at c.args.mem.now (byte_place r c.loop-offset.offset) =
@@ -50,7 +44,7 @@ loop-offset-preserved g c =
     (encode_lower (b ∷ []))) byte c.in_default.ensures.moved in
     record {
       taken = some_from _ is
-          (takes_on laws g.O.Sink.taken g.O.Sink.faults _ _ _ _ _ _ _ _ going c.push_hex.new.sink c.push_hex.new.self
+          (takes_on c.pieces_law.ensures g.O.Sink.taken g.O.Sink.faults _ _ _ _ _ _ _ _ going c.push_hex.new.sink c.push_hex.new.self
           (omega arith) here
           c.push_hex.ensures.never_falls);
       counted = omega (arith, c.loop-offset.invariant.counted, c.push_hex.ensures.never_falls);
@@ -58,9 +52,6 @@ loop-offset-preserved g c =
 
 pub returns-clause-moved : goal.returns-clause-moved
 returns-clause-moved g c =
-    let e = c.pieces_law.ensures in
-    let laws : PiecesLaws =
-    record { none = e.moved_none; on = e.moved_on; cut = e.moved_cut; all = e.moved_all; longer = e.prefix_longer } in
     let (r, is) = some_is (region_of (book_in c.args.regions.now c.args.mem.now) c.args.region.now.id) c.requires.live in
     let going = some_at _ is c.loop-offset.invariant.taken in
     let size : r.size ≡ c.args.region.now.size =
@@ -72,4 +63,4 @@ returns-clause-moved g c =
     some_from _ is
     (subst (MovedOn (g.O.Sink.taken c.args.sink.now) (g.O.Sink.taken c.loop-offset.sink) c.args.pieces.now
     c.loop-offset.pieces) text
-    (takes_ended laws g.O.Sink.taken g.O.Sink.faults _ _ _ _ _ _ _ _ going (omega arith)))
+    (takes_ended c.pieces_law.ensures g.O.Sink.taken g.O.Sink.faults _ _ _ _ _ _ _ _ going (omega arith)))

@@ -6,6 +6,6 @@ pub returns : goal.returns
 returns c = record {
   supervisor = λ regs control tables vector code m tlb. (delivered_leaves regs control tables vector code m tlb).0;
   shut = λ regs control tables vector code m tlb. (delivered_leaves regs control tables vector code m tlb).1;
-  stores = delivered_stored c.memory_law.ensures.append;
-  length = delivered_length c.memory_law.ensures.length;
+  stores = delivered_stored c.memory_law.ensures;
+  length = delivered_length c.memory_law.ensures;
 }

@@ -9,29 +9,12 @@ use Rattle.vmmu.proofs.laws.table_calls_law.Goals as goal
 pub returns : goal.returns
 returns c =
     let laws : LowerLaws = record {
-      bytes = record {
-        stored_length = c.memory_law.ensures.length;
-        byte_elsewhere = c.memory_law.ensures.byte_elsewhere;
-        zeroed_length = c.frame_law.ensures.length_zeroed;
-        zeroed_elsewhere = c.frame_law.ensures.byte_zeroed_elsewhere;
-        within_frame = c.frame_law.ensures.within_frame;
-      };
-      entries = record {
-        replaced = c.memory_tables_law.ensures.replaced;
-        zeroed = c.memory_tables_law.ensures.zeroed;
-        emptied = c.memory_tables_law.ensures.emptied;
-      };
-      sound = record {
-        replaced = c.sound_law.ensures.replaced;
-        elsewhere = c.sound_law.ensures.elsewhere;
-        new_table = c.sound_law.ensures.new_table;
-        old_table = c.sound_law.ensures.old_table;
-        lawful = c.value_law.ensures.lawful;
-      };
-      counts = record {
-        loose = c.page_tables_law.ensures.loose;
-        links = c.page_tables_law.ensures.links;
-      };
+      memory = c.memory_law.ensures;
+      frame = c.frame_law.ensures;
+      entries = c.memory_tables_law.ensures;
+      sound = c.sound_law.ensures;
+      value = c.value_law.ensures;
+      counts = c.page_tables_law.ensures;
     } in
     record {
       declared = λ kinds root level frame m holds none.

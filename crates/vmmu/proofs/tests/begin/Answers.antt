@@ -37,10 +37,9 @@ returns-then-are_fixed-are_kinds c =
     let books = and_parts _ _ root.0 in
     let slot = and_parts _ _ directory.0 in
     let laws : SeenLaws = record {
-      length = c.mask_law.ensures.length;
-      entry = c.mask_law.ensures.entry_seen;
-      elsewhere = c.descriptor_law.ensures.elsewhere;
-      unseen = c.stored_law.ensures.unseen;
+      mask = c.mask_law.ensures;
+      descriptor = c.descriptor_law.ensures;
+      stored = c.stored_law.ensures;
     } in
     let small : IsSmall c.args.kinds.now c.args.mem.now = record {
       size = c.requires.memory;

@@ -4,15 +4,7 @@ use Rattle.x86_decode.proofs.reader.decoding_law.Goals as goal
 
 pub returns : goal.returns
 returns c =
-    let laws : FieldLaws = record {
-      front = c.prefixes_law.ensures.front;
-      all = c.prefixes_law.ensures.all;
-      ends = c.prefixes_law.ensures.ends;
-      prefixes = c.longer_law.ensures.prefixes;
-      modrm = c.longer_law.ensures.modrm;
-      needed = c.longer_law.ensures.needed;
-      immediate = c.longer_law.ensures.immediate;
-    } in
+    let laws : FieldLaws = record { prefixes = c.prefixes_law.ensures; longer = c.longer_law.ensures } in
     record {
       right = λ bytes are few. answer_right laws bytes are few;
       only = λ bytes other are few d. answer_only laws bytes other are few d;

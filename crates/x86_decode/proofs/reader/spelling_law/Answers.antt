@@ -6,15 +6,7 @@ use Rattle.x86_decode.proofs.reader.spelling_law.Goals as goal
 
 pub returns : goal.returns
 returns c =
-    let laws : FieldLaws = record {
-      front = c.prefixes_law.ensures.front;
-      all = c.prefixes_law.ensures.all;
-      ends = c.prefixes_law.ensures.ends;
-      prefixes = c.longer_law.ensures.prefixes;
-      modrm = c.longer_law.ensures.modrm;
-      needed = c.longer_law.ensures.needed;
-      immediate = c.longer_law.ensures.immediate;
-    } in
+    let laws : FieldLaws = record { prefixes = c.prefixes_law.ensures; longer = c.longer_law.ensures } in
     record {
       one = λ instr other bytes more s t. one_spelling laws instr other bytes more s t;
       formed = λ instr bytes s. well_formed instr bytes s;

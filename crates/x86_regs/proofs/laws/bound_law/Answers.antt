@@ -4,7 +4,7 @@ use Rattle.x86_regs.proofs.laws.bound_law.Goals as goal
 
 pub returns : goal.returns
 returns c = record {
-  fault = faults_small c.access_law.ensures.fault;
+  fault = faults_small c.access_law.ensures;
   act = acts_small;
   raised = raised_small;
 }

@@ -24,12 +24,12 @@ returns-clause-made c source =
     let held : HoldsBooks before c.args.mem.now = held_before before c.args.self.now c.args.mem.now c.self.view_is c.requires.books in
     let m : List ℕ = c.args.mem.now in
     let later : List ℕ = c.alloc.new.mem in
-    let stands = beside_stands before m later held c.alloc.ensures.size c.stored_law.ensures.agree c.held_log_law.ensures.agree c.alloc.ensures.others in
+    let stands = beside_stands before m later held c.alloc.ensures.size c.stored_law.ensures c.held_log_law.ensures c.alloc.ensures.others in
     made_as m before c.args.self.now (rule_of c.alloc.result) (rule_of c.match-alloc.result) c.self.view_is same
     (subst (λ (d : Descriptors). IsMade (books_in before m) (seen m) c.args.call.now source (rule_of c.alloc.result)
     (books_of d before.root before.trap (book_in c.alloc.new.self later) (log_in before.log later)) (seen later)) (sym stands.described)
     (pool_made (descriptors_in m) before.root before.trap (book_in before.regions m) (book_in c.alloc.new.self later) (log_in before.log m)
-    (log_in before.log later) (seen m) (seen later) c.args.call.now source held.books c.requires.number c.page_tables_law.ensures.described stands.log
+    (log_in before.log later) (seen m) (seen later) c.args.call.now source held.books c.requires.number c.page_tables_law.ensures stands.log
     c.alloc.result c.alloc.ensures.judged (err_with (λ same. (λ i. book_in (same.0 i) (same.1 i), ap seen same.1)) c.alloc.result c.alloc.ensures.refused)
     c.alloc.ensures.granted c.alloc.ensures.allocated c.alloc.ensures.memory))
 
@@ -37,6 +37,6 @@ pub returns-clause-form : goal.returns-clause-form
 returns-clause-form c =
     let before : OwnState = own_of c.self.inside.tables c.self.inside.trap c.self.inside.regions c.self.inside.log in
     let held : HoldsBooks before c.args.mem.now = held_before before c.args.self.now c.args.mem.now c.self.view_is c.requires.books in
-    let stands = beside_stands before c.args.mem.now c.alloc.new.mem held c.alloc.ensures.size c.stored_law.ensures.agree
-    c.held_log_law.ensures.agree c.alloc.ensures.others in
+    let stands = beside_stands before c.args.mem.now c.alloc.new.mem held c.alloc.ensures.size c.stored_law.ensures
+    c.held_log_law.ensures c.alloc.ensures.others in
     record { stored = stands.stored; regions = c.alloc.ensures.held; log = stands.counts }

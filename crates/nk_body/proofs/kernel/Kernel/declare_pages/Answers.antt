@@ -12,7 +12,6 @@ use Rattle.nk_body.specs.CallMade.{IsMade}
 use Rattle.nk_body.specs.NestedRecord.{HoldsBooks, OwnState, books_in}
 use Rattle.nk_body.proofs.CallsMade.{books_of, held_before, made_as, own_of}
 use Rattle.nk_body.proofs.HeldBooks.{tables_of}
-use Rattle.nk_body.proofs.LowerLaws.{GuardLaws, WalkLaws}
 use Rattle.nk_body.proofs.PagesMade.{pages_made, seen_map}
 use Rattle.nk_body.proofs.RegionsHeld.{err_with}
 use Rattle.nk_body.proofs.kernel.Kernel.declare_pages.Goals.{in-Err, in-Ok}
@@ -40,17 +39,6 @@ returns-clause-made c source =
     ] in
     let before : OwnState = own_of c.self.inside.tables c.self.inside.trap c.self.inside.regions c.self.inside.log in
     let held : HoldsBooks before c.args.mem.now = held_before before c.args.self.now c.args.mem.now c.self.view_is c.requires.books in
-    let guard : GuardLaws =
-    record {
-      sound = c.guarded_law.ensures.sound;
-      tables = c.guarded_law.ensures.tables;
-      loose = c.guarded_law.ensures.loose;
-      described = c.guarded_law.ensures.described;
-      once = c.declared_law.ensures.once;
-      none = c.declared_law.ensures.none;
-      more = c.declared_law.ensures.more;
-    } in
-    let walks : WalkLaws = record { same = c.record_walk_law.ensures; in_memory = c.walk_law.ensures.in_memory } in
     let m : List ℕ = c.args.mem.now in
     let later : List ℕ = c.declare.new.mem in
     let map = seen_map m before.root (c.mask_law.ensures.length _ m)
@@ -61,7 +49,7 @@ returns-clause-made c source =
     (subst (λ (it : List ℕ × List LogRecord). IsMade (books_in before m) (seen m) c.args.call.now source (rule_of c.declare.result)
     (books_of (descriptors_in later) before.root before.trap (book_in c.declare.new.self later) it.1) it.0)
     (λ i. (sym c.declare.ensures.unseen i, sym log.0 i))
-    (pages_made guard walks c.page_tables_law.ensures.loose (descriptors_in m) (descriptors_in later) before.root before.trap
+    (pages_made c.guarded_law.ensures c.declared_law.ensures c.record_walk_law.ensures c.walk_law.ensures c.page_tables_law.ensures (descriptors_in m) (descriptors_in later) before.root before.trap
     (book_in before.regions m) (book_in c.declare.new.self later) (log_in before.log m) (seen m) c.args.call.now source held.books c.requires.number
     c.declare.result
     (c.declare.ensures.judged ∙ ap (λ at. pages_rule (book_in before.regions m) (kinds_in m) (slice_index (descriptors_in m).loose) at

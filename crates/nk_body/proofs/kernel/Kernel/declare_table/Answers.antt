@@ -21,7 +21,7 @@ returns-clause-made c source =
     ] in
     let before : OwnState = own_of c.self.inside.tables c.self.inside.trap c.self.inside.regions c.self.inside.log in
     let held : HoldsBooks before c.args.mem.now = held_before before c.args.self.now c.args.mem.now c.self.view_is c.requires.books in
-    let laws : LedgerLaws = record { regions = c.held_regions_law.ensures.agree; log = c.held_log_law.ensures.agree } in
+    let laws : LedgerLaws = record { regions = c.held_regions_law.ensures; log = c.held_log_law.ensures } in
     let ledger = tables_ledger laws before c.declare_table.new.self c.args.mem.now c.declare_table.new.mem held c.declare_table.ensures.frames c.declare_table.ensures.books
     c.declare_table.ensures.others in
     made_as c.args.mem.now before c.args.self.now (rule_of c.declare_table.result) (rule_of c.match-declare_table.result) c.self.view_is same
@@ -41,5 +41,5 @@ pub returns-clause-form : goal.returns-clause-form
 returns-clause-form c =
     let before : OwnState = own_of c.self.inside.tables c.self.inside.trap c.self.inside.regions c.self.inside.log in
     let held : HoldsBooks before c.args.mem.now = held_before before c.args.self.now c.args.mem.now c.self.view_is c.requires.books in
-    let laws : LedgerLaws = record { regions = c.held_regions_law.ensures.agree; log = c.held_log_law.ensures.agree } in
+    let laws : LedgerLaws = record { regions = c.held_regions_law.ensures; log = c.held_log_law.ensures } in
     tables_form laws before c.declare_table.new.self c.args.mem.now c.declare_table.new.mem held c.declare_table.ensures.frames c.declare_table.ensures.books c.declare_table.ensures.others

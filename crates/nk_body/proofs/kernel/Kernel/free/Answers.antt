@@ -24,7 +24,7 @@ returns-clause-made c source =
     let held : HoldsBooks before c.args.mem.now = held_before before c.args.self.now c.args.mem.now c.self.view_is c.requires.books in
     let m : List ℕ = c.args.mem.now in
     let later : List ℕ = c.free.new.mem in
-    let stands = beside_stands before m later held c.free.ensures.elsewhere.size c.stored_law.ensures.agree c.held_log_law.ensures.agree
+    let stands = beside_stands before m later held c.free.ensures.elsewhere.size c.stored_law.ensures c.held_log_law.ensures
     (λ p is. c.free.ensures.elsewhere.elsewhere p) in
     made_as m before c.args.self.now (rule_of c.free.result) (rule_of c.match-free.result) c.self.view_is same
     (subst (λ (d : Descriptors). IsMade (books_in before m) (seen m) c.args.call.now source (rule_of c.free.result)
@@ -38,6 +38,6 @@ pub returns-clause-form : goal.returns-clause-form
 returns-clause-form c =
     let before : OwnState = own_of c.self.inside.tables c.self.inside.trap c.self.inside.regions c.self.inside.log in
     let held : HoldsBooks before c.args.mem.now = held_before before c.args.self.now c.args.mem.now c.self.view_is c.requires.books in
-    let stands = beside_stands before c.args.mem.now c.free.new.mem held c.free.ensures.elsewhere.size c.stored_law.ensures.agree
-    c.held_log_law.ensures.agree (λ p is. c.free.ensures.elsewhere.elsewhere p) in
+    let stands = beside_stands before c.args.mem.now c.free.new.mem held c.free.ensures.elsewhere.size c.stored_law.ensures
+    c.held_log_law.ensures (λ p is. c.free.ensures.elsewhere.elsewhere p) in
     record { stored = stands.stored; regions = c.free.ensures.held; log = stands.counts }

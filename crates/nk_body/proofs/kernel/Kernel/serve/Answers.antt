@@ -17,20 +17,12 @@ returns-in-Err-clause-answer c =
 
 pub returns-in-Ok-clause-books : goal.returns-in-Ok-clause-books
 returns-in-Ok-clause-books c =
-    let laws : LeftLaws = record {
-      nested = c.call_law.ensures.nested;
-      count = c.call_leaves_law.ensures.count;
-      settled = c.call_leaves_law.ensures.settled;
-    } in
+    let laws : LeftLaws = record { call = c.call_law.ensures; leaves = c.call_leaves_law.ensures } in
     held_after laws c.args.self.now c.make.new.self c.args.mem.now c.make.new.mem c.args.call.now (sourced_of c.args.source) None
     c.requires.books c.requires.source c.are_words.ensures.0 c.are_words.ensures.1 c.in-Ok.ensures.made c.make.ensures.frames c.make.ensures.form
 
 pub returns-in-Err-clause-books : goal.returns-in-Err-clause-books
 returns-in-Err-clause-books c =
-    let laws : LeftLaws = record {
-      nested = c.call_law.ensures.nested;
-      count = c.call_leaves_law.ensures.count;
-      settled = c.call_leaves_law.ensures.settled;
-    } in
+    let laws : LeftLaws = record { call = c.call_law.ensures; leaves = c.call_leaves_law.ensures } in
     held_after laws c.args.self.now c.make.new.self c.args.mem.now c.make.new.mem c.args.call.now (sourced_of c.args.source) (Some c.in-Err.rule)
     c.requires.books c.requires.source c.are_words.ensures.0 c.are_words.ensures.1 c.in-Err.ensures.made c.make.ensures.frames c.make.ensures.form

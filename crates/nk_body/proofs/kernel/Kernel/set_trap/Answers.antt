@@ -23,8 +23,8 @@ returns-clause-made c source =
     let held : HoldsBooks before c.args.mem.now = held_before before c.args.self.now c.args.mem.now c.self.view_is c.requires.books in
     let m : List ℕ = c.args.mem.now in
     let later : List ℕ = c.store64.new.self in
-    let laws : HeldLaws = record { stores = c.held_tables_law.ensures.stores; byte_elsewhere = c.memory_law.ensures.byte_elsewhere } in
-    let ledger_laws : LedgerLaws = record { regions = c.held_regions_law.ensures.agree; log = c.held_log_law.ensures.agree } in
+    let laws : HeldLaws = record { tables = c.held_tables_law.ensures; memory = c.memory_law.ensures } in
+    let ledger_laws : LedgerLaws = record { regions = c.held_regions_law.ensures; log = c.held_log_law.ensures } in
     let ledger : StandsLedger before m later =
     subst (StandsLedger before m) (sym c.store64.ensures.stored) (handler_ledger laws ledger_laws before m held a c.memory_law.ensures.places) in
     let described = ap descriptors_in c.store64.ensures.stored ∙ handler_described laws ledger_laws before m held a c.memory_law.ensures.places in
@@ -43,8 +43,8 @@ returns-clause-form c =
     let m : List ℕ = c.args.mem.now in
     let before : OwnState = own_of c.self.inside.tables c.self.inside.trap c.self.inside.regions c.self.inside.log in
     let held : HoldsBooks before m = held_before before c.args.self.now m c.self.view_is c.requires.books in
-    let laws : HeldLaws = record { stores = c.held_tables_law.ensures.stores; byte_elsewhere = c.memory_law.ensures.byte_elsewhere } in
-    let ledger_laws : LedgerLaws = record { regions = c.held_regions_law.ensures.agree; log = c.held_log_law.ensures.agree } in
+    let laws : HeldLaws = record { tables = c.held_tables_law.ensures; memory = c.memory_law.ensures } in
+    let ledger_laws : LedgerLaws = record { regions = c.held_regions_law.ensures; log = c.held_log_law.ensures } in
     let ledger = handler_ledger laws ledger_laws before m held c.args.call.now.a c.memory_law.ensures.places in
     subst (KeepsForm (record before { trap = c.args.call.now.a })) (sym c.store64.ensures.stored) (record {
       stored = handler_holds laws ledger_laws before m held c.args.call.now.a c.memory_law.ensures.places;

@@ -28,7 +28,7 @@ pub write-requires-clause-apart : goal.write-requires-clause-apart
 write-requires-clause-apart c =
     let before : OwnState = own_of c.self.inside.tables c.self.inside.trap c.self.inside.regions c.self.inside.log in
     let held : HoldsBooks before c.args.mem.now = held_before before c.args.self.now c.args.mem.now c.self.view_is c.requires.books in
-    frames_apart c.held_tables_law.ensures.unhidden before c.args.mem.now c.args.call.now.a held
+    frames_apart c.held_tables_law.ensures before c.args.mem.now c.args.call.now.a held
 
 pub returns-clause-made : goal.returns-clause-made
 returns-clause-made c =
@@ -41,13 +41,13 @@ returns-clause-made c =
     let held : HoldsBooks before c.args.mem.now = held_before before c.args.self.now c.args.mem.now c.self.view_is c.requires.books in
     let m : List ℕ = c.args.mem.now in
     let later : List ℕ = c.write.new.mem in
-    let stands = descriptors_stand before m later held c.write.ensures.size c.stored_law.ensures.agree c.write.ensures.descriptors in
+    let stands = descriptors_stand before m later held c.write.ensures.size c.stored_law.ensures c.write.ensures.descriptors in
     made_as m before c.args.self.now (rule_of c.write.result) (rule_of c.match-write.result) c.self.view_is same
     (subst (λ (d : Descriptors). IsMade (books_in before m) (seen m) c.args.call.now (Bytes c.args.bytes.now) (rule_of c.write.result)
     (books_of d before.root before.trap (book_in c.write.new.regions later) (log_in c.write.new.log later)) (seen later)) (sym stands.0)
     (write_made (descriptors_in m) before.root before.trap (book_in before.regions m) (book_in c.write.new.regions later) (log_in before.log m)
     (log_in c.write.new.log later) (seen m) (seen later) c.args.call.now c.args.bytes.now held.books c.requires.number c.requires.count
-    c.page_tables_law.ensures.described c.write.result c.write.ensures.judged
+    c.page_tables_law.ensures c.write.result c.write.ensures.judged
     (err_with (λ same. (λ i. book_in (same.0 i) (same.2 i), λ i. log_in (same.1 i) (same.2 i), ap seen same.2)) c.write.result c.write.ensures.refused)
     c.write.ensures.book c.write.ensures.log c.write.ensures.memory))
 
@@ -55,6 +55,6 @@ pub returns-clause-form : goal.returns-clause-form
 returns-clause-form c =
     let before : OwnState = own_of c.self.inside.tables c.self.inside.trap c.self.inside.regions c.self.inside.log in
     let held : HoldsBooks before c.args.mem.now = held_before before c.args.self.now c.args.mem.now c.self.view_is c.requires.books in
-    let stands = descriptors_stand before c.args.mem.now c.write.new.mem held c.write.ensures.size c.stored_law.ensures.agree
+    let stands = descriptors_stand before c.args.mem.now c.write.new.mem held c.write.ensures.size c.stored_law.ensures
     c.write.ensures.descriptors in
     record { stored = stands.1; regions = c.write.ensures.held; log = c.write.ensures.held_log }

@@ -20,7 +20,7 @@ returns-clause-made c source =
     ] in
     let before : OwnState = own_of c.self.inside.tables c.self.inside.trap c.self.inside.regions c.self.inside.log in
     let held : HoldsBooks before c.args.mem.now = held_before before c.args.self.now c.args.mem.now c.self.view_is c.requires.books in
-    let laws : LedgerLaws = record { regions = c.held_regions_law.ensures.agree; log = c.held_log_law.ensures.agree } in
+    let laws : LedgerLaws = record { regions = c.held_regions_law.ensures; log = c.held_log_law.ensures } in
     let ledger = tables_ledger laws before c.write_entry.new.self c.args.mem.now c.write_entry.new.mem held c.write_entry.ensures.frames c.write_entry.ensures.books
     c.write_entry.ensures.others in
     made_as c.args.mem.now before c.args.self.now (rule_of c.write_entry.result) (rule_of c.match-write_entry.result) c.self.view_is same
@@ -39,5 +39,5 @@ pub returns-clause-form : goal.returns-clause-form
 returns-clause-form c =
     let before : OwnState = own_of c.self.inside.tables c.self.inside.trap c.self.inside.regions c.self.inside.log in
     let held : HoldsBooks before c.args.mem.now = held_before before c.args.self.now c.args.mem.now c.self.view_is c.requires.books in
-    let laws : LedgerLaws = record { regions = c.held_regions_law.ensures.agree; log = c.held_log_law.ensures.agree } in
+    let laws : LedgerLaws = record { regions = c.held_regions_law.ensures; log = c.held_log_law.ensures } in
     tables_form laws before c.write_entry.new.self c.args.mem.now c.write_entry.new.mem held c.write_entry.ensures.frames c.write_entry.ensures.books c.write_entry.ensures.others

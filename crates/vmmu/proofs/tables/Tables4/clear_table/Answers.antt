@@ -10,7 +10,6 @@ use Rattle.vmmu.specs.TableCalls.{memory_removed}
 use Rattle.vmmu.proofs.CallFacts.{removable}
 use Rattle.vmmu.proofs.CarriedCounts.{removed_described}
 use Rattle.vmmu.proofs.HeldTables.{held_set, table_shown}
-use Rattle.vmmu.proofs.LowerLaws.{DescriptorLaws, EntryLaws}
 use Rattle.vmmu.proofs.tables.Tables4.clear_table.Goals as goal
 
 pub seen_entry-old-requires-clause-shown : goal.seen_entry-old-requires-clause-shown
@@ -48,17 +47,6 @@ returns-clause-memory c =
 
 pub returns-clause-books : goal.returns-clause-books
 returns-clause-books c =
-    let laws : DescriptorLaws = record {
-      replaced = c.descriptor_law.ensures.replaced;
-      same = c.descriptor_law.ensures.same;
-      new_table = c.descriptor_law.ensures.new_table;
-      old_table = c.descriptor_law.ensures.old_table;
-    } in
-    let entries : EntryLaws = record {
-      replaced = c.memory_tables_law.ensures.replaced;
-      zeroed = c.memory_tables_law.ensures.zeroed;
-      emptied = c.memory_tables_law.ensures.emptied;
-    } in
     let call = removable _ c.args.table c.requires.rule in
     let level : c.level_at-level.result ≡ level_of (kind_of (kinds_in c.args.mem.now) c.args.table) =
     c.level_at-level.ensures ∙ (λ j. level_of (kind_of (c.clear_frame.ensures.descriptors j).kinds (c.from-2.ensures j))) in
@@ -78,7 +66,7 @@ returns-clause-books c =
     let described : AreDescribed (descriptors_in c.set_kind.new.mem) c.args.self.now.root (seen c.set_kind.new.mem) =
     subst (λ (d : Descriptors). AreDescribed d c.args.self.now.root (seen c.set_kind.new.mem)) (sym c.set_kind.ensures.set)
     (subst (AreDescribed (record (descriptors_in c.replace.new.mem) { kinds = set (kinds_in c.replace.new.mem) c.args.table Data }) c.args.self.now.root) (sym memory)
-    (removed_described laws entries (descriptors_in c.args.mem.now) c.args.self.now.root (seen c.args.mem.now) c.requires.books.described (descriptors_in c.replace.new.mem) c.args.table
+    (removed_described c.descriptor_law.ensures c.memory_tables_law.ensures (descriptors_in c.args.mem.now) c.args.self.now.root (seen c.args.mem.now) c.requires.books.described (descriptors_in c.replace.new.mem) c.args.table
     call (c.sound_law.ensures.slot (kinds_in c.args.mem.now) (entry_in (seen c.args.mem.now)) c.args.table c.requires.books.described.sound.tables) change
     (c.table_calls_law.ensures.removed (kinds_in c.args.mem.now) c.args.self.now.root c.args.table (seen c.args.mem.now) c.requires.books.described.sound c.requires.rule).1)) in
     let kinds : kinds_in c.set_kind.new.mem ≡ set (kinds_in c.args.mem.now) c.args.table Data =

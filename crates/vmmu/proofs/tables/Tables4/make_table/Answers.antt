@@ -10,7 +10,6 @@ use Rattle.vmmu.specs.TableCalls.{memory_declared}
 use Rattle.vmmu.proofs.CallFacts.{declarable}
 use Rattle.vmmu.proofs.CarriedCounts.{absent_zero, declared_described}
 use Rattle.vmmu.proofs.HeldTables.{held_set}
-use Rattle.vmmu.proofs.LowerLaws.{DescriptorLaws, EntryLaws}
 use Rattle.vmmu.proofs.tables.Tables4.make_table.Goals as goal
 
 pub clear_frame-requires-clause-shown : goal.clear_frame-requires-clause-shown
@@ -47,17 +46,6 @@ returns-clause-memory c =
 
 pub returns-clause-books : goal.returns-clause-books
 returns-clause-books c =
-    let laws : DescriptorLaws = record {
-      replaced = c.descriptor_law.ensures.replaced;
-      same = c.descriptor_law.ensures.same;
-      new_table = c.descriptor_law.ensures.new_table;
-      old_table = c.descriptor_law.ensures.old_table;
-    } in
-    let entries : EntryLaws = record {
-      replaced = c.memory_tables_law.ensures.replaced;
-      zeroed = c.memory_tables_law.ensures.zeroed;
-      emptied = c.memory_tables_law.ensures.emptied;
-    } in
     let call = declarable _ c.args.level c.args.frame c.requires.rule in
     let set_then : descriptors_in c.set_kind.new.mem
     ≡ record (descriptors_in c.args.mem.now) { kinds = set (kinds_in c.args.mem.now) c.args.frame (Table c.args.level) } =
@@ -78,7 +66,7 @@ returns-clause-books c =
     (subst (λ last. IsReplaced c.args.level 0 last (descriptors_in c.set_kind.new.mem) (descriptors_in c.replace.new.mem)) c.last_value-last.ensures c.replace.ensures.replaced) in
     let described : AreDescribed (descriptors_in c.replace.new.mem) c.args.self.now.root (seen c.replace.new.mem) =
     subst (AreDescribed (descriptors_in c.replace.new.mem) c.args.self.now.root) (sym memory)
-    (declared_described laws entries (descriptors_in c.args.mem.now) c.args.self.now.root (seen c.args.mem.now) c.requires.books.described (descriptors_in c.replace.new.mem) c.args.level c.args.frame
+    (declared_described c.descriptor_law.ensures c.memory_tables_law.ensures (descriptors_in c.args.mem.now) c.args.self.now.root (seen c.args.mem.now) c.requires.books.described (descriptors_in c.replace.new.mem) c.args.level c.args.frame
     call change
     (c.table_calls_law.ensures.declared (kinds_in c.args.mem.now) c.args.self.now.root c.args.level c.args.frame (seen c.args.mem.now) c.requires.books.described.sound c.requires.rule).1) in
     let stays : c.replace.new.self ≡ c.args.self.now.frames = c.replace.ensures.stays ∙ c.set_kind.ensures.stays in

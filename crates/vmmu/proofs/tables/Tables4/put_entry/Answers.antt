@@ -9,7 +9,6 @@ use Rattle.vmmu.specs.TableCalls.{memory_written}
 use Rattle.vmmu.proofs.CallFacts.{writable}
 use Rattle.vmmu.proofs.CarriedCounts.{written_described}
 use Rattle.vmmu.proofs.HeldTables.{held_written, table_shown}
-use Rattle.vmmu.proofs.LowerLaws.{DescriptorLaws, EntryLaws}
 use Rattle.vmmu.proofs.tables.Tables4.put_entry.Goals as goal
 
 pub seen_entry-old-requires-clause-shown : goal.seen_entry-old-requires-clause-shown
@@ -43,17 +42,6 @@ returns-clause-memory c =
 
 pub returns-clause-books : goal.returns-clause-books
 returns-clause-books c =
-    let laws : DescriptorLaws = record {
-      replaced = c.descriptor_law.ensures.replaced;
-      same = c.descriptor_law.ensures.same;
-      new_table = c.descriptor_law.ensures.new_table;
-      old_table = c.descriptor_law.ensures.old_table;
-    } in
-    let entries : EntryLaws = record {
-      replaced = c.memory_tables_law.ensures.replaced;
-      zeroed = c.memory_tables_law.ensures.zeroed;
-      emptied = c.memory_tables_law.ensures.emptied;
-    } in
     let call = writable _ c.args.frame c.args.index c.args.value c.requires.rule in
     let level : c.level_at-level.result ≡ level_of (kind_of (kinds_in c.args.mem.now) c.args.frame) =
     c.level_at-level.ensures ∙ ap (λ (d : Descriptors). level_of (kind_of d.kinds c.args.frame)) c.store_entry.ensures.descriptors in
@@ -67,7 +55,7 @@ returns-clause-books c =
     (subst (λ old. IsReplaced c.level_at-level.result old c.args.value (descriptors_in c.store_entry.new.mem) (descriptors_in c.replace.new.mem)) c.seen_entry-old.ensures c.replace.ensures.replaced)) in
     let described : AreDescribed (descriptors_in c.replace.new.mem) c.args.self.now.root (seen c.replace.new.mem) =
     subst (AreDescribed (descriptors_in c.replace.new.mem) c.args.self.now.root) (sym memory)
-    (written_described laws entries (descriptors_in c.args.mem.now) c.args.self.now.root (seen c.args.mem.now) c.requires.books.described (descriptors_in c.replace.new.mem) c.args.frame c.args.index c.args.value
+    (written_described c.descriptor_law.ensures c.memory_tables_law.ensures (descriptors_in c.args.mem.now) c.args.self.now.root (seen c.args.mem.now) c.requires.books.described (descriptors_in c.replace.new.mem) c.args.frame c.args.index c.args.value
     call c.ranges.value.fits change
     (c.table_calls_law.ensures.written (kinds_in c.args.mem.now) c.args.self.now.root c.args.frame c.args.index c.args.value (seen c.args.mem.now) c.requires.books.described.sound c.ranges.value.fits c.requires.rule).1) in
     subst (λ frames. HoldsTables frames c.args.self.now.root c.replace.new.mem) (sym c.replace.ensures.stays)
