@@ -19,6 +19,3 @@ mod plans;
 mod execution;
 
 pub use execution::{effect, effect_of};
-
-#[cfg(test)]
-mod tests;

@@ -17,6 +17,3 @@ mod interrupt_returns;
 mod system;
 
 pub use execution::{effect, effect_of};
-
-#[cfg(test)]
-mod tests;

@@ -29,6 +29,3 @@ mod turn;
 pub use quick::{Kind, Quick, SLOW};
 pub use taken_apart::quick_of;
 pub use turn::make;
-
-#[cfg(test)]
-mod tests;

@@ -19,8 +19,6 @@ mod plan;
 // What a page grants, and the bytes of an access.
 mod bytes;
 mod rights;
-#[cfg(test)]
-mod tests;
 
 pub use access::{check_store, commit, fetch_byte, fetch_place, load, page_bytes, store};
 pub use kept::{kept_frame, kept_number, one_page_law, put_kept};

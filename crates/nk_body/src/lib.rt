@@ -13,6 +13,3 @@ mod laws;
 pub use kernel::{Kernel, NoMemory};
 pub use laws::{beside_law, call_law, call_leaves_law, held_law, opening_sound_law, stores_law};
 pub use source::Source;
-
-#[cfg(test)]
-mod tests;

@@ -20,7 +20,6 @@ pub mod MarkedBook
 pub mod MarkedSlot
 pub mod OnceFrames
 pub mod PageRanges
-pub mod PoolFrames
 pub mod PoolPlaces
 pub mod PoolRegions
 pub mod RefutedBooks

@@ -25,6 +25,3 @@ mod laws;
 
 pub use laws::{apart_law, declared_law, held_regions_law};
 pub use regions::{Granted, Regions, ShownRegion};
-
-#[cfg(test)]
-mod tests;

@@ -13,8 +13,6 @@ mod word;
 
 // The calls of all lines.
 mod calls;
-#[cfg(test)]
-mod tests;
 
 pub use calls::replay;
 pub use fault::ReplayFault;

@@ -29,6 +29,3 @@ pub use closing::section;
 pub use counts::{RunCounts, summary};
 pub use run_lines::{console, delivery, ending};
 pub use short_line::{ShortLine, admitted_line, image_line, protected_line};
-
-#[cfg(test)]
-mod tests;

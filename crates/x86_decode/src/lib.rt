@@ -33,6 +33,3 @@ mod fields;
 mod reader;
 
 pub use reader::{decode, decoding_law, spelling_law};
-
-#[cfg(test)]
-mod tests;

@@ -1,0 +1,190 @@
+//! Instructions from their bytes, with values by the manual. Page 0 may be read and written, page 1 may be read alone,
+//! and page 2 has no translation; pages 0 and 1 stand in frames 8 and 9.
+
+mod arithmetic;
+mod moves;
+mod operands;
+mod strings;
+
+ghost use Rattle.std.specs.Prelude.{◌≡◌, ◌<◌, IfOk, length};
+ghost use Rattle.nk_bits.specs.Translations.{NamesFramesIn};
+
+use exec_data::effect;
+use nk_bits::{Control, Target};
+use phys_mem::{NoMemory, PhysMem};
+use std::alloc::Global;
+use tlb_model::Tlb;
+use x86_decode::{Decoded, decode};
+use x86_regs::{Act, Effect, Fault, Form, RAX, Regs, Write, instr_form, with_register};
+
+const CONTROL: Control = Control {
+    cr0: 0x8001_0011,
+    cr2: 0,
+    root: 1,
+    cr4: 0x10_0020,
+    efer: 0xD00,
+};
+
+/// RAX 1122334455667788, RCX 3, RDX 10, RBX 40, RSP 800, RBP 820, RSI 100, RDI 200, at address 1000 and CPL 3.
+const REGS: Regs = Regs {
+    general: [
+        0x1122_3344_5566_7788,
+        3,
+        0x10,
+        0x40,
+        0x800,
+        0x820,
+        0x100,
+        0x200,
+        0,
+        0,
+        0,
+        0,
+        0,
+        0,
+        0,
+        0,
+    ],
+    rip: 0x1000,
+    flags: 2,
+    cpl: 3,
+    ss: 0x23,
+};
+
+fn memory(alloc: Global) -> Result<PhysMem, NoMemory>
+    ensures { IfOk result (λ mem. length mem ≡ 40960) }
+{
+    let mut mem = PhysMem::new(alloc, 10)?;
+    mem.store64(0x1000, 0x2007);
+    mem.store64(0x2000, 0x3007);
+    mem.store64(0x3000, 0x4007);
+    mem.store64(0x4000, 0x8007);
+    mem.store64(0x4008, 0x9005);
+    mem.store64(0x8040, 0x8877_6655_4433_2211);
+    mem.store64(0x8100, 0x5A);
+    mem.store64(0x8200, 0x5A);
+    mem.store64(0x8800, 0x6000);
+    mem.store64(0x8820, 0x9999);
+    mem.store64(0x8FFC, 0xDDCC_BBAA);
+    mem.store64(0x9000, 0x4433_2211);
+    Ok(mem)
+}
+
+/// Bytes of an instruction, the registers before it, and its effect.
+type Row = (&'static [u8], Regs, Result<Effect, Fault>);
+
+/// The index of the first row whose instruction has another effect.
+fn first_wrong(alloc: Global, rows: &[Row]) -> Option<usize> {
+    for (index, (bytes, before, after)) in rows.iter().enumerate() {
+        if run(alloc, bytes, before) != Some(*after) {
+            return Some(index);
+        }
+    }
+    None
+}
+
+/// Want of memory is None, and bytes that the call doesn't take raise #GP(99) here.
+fn run(alloc: Global, bytes: &[u8], regs: &Regs) -> Option<Result<Effect, Fault>> {
+    let Ok(mem) = memory(alloc) else {
+        return None;
+    };
+    let Ok(mut tlb) = Tlb::new(alloc) else {
+        return None;
+    };
+    Some(run_over(&mem, &mut tlb, bytes, regs))
+}
+
+fn run_over(mem: &PhysMem, tlb: &mut Tlb, bytes: &[u8], regs: &Regs) -> Result<Effect, Fault>
+    requires root { 4096 < length mem.now }
+    requires frames { NamesFramesIn (length mem.now) tlb.old }
+{
+    if bytes.len() > 15 || (regs.cpl != 0 && regs.cpl != 3) {
+        return Err(Fault::General(99));
+    }
+    match decode(bytes) {
+        Decoded::Whole(instr, size) => match instr_form(&instr) {
+            Form::Data(_) => effect(&instr, size, regs, &CONTROL, mem, tlb),
+            Form::Flow(_) => Err(Fault::General(99)),
+        },
+        _ => Err(Fault::General(99)),
+    }
+}
+
+fn with(regs: &Regs, number: u8, value: u64) -> Regs
+    requires { number < 16 }
+{
+    Regs {
+        general: with_register(&regs.general, number, value),
+        ..*regs
+    }
+}
+
+fn with_flags(regs: &Regs, flags: u64) -> Regs {
+    Regs { flags, ..*regs }
+}
+
+/// The registers and the flags change, and the next instruction stands at `rip`.
+fn going_on(regs: &Regs, flags: u64, rip: u64) -> Result<Effect, Fault> {
+    Ok(Effect {
+        regs: Regs {
+            flags,
+            rip,
+            ..*regs
+        },
+        write: None,
+        act: Act::Quiet,
+    })
+}
+
+/// RAX changes.
+fn rax(value: u64, flags: u64, rip: u64) -> Result<Effect, Fault> {
+    going_on(&with(&REGS, RAX, value), flags, rip)
+}
+
+fn fault(code: u64, address: u64) -> Result<Effect, Fault> {
+    Err(Fault::Page { code, address })
+}
+
+/// The registers and the flags change, and so many bytes are written on page 0.
+fn writing(
+    regs: &Regs,
+    flags: u64,
+    rip: u64,
+    va: u64,
+    width: u8,
+    value: u64,
+) -> Result<Effect, Fault>
+    requires { va < 4096 }
+{
+    Ok(Effect {
+        regs: Regs {
+            flags,
+            rip,
+            ..*regs
+        },
+        write: Some(Write {
+            va,
+            width,
+            value,
+            target: Target {
+                first: 0x8000 + va,
+                second: 0,
+            },
+        }),
+        act: Act::Quiet,
+    })
+}
+
+/// Rows with another number, another next instruction, another fault, or no instruction are found, at their place.
+#[test]
+fn wrong_rows_are_found(rt: HostRuntime) {
+    // mov eax, ecx
+    let right: Row = (b"\x89\xC8", REGS, rax(3, 2, 0x1002));
+    let number: Row = (b"\x89\xC8", REGS, rax(4, 2, 0x1002));
+    let next: Row = (b"\x89\xC8", REGS, rax(3, 2, 0x1003));
+    let faulting: Row = (b"\x89\xC8", REGS, fault(4, 0x2000));
+    let none: Row = (b"\x89", REGS, rax(3, 2, 0x1002));
+    for wrong in [number, next, faulting, none] {
+        assert_eq!(rt; first_wrong(rt.alloc(), &[right, wrong, right]), Some(1));
+    }
+}

@@ -1,0 +1,5 @@
+//! Tests of `replay_core` over what it publishes. Floor: tests.
+#![tactic(auto)]
+
+#[cfg(test)]
+mod tests;
