@@ -2,8 +2,9 @@
 # Times `nkrun run` on three loops of machine code beside QEMU with one instruction a block, Unicorn with a hook on each
 # instruction, and Bochs, in one run, and prints the rates by processor time; then `nkrun work 100` beside as many plain
 # instructions on each, and `nkrun replay` of that run's journal. A benchmark, not a test.
-# usage: bench/run_beside_peers.sh [ROUNDS [SECONDS [PROGRAM]]]
-#   SECONDS is about what one run takes; PROGRAM is an nkrun that is built already, or - for the peers alone.
+# usage: bench/run_beside_peers.sh [ROUNDS [SECONDS [PROGRAM [EARLIER]]]]
+#   SECONDS is about what one run takes; PROGRAM is an nkrun that is built already, or - for the peers alone; EARLIER is
+#   another, which runs beside it.
 # needs gcc, ld, objcopy, python3, and of the peers those that are there (Debian: qemu-system-x86, libunicorn-dev,
 # bochs with bochs-term); no display
 set -eu
@@ -32,4 +33,4 @@ command -v qemu-system-x86_64 >/dev/null || echo "left out: no qemu-system-x86_6
 command -v bochs >/dev/null || echo "left out: no bochs"
 gcc -O2 -o "$work/hooked_unicorn" "$bench/hooked_unicorn.c" -lunicorn 2>/dev/null || echo "left out: no libunicorn"
 dpkg-query -W qemu-system-x86 libunicorn-dev bochs 2>/dev/null || true
-python3 "$bench/run_side_by_side.py" "${1:-5}" "${2:-1}" "${3:-$top/crates/nkrun/out/nkrun}" "$work"
+python3 "$bench/run_side_by_side.py" "${1:-5}" "${2:-1}" "${3:-$top/crates/nkrun/out/nkrun}" "$work" ${4:+"$4"}

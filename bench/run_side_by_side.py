@@ -10,6 +10,7 @@ import subprocess
 import sys
 
 ROUNDS, SECONDS, NKRUN, WORK = int(sys.argv[1]), float(sys.argv[2]), sys.argv[3], pathlib.Path(sys.argv[4])
+EARLIER = sys.argv[5:]                  # another nkrun, or none
 LOOPS = {"registers": 5, "mix": 20, "user": 1}  # instructions an iteration
 TINY = 1000                             # iterations of the run that measures the start
 MOST_TURNS = 4294967296
@@ -59,9 +60,10 @@ def programs():
     """The programs that are there: the form of a loop that each takes, its words, and what its text tells: RAX, and the
     number of instructions where it counts them."""
     found = {}
-    if NKRUN != "-":
-        words = [os.path.abspath(NKRUN), "run", "image", "empty", "empty", str(MOST_TURNS), "512"]
-        found["nkrun"] = "image", words, nkrun_told
+    for name, program in zip(("nkrun", "earlier"), (NKRUN, *EARLIER)):
+        if program != "-":
+            words = [os.path.abspath(program), "run", "image", "empty", "empty", str(MOST_TURNS), "512"]
+            found[name] = "image", words, nkrun_told
     if shutil.which("qemu-system-x86_64"):
         words = ["qemu-system-x86_64", *one_instruction_a_block(), "-bios", "rom", "-nodefaults", "-display", "none",
                  "-debugcon", "stdio", "-device", "isa-debug-exit,iobase=0xf4,iosize=1"]

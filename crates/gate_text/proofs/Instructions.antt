@@ -1,9 +1,9 @@
 -- The instruction of each gate point stands in the text.
-use Rattle.std.proofs.Common.{◌≡◌, ℕ, ◌<◌, ◌≤◌, ◌+◌, Bool, true, false, nat_eq, nat_lt, nat_le, List, length, slice_index_or, refl, inl, inr, arith, ◌∙◌, sym, ap}
+use Rattle.std.proofs.Common.{◌≡◌, ℕ, ◌<◌, ◌≤◌, ◌+◌, Bool, true, false, nat_eq, nat_lt, nat_le, length, refl, inl, inr, arith, ◌∙◌, sym, ap}
 use Rattle.std.specs.Prelude.{not, ◌&&◌, ◌||◌, slice_index}
-use Rattle.std.proofs.lemmas.Bool.{eqb-true, ltb-true, leb-true, lt-ltb, le-ltb, ne_eqb, and_parts, or_parts, and_right, agree_below, agree_below_at, cases_lt, false≢true}
+use Rattle.std.proofs.lemmas.Bool.{eqb-true, leb-true, lt-ltb, le-ltb, ne_eqb, and_parts, and_right, agree_below, agree_below_at, cases_lt, false≢true}
 use Rattle.gate_text.specs.Listing.{gate_byte, listing, entry_and_exit, trap_gate}
-use Rattle.gate_text.specs.GatePoints.{gate_points, instruction_bytes, is_point, is_stub_point}
+use Rattle.gate_text.specs.GatePoints.{instruction_bytes, is_point}
 
 -- byte k of the instruction at an offset, if it has one, stands there
 abbrev stands_from : ℕ → ℕ → Bool

@@ -1,7 +1,7 @@
 -- The calls of the nested kernel: which rule a call breaks first, what an accepted call makes of the record, and the
 -- answer. Call 1 sets the handler of traps; 2 to 5 are those on page tables; 6 declares pages, 7 allocates a region, 8
 -- frees one, and 9 writes in one; every other number is no call.
-use Rattle.std.specs.Prelude.{◌≡◌, ℕ, ◌+◌, ◌*◌, ◌/◌, ◌==◌, ◌&&◌, ◌||◌, Bool, true, false, not, nat_lt, if◌then◌else◌, List, [], ◌∷◌, length, replicate, Option, None, Some, ⊤}
+use Rattle.std.specs.Prelude.{◌≡◌, ℕ, ◌+◌, ◌*◌, ◌/◌, ◌==◌, ◌&&◌, ◌||◌, Bool, false, not, nat_lt, if◌then◌else◌, List, [], ◌∷◌, length, replicate, Option, None, Some, ⊤}
 use Rattle.std.specs.List.{list_any}
 use Rattle.phys_mem.specs.Memory.{byte_at, stored, stores}
 use Rattle.nk_bits.specs.declared.call.Answer.{Answer}
@@ -10,7 +10,7 @@ use Rattle.nk_bits.specs.declared.rule.Rule.{Rule}
 use Rattle.nk_bits.specs.declared.rule.Rule.TheVariants.{BadCall, BadSource, NotCanonical}
 use Rattle.nk_bits.specs.Paging.{is_canonical}
 use Rattle.nk_bits.specs.Rules.{rule_number}
-use Rattle.page_desc.specs.PageTables.{Tables, loose_of, value_in}
+use Rattle.page_desc.specs.PageTables.{loose_of, value_in}
 use Rattle.table_rules.specs.ValueRules.{broken}
 use Rattle.vmmu.specs.TableCalls.{declare_rule, declared, entry_rule, entry_written, memory_declared, memory_removed, memory_written, remove_rule, removed, root_loaded, root_rule}
 use Rattle.region_book.specs.RegionCalls.{with_one_more, alloc_rule, fits_in, frames_from, free_rule, freed, guarded, mapped, page_region, pool_region, room}
@@ -18,7 +18,7 @@ use Rattle.region_book.specs.RegionCalls.{pages_rule}
 use Rattle.nk_bits.specs.KernelLayout.{pool_start}
 use Rattle.region_book.specs.RegionRecords.{Book, Region, region_of, region_stores}
 use Rattle.policy_book.specs.PolicyRules.{book_written, bounds_of, first_rule, log_written, policy_of, stores_written}
-use Rattle.nk_body.specs.NestedRecord.{Ledger, Nested}
+use Rattle.nk_body.specs.NestedRecord.{Nested}
 
 -- what was read for a call: nothing, where it takes none; a source of which a byte couldn't be read; or its bytes
 pub data Sourced : Type 0 where

@@ -1,6 +1,6 @@
 -- What a write leaves: the bytes of all other regions, and the frames of the log.
 use Rattle.std.proofs.Common.{◌≡◌, ◌≢◌, ℕ, ◌+◌, ◌/◌, ◌<◌, ◌≤◌, ◌&&◌, true, false, List, length, arith, refl, ap, ◌∙◌}
-use Rattle.std.specs.Prelude.{IfSome, None, Option, Some, nat_le, nat_lt}
+use Rattle.std.specs.Prelude.{IfSome, None, Option, Some}
 use Rattle.std.proofs.lemmas.Bool.{and_parts, le-leb, leb-true, lt-ltb}
 use Rattle.phys_mem.specs.MaskedMemory.{is_book_frame}
 use Rattle.phys_mem.specs.Memory.{byte_at, stored}

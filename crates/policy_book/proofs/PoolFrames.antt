@@ -1,6 +1,6 @@
 -- The frames of a region of the pool, in a sound book, are in a memory that has those of the pool, and none of the books'.
-use Rattle.std.proofs.Common.{◌≡◌, ℕ, ◌+◌, ◌-◌, ◌*◌, ◌/◌, ◌%◌, ◌<◌, ◌≤◌, Bool, true, false, refl, arith, sym, ap, ◌∙◌, subst}
-use Rattle.std.specs.Prelude.{◌&&◌, nat_le, nat_lt, All, IfSome, None, Option, Some}
+use Rattle.std.proofs.Common.{◌≡◌, ℕ, ◌+◌, ◌-◌, ◌*◌, ◌/◌, ◌%◌, ◌<◌, ◌≤◌, true, false, arith, sym, ap, ◌∙◌, subst}
+use Rattle.std.specs.Prelude.{◌&&◌, nat_lt, All, IfSome, None, Option, Some}
 use Rattle.std.specs.List.{range_with_len}
 use Rattle.phys_mem.specs.MaskedMemory.{is_book_frame}
 use Rattle.std.specs.Option.{option_map}

@@ -1,4 +1,3 @@
-use Rattle.region_book.specs.RegionBytes.{book_in}
 use Rattle.write_log.specs.LogBytes.{log_in}
 use Rattle.std.proofs.Common.{◌≡◌, ◌+◌, nat_lt, arith, ap, ◌∙◌}
 use Rattle.std.specs.Bool.{then_some}

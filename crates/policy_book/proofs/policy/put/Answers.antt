@@ -1,4 +1,4 @@
-use Rattle.std.proofs.Common.{◌≡◌, ◌+◌, ◌≤◌, true, length, ap, sym, subst, ◌∙◌}
+use Rattle.std.proofs.Common.{◌+◌, ◌≤◌, length, ap, sym, subst, ◌∙◌}
 use Rattle.region_book.specs.RegionBytes.{book_in}
 use Rattle.region_book.specs.RegionRecords.{IsBook, region_of}
 use Rattle.write_log.specs.LogBytes.{log_in}

@@ -1,4 +1,4 @@
-use Rattle.std.proofs.Common.{◌≡◌, ◌<◌, ap, arith, drop, length, sym, ◌∙◌}
+use Rattle.std.proofs.Common.{◌<◌, ap, arith, drop, length, sym, ◌∙◌}
 use Rattle.tlb_model.specs.TranslationTable.{pairs_of}
 use Rattle.tlb_model.proofs.Cleaned.{full_excess, no_excess}
 use Rattle.tlb_model.proofs.table.Table.make_room.Goals as goal
