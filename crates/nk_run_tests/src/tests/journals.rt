@@ -4,8 +4,7 @@ use super::regions::{
 };
 use super::run::run_planned;
 use super::tables::{DECLARED, DECLARES};
-use super::{NAME, Ran, USAGE, gives, image, owned, run_over};
-use crate::command_line::{FileName, ReplayFiles, Request};
+use super::{NAME, Ran, USAGE, gives, image, run_over};
 use std::alloc::{AllocError, Global};
 use std::test::Fail;
 
@@ -248,26 +247,8 @@ fn a_line_of_a_replay_may_be_cut(rt: HostRuntime) -> Result<(), Fail> {
 }
 
 #[test]
-fn a_replay_s_memory_has_512_to_65_536_frames(rt: HostRuntime) -> Result<(), Fail> {
+fn other_words_are_no_replay(rt: HostRuntime) -> Result<(), Fail> {
     let alloc = rt.alloc();
-    let ends = [
-        ("511", None),
-        ("512", Some(512)),
-        ("16384", Some(16_384)),
-        ("16385", Some(16_385)),
-        ("65535", Some(65_535)),
-        ("65536", Some(65_536)),
-        ("65537", None),
-    ];
-    for (word, frames) in ends {
-        let words = owned(alloc, &["replay", NAME, word, JOURNAL])?;
-        let files = ReplayFiles {
-            image: FileName { text: NAME },
-            journal: FileName { text: JOURNAL },
-        };
-        let replay = frames.map(|frames| Request::Replay { files, frames });
-        assert_eq!(rt; Request::read(&words), replay, "{word}");
-    }
     let forms: [&[&str]; 4] = [
         &["replay", NAME, "512"],
         &["replay", NAME, "512", JOURNAL, JOURNAL],

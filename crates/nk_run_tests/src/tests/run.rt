@@ -1,7 +1,6 @@
 //! Worked cases of `run`, with texts written by hand: a run ends with why it ended, its turns, the root's frame and
 //! the trap handler, which is the halt loop of the gates' text until the outer kernel names one.
-use super::{NAME, Ran, USAGE, gives, image, owned, run_over};
-use crate::command_line::{FileName, Request, RunFiles};
+use super::{NAME, Ran, USAGE, gives, image, run_over};
 use std::alloc::{AllocError, Global};
 use std::test::Fail;
 
@@ -227,26 +226,6 @@ fn each_line_of_a_run_may_be_cut(rt: HostRuntime) -> Result<(), Fail> {
 #[test]
 fn steps_and_frames_have_bounds(rt: HostRuntime) -> Result<(), Fail> {
     let alloc = rt.alloc();
-    let ends = [
-        ("512", 512),
-        ("16384", 16_384),
-        ("16385", 16_385),
-        ("65535", 65_535),
-        ("65536", 65_536),
-    ];
-    for (word, frames) in ends {
-        let words = owned(alloc, &["run", NAME, INPUT, PLAN, "4294967296", word])?;
-        let most = Request::Run {
-            files: RunFiles {
-                image: FileName { text: NAME },
-                input: FileName { text: INPUT },
-                plan: FileName { text: PLAN },
-            },
-            steps: 4_294_967_296,
-            frames,
-        };
-        assert_eq!(rt; Request::read(&words), Some(most), "{word}");
-    }
     let others = [
         ("4294967297", "512"),
         ("01", "512"),

@@ -5,8 +5,8 @@ ghost use Rattle.nk_run.specs.CommandLine.{command_of, Scan};
 
 use super::hostile::changed;
 use super::{CODE, HOME, NAME, READ, Segment, gives, image, image_of, nops_with, owned, run_with};
-use crate::nk_main;
 use nk_host::{FetchFault, MemShelf, MemSink, PieceFault, Shelf};
+use nk_run::nk_main;
 use std::alloc::Global;
 use std::test::Fail;
 

@@ -1,19 +1,23 @@
 //! Worked cases of the books as memory holds them, in a run's closing memory and behind each call of a run: the bytes of
 //! descriptors are what is told of kind, loose leaves and links, and the counts are those of the tables, entry by entry.
 ghost use Rattle.std.specs.Prelude.{◌≡◌, ◌≤◌, IfSome, None};
+ghost use Rattle.phys_mem.specs.MaskedMemory.{seen};
 ghost use Rattle.byte_scanner.specs.FirstFound.{first_found};
+ghost use Rattle.boot_map.specs.Division.{IsLayout};
+ghost use Rattle.boot_map.specs.Opening.{IsOpening};
+ghost use Rattle.boot_map.specs.OpeningKinds.{kinds};
+ghost use Rattle.page_desc.specs.DescriptorBytes.{HoldsDescriptors, kinds_in};
 ghost use Rattle.nk_body.specs.CallRules.{IsSourceOf};
-ghost use Rattle.nk_body.specs.NestedRecord.{HoldsBooks};
-ghost use Rattle.nk_body.specs.SourceWords.{sourced_of};
-ghost use Rattle.page_desc.specs.DescriptorBytes.{HoldsDescriptors};
+ghost use Rattle.nk_body.specs.NestedRecord.{HoldsBooks, books_in};
+ghost use Rattle.nk_body.specs.SourceWords.{opening_ledger, sourced_of};
 
 use super::books::{Books, are_slots_right};
 use super::image;
 use super::tables::DECLARES;
-use crate::opening::{Guarded, begin, divide, guard};
+use boot_map::{Layout, prepare};
 use byte_scanner::scan;
 use elf_image::Image;
-use gate_state::{Called, Finished, Machine};
+use gate_state::{Called, Finished, Machine, OuterMachine};
 use image_maker::make_image;
 use irq_plan::Plan;
 use nk_bits::{AREA_TABLE, Entry, IMAGE_DIRECTORY, Kind};
@@ -187,6 +191,43 @@ fn admitted(file: Vec<u8>) -> Option<Image>
     }
 }
 
+/// The opening's memory with the books in it, and what the nested kernel keeps beside it.
+#[derive(Drop)]
+struct Guarded {
+    memory: PhysMem,
+    kernel: Kernel,
+}
+
+/// That of an image with this layout; None for want of memory.
+fn guard(alloc: Global, image: &Image, layout: &Layout) -> Option<Guarded>
+    requires { IsLayout image.now layout.now }
+    ensures opening { IfSome result (λ it. IsOpening image.now layout.now.frames (seen it.memory)) }
+    ensures kinds { IfSome result (λ it. kinds_in it.memory ≡ kinds image.now layout.now.frames) }
+    ensures root { IfSome result (λ it. it.kernel.root ≡ 5) }
+    ensures ledger { IfSome result (λ it. (books_in it.kernel it.memory).ledger ≡ opening_ledger) }
+    ensures books { IfSome result (λ it. HoldsBooks it.kernel it.memory) }
+{
+    let Ok(mut memory) = prepare(alloc, image, layout) else {
+        return None;
+    };
+    match Kernel::start(alloc, &mut memory, image, layout) {
+        Ok(kernel) => Some(Guarded { memory, kernel }),
+        Err(_) => None,
+    }
+}
+
+/// The machine as a run of that image begins, without input; None for want of memory.
+fn begin<'i>(alloc: Global, image: &'i Image, layout: &'i Layout) -> Option<OuterMachine<'i>>
+    requires layout { IsLayout image.now layout.now }
+    requires clean { first_found image.now ≡ None }
+{
+    let Some(it) = guard(alloc, image, layout) else {
+        return None;
+    };
+    let Guarded { memory, kernel } = it;
+    OuterMachine::start(alloc, memory, kernel, image, layout, Vec::new(alloc)).ok()
+}
+
 /// What was read for a call that takes so many bytes.
 fn read<'s>(wanted: Option<u64>, data: &'s [u8]) -> Source<'s>
     ensures { IsSourceOf wanted (sourced_of result) }
@@ -295,7 +336,7 @@ fn run(alloc: Global, file: Vec<u8>, frames: u32) -> Option<Ran>
     let Some(image) = admitted(file) else {
         return None;
     };
-    let Ok(opened) = divide(alloc, image, frames) else {
+    let Ok(layout) = Layout::of(&image, frames) else {
         return None;
     };
     let Ok(plan) = Plan::read(alloc, b"") else {
@@ -304,10 +345,10 @@ fn run(alloc: Global, file: Vec<u8>, frames: u32) -> Option<Ran>
     let Ok(mut books) = Books::new(alloc) else {
         return None;
     };
-    let Some(mut beside) = guard(alloc, &opened) else {
+    let Some(mut beside) = guard(alloc, &image, &layout) else {
         return None;
     };
-    let Some(start) = begin(alloc, &opened, Vec::new(alloc)) else {
+    let Some(start) = begin(alloc, &image, &layout) else {
         return None;
     };
     let mut made = Made { calls: 0, wrong: 0 };
