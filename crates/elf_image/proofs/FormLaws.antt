@@ -12,7 +12,8 @@ use Rattle.elf_image.specs.Elf.{e_entry, e_phnum, header_at, headers, is_segment
 use Rattle.elf_image.specs.HeaderRows.{later_fault, segments_in}
 use Rattle.elf_image.specs.Segments.{passes_end, is_misaligned, leaves_home, shares_with_earlier, is_writable_code, is_code_at, first_page, last_page, shares_page, total_pages}
 use Rattle.elf_image.specs.Rows.{row_if, row_at, or_later, segment_fault, whole_fault, first_fault}
-use Rattle.elf_image.specs.Loaded.{AreJudged, IsPlaced}
+use Rattle.elf_image.specs.Loaded.{AreJudged}
+use Rattle.elf_image.specs.SegmentForm.{IsPlaced}
 use Rattle.elf_image.proofs.Pairs.{EachPair}
 
 row_at-None : (o : Option ℕ) (k : FaultKind) (later : Option ImageFault) → row_at o k later ≡ None → (o ≡ None) × (later ≡ None)
@@ -147,7 +148,7 @@ file_counts : (b : List ℕ) → All (λ s. is_segment s ≡ true) (segments b)
 unfolding segments
 file_counts b = filter_passes is_segment (headers b)
 
-file_ordered : (b : List ℕ) → AllPairs (λ s t. s.index < t.index) (segments b)
+pub file_ordered : (b : List ℕ) → AllPairs (λ s t. s.index < t.index) (segments b)
 unfolding segments program_header_at
 file_ordered b = index_rises (header_at b) (λ i. refl) 0 (e_phnum b)
 

@@ -6,3 +6,5 @@ pub mod TableOrder
 pub mod PageLaws
 pub mod PartLaws
 pub mod ImageLaws
+pub mod SegmentRows
+pub mod WrittenFields

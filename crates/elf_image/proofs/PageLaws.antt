@@ -12,7 +12,8 @@ use Rattle.elf_image.specs.declared.program_header.ProgramHeader.{ProgramHeader}
 use Rattle.elf_image.specs.Elf.{has_flag, pf_w, pf_x}
 use Rattle.elf_image.specs.Home.{home_end, home_start, page_size}
 use Rattle.elf_image.specs.Segments.{covers, first_page, is_code_at, last_page, loads, pages_of_segment, pages_touched, shares_page, total_pages, touches}
-use Rattle.elf_image.specs.Loaded.{AreJudged, AreLoaded, IsPlaced, Supplies}
+use Rattle.elf_image.specs.Loaded.{AreJudged, AreLoaded, Supplies}
+use Rattle.elf_image.specs.SegmentForm.{IsPlaced}
 use Rattle.elf_image.specs.Pages.{home_pages, numbers_from}
 use Rattle.elf_image.specs.FileParts.{ArePages}
 use Rattle.elf_image.specs.SegmentPages.{is_executable_of, is_in_memory_of, is_page_of, is_writable_of, pages_in, file_place, loaded_place}

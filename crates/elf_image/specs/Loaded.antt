@@ -4,7 +4,8 @@ use Rattle.std.specs.List.{All, AllPairs, range_with_len}
 use Rattle.std.specs.List.Sorted.{IsNonDecreasingBy, IsPermutation}
 use Rattle.elf_image.specs.declared.program_header.ProgramHeader.{ProgramHeader}
 use Rattle.elf_image.specs.Elf.{e_phnum, e_phoff, is_segment, phdr_size}
-use Rattle.elf_image.specs.Home.{home_end, home_start, page_size}
+use Rattle.elf_image.specs.Home.{page_size}
+use Rattle.elf_image.specs.SegmentForm.{IsPlaced}
 use Rattle.elf_image.specs.Segments.{loads}
 use Rattle.elf_image.specs.HeaderRows.{FileShape, later_fault}
 use Rattle.elf_image.specs.SegmentPages.{file_place, loaded_place}
@@ -37,14 +38,6 @@ pub record AreLoaded (size entry : ℕ) (segs sorted : List ProgramHeader) : Typ
   pub few : length segs ≤ 64
   pub same : IsPermutation segs sorted
   pub ascending : IsNonDecreasingBy (λ s. s.address) sorted
-
--- the segment takes memory in the home, and bytes of a file of this size
-pub record IsPlaced (size : ℕ) (s : ProgramHeader) : Type 0 where
-  pub takes : 0 < s.memory_size
-  pub backed : s.file_size ≤ s.memory_size
-  pub inside : s.offset + s.file_size ≤ size
-  pub above : home_start ≤ s.address
-  pub below : s.address + s.memory_size ≤ home_end
 
 -- what the segment that touches page n, or that there is none, says of the places of the bytes of that page
 abbrev pub Supplies : ℕ → List ProgramHeader → ℕ → Option ProgramHeader → Type 0

@@ -69,6 +69,27 @@ impl Image {
         Ok(Image { bytes, headers })
     }
 
+    /// The bytes of the file.
+    pub fn bytes(&self) -> &[u8]
+        ensures { result.now ≡ self.now }
+    {
+        self.bytes.as_slice()
+    }
+
+    /// Its headers.
+    pub fn headers(&self) -> &Headers
+        ensures { IsImage self.now result.now }
+    {
+        &self.headers
+    }
+
+    /// Gives the file back.
+    pub fn into_bytes(self) -> Vec<u8>
+        ensures { result.items ≡ self }
+    {
+        self.bytes
+    }
+
     /// The linear address of the first instruction, `e_entry`.
     #[tactic(auto, unfolding(crate::specs::Pages::entry_of))]
     pub fn entry(&self) -> u64

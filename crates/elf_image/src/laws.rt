@@ -2,10 +2,14 @@
 
 ghost use Rattle.std.specs.Prelude.{◌≡◌, ℕ, ◌^◌, ◌<◌, List, length, slice_index, take, None, Some, Result, MatchResult};
 ghost use Rattle.elf_image.specs.declared.fault.ImageFault.{ImageFault};
+ghost use Rattle.elf_image.specs.declared.program_header.ProgramHeader.{ProgramHeader};
+ghost use Rattle.elf_image.specs.Elf.{e_entry, program_header_at, segments};
 ghost use Rattle.elf_image.specs.FileParts.{AreTrueOf, IsImage, IsReadInParts, IsShapeOf};
 ghost use Rattle.elf_image.specs.HeaderRows.{FileHeaders, FileShape, head_fault, headers_of, shape_of, table_fault, table_of};
 ghost use Rattle.elf_image.specs.Pages.{IsPageList, entry_of, pages_of};
-ghost use Rattle.elf_image.specs.Rows.{first_fault};
+ghost use Rattle.elf_image.specs.Rows.{file_fault, first_fault};
+ghost use Rattle.elf_image.specs.SegmentForm.{AreInForm};
+ghost use Rattle.elf_image.specs.WrittenHeaders.{HasFileHeader, HasProgramHeader, IsReadAsWritten};
 
 /// The entry that a file of bytes names is an address of 64 bits.
 pub fn entry_law()
@@ -43,4 +47,21 @@ pub fn headers_law()
 /// image's bytes.
 pub fn image_law()
     ensures { (b : List ℕ) (headers : FileHeaders) → IsImage b headers → AreTrueOf b headers }
+{}
+
+/// No row stands on the segments of a file, where none stands on its file header, exactly where each segment and each two
+/// of them are in form.
+pub fn form_law()
+    ensures rows { (b : List ℕ) → first_fault b ≡ None
+        → AreInForm (length b) (e_entry b) (segments b) }
+    ensures form { (b : List ℕ) → file_fault b ≡ None
+        → AreInForm (length b) (e_entry b) (segments b) → first_fault b ≡ None }
+{}
+
+/// Headers that were written are read as they were written.
+pub fn written_law()
+    ensures file { (b : List ℕ) (entry count : ℕ) → HasFileHeader b entry count
+        → IsReadAsWritten b entry count }
+    ensures program { (b : List ℕ) (place i : ℕ) (h : ProgramHeader) → HasProgramHeader b place h
+        → program_header_at b place i ≡ record h { index = i } }
 {}

@@ -2,7 +2,8 @@
 
 ghost use Rattle.std.specs.Prelude.{◌+◌, ◌≤◌};
 ghost use Rattle.elf_image.specs.Home.{home_end, page_size};
-ghost use Rattle.elf_image.specs.Loaded.{IsFilePart, IsPlaced};
+ghost use Rattle.elf_image.specs.Loaded.{IsFilePart};
+ghost use Rattle.elf_image.specs.SegmentForm.{IsPlaced};
 
 use crate::elf::PAGE_SIZE;
 use crate::program_header::ProgramHeader;

@@ -1,4 +1,3 @@
-pub mod FieldBytes
 pub mod ImagePlaces
 pub mod MadeCode
 pub mod MadeFields

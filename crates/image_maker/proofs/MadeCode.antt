@@ -5,13 +5,13 @@ use Rattle.std.specs.List.{list_any}
 use Rattle.std.proofs.lemmas.Bool.{agree_below, agree_below_at, and_from, and_left, and_right, cases_eq, cases_lt, cond-true, cond_both, false≢true, le-leb, le-ltb, lt-leb, lt-ltb, or_from}
 use Rattle.decode_fields.specs.Protected.{is_protected_at, length_of_bytes}
 use Rattle.elf_image.specs.declared.program_header.ProgramHeader.{ProgramHeader}
-use Rattle.elf_image.specs.Elf.{has_flag, pf_x}
+use Rattle.elf_image.specs.Elf.{has_flag, pf_x, segments}
 use Rattle.elf_image.specs.Segments.{loads, touches}
 use Rattle.elf_image.specs.Pages.{byte_from, byte_of, is_executable}
 use Rattle.byte_scanner.specs.ImageCode.{code_at}
 use Rattle.image_maker.specs.MadeImage.{image_byte, image_of_number, script_pages}
-use Rattle.image_maker.proofs.MadeFields.{HasHeaders, made_byte}
-use Rattle.image_maker.proofs.MadeRows.{data_segment, segments_are, segments_with, text_segment}
+use Rattle.image_maker.proofs.MadeFields.{made_byte}
+use Rattle.image_maker.proofs.MadeRows.{data_segment, segments_with, text_segment}
 
 -- no byte stands there, or one other than 0F, with which every protected encoding begins
 abbrev pub IsPlain : Option ℕ → Type 0
@@ -22,7 +22,7 @@ none_begins : (first second third : Option ℕ) → IsPlain first → nat_lt 0 (
 none_begins None second third plain = refl
 none_begins (Some x) second third plain = rw plain refl
 
-module _ (n : ℕ) (most : n ≤ 100) (b : List ℕ) (it : HasHeaders n b) where
+module _ (n : ℕ) (most : n ≤ 100) (b : List ℕ) (are : segments b ≡ segments_with (script_pages n)) where
   -- no other page than the text's may be executed
   not_text : (page : ℕ) → (page ≡ 0xFFFFFFFF80000 → ⊥) → (touches text_segment page ≡ false)
   not_text page other = elim (cases_lt page 0xFFFFFFFF80000) [
@@ -41,7 +41,7 @@ module _ (n : ℕ) (most : n ≤ 100) (b : List ℕ) (it : HasHeaders n b) where
         let off : list_any (λ s. touches s page && has_flag s pf_x) (segments_with (script_pages n)) ≡ false =
         or_from _ _ (and_left _ _ (not_text page other)) (or_from _ _ (and_right (touches (data_segment (script_pages n)) page) _ refl) refl) in
         absurd (false≢true (sym off
-        ∙ sym (ap (λ (segs : List ProgramHeader). list_any (λ s. touches s page && has_flag s pf_x) segs) (segments_are n most b it))
+        ∙ sym (ap (λ (segs : List ProgramHeader). list_any (λ s. touches s page && has_flag s pf_x) segs) are)
         ∙ on))
   ]
 
@@ -51,7 +51,7 @@ module _ (n : ℕ) (most : n ≤ 100) (b : List ℕ) (it : HasHeaders n b) where
   unfolding byte_of
   text_byte a low high =
       let here : loads text_segment a ≡ true = and_from _ _ (le-leb _ _ low) (lt-ltb _ _ high) in
-      ap (λ (segs : List ProgramHeader). byte_from b a (find (λ s. loads s a) segs)) (segments_are n most b it)
+      ap (λ (segs : List ProgramHeader). byte_from b a (find (λ s. loads s a) segs)) are
       ∙ ap (byte_from b a) (cond-true (loads text_segment a) (Some text_segment) _ here)
 
   blank_byte : (a : ℕ) → 0xFFFFFFFF80000045 ≤ a → a < 0xFFFFFFFF80001000 → byte_of b a ≡ 0
@@ -59,7 +59,7 @@ module _ (n : ℕ) (most : n ≤ 100) (b : List ℕ) (it : HasHeaders n b) where
   blank_byte a low high =
       let past : loads text_segment a ≡ false = and_right _ _ (le-ltb _ _ low) in
       let before : loads (data_segment (script_pages n)) a ≡ false = and_left _ _ (lt-leb _ _ high) in
-      ap (λ (segs : List ProgramHeader). byte_from b a (find (λ s. loads s a) segs)) (segments_are n most b it)
+      ap (λ (segs : List ProgramHeader). byte_from b a (find (λ s. loads s a) segs)) are
       ∙ rw (past, before) refl
 
   module _ (plain : (k : ℕ) → k < 69 → nat_eq (slice_index b (4096 + k)) 15 ≡ false) where

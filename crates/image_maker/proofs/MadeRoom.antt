@@ -3,13 +3,13 @@ use Rattle.std.proofs.Common.{◌≡◌, ℕ, ◌+◌, ◌-◌, ◌*◌, ◌/◌
 use Rattle.std.specs.List.{list_any, range_with_len}
 use Rattle.std.proofs.lemmas.Bool.{and_from, and_right, cases_lt, le-leb, lt-leb, or_from, or_left, or_right}
 use Rattle.elf_image.specs.declared.program_header.ProgramHeader.{ProgramHeader}
+use Rattle.elf_image.specs.Elf.{segments}
 use Rattle.elf_image.specs.Home.{home_end, home_start, page_size}
 use Rattle.elf_image.specs.Segments.{touches}
 use Rattle.elf_image.specs.Pages.{home_pages, is_page, numbers_from, page_count, pages_of}
 use Rattle.boot_map.specs.Division.{division_of, is_touched, map_start, need, page_in, pages_start, ranges_of}
 use Rattle.image_maker.specs.MadeImage.{direct_table, first_frame, script_pages, user_frame}
-use Rattle.image_maker.proofs.MadeFields.{HasHeaders}
-use Rattle.image_maker.proofs.MadeRows.{data_segment, few_pages, segments_are, segments_with, text_segment}
+use Rattle.image_maker.proofs.MadeRows.{data_segment, few_pages, segments_with, text_segment}
 
 -- what a test keeps of a range is what stands below the place up to which each passes, and from which on none does
 kept_below : (p : ℕ → Bool) (a m c : ℕ) → a ≤ c → c ≤ a + m → ((x : ℕ) → a ≤ x → x < c → p x ≡ true)
@@ -58,10 +58,10 @@ beyond count pages e = omega arith
 above_start : (pages : ℕ) → 0xFFFFFFFF80000 ≤ 0xFFFFFFFF80002 + pages
 above_start pages = omega arith
 
-module _ (n : ℕ) (most : n ≤ 100) (b : List ℕ) (it : HasHeaders n b) where
+module _ (n : ℕ) (most : n ≤ 100) (b : List ℕ) (are : segments b ≡ segments_with (script_pages n)) where
   by_segments : (page : ℕ) → is_page b page ≡ list_any (λ s. touches s page) (segments_with (script_pages n))
   unfolding is_page
-  by_segments page = ap (λ (segs : List ProgramHeader). list_any (λ s. touches s page) segs) (segments_are n most b it)
+  by_segments page = ap (λ (segs : List ProgramHeader). list_any (λ s. touches s page) segs) are
 
   page_below : (page : ℕ) → 0xFFFFFFFF80000 ≤ page → page < 0xFFFFFFFF80002 + script_pages n → is_page b page ≡ true
   page_below page low high = by_segments page ∙ touches_below (script_pages n) page low high

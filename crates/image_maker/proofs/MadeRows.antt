@@ -1,14 +1,15 @@
 -- The thirteen rows of the form, over a file that begins with the headers of the image of a number.
-use Rattle.std.proofs.Common.{◌≡◌, ℕ, ◌+◌, ◌*◌, ◌<◌, ◌≤◌, true, false, List, [], ◌∷◌, Option, Some, None, filter, length, map, refl, ap, ◌∙◌, arith, below_more, below_none}
-use Rattle.std.specs.Prelude.{is_none, nat_lt, slice_index}
+use Rattle.std.proofs.Common.{◌≡◌, ℕ, ◌+◌, ◌-◌, ◌*◌, ◌<◌, ◌≤◌, true, List, [], ◌∷◌, Option, Some, None, filter, map, refl, ap, ◌∙◌, arith}
+use Rattle.std.specs.Prelude.{is_none, nat_lt}
 use Rattle.std.specs.List.{range_with_len}
-use Rattle.std.proofs.lemmas.Bool.{agree_below, agree_below_at, le-ltb, lt-ltb}
+use Rattle.std.proofs.lemmas.Bool.{agree_below, agree_below_at, cond-false, cond-true, le-ltb, lt-ltb}
 use Rattle.elf_image.specs.declared.fault.ImageFault.{ImageFault}
 use Rattle.elf_image.specs.declared.program_header.ProgramHeader.{ProgramHeader}
-use Rattle.elf_image.specs.Elf.{e_entry, e_machine, e_phentsize, e_phnum, e_phoff, e_type, field_at, is_segment, program_header_at, segments}
-use Rattle.elf_image.specs.Rows.{file_fault, first_fault, has_magic, or_later, segment_fault, whole_fault, wrong_class, wrong_table}
-use Rattle.image_maker.specs.MadeImage.{number_byte, data_len, image_byte, script_pages}
-use Rattle.image_maker.proofs.MadeFields.{HasHeaders, field_is, literal_field}
+use Rattle.elf_image.specs.Elf.{e_phoff, is_segment, program_header_at, segments}
+use Rattle.elf_image.specs.Rows.{first_fault, or_later, segment_fault, whole_fault}
+use Rattle.elf_image.specs.WrittenHeaders.{HasFileHeader, HasProgramHeader, IsReadAsWritten, byte_in_fields, file_header}
+use Rattle.image_maker.specs.MadeImage.{data_header, image_byte, script_pages, text_header}
+use Rattle.image_maker.proofs.MadeFields.{HasHeaders}
 
 -- the segments of the image, whose script has so many pages
 abbrev pub text_segment : ProgramHeader
@@ -39,96 +40,78 @@ segments_with pages = text_segment ∷ data_segment pages ∷ []
 pub few_pages : (n : ℕ) → n ≤ 100 → script_pages n < 19
 few_pages n most = omega arith
 
--- the bytes of the two sizes of the second segment
-file_size_bytes : (n j : ℕ) → j < 8 → image_byte n (152 + j) ≡ number_byte (data_len n) j
+-- what a law says of headers that were written
+pub record WrittenLaws : Type 0 where
+  pub file : (b : List ℕ) (entry count : ℕ) → HasFileHeader b entry count → IsReadAsWritten b entry count
+  pub program : (b : List ℕ) (place i : ℕ) (h : ProgramHeader) → HasProgramHeader b place h
+      → program_header_at b place i ≡ record h { index = i }
+
+-- the bytes of the three headers
+file_byte : (n at : ℕ) → at < 64 → image_byte n at ≡ byte_in_fields (file_header 0xFFFFFFFF80000000 2) at
 unfolding image_byte
-file_size_bytes n =
-    let P : ℕ → Type 0 = λ j. image_byte n (152 + j) ≡ number_byte (data_len n) j in
-    below_more P 7 (below_more P 6 (below_more P 5 (below_more P 4 (below_more P 3 (below_more P 2 (below_more P 1
-    (below_more P 0 (below_none P) refl) refl) refl) refl) refl) refl) refl) refl
+file_byte n at below = cond-true (nat_lt at 64) _ _ (lt-ltb at 64 below)
 
-memory_size_bytes : (n j : ℕ) → j < 8 → image_byte n (160 + j) ≡ number_byte (data_len n) j
+text_byte : (n k : ℕ) → k < 56 → image_byte n (64 + k) ≡ byte_in_fields text_header k
 unfolding image_byte
-memory_size_bytes n =
-    let P : ℕ → Type 0 = λ j. image_byte n (160 + j) ≡ number_byte (data_len n) j in
-    below_more P 7 (below_more P 6 (below_more P 5 (below_more P 4 (below_more P 3 (below_more P 2 (below_more P 1
-    (below_more P 0 (below_none P) refl) refl) refl) refl) refl) refl) refl) refl
+text_byte n k below =
+    let start : 64 + k - 64 ≡ k = omega arith in
+    cond-false (nat_lt (64 + k) 64) _ _ (le-ltb (64 + k) 64 (omega arith))
+    ∙ cond-true (nat_lt (64 + k) 120) _ _ (lt-ltb (64 + k) 120 (omega arith))
+    ∙ ap (λ (j : ℕ). byte_in_fields text_header j) start
 
-module _ (n : ℕ) (most : n ≤ 100) (b : List ℕ) (it : HasHeaders n b) where
-  offset_is : e_phoff b ≡ 64
-  unfolding image_byte
-  offset_is = literal_field n b it 8 32 64 (omega arith) (omega arith) refl
+data_byte : (n k : ℕ) → k < 56 → image_byte n (120 + k) ≡ byte_in_fields (data_header n) k
+unfolding image_byte
+data_byte n k below =
+    let start : 120 + k - 120 ≡ k = omega arith in
+    cond-false (nat_lt (120 + k) 64) _ _ (le-ltb (120 + k) 64 (omega arith))
+    ∙ cond-false (nat_lt (120 + k) 120) _ _ (le-ltb (120 + k) 120 (omega arith))
+    ∙ cond-true (nat_lt (120 + k) 176) _ _ (lt-ltb (120 + k) 176 (omega arith))
+    ∙ ap (λ (j : ℕ). byte_in_fields (data_header n) j) start
 
-  count_is : e_phnum b ≡ 2
-  unfolding image_byte
-  count_is = literal_field n b it 2 56 2 (omega arith) (omega arith) refl
-
-  entry_is : e_entry b ≡ 0xFFFFFFFF80000000
-  unfolding image_byte
-  entry_is = literal_field n b it 8 24 0xFFFFFFFF80000000 (omega arith) (omega arith) refl
+module _ (laws : WrittenLaws) (n : ℕ) (most : n ≤ 100) (b : List ℕ) (it : HasHeaders n b) where
+  head_read : IsReadAsWritten b 0xFFFFFFFF80000000 2
+  head_read = laws.file b 0xFFFFFFFF80000000 2 (record {
+    some = omega arith;
+    few = omega arith;
+    long = omega (arith, it.long);
+    address = omega arith;
+    bytes = λ at below. it.bytes at (omega arith) ∙ file_byte n at below;
+  })
 
   text_is : program_header_at b 64 0 ≡ text_segment
-  unfolding program_header_at image_byte
-  text_is =
-      let kind : field_at b 4 64 ≡ 1 = literal_field n b it 4 64 1 (omega arith) (omega arith) refl in
-      let flags : field_at b 4 68 ≡ 5 = literal_field n b it 4 68 5 (omega arith) (omega arith) refl in
-      let offset : field_at b 8 72 ≡ 4096 = literal_field n b it 8 72 4096 (omega arith) (omega arith) refl in
-      let address : field_at b 8 80 ≡ 0xFFFFFFFF80000000 =
-      literal_field n b it 8 80 0xFFFFFFFF80000000 (omega arith) (omega arith) refl in
-      let file_size : field_at b 8 96 ≡ 69 = literal_field n b it 8 96 69 (omega arith) (omega arith) refl in
-      let memory_size : field_at b 8 104 ≡ 69 = literal_field n b it 8 104 69 (omega arith) (omega arith) refl in
-      cc
+  text_is = laws.program b 64 0 text_segment (record {
+    loaded = refl;
+    flags = omega arith;
+    offset = omega arith;
+    address = omega arith;
+    file_size = omega arith;
+    memory_size = omega arith;
+    bytes = λ k below. it.bytes (64 + k) (omega arith) ∙ text_byte n k below;
+  })
 
   data_is : program_header_at b 120 1 ≡ data_segment (script_pages n)
-  unfolding program_header_at image_byte
   data_is =
-      let kind : field_at b 4 120 ≡ 1 = literal_field n b it 4 120 1 (omega arith) (omega arith) refl in
-      let flags : field_at b 4 124 ≡ 4 = literal_field n b it 4 124 4 (omega arith) (omega arith) refl in
-      let offset : field_at b 8 128 ≡ 8192 = literal_field n b it 8 128 8192 (omega arith) (omega arith) refl in
-      let address : field_at b 8 136 ≡ 0xFFFFFFFF80001000 =
-      literal_field n b it 8 136 0xFFFFFFFF80001000 (omega arith) (omega arith) refl in
-      let file_size : field_at b 8 152 ≡ data_len n = field_is n b it 8 152 (data_len n) (omega arith) (omega arith) (file_size_bytes n) in
-      let memory_size : field_at b 8 160 ≡ data_len n = field_is n b it 8 160 (data_len n) (omega arith) (omega arith) (memory_size_bytes n) in
-      cc
+      let few : script_pages n < 19 = few_pages n most in
+      laws.program b 120 1 (data_segment (script_pages n)) (record {
+        loaded = refl;
+        flags = omega arith;
+        offset = omega arith;
+        address = omega arith;
+        file_size = omega arith;
+        memory_size = omega arith;
+        bytes = λ k below. it.bytes (120 + k) (omega arith) ∙ data_byte n k below;
+      })
 
   -- both headers are segments
   pub segments_are : segments b ≡ segments_with (script_pages n)
   unfolding segments
   segments_are =
       let more : nat_lt 0 (4096 * script_pages n + 9) ≡ true = lt-ltb _ _ (omega arith) in
-      ap (λ (count : ℕ). filter is_segment (map (λ i. program_header_at b (e_phoff b + 56 * i) i) (range_with_len 0 count))) count_is
-      ∙ ap (λ (at : ℕ). filter is_segment (program_header_at b (at + 56 * 0) 0 ∷ program_header_at b (at + 56 * 1) 1 ∷ [])) offset_is
+      ap (λ (count : ℕ). filter is_segment (map (λ i. program_header_at b (e_phoff b + 56 * i) i) (range_with_len 0 count))) head_read.count_read
+      ∙ ap (λ (at : ℕ). filter is_segment (program_header_at b (at + 56 * 0) 0 ∷ program_header_at b (at + 56 * 1) 1 ∷ [])) head_read.table_read
       ∙ ap (λ (s : ProgramHeader). filter is_segment (s ∷ program_header_at b 120 1 ∷ [])) text_is
       ∙ ap (λ (s : ProgramHeader). filter is_segment (text_segment ∷ s ∷ [])) data_is
       ∙ rw more refl
-
-  first_byte : (at : ℕ) (x : ℕ) → at < 176 → image_byte n at ≡ x → slice_index b at ≡ x
-  first_byte at x within is = it.bytes at within ∙ is
-
-  magic_is : has_magic b ≡ true
-  unfolding image_byte
-  magic_is =
-      rw (first_byte 0 0x7F (omega arith) refl, first_byte 1 0x45 (omega arith) refl, first_byte 2 0x4C (omega arith) refl, first_byte 3 0x46 (omega arith) refl) refl
-
-  class_is : wrong_class b ≡ None
-  unfolding image_byte
-  class_is =
-      rw (first_byte 4 2 (omega arith) refl, first_byte 5 1 (omega arith) refl, first_byte 6 1 (omega arith) refl) refl
-
-  table_is : wrong_table b ≡ None
-  unfolding image_byte
-  table_is =
-      let size : e_phentsize b ≡ 56 = literal_field n b it 2 54 56 (omega arith) (omega arith) refl in
-      let fits : nat_lt (length b) 176 ≡ false = le-ltb _ _ (omega (arith, it.long)) in
-      rw (size, count_is, offset_is, fits) refl
-
-  file_good : file_fault b ≡ None
-  unfolding file_fault image_byte
-  file_good =
-      let long : nat_lt (length b) 64 ≡ false = le-ltb _ _ (omega (arith, it.long)) in
-      let kind : e_type b ≡ 2 = literal_field n b it 2 16 2 (omega arith) (omega arith) refl in
-      let machine : e_machine b ≡ 62 = literal_field n b it 2 18 62 (omega arith) (omega arith) refl in
-      rw (long, magic_is, class_is, kind, machine, table_is) refl
 
   abbrev segments_pass : ℕ → Option ImageFault
   segments_pass pages =
@@ -145,5 +128,5 @@ module _ (n : ℕ) (most : n ≤ 100) (b : List ℕ) (it : HasHeaders n b) where
   pub form_is : first_fault b ≡ None
   unfolding first_fault
   form_is =
-      rw (file_good, it.long, segments_are, entry_is)
+      rw (head_read.none, it.long, segments_are, head_read.entry_read)
       (is_none-none (segments_pass (script_pages n)) (agree_below_at (λ pages. is_none (segments_pass pages)) (λ _. true) 19 (script_pages n) each_passes (few_pages n most)))

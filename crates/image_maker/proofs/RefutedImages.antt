@@ -16,7 +16,7 @@ use Rattle.byte_scanner.specs.FirstFound.{first_found, found_with}
 use Rattle.image_maker.specs.MadeImage.{image_byte, image_len, image_of_number}
 use Rattle.image_maker.proofs.MadeCode.{text_byte}
 use Rattle.image_maker.proofs.MadeFields.{HasHeaders, made_byte, made_length}
-use Rattle.image_maker.proofs.MadeRows.{segments_are}
+use Rattle.image_maker.proofs.MadeRows.{WrittenLaws, segments_are}
 
 -- the image of a number, with WRMSR in the place of the text's first two bytes
 abbrev with_wrmsr : ℕ → List ℕ
@@ -53,12 +53,12 @@ wrmsr_stands (Some byte) = refl
 found_first : (p : ℕ → Bool) (a m : ℕ) → p a ≡ true → find p (range_with_len a (suc m)) ≡ Some a
 found_first p a m here = cond-true (p a) (Some a) (find p (range_with_len (a + 1) m)) here
 
-module _ (n : ℕ) (most : n ≤ 100) where
+module _ (laws : WrittenLaws) (n : ℕ) (most : n ≤ 100) where
   text_page : is_executable (with_wrmsr n) 0xFFFFFFFF80000 ≡ true
   unfolding is_executable
   text_page =
       ap (λ (segs : List ProgramHeader). list_any (λ s. touches s 0xFFFFFFFF80000 && has_flag s pf_x) segs)
-      (segments_are n most (with_wrmsr n) (same_headers n))
+      (segments_are laws n most (with_wrmsr n) (same_headers n))
 
   code_is : (a x : ℕ) → a / 4096 ≡ 0xFFFFFFFF80000 → byte_of (with_wrmsr n) a ≡ x → code_at (with_wrmsr n) a ≡ Some x
   code_is a x page is =
@@ -66,11 +66,11 @@ module _ (n : ℕ) (most : n ≤ 100) where
 
   first_code : code_at (with_wrmsr n) 0xFFFFFFFF80000000 ≡ Some 0x0F
   first_code = code_is 0xFFFFFFFF80000000 0x0F (omega arith)
-      (text_byte n most (with_wrmsr n) (same_headers n) 0xFFFFFFFF80000000 (omega arith) (omega arith) ∙ first_is n)
+      (text_byte n most (with_wrmsr n) (segments_are laws n most (with_wrmsr n) (same_headers n)) 0xFFFFFFFF80000000 (omega arith) (omega arith) ∙ first_is n)
 
   second_code : code_at (with_wrmsr n) 0xFFFFFFFF80000001 ≡ Some 0x30
   second_code = code_is 0xFFFFFFFF80000001 0x30 (omega arith)
-      (text_byte n most (with_wrmsr n) (same_headers n) 0xFFFFFFFF80000001 (omega arith) (omega arith) ∙ second_is n)
+      (text_byte n most (with_wrmsr n) (segments_are laws n most (with_wrmsr n) (same_headers n)) 0xFFFFFFFF80000001 (omega arith) (omega arith) ∙ second_is n)
 
   is_protected : is_protected_at (code_at (with_wrmsr n)) 0xFFFFFFFF80000000 ≡ true
   is_protected =

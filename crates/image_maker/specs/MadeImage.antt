@@ -1,28 +1,9 @@
 -- The image that is made of a number: an ELF64 file whose program declares page tables and fills them, and loads, for
 -- as many processes as the number says; each process raises one trap, gets a region and writes one record in it. The
 -- file is given by the byte at each place. It is laid out for a memory of 4,096 frames.
-use Rattle.std.specs.Prelude.{ℕ, ◌+◌, ◌-◌, ◌*◌, ◌/◌, ◌%◌, ◌^◌, ◌==◌, ◌&&◌, nat_le, nat_lt, if◌then◌else◌, List, [], ◌∷◌, map, slice_index}
+use Rattle.std.specs.Prelude.{ℕ, ◌+◌, ◌-◌, ◌*◌, ◌/◌, ◌%◌, ◌^◌, ◌==◌, nat_le, nat_lt, if◌then◌else◌, List, [], ◌∷◌, map, slice_index}
 use Rattle.std.specs.List.{range_with_len}
-
--- a field of a file: its place, how many bytes it has, and its number, which is stored least byte first
-pub record Field : Type 0 where
-  pub place : ℕ
-  pub count : ℕ
-  pub number : ℕ
-
-abbrev pub field : ℕ → ℕ → ℕ → Field
-field place count number = record { place = place; count = count; number = number }
-
--- byte k of a number
-abbrev pub number_byte : ℕ → ℕ → ℕ
-number_byte number k = number / 256 ^ k % 256
-
--- the byte at a place by the field that holds it; 0 where none does
-abbrev pub byte_in_fields : List Field → ℕ → ℕ
-byte_in_fields [] at = 0
-byte_in_fields (f ∷ later) at =
-    if nat_le f.place at && nat_lt at (f.place + f.count) then number_byte f.number (at - f.place)
-    else byte_in_fields later at
+use Rattle.elf_image.specs.WrittenHeaders.{Field, byte_in_fields, file_header, number_byte, program_header}
 
 -- the records of the script: one, 18 a process, and one of zeros; and the pages that they fill
 abbrev pub record_count : ℕ → ℕ
@@ -38,26 +19,12 @@ data_len processes = 4096 * script_pages processes + 9
 abbrev pub image_len : ℕ → ℕ
 image_len processes = 8192 + data_len processes
 
--- the file header: Elf64_Ehdr, for x86-64, with its entry at the text's first byte and two program headers behind it
-abbrev pub file_header : List Field
-file_header =
-    field 0 4 0x464C457F ∷ field 4 1 2 ∷ field 5 1 1 ∷ field 6 1 1
-    ∷ field 16 2 2 ∷ field 18 2 62 ∷ field 20 4 1 ∷ field 24 8 0xFFFFFFFF80000000
-    ∷ field 32 8 64 ∷ field 52 2 64 ∷ field 54 2 56 ∷ field 56 2 2 ∷ []
-
--- a program header, Elf64_Phdr, at a place: PT_LOAD with flags, offset, address and size, aligned to pages
-abbrev pub program_header : ℕ → ℕ → ℕ → ℕ → ℕ → List Field
-program_header place flags offset address size =
-    field place 4 1 ∷ field (place + 4) 4 flags ∷ field (place + 8) 8 offset
-    ∷ field (place + 16) 8 address ∷ field (place + 24) 8 address
-    ∷ field (place + 32) 8 size ∷ field (place + 40) 8 size ∷ field (place + 48) 8 4096 ∷ []
-
--- the text is readable and executable, script and user's code are readable
+-- the text, which begins at the entry, is readable and executable; script and user's code are readable
 abbrev pub text_header : List Field
-text_header = program_header 64 5 4096 0xFFFFFFFF80000000 69
+text_header = program_header 5 4096 0xFFFFFFFF80000000 69 69
 
 abbrev pub data_header : ℕ → List Field
-data_header processes = program_header 120 4 8192 0xFFFFFFFF80001000 (data_len processes)
+data_header processes = program_header 4 8192 0xFFFFFFFF80001000 (data_len processes) (data_len processes)
 
 -- the text: RBX walks along the script; a record is a call, or where its first number is negative a switch to the
 -- user's code, whose trap comes back to the step to the next record; a record that begins with 0 ends the run
@@ -165,9 +132,9 @@ script_byte processes at = number_byte (number_in (script_record processes (at /
 -- the byte at a place of the file; those that nothing names are 0
 unfoldable pub image_byte : ℕ → ℕ → ℕ
 image_byte processes at =
-    if nat_lt at 64 then byte_in_fields file_header at
-    else if nat_lt at 120 then byte_in_fields text_header at
-    else if nat_lt at 176 then byte_in_fields (data_header processes) at
+    if nat_lt at 64 then byte_in_fields (file_header 0xFFFFFFFF80000000 2) at
+    else if nat_lt at 120 then byte_in_fields text_header (at - 64)
+    else if nat_lt at 176 then byte_in_fields (data_header processes) (at - 120)
     else if nat_lt at 4096 then 0
     else if nat_lt at 4165 then slice_index text (at - 4096)
     else if nat_lt at 8192 then 0

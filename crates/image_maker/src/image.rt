@@ -4,15 +4,21 @@ ghost use Rattle.std.specs.Prelude.{◌≡◌, ◌∷◌, ◌++◌, ◌+◌, ◌
 ghost use Rattle.std.specs.Vec.{vec_capacity};
 ghost use Rattle.image_maker.specs.MadeImage.{image_byte, image_len, image_of_number, script_pages};
 
-use crate::header::{data_header_byte, file_header_byte, text_header_byte};
-use crate::layout::{PAGE_SIZE, SCRIPT_PLACE, TEXT_LEN, TEXT_PLACE, USER_CODE_LEN, script_pages};
+use crate::header::{data_header_byte, text_header_byte};
+use crate::layout::{
+    PAGE_SIZE, SCRIPT_PLACE, TEXT_ADDRESS, TEXT_LEN, TEXT_PLACE, USER_CODE_LEN, script_pages,
+};
 use crate::script::script_byte;
 use crate::text::{text_byte, user_code_byte};
+use elf_image::file_header_byte;
 use std::alloc::Global;
 
 /// There is no room for the file.
 #[derive(Clone, Copy, Debug, PartialEq, Eq)]
 pub struct NoMemory;
+
+/// How many program headers there are.
+const HEADERS: u16 = 2;
 
 /// Where the text ends.
 const TEXT_END: u64 = TEXT_PLACE + TEXT_LEN;
@@ -43,9 +49,9 @@ fn image_byte(processes: u64, at: u64) -> u8
 {
     let script_end = script_end(processes);
     match at {
-        ..64 => file_header_byte(at),
-        ..120 => text_header_byte(at),
-        ..176 => data_header_byte(processes, at),
+        ..64 => file_header_byte(TEXT_ADDRESS, HEADERS, at),
+        ..120 => text_header_byte(at - 64),
+        ..176 => data_header_byte(processes, at - 120),
         ..TEXT_PLACE => 0,
         ..TEXT_END => text_byte(at - TEXT_PLACE),
         ..SCRIPT_PLACE => 0,

@@ -7,11 +7,12 @@ ghost use Rattle.boot_map.specs.Division.{division_of, free_start, map_start, ne
 ghost use Rattle.image_maker.specs.MadeImage.{direct_table, first_frame, image_of_number, user_frame};
 
 use byte_scanner::clean_law;
+use elf_image::written_law;
 
 /// The image of each number up to 100 is a file of at most 64 MiB, in form, with no protected encoding in its code, and
 /// its opening has room in a memory of 4,096 frames. That opening has the user's code, the direct map's table of level 3
 /// and the first free frame where the image's script has them.
-#[tactic(auto, using(crate::proofs::MadeImages::made_within, crate::proofs::MadeImages::made_formed, crate::proofs::MadeImages::made_room, crate::proofs::MadeImages::made_user, crate::proofs::MadeImages::made_direct, crate::proofs::MadeImages::made_free))]
+#[tactic(auto, using(crate::proofs::MadeImages::made_within))]
 pub fn made_image_law()
     ensures within { (number : ℕ) → number ≤ 100 → length (image_of_number number) ≤ 67108864 }
     ensures formed { (number : ℕ) → number ≤ 100 → first_fault (image_of_number number) ≡ None }
@@ -25,4 +26,5 @@ pub fn made_image_law()
         → free_start (division_of (image_of_number number) 4096) ≡ first_frame number 0 }
 {
     clean_law();
+    written_law();
 }

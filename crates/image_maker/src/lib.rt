@@ -8,8 +8,7 @@
 // How large the parts of the file are, and where the opening puts them.
 mod layout;
 
-// The headers, by their fields.
-mod field;
+// The program headers.
 mod header;
 
 // The text at CPL 0, and a user's code.

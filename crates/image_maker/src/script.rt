@@ -4,7 +4,6 @@ ghost use Rattle.std.specs.Prelude.{◌≡◌, ◌<◌, ◌≤◌};
 ghost use Rattle.image_maker.specs.MadeImage.{process_record, script_byte, script_record};
 ghost use Rattle.image_maker.specs.MadeWords.{as_script};
 
-use crate::field::byte_of;
 use crate::layout::{
     NUMBER_SIZE, PROCESS_RECORDS, RECORD_SIZE, SCRIPT_ADDRESS, TEXT_ADDRESS, direct_table,
     first_frame, user_frame,
@@ -13,6 +12,7 @@ use crate::record::{
     ALLOCATE, LOAD_ROOT, SET_TRAP, ScriptRecord, WRITE, code_leaf, data_leaf, declare, link,
     protect, words, write_entry,
 };
+use elf_image::number_byte;
 
 /// The linear address in the text of the step to the next record, to which a trap comes back.
 const NEXT_RECORD: u64 = TEXT_ADDRESS + 45;
@@ -81,5 +81,5 @@ pub fn script_byte(processes: u64, at: u64) -> u8
 {
     let record = script_record(processes, at / RECORD_SIZE);
     let number = record.number(at % RECORD_SIZE / NUMBER_SIZE);
-    byte_of(number, at % NUMBER_SIZE)
+    number_byte(number, at % NUMBER_SIZE)
 }

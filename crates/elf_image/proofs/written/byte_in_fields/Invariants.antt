@@ -1,7 +1,7 @@
 use Rattle.std.proofs.Common.{◌≡◌, map, drop}
-use Rattle.image_maker.specs.MadeImage.{byte_in_fields}
-use Rattle.image_maker.specs.MadeWords.{as_field}
-use Rattle.image_maker.proofs.field.byte_in_fields.Given as goal
+use Rattle.elf_image.specs.FieldWords.{as_field}
+use Rattle.elf_image.specs.WrittenHeaders.{byte_in_fields}
+use Rattle.elf_image.proofs.written.byte_in_fields.Given as goal
 
 abbrev pub invariant-loop-field : goal.invariant-loop-field
 invariant-loop-field l =
