@@ -5,6 +5,10 @@
 set -u
 top=$(cd "$(dirname "$0")/.." && pwd) || exit 70
 program=${1:-$top/nkrun}
+case $program in
+/*) ;;
+*) program=$PWD/$program ;;
+esac
 image=$top/examples/images/outer.elf
 work=$(mktemp -d) || exit 70
 trap 'rm -rf "$work"' EXIT
@@ -35,9 +39,10 @@ expect_within() { # KIB STATUS LINE WORDS..
 }
 
 usage='usage: nkrun scan IMAGE | map IMAGE FRAMES VA | run IMAGE INPUT PLAN STEPS FRAMES | replay IMAGE FRAMES JOURNAL'
-usage="$usage | make NUMBER | work NUMBER"
+usage="$usage | make NUMBER | work NUMBER | join IMAGE LIST"
 printf '0 irq 32\n0 irq 31\n' >"$work/plan"
 printf 'k\n' >"$work/journal"
+printf 'pack -\npack A\n' >"$work/list"
 truncate -s 67108865 "$work/long" || exit 70
 
 expect 0 'missing 4' map "$image" 512 0
@@ -50,12 +55,23 @@ expect 2 "$usage"
 expect 2 "$usage" scan
 expect 3 'unread image' scan "$work/none"
 expect 3 'unread image' scan "$work"
+expect 3 'unread list' join "$image" "$work/none"
 expect 3 'unread plan' run "$image" /dev/null "$work/none" 1 512
 expect_within 14000 5 'no memory' work 1
 expect 6 'plan line 2' run "$image" /dev/null "$work/plan" 1 512
 expect 6 'journal line 1' replay "$image" 512 "$work/journal"
+expect 6 'list line 2' join "$image" "$work/list"
+expect 6 'list line 1' join "$image" /dev/null
 expect 7 'longer image 67108864' scan "$work/long"
 expect 7 'longer input 67108864' run "$image" "$work/long" /dev/null 1 512
+# The names of a list are those of files beside the place where the program runs.
+cd "$work" || exit 70
+printf 'guard code\n' >list && printf '\303' >code && : >none.code && printf 'pack none.code\n' >empty.list
+printf 'pack gone\n' >gone.list && printf 'pack long\n' >long.list
+expect 3 'unread module' join "$image" gone.list
+expect 7 'longer module 1048576' join "$image" long.list
+expect 8 'module 0 empty' join "$image" empty.list
+count "$("$program" join "$image" list >joined 2>/dev/null && "$program" scan joined | grep -q 'pages 2$' || echo 'a joined image is not admitted')"
 expect 64 '' scan "$(printf '\377')"
 if [ -e /dev/full ]; then
         "$program" scan "$image" >/dev/full 2>/dev/null

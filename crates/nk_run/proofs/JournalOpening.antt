@@ -10,7 +10,7 @@ use Rattle.gate_state.specs.MachineStates.{Opening, nested_of}
 use Rattle.nk_run.specs.ReplayedRuns.{was_table}
 use Rattle.nk_run.proofs.ToldSections.{opened}
 
-is_opening : (o : Opening) → IsOpening o.image o.frames (opening_memory o)
+pub is_opening : (o : Opening) → IsOpening o.image o.frames (opening_memory o)
 unfolding opening_memory
 is_opening o = record {
   length = length-map-range_with_len (division_byte o.image o.frames) 0 (4096 * o.frames);

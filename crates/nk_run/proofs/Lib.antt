@@ -4,6 +4,7 @@ pub mod Forms
 pub mod Numerals
 pub mod Rows
 pub mod RunRows
+pub mod ModuleFetches
 pub mod Promises
 pub mod HeldFiles
 pub mod HeaderPieces
@@ -13,6 +14,7 @@ pub mod Runs
 pub mod RunEnds
 pub mod JournalOutcomes
 pub mod SafeRuns
+pub mod JoinRows
 pub mod StepTexts
 pub mod StepEnds
 pub mod Texts
@@ -28,6 +30,7 @@ pub mod ToldSections
 pub mod RunSteps
 pub mod Journals
 pub mod JournalOpening
+pub mod CodeKept
 pub mod RunsReplayed
 mod WorkedWords
 mod RefutedPromises

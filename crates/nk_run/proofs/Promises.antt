@@ -1,7 +1,8 @@
 -- From what the top call says in the end, and how that is written, to its promises.
-use Rattle.std.proofs.Common.{◌≡◌, ℕ, ◌≤◌, ◌⊎◌, inl, inr, List, [], length, Option, Some, None, Result, Ok, Err, MatchOption, IfSome, IsOk, IsSome, IsSomeAnd, arith, refl, sym, ◌∙◌, ap, subst}
+use Rattle.std.proofs.Common.{◌≡◌, ℕ, ◌+◌, ◌≤◌, ◌⊎◌, inl, inr, List, [], ◌∷◌, length, suc, ◌<◌, Option, Some, None, Result, Ok, Err, MatchOption, IfSome, IsOk, IsSome, IsSomeAnd, arith, refl, sym, ◌∙◌, ap, subst}
 use Rattle.std.proofs.lemmas.Bool.{le-ltb, le-leb}
 use Rattle.std.specs.Prelude.{unwrap_or, ⊤}
+use Rattle.std.specs.List.{All}
 use Rattle.elf_image.specs.Rows.{first_fault}
 use Rattle.byte_scanner.specs.FirstFound.{first_found}
 use Rattle.irq_plan.specs.declared.event.Event.{Event}
@@ -9,12 +10,15 @@ use Rattle.irq_plan.specs.PlanFile.{plan_of}
 use Rattle.boot_map.specs.Division.{need}
 use Rattle.gate_state.specs.MachineStates.{Opening}
 use Rattle.replay_core.specs.ReplayedCalls.{replay_of}
-use Rattle.nk_run.specs.declared.command_line.Role.TheVariants.{Image, Input, Plan, Journal}
-use Rattle.nk_run.specs.CommandLine.{Command, Scan, Map, Run, Replay, Make, Work, command_of, name_in}
-use Rattle.nk_run.specs.Lines.{longest_file}
+use Rattle.nk_run.specs.declared.command_line.Role.TheVariants.{Image, Input, Plan, Journal, ModuleList, Module}
+use Rattle.nk_run.specs.CommandLine.{Command, Scan, Map, Run, Replay, Make, Work, Join, command_of, name_in}
+use Rattle.nk_run.specs.Lines.{longest_file, longest_module}
 use Rattle.nk_run.specs.Witness.{Change, Files, ShelfState, Witness}
-use Rattle.nk_run.specs.Outcome.{Answer, Verdict, passes, decided, first_verdict, checks_of, text_of, outcome, command_outcome, fetch_verdict, formed, clean, journaled, opened, opening_in, planned, replay_in, roomy, file_in}
-use Rattle.nk_run.specs.Clauses.{HasEnd, HasJournal, HasOutside, HasSafeRun, IsComplete, IsCutByCount, IsCutWritten, IsDoable, IsDone, IsFaultless, IsGoodImage, IsGoodJournal, IsGoodPlan, IsOutside, IsStatus, IsText, IsUnreadByCount, IsUnreadWritten, IsUsage, IsUsageAlone, IsWantByCount, IsWantWritten, MaySay, Promises, TookAll, TookPrefix}
+use Rattle.nk_run.specs.Outcome.{Answer, Verdict, passes, decided, first_verdict, checks_of, text_of, outcome, command_outcome, fetch_verdict, formed, clean, join_in, joinable, journaled, list_checks, listing_checks, module_checks, module_fetches, modules_named, opened, opening_in, planned, replay_in, roomy, file_in, test, unless_ended, well_listed}
+use Rattle.code_modules.specs.declared.fault.JoinFault.{JoinFault}
+use Rattle.code_modules.specs.ModuleList.{Listed, list_of}
+use Rattle.nk_run.proofs.Checks.{first_verdict-append}
+use Rattle.nk_run.specs.Clauses.{HasEnd, HasJoined, HasJournal, HasModules, HasOutside, HasSafeRun, IsComplete, IsCutByCount, IsCutWritten, IsDoable, IsDone, IsFaultless, IsGoodImage, IsGoodJournal, IsGoodList, IsGoodPlan, IsOutside, IsStatus, IsText, IsUnreadByCount, IsUnreadWritten, IsUsage, IsUsageAlone, IsWantByCount, IsWantWritten, MaySay, Promises, TookAll, TookPrefix}
 use Rattle.nk_host.specs.Told.{IfTold}
 use Rattle.nk_run.proofs.Told.{if_told, told_at}
 use Rattle.nk_run.specs.Replies.{CommandSays, IsAnswered, IsWritten, ReadsBytes, Says, SaysUsage}
@@ -34,6 +38,29 @@ is_some_and (Some x) P h e = cc
 read_passes : (read : Result (List Event) ℕ) → IsOk read → planned read ≡ passes
 read_passes (Ok events) good = refl
 read_passes (Err number) good = cc
+
+listed_passes : (read : Result (List Listed) ℕ) → IsOk read → well_listed read ≡ passes
+listed_passes (Ok modules) good = refl
+listed_passes (Err number) good = cc
+
+joined_passes : (answer : Result (List ℕ) JoinFault) → IsOk answer → joinable answer ≡ passes
+joined_passes (Ok file) good = refl
+joined_passes (Err fault) good = cc
+
+module_passes : (number : ℕ) (file : Option (List ℕ)) → IsSomeAnd file (λ m. length m ≤ longest_module)
+    → fetch_verdict (Module number) file ≡ passes
+module_passes number None held = absurd held
+module_passes number (Some m) within = rw (le-ltb longest_module (length m) within) refl
+
+modules_pass : (files : Files) (number : ℕ) (modules : List Listed)
+    → All (λ it. IsSomeAnd (files it.name) (λ m. length m ≤ longest_module)) modules
+    → first_verdict (module_fetches files number modules) ≡ passes
+modules_pass files number [] held = refl
+modules_pass files number (it ∷ later) held =
+    rw (
+      module_passes number (files it.name) (held 0 it (omega arith)),
+      modules_pass files (number + 1) later (λ k d within. held (suc k) d (omega (arith, within))),
+    ) refl
 
 not_none : {A : Type 0} (o : Option A) → IsSome o → o ≡ None → ⊥
 not_none None h e = cc
@@ -103,6 +130,30 @@ module _ (words : List (List ℕ)) (files : Files) (image : List ℕ) (held : fi
   replay_passes frames room given =
       rw (fetch_passes, form_passes, code_passes, journal_passes (opening_in files words frames) given, room_passes frames room, journal_right frames given) refl
 
+  list_passes : IsSomeAnd (files (name_in words ModuleList)) IsGoodList
+      → fetch_verdict ModuleList (files (name_in words ModuleList)) ≡ passes
+  list_passes wanted =
+      let (list, given, right) = some_and (files (name_in words ModuleList)) _ wanted in
+      rw given (rw (le-ltb longest_file (length list) right.within) refl)
+
+  list_read : IsSomeAnd (files (name_in words ModuleList)) IsGoodList
+      → well_listed (list_of (file_in files words ModuleList)) ≡ passes
+  list_read wanted =
+      let (list, given, right) = some_and (files (name_in words ModuleList)) _ wanted in
+      ap (λ (o : Option (List ℕ)). well_listed (list_of (unwrap_or o []))) given ∙ listed_passes (list_of list) right.formed
+
+  join_passes : HasModules words files → first_verdict (checks_of Join files words) ≡ passes
+  join_passes given =
+      let last : Verdict = unless_ended (joinable (join_in files words)) passes in
+      let fetches = module_fetches files 0 (modules_named files words) in
+      let front : first_verdict (list_checks files words) ≡ passes =
+      rw (fetch_passes, form_passes, code_passes, list_passes given.list, list_read given.list) refl in
+      first_verdict-append (module_checks files words) (test (joinable (join_in files words)) ∷ [])
+      ∙ ap (λ (v : Verdict). unless_ended v last) (first_verdict-append (list_checks files words) fetches)
+      ∙ ap (λ (v : Verdict). unless_ended (unless_ended v (first_verdict fetches)) last) front
+      ∙ ap (λ (v : Verdict). unless_ended v last) (modules_pass files 0 (modules_named files words) given.held)
+      ∙ ap (λ (v : Verdict). unless_ended v passes) (joined_passes (join_in files words) given.joined)
+
 -- where what the words ask for can be done, all checks pass
 checks_pass : (words : List (List ℕ)) (files : Files) (command : Command) → IsDoable command words files
     → first_verdict (checks_of command files words) ≡ passes
@@ -118,6 +169,8 @@ checks_pass words files (Replay frames) doable =
     replay_passes words files image held good.0 frames good.1 doable.1
 checks_pass words files (Make number) doable = refl
 checks_pass words files (Work number) doable = refl
+checks_pass words files Join doable =
+    let (image, held, good) = some_and (files (name_in words Image)) _ doable.0 in join_passes words files image held good.0 doable.1
 
 pub outcome_good : (words : List (List ℕ)) (files : Files) (command : Command) → command_of words ≡ Some command
     → IsDoable command words files → outcome words files ≡ Some (record { status = 0; text = text_of command files words })
@@ -164,7 +217,7 @@ module _ (seen : Witness) (status : ℕ) (text : List ℕ) (result : ℕ) where
     status_is : result ≡ status
     taken : TookAll seen.sink text
 
-  status_range : Says seen.words seen.shelf status text → IsWritten seen.sink status text result → result ≤ 7
+  status_range : Says seen.words seen.shelf status text → IsWritten seen.sink status text result → result ≤ 8
   status_range says (inr cut) = omega (arith, cut.0)
   status_range (inl plain) (inl whole) = omega (arith, whole.0, plain.status_is)
   status_range (inr (inl said)) (inl whole) = omega (arith, whole.0, said.status_is)
@@ -324,9 +377,10 @@ pub promised : (seen : Witness) (result : ℕ)
     → ((words : List (List ℕ)) (files : Files) (command : Command) → HasEnd command words files)
     → ((words : List (List ℕ)) (files : Files) (command : Command) → command_of words ≡ Some command → ReadsBytes command words (Some files) → HasSafeRun command words files)
     → ((words : List (List ℕ)) (files : Files) (command : Command) → command_of words ≡ Some command → ReadsBytes command words (Some files) → HasJournal command words files)
+    → ((words : List (List ℕ)) (files : Files) (command : Command) → HasJoined command words files)
     → IfSome (command_of seen.words) (λ command. ReadsBytes command seen.words seen.shelf.before.files)
     → IsAnswered seen result → Promises seen result
-promised seen result ended law again bytes r = record {
+promised seen result ended law again joined bytes r = record {
   status_range = status_range seen r.status r.text result r.says r.written;
   usage = usage seen r.status r.text result r.says r.written;
   usage_alone = usage_alone seen r.status r.text result r.says r.written;
@@ -346,4 +400,5 @@ promised seen result ended law again bytes r = record {
       (λ files e command asked. law seen.words files command asked (read_bytes seen bytes files e command asked));
   run_replayed = of_command seen (λ command files. HasJournal command seen.words files)
       (λ files e command asked. again seen.words files command asked (read_bytes seen bytes files e command asked));
+  image_joined = of_command seen (λ command files. HasJoined command seen.words files) (λ files e command asked. joined seen.words files command);
 }

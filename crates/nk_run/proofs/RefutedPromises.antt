@@ -1,12 +1,14 @@
 -- What the top call doesn't promise, each named by the sentence that it guards.
 use Rattle.std.proofs.Common.{◌≡◌, ◌≢◌, ℕ, List, ◌++◌, None, Some, Option, inl, inr, refl, sym, subst, ◌∙◌, arith}
-use Rattle.std.specs.Prelude.{MatchOption, ◌⊎◌, ⊤}
+use Rattle.std.specs.Prelude.{IfSome, MatchOption, ◌⊎◌, ⊤}
 use Rattle.std.specs.Io.KnownBytes.{Appends}
 use Rattle.nk_host.specs.FaultCounts.{RoseTo}
+use Rattle.byte_scanner.specs.declared.encoding.Found.{Found}
+use Rattle.byte_scanner.specs.FirstFound.{first_found}
 use Rattle.nk_run.specs.declared.command_line.Role.{Role}
-use Rattle.nk_run.specs.Clauses.{IsOutside, NameRose, Promises, SinkRose, TookAll}
-use Rattle.nk_run.specs.CommandLine.{Command, Scan, IsAsked, command_of}
-use Rattle.nk_run.specs.Outcome.{Answer, outcome}
+use Rattle.nk_run.specs.Clauses.{HasJoined, IsOutside, NameRose, Promises, SinkRose, TookAll}
+use Rattle.nk_run.specs.CommandLine.{Command, Scan, Join, IsAsked, command_of}
+use Rattle.nk_run.specs.Outcome.{Answer, checks_of, first_verdict, outcome, passes, text_of}
 use Rattle.nk_run.specs.Witness.{Files, Witness}
 use Rattle.nk_run.proofs.Told.{told_at}
 
@@ -24,9 +26,9 @@ module _ (seen : Witness) where
       subst (λ (b : Option (List ℕ)). Appends b seen.sink.after.taken text) began took in
       subst (λ (a : Option (List ℕ)). Appends (Some before) a text) ended first
 
-  -- there is no status 8
-  status_8 : Promises seen 8 → ⊥
-  status_8 it = absurd (omega (arith, it.status_range))
+  -- there is no status 9
+  status_9 : Promises seen 9 → ⊥
+  status_9 it = absurd (omega (arith, it.status_range))
 
   -- status 2 isn't the answer to words that have a form
   usage_for_a_form : (command : Command) → command_of seen.words ≡ Some command → Promises seen 2 → ⊥
@@ -83,3 +85,14 @@ module _ (seen : Witness) where
         | inl outside ↦ not_outside 0 refl outside
         | inr took ↦ other (appended answer.text before after began ended took)
       ]
+
+  -- a file that holds a protected encoding isn't what a join comes to whose checks pass
+  unclean_join : (status : ℕ) (files : Files) (found : Found) → seen.shelf.before.files ≡ Some files
+      → command_of seen.words ≡ Some Join → first_verdict (checks_of Join files seen.words) ≡ passes
+      → first_found (text_of Join files seen.words) ≡ Some found → Promises seen status → ⊥
+  unclean_join status files found told asked passed stands it =
+      let P : Option Command → Type 0 = λ c. IfSome c (λ command. HasJoined command seen.words files) in
+      let Q : Files → Type 0 = λ held. IfSome (command_of seen.words) (λ command. HasJoined command seen.words held) in
+      let whole : HasJoined Join seen.words files =
+      subst P asked (told_at seen.shelf.before.files Q files told it.image_joined) in
+      let clean = (whole passed).joined.clean in cc

@@ -1,15 +1,16 @@
 -- What a row of checks says of the outcome.
 use Rattle.std.proofs.Common.{◌≡◌, ◌≢◌, ◌⊎◌, ℕ, suc, ◌≤◌, inl, inr, Bool, true, false, List, [], ◌∷◌, ◌++◌, Option, Some, None, IsSome, IsSomeAnd, Contains, arith, refl, sym, ap, subst, ◌∙◌}
-use Rattle.std.proofs.lemmas.Bool.{or_cases, or_right}
+use Rattle.std.proofs.lemmas.Bool.{eqb-true, or_cases, or_left, or_right}
 use Rattle.std.proofs.lemmas.Grind.{common_steps}
 use Rattle.std.specs.Prelude.{MatchBool, ⊤}
 use Rattle.nk_host.specs.FaultCounts.{NeverFalls, RoseTo}
 use Rattle.nk_host.specs.Told.{IfTold}
 use Rattle.nk_run.specs.declared.command_line.Role.{Role}
-use Rattle.nk_run.specs.declared.command_line.Role.TheVariants.{Image, Input, Plan, Journal}
+use Rattle.nk_run.specs.declared.command_line.Role.TheVariants.{Image, Input, Plan, Journal, ModuleList, Module}
 use Rattle.nk_run.specs.CommandLine.{Command, Scan, IsAsked, command_of, is_same, name_in, roles_of}
 use Rattle.nk_run.specs.Witness.{Change, Files, ShelfState}
-use Rattle.nk_run.specs.Outcome.{Answer, Check, DoesPass, IsReached, IsReachedAfter, Verdict, checks_of, decided, ends, fetch, fetch_verdict, file_in, first_verdict, outcome, command_outcome, passes, image_checks, text_of, unheld, unless_ended}
+use Rattle.nk_run.specs.Clauses.{IsNameOf, NameRose}
+use Rattle.nk_run.specs.Outcome.{Answer, Check, DoesPass, IsReached, IsReachedAfter, Verdict, checks_of, decided, ends, fetch, fetch_verdict, file_in, first_verdict, outcome, command_outcome, passes, form_checks, image_checks, text_of, unheld, unless_ended}
 use Rattle.nk_run.specs.Replies.{CommandSays, IsOwn, IsWant, RefusesBy, Stops, StopsIn, is_listed}
 use Rattle.nk_run.proofs.Checks.{first_verdict-append}
 use Rattle.nk_run.proofs.Told.{if_told, told_at}
@@ -40,7 +41,7 @@ always : (same : Bool) (P : Type 0) → P → MatchBool same ⊤ P
 always true P h = tt
 always false P h = h
 
-reached_behind : (fetches : Option Role) (role : Role) (finds : Verdict) (P : Type 0) → finds ≡ passes → P
+pub reached_behind : (fetches : Option Role) (role : Role) (finds : Verdict) (P : Type 0) → finds ≡ passes → P
     → IsReachedAfter fetches role finds P
 reached_behind None role finds P e h = (subst DoesPass (sym e) tt, h)
 reached_behind (Some other) role finds P e h = always (is_same other role) (DoesPass finds × P) (subst DoesPass (sym e) tt, h)
@@ -55,6 +56,75 @@ reached-behind role (x ∷ xs) ys e h =
 rose_from : (before mid after : ℕ) → before ≤ mid → RoseTo mid after → RoseTo before after
 rose_from before mid after low rose = grind (arith, common_steps)
 
+-- and so did the count of a name
+pub name_rose_from : (words : List (List ℕ)) (before mid after : ShelfState) (role : Role)
+    → NeverFalls before.faults mid.faults → mid.files ≡ before.files
+    → NameRose words (record { before = mid; after = after }) role → NameRose words (record { before = before; after = after }) role
+name_rose_from words before mid after role falls same (name, named, rose) = (
+  name,
+  subst (λ (told : Option Files). IsNameOf words told role name) same named,
+  rose_from _ _ _ (falls name) rose,
+)
+
+listed_behind : (front roles : List Role) (role : Role) → is_listed roles role ≡ true → is_listed (front ++ roles) role ≡ true
+listed_behind [] roles role h = h
+listed_behind (other ∷ front) roles role h =
+    or_right (is_same other role) (is_listed (front ++ roles) role) (listed_behind front roles role h)
+
+listed_before : (roles more : List Role) (role : Role) → is_listed roles role ≡ true → is_listed (roles ++ more) role ≡ true
+listed_before [] more role h = cc
+listed_before (other ∷ roles) more role h = elim (or_cases (is_same other role) (is_listed roles role) h) [
+  | inl here ↦ or_left (is_same other role) (is_listed (roles ++ more) role) here
+  | inr later ↦ or_right (is_same other role) (is_listed (roles ++ more) role) (listed_before roles more role later)
+]
+
+-- the checks of a row pass, and then one of a later row stops both
+pub stops_after : (words : List (List ℕ)) (before mid after : ShelfState) (front_roles roles : List Role)
+    (front later : Files → List Check) (status : ℕ) (text : List ℕ)
+    → NeverFalls before.faults mid.faults → mid.files ≡ before.files
+    → IfTold before.files (λ files. first_verdict (front files) ≡ passes)
+    → StopsIn words (record { before = mid; after = after }) roles later status text
+    → StopsIn words (record { before = before; after = after }) (front_roles ++ roles) (λ files. front files ++ later files) status text
+stops_after words before mid after front_roles roles front later status text falls same passed (inl stop) = inl (record {
+  role = stop.role;
+  listed = listed_behind front_roles roles stop.role stop.listed;
+  unread = record {
+    rose = name_rose_from words before mid after stop.role falls same stop.unread.rose;
+    status_is = stop.unread.status_is;
+    text_is = stop.unread.text_is;
+  };
+  reached = if_told before.files _ (λ files e.
+      reached-behind stop.role (front files) (later files) (told_at before.files _ files e passed)
+      (told_at mid.files _ files (same ∙ e) stop.reached));
+})
+stops_after words before mid after front_roles roles front later status text falls same passed (inr (inl want)) = inr (inl want)
+stops_after words before mid after front_roles roles front later status text falls same passed (inr (inr stop)) = inr (inr (record {
+  ended = if_told before.files _ (λ files e.
+      first_verdict-append (front files) (later files)
+      ∙ ap (λ (v : Verdict). unless_ended v (first_verdict (later files))) (told_at before.files _ files e passed)
+      ∙ told_at mid.files _ files (same ∙ e) stop.ended);
+  own = stop.own;
+}))
+
+-- what stops a row stops a longer one
+pub stops_longer : (words : List (List ℕ)) (shelf : Change ShelfState) (roles more : List Role) (row later : Files → List Check)
+    (status : ℕ) (text : List ℕ) → StopsIn words shelf roles row status text
+    → StopsIn words shelf (roles ++ more) (λ files. row files ++ later files) status text
+stops_longer words shelf roles more row later status text (inl stop) = inl (record {
+  role = stop.role;
+  listed = listed_before roles more stop.role stop.listed;
+  unread = stop.unread;
+  reached = if_told shelf.before.files _ (λ files e.
+      reached-append stop.role (row files) (later files) (told_at shelf.before.files _ files e stop.reached));
+})
+stops_longer words shelf roles more row later status text (inr (inl want)) = inr (inl want)
+stops_longer words shelf roles more row later status text (inr (inr stop)) = inr (inr (record {
+  ended = if_told shelf.before.files _ (λ files e.
+      first_verdict-append (row files) (later files)
+      ∙ ap (λ (v : Verdict). unless_ended v (first_verdict (later files))) (told_at shelf.before.files _ files e stop.ended));
+  own = stop.own;
+}))
+
 -- the image's checks pass, and then a check on the other files stops the row
 pub stops_behind : (words : List (List ℕ)) (before mid after : ShelfState) (image : List ℕ) (roles : List Role)
     (later : Files → List Check) (status : ℕ) (text : List ℕ)
@@ -62,54 +132,53 @@ pub stops_behind : (words : List (List ℕ)) (before mid after : ShelfState) (im
     → IfTold before.files (λ files. (image ≡ file_in files words Image) × (first_verdict (image_checks files words) ≡ passes))
     → StopsIn words (record { before = mid; after = after }) roles later status text
     → StopsIn words (record { before = before; after = after }) (Image ∷ roles) (λ files. image_checks files words ++ later files) status text
-stops_behind words before mid after image roles later status text falls same passed (inl stop) = inl (record {
-  role = stop.role;
-  listed = or_right (is_same Image stop.role) (is_listed roles stop.role) stop.listed;
-  unread = record {
-    rose = rose_from _ _ _ (falls (name_in words stop.role)) stop.unread.rose;
-    status_is = stop.unread.status_is;
-    text_is = stop.unread.text_is;
-  };
-  reached = if_told before.files _ (λ files e.
-      reached-behind stop.role (image_checks files words) (later files) (told_at before.files _ files e passed).1
-      (told_at mid.files _ files (same ∙ e) stop.reached));
-})
-stops_behind words before mid after image roles later status text falls same passed (inr (inl want)) = inr (inl want)
-stops_behind words before mid after image roles later status text falls same passed (inr (inr stop)) = inr (inr (record {
-  ended = if_told before.files _ (λ files e.
-      first_verdict-append (image_checks files words) (later files)
-      ∙ ap (λ (v : Verdict). unless_ended v (first_verdict (later files))) (told_at before.files _ files e passed).1
-      ∙ told_at mid.files _ files (same ∙ e) stop.ended);
-  own = stop.own;
-}))
+stops_behind words before mid after image roles later status text falls same passed stops =
+    stops_after words before mid after (Image ∷ []) roles (λ files. image_checks files words) later status text falls same
+    (if_told before.files _ (λ files e. (told_at before.files _ files e passed).1)) stops
 
--- the checks on the image stop the row that is they alone
+-- checks that begin with the fetch of a role's file stop the row that is they alone
+pub first_stops : (words : List (List ℕ)) (shelf : Change ShelfState) (role : Role) (later : Files → List Check) (status : ℕ)
+    (text : List ℕ) → is_same role role ≡ true
+    → Stops words shelf role (λ files. first_verdict (fetch files words role ∷ later files)) status text
+    → StopsIn words shelf (role ∷ []) (λ files. fetch files words role ∷ later files) status text
+first_stops words shelf role later status text same (inl stop) = inl (record {
+  role = role;
+  listed = or_left (is_same role role) false same;
+  unread = stop;
+  reached = if_told shelf.before.files _ (λ files e.
+      let P : Bool → Type 0 = λ b.
+      MatchBool b ⊤ (DoesPass (fetch_verdict role (files (name_in words role))) × IsReached role (later files)) in
+      subst P (sym same) tt);
+})
+first_stops words shelf role later status text same (inr (inl want)) = inr (inl want)
+first_stops words shelf role later status text same (inr (inr stop)) = inr (inr stop)
+
+-- those on the image do
 pub image_stops : (words : List (List ℕ)) (shelf : Change ShelfState) (status : ℕ) (text : List ℕ)
     → Stops words shelf Image (λ files. first_verdict (image_checks files words)) status text
     → StopsIn words shelf (Image ∷ []) (λ files. image_checks files words) status text
-image_stops words shelf status text (inl stop) = inl (record {
-  role = Image;
-  listed = refl;
-  unread = stop;
-  reached = if_told shelf.before.files _ (λ files e. tt);
-})
-image_stops words shelf status text (inr (inl want)) = inr (inl want)
-image_stops words shelf status text (inr (inr stop)) = inr (inr stop)
+image_stops words shelf status text stops =
+    first_stops words shelf Image (λ files. form_checks (file_in files words Image)) status text refl stops
 
--- the fetch of the journal stops the row that is it alone
-pub journal_stops : (words : List (List ℕ)) (shelf : Change ShelfState) (status : ℕ) (text : List ℕ)
-    → Stops words shelf Journal (λ files. fetch_verdict Journal (files (name_in words Journal))) status text
-    → StopsIn words shelf (Journal ∷ []) (λ files. fetch files words Journal ∷ []) status text
-journal_stops words shelf status text (inl stop) = inl (record {
-  role = Journal;
-  listed = refl;
+-- the fetch of a role's file stops the row that begins with it
+pub fetch_stops : (words : List (List ℕ)) (shelf : Change ShelfState) (role : Role) (name : List ℕ) (roles : List Role)
+    (later : Files → List Check) (status : ℕ) (text : List ℕ) → is_same role role ≡ true → name ≡ name_in words role
+    → Stops words shelf role (λ files. fetch_verdict role (files name)) status text
+    → StopsIn words shelf (role ∷ roles) (λ files. fetch files words role ∷ later files) status text
+fetch_stops words shelf role name roles later status text same named (inl stop) = inl (record {
+  role = role;
+  listed = or_left (is_same role role) (is_listed roles role) same;
   unread = stop;
-  reached = if_told shelf.before.files _ (λ files e. tt);
+  reached = if_told shelf.before.files _ (λ files e.
+      let P : Bool → Type 0 = λ b.
+      MatchBool b ⊤ (DoesPass (fetch_verdict role (files (name_in words role))) × IsReached role (later files)) in
+      subst P (sym same) tt);
 })
-journal_stops words shelf status text (inr (inl want)) = inr (inl want)
-journal_stops words shelf status text (inr (inr stop)) = inr (inr (record {
+fetch_stops words shelf role name roles later status text same named (inr (inl want)) = inr (inl want)
+fetch_stops words shelf role name roles later status text same named (inr (inr stop)) = inr (inr (record {
   ended = if_told shelf.before.files _ (λ files e.
-      ap (λ (v : Verdict). unless_ended v passes) (told_at shelf.before.files _ files e stop.ended));
+      ap (λ (n : List ℕ). unless_ended (fetch_verdict role (files n)) (first_verdict (later files))) (sym named)
+      ∙ ap (λ (v : Verdict). unless_ended v (first_verdict (later files))) (told_at shelf.before.files _ files e stop.ended));
   own = stop.own;
 }))
 
@@ -123,7 +192,7 @@ own_number number status kinds e = record {
   not_want = λ h. other 5 kinds h (omega arith) (omega arith) (omega arith);
 }
   where
-    bound : (number ≡ 0) ⊎ ((number ≡ 1) ⊎ (number ≡ 6)) → status ≤ 7
+    bound : (number ≡ 0) ⊎ ((number ≡ 1) ⊎ (number ≡ 6)) → status ≤ 8
     bound (inl zero) = omega (arith, e, zero)
     bound (inr (inl one)) = omega (arith, e, one)
     bound (inr (inr six)) = omega (arith, e, six)
@@ -155,18 +224,38 @@ same_role Image Image e = refl
 same_role Input Input e = refl
 same_role Plan Plan e = refl
 same_role Journal Journal e = refl
+same_role ModuleList ModuleList e = refl
+same_role (Module a) (Module b) e = ap Module (eqb-true a b e)
 same_role Image Input e = cc
 same_role Image Plan e = cc
 same_role Image Journal e = cc
+same_role Image ModuleList e = cc
+same_role Image (Module b) e = cc
 same_role Input Image e = cc
 same_role Input Plan e = cc
 same_role Input Journal e = cc
+same_role Input ModuleList e = cc
+same_role Input (Module b) e = cc
 same_role Plan Image e = cc
 same_role Plan Input e = cc
 same_role Plan Journal e = cc
+same_role Plan ModuleList e = cc
+same_role Plan (Module b) e = cc
 same_role Journal Image e = cc
 same_role Journal Input e = cc
 same_role Journal Plan e = cc
+same_role Journal ModuleList e = cc
+same_role Journal (Module b) e = cc
+same_role ModuleList Image e = cc
+same_role ModuleList Input e = cc
+same_role ModuleList Plan e = cc
+same_role ModuleList Journal e = cc
+same_role ModuleList (Module b) e = cc
+same_role (Module a) Image e = cc
+same_role (Module a) Input e = cc
+same_role (Module a) Plan e = cc
+same_role (Module a) Journal e = cc
+same_role (Module a) ModuleList e = cc
 
 contains_there : (roles : List Role) (role other : Role) → Contains roles role → Contains (other ∷ roles) role
 contains_there roles role other (n, within, is) = (suc n, omega (arith, within), is)

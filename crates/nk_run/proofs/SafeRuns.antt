@@ -18,7 +18,7 @@ use Rattle.gate_state.specs.MachineStates.{Opening}
 use Rattle.std.specs.Option.{option_map}
 use Rattle.nk_run.specs.declared.command_line.Role.TheVariants.{Image, Input, Plan}
 use Rattle.nk_run.specs.Clauses.{HasJournal, HasSafeRun, IsGoodImage, IsSafeRun}
-use Rattle.nk_run.specs.CommandLine.{Command, Scan, Map, Run, Replay, Make, Work, command_of, map_with, name_in, run_with}
+use Rattle.nk_run.specs.CommandLine.{Command, Scan, Map, Run, Replay, Make, Work, Join, command_of, map_with, name_in, run_with}
 use Rattle.nk_run.specs.NumberWords.{address_word, bounded, decimal_within, is_least_long, is_numeral}
 use Rattle.nk_run.specs.JournalLaw.{IsReplayedRun}
 use Rattle.nk_run.specs.Lines.{longest_file}
@@ -75,6 +75,10 @@ no_short false false true (Some n) steps frames e = cc
 no_short false false true None steps frames e = cc
 no_short false false false n steps frames e = cc
 
+no_pair : (joins : Bool) (steps frames : ℕ) → (if joins then Some Join else None) ≡ Some (Run steps frames) → ⊥
+no_pair true steps frames e = cc
+no_pair false steps frames e = cc
+
 no_middle : (maps replays : Bool) (x y : Option ℕ) (steps frames : ℕ)
     → (if maps then map_with x y else if replays then option_map Replay x else None) ≡ Some (Run steps frames) → ⊥
 no_middle true replays x y steps frames e = no_map x y steps frames e
@@ -107,7 +111,7 @@ run_within : (words : List (List ℕ)) (steps frames : ℕ) → command_of words
 run_within [] steps frames e = absurd (cc)
 run_within (a ∷ []) steps frames e = absurd (cc)
 run_within (a ∷ b ∷ []) steps frames e = absurd (no_short _ _ _ (decimal_within 1 100 b) steps frames e)
-run_within (a ∷ b ∷ c ∷ []) steps frames e = absurd (cc)
+run_within (a ∷ b ∷ c ∷ []) steps frames e = absurd (no_pair _ steps frames e)
 run_within (a ∷ b ∷ c ∷ d ∷ []) steps frames e = absurd (no_middle _ _ (decimal_within 512 65536 c) (address_word d) steps frames e)
 run_within (a ∷ b ∷ c ∷ d ∷ x ∷ []) steps frames e = absurd (cc)
 run_within (a ∷ b ∷ c ∷ d ∷ x ∷ f ∷ []) steps frames e = run_chosen _ x f steps frames e
@@ -115,11 +119,11 @@ run_within (a ∷ b ∷ c ∷ d ∷ x ∷ f ∷ g ∷ more) steps frames e = abs
 
 -- What the checks say where they pass.
 
-no_fault : (o : Option ImageFault) → formed o ≡ passes → o ≡ None
+pub no_fault : (o : Option ImageFault) → formed o ≡ passes → o ≡ None
 no_fault None e = refl
 no_fault (Some fault) e = absurd (cc)
 
-none_found : (o : Option Found) → clean o ≡ passes → o ≡ None
+pub none_found : (o : Option Found) → clean o ≡ passes → o ≡ None
 none_found None e = refl
 none_found (Some found) e = absurd (cc)
 
@@ -200,6 +204,7 @@ module _ (pages_hold : (b : List ℕ) → first_fault b ≡ None → IsPageList 
   safe_where_run law words files (Replay frames) asked bytes = tt
   safe_where_run law words files (Make number) asked bytes = tt
   safe_where_run law words files (Work number) asked bytes = tt
+  safe_where_run law words files Join asked bytes = tt
   safe_where_run law words files (Run steps frames) asked bytes = λ passed.
       let it = checked_run words files steps frames (run_within words steps frames asked) (held_bytes (files (name_in words Image)) bytes) passed in
       law (opening_in files words frames) (file_in files words Input) (events_in (plan_of (file_in files words Plan))) it.admitted it.planned_are
@@ -212,6 +217,7 @@ module _ (pages_hold : (b : List ℕ) → first_fault b ≡ None → IsPageList 
   replayed_where_run law words files (Replay frames) asked bytes = tt
   replayed_where_run law words files (Make number) asked bytes = tt
   replayed_where_run law words files (Work number) asked bytes = tt
+  replayed_where_run law words files Join asked bytes = tt
   replayed_where_run law words files (Run steps frames) asked bytes = λ passed.
       let within = run_within words steps frames asked in
       let it = checked_run words files steps frames within (held_bytes (files (name_in words Image)) bytes) passed in

@@ -19,7 +19,7 @@ use Rattle.nk_run.specs.Witness.{Change, Files, ShelfState}
 use Rattle.nk_run.proofs.Rows.{own_zero, some_is}
 use Rattle.nk_run.proofs.Told.{if_told, told_at}
 
-own_one : (status : ℕ) → status ≡ 1 → IsOwn status
+pub own_one : (status : ℕ) → status ≡ 1 → IsOwn status
 own_one status e = record {
   small = omega (arith, e);
   not_usage = λ h. omega (arith, e, h);
@@ -106,7 +106,7 @@ module _ (words : List (List ℕ)) (asked : command_of words ≡ Some Scan) wher
     unread = record {
       asked = let P : Option Command → Type 0 = λ o. IsSomeAnd o (λ command. Contains (roles_of command) Image) in
           subst P (sym asked) (0, omega arith, refl);
-      rose = rose;
+      rose = (name_in words Image, refl, rose);
       reached = if_told shelf.before.files _ (λ files e.
           let P : Option Command → Type 0 = λ o. IsSomeAnd o (λ command. IsReached Image (checks_of command files words)) in
           subst P (sym asked) tt);

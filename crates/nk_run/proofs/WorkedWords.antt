@@ -6,9 +6,9 @@ use Rattle.nk_bits.specs.declared.leaf.Leaf.{Leaf}
 use Rattle.nk_bits.specs.declared.leaf.Rights.{Rights}
 use Rattle.report_text.specs.ImageLines.{admitted_line, image_line, protected_line}
 use Rattle.report_text.specs.RunLines.{hex_16}
-use Rattle.nk_run.specs.declared.command_line.Role.TheVariants.{Image, Input, Plan, Journal}
-use Rattle.nk_run.specs.CommandLine.{Command, Scan, Map, Run, Replay, Make, Work, command_of}
-use Rattle.nk_run.specs.Lines.{frame_line, journal_line, longer_line, missing_line, no_memory_line, noroom_line, plan_line, rights_text, unread_line, usage_line, walk_line}
+use Rattle.nk_run.specs.declared.command_line.Role.TheVariants.{Image, Input, Plan, Journal, ModuleList, Module}
+use Rattle.nk_run.specs.CommandLine.{Command, Scan, Map, Run, Replay, Make, Work, Join, command_of}
+use Rattle.nk_run.specs.Lines.{empty_line, frame_line, journal_line, list_line, longer_line, missing_line, no_memory_line, nofit_line, noroom_line, plan_line, rights_text, unread_line, usage_line, walk_line}
 
 -- `scan IMAGE`, whatever the name of the file
 scans :
@@ -119,6 +119,17 @@ made :
     (working (codes "+7") ≡ None)
 made = (refl, refl, refl, refl, refl, refl, refl, refl, refl, refl, refl, refl, refl, refl)
 
+-- `join IMAGE LIST`, whatever the names of the files
+joins :
+    (command_of (codes "join" ∷ codes "a" ∷ codes "b" ∷ []) ≡ Some Join) ×
+    (command_of (codes "join" ∷ [] ∷ [] ∷ []) ≡ Some Join) ×
+    (command_of (codes "join" ∷ codes "a" ∷ []) ≡ None) ×
+    (command_of (codes "join" ∷ codes "a" ∷ codes "b" ∷ codes "c" ∷ []) ≡ None) ×
+    (command_of (codes "joins" ∷ codes "a" ∷ codes "b" ∷ []) ≡ None) ×
+    (command_of (codes "JOIN" ∷ codes "a" ∷ codes "b" ∷ []) ≡ None) ×
+    (command_of ([] ∷ codes "a" ∷ codes "b" ∷ []) ≡ None)
+joins = (refl, refl, refl, refl, refl, refl, refl)
+
 -- no other words have a form
 formless :
     (command_of [] ≡ None) ×
@@ -133,7 +144,7 @@ formless :
 formless = (refl, refl, refl, refl, refl, refl, refl, refl, refl)
 
 -- the usage line, as the formats have it
-usage : usage_line ≡ codes "usage: nkrun scan IMAGE | map IMAGE FRAMES VA | run IMAGE INPUT PLAN STEPS FRAMES | replay IMAGE FRAMES JOURNAL | make NUMBER | work NUMBER\n"
+usage : usage_line ≡ codes "usage: nkrun scan IMAGE | map IMAGE FRAMES VA | run IMAGE INPUT PLAN STEPS FRAMES | replay IMAGE FRAMES JOURNAL | make NUMBER | work NUMBER | join IMAGE LIST\n"
 unfolding usage_line
 usage = refl
 
@@ -144,18 +155,25 @@ refusals :
     (unread_line Input ≡ codes "unread input\n") ×
     (unread_line Plan ≡ codes "unread plan\n") ×
     (unread_line Journal ≡ codes "unread journal\n") ×
+    (unread_line ModuleList ≡ codes "unread list\n") ×
+    (unread_line (Module 31) ≡ codes "unread module\n") ×
     (longer_line Image ≡ codes "longer image 67108864\n") ×
     (longer_line Input ≡ codes "longer input 67108864\n") ×
     (longer_line Plan ≡ codes "longer plan 67108864\n") ×
     (longer_line Journal ≡ codes "longer journal 67108864\n") ×
+    (longer_line ModuleList ≡ codes "longer list 67108864\n") ×
+    (longer_line (Module 0) ≡ codes "longer module 1048576\n") ×
     (plan_line 1 ≡ codes "plan line 1\n") ×
     (journal_line 12 ≡ codes "journal line 12\n") ×
+    (list_line 33 ≡ codes "list line 33\n") ×
+    (empty_line 0 ≡ codes "module 0 empty\n") ×
+    (nofit_line ≡ codes "nofit\n") ×
     (noroom_line 600 512 ≡ codes "noroom 600 512\n") ×
     (image_line 13 (codes "TooLarge") 0 ≡ codes "image 13 TooLarge 0\n") ×
     (image_line 1 (codes "Short") 18446744073709551615 ≡ codes "image 1 Short 18446744073709551615\n") ×
     (protected_line 0xFFFFFFFF80001FFE (0x0F ∷ 0x22 ∷ 0xC0 ∷ []) ≡ codes "protected ffffffff80001ffe 0f22c0\n")
-unfolding no_memory_line unread_line longer_line plan_line journal_line noroom_line image_line protected_line hex_16 padded_integral char_count digits encode_with
-refusals = (refl, refl, refl, refl, refl, refl, refl, refl, refl, refl, refl, refl, refl, refl, refl)
+unfolding no_memory_line unread_line longer_line plan_line journal_line list_line empty_line nofit_line noroom_line image_line protected_line hex_16 padded_integral char_count digits encode_with
+refusals = (refl, refl, refl, refl, refl, refl, refl, refl, refl, refl, refl, refl, refl, refl, refl, refl, refl, refl, refl, refl, refl, refl)
 
 abbrev rights : Rights → Leaf
 rights given = record { frame = 71; rights = given }

@@ -1,6 +1,7 @@
 -- What the top call promises, in the order of the record `Promises` at the end: each promise is over what the call saw
 -- and its status.
-use Rattle.std.specs.Prelude.{◌≡◌, ℕ, ◌≤◌, ◌⊎◌, List, [], length, None, Some, MatchOption, IfSome, IsSomeAnd, IsOk, ⊤}
+use Rattle.std.specs.Prelude.{◌≡◌, ℕ, ◌≤◌, ◌⊎◌, List, [], length, Option, None, Some, MatchOption, IfSome, IsSomeAnd, IsOk, ⊤}
+use Rattle.std.specs.List.{All}
 use Rattle.std.specs.Io.KnownBytes.{Appends}
 use Rattle.nk_host.specs.FaultCounts.{Rose, RoseTo}
 use Rattle.nk_host.specs.Taken.{AppendsPrefix}
@@ -18,20 +19,31 @@ use Rattle.gate_state.specs.MachineStates.{Opening, nested_of}
 use Rattle.gate_state.specs.MachineSteps.{calls, made_by_all, state}
 use Rattle.replay_core.specs.ReplayedCalls.{replay_of}
 use Rattle.image_maker.specs.MadeImage.{image_of_number}
+use Rattle.code_modules.specs.JoinedImage.{IsJoined}
+use Rattle.code_modules.specs.JoinedParts.{CodeModule, modules_behind}
+use Rattle.code_modules.specs.ModuleList.{list_of}
 use Rattle.gate_state.specs.SafeStates.{IsSafe}
 use Rattle.gate_state.specs.WindowLeft.{IsShortWindow}
 use Rattle.nk_run.specs.declared.command_line.Role.{Role}
-use Rattle.nk_run.specs.declared.command_line.Role.TheVariants.{Image, Input, Plan, Journal}
-use Rattle.nk_run.specs.CommandLine.{Command, Scan, Map, Run, Replay, Make, Work, command_of, name_in, IsAsked}
+use Rattle.nk_run.specs.declared.command_line.Role.TheVariants.{Image, Input, Plan, Journal, ModuleList, Module}
+use Rattle.nk_run.specs.CommandLine.{Command, Scan, Map, Run, Replay, Make, Work, Join, command_of, name_in, IsAsked}
+use Rattle.nk_run.specs.JoinedRuns.{KeepsCode}
 use Rattle.nk_run.specs.JournalLaw.{IsJournal}
-use Rattle.nk_run.specs.Lines.{longest_file, no_memory_line, unread_line, usage_line}
+use Rattle.nk_run.specs.Lines.{longest_file, longest_module, no_memory_line, unread_line, usage_line}
 use Rattle.nk_run.specs.RunStates.{EndsAfter, run_length}
 use Rattle.nk_run.specs.Witness.{Change, Files, ShelfState, SinkState, Witness}
-use Rattle.nk_run.specs.Outcome.{checks_of, events_in, file_in, first_verdict, opened, opening_in, outcome, passes, IsReached}
+use Rattle.nk_run.specs.Outcome.{checks_of, events_in, file_in, first_verdict, join_in, module_name, modules_in, modules_named, opened, opening_in, outcome, passes, text_of, IsReached}
+
+-- the name is that of a role's file: a module's stands in the list, where it is in form, and every name counts as one
+-- where files aren't told; any other stands among the words
+abbrev pub IsNameOf : List (List ℕ) → Option Files → Role → List ℕ → Type 0
+IsNameOf words told (Module number) name = IfTold told (λ files. module_name files words number ≡ Some name)
+IsNameOf words told role name = name ≡ name_in words role
 
 -- the count of faults of the name of a role's file rose
 abbrev pub NameRose : List (List ℕ) → Change ShelfState → Role → Type 0
-NameRose words shelf role = Rose shelf.before.faults shelf.after.faults (name_in words role)
+NameRose words shelf role =
+    (name : List ℕ) × IsNameOf words shelf.before.files role name × Rose shelf.before.faults shelf.after.faults name
 
 -- the sink's count of faults rose
 abbrev pub SinkRose : Change SinkState → Type 0
@@ -157,6 +169,17 @@ pub record IsGoodJournal (o : Opening) (b : List ℕ) : Type 0 where
   pub within : length b ≤ longest_file
   pub right : (replay_of b (opened o)).bad ≡ None
 
+-- a list of modules is within the limit, and each of its lines is in form
+pub record IsGoodList (b : List ℕ) : Type 0 where
+  pub within : length b ≤ longest_file
+  pub formed : IsOk (list_of b)
+
+-- a list is held that is good, and the files of its modules, each within the limit; and they can be joined with the image
+pub record HasModules (words : List (List ℕ)) (files : Files) : Type 0 where
+  pub list : IsSomeAnd (files (name_in words ModuleList)) IsGoodList
+  pub held : All (λ it. IsSomeAnd (files it.name) (λ m. length m ≤ longest_module)) (modules_named files words)
+  pub joined : IsOk (join_in files words)
+
 -- what the words ask for can be done with the files
 abbrev pub IsDoable : Command → List (List ℕ) → Files → Type 0
 IsDoable Scan words files = HasImage words files (λ image. ⊤)
@@ -167,6 +190,7 @@ IsDoable (Replay frames) words files =
     × IsSomeAnd (files (name_in words Journal)) (IsGoodJournal (opening_in files words frames))
 IsDoable (Make number) words files = ⊤
 IsDoable (Work number) words files = ⊤
+IsDoable Join words files = HasImage words files (λ image. ⊤) × HasModules words files
 
 -- what can be done is done: without a fault the status is 0, or that of want of memory
 abbrev pub IsDone : Witness → ℕ → Type 0
@@ -228,8 +252,25 @@ abbrev pub IsEndedWhereRun : Witness → Type 0
 IsEndedWhereRun seen = IfTold seen.shelf.before.files (λ files.
     IfSome (command_of seen.words) (λ command. HasEnd command seen.words files))
 
+-- the file loads the image, the modules and a directory of them, and holds no protected encoding; and in every state of
+-- every run of it the modules' bytes stand in the frames of their pages
+pub record IsWholeJoin (b : List ℕ) (modules : List CodeModule) (file : List ℕ) : Type 0 where
+  pub joined : IsJoined b modules file
+  pub kept : KeepsCode (modules_behind b modules) file
+
+-- where the checks of a join pass, its text is such a file
+abbrev pub HasJoined : Command → List (List ℕ) → Files → Type 0
+HasJoined Join words files =
+    first_verdict (checks_of Join files words) ≡ passes
+    → IsWholeJoin (file_in files words Image) (modules_in files words) (text_of Join files words)
+HasJoined _ words files = ⊤
+
+abbrev pub IsWholeWhereJoined : Witness → Type 0
+IsWholeWhereJoined seen = IfTold seen.shelf.before.files (λ files.
+    IfSome (command_of seen.words) (λ command. HasJoined command seen.words files))
+
 pub record Promises (seen : Witness) (status : ℕ) : Type 0 where
-  pub status_range : status ≤ 7
+  pub status_range : status ≤ 8
   -- words without a form, and the counts: over every shelf and sink, whether they tell their content or not
   pub usage : IsUsage seen status
   pub usage_alone : IsUsageAlone seen status
@@ -253,3 +294,5 @@ pub record Promises (seen : Witness) (status : ℕ) : Type 0 where
   pub run_safe : IsSafeWhereRun seen
   -- and its text is a journal: `replay` of it finds each line right, and shows the run's closing section
   pub run_replayed : IsReplayedWhereRun seen
+  -- the joined image has all that was joined and nothing else, and its runs keep it
+  pub image_joined : IsWholeWhereJoined seen

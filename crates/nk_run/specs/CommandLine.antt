@@ -1,10 +1,11 @@
 -- The command line: the forms that the words may have, and the name that stands for each role's file.
-use Rattle.std.specs.Prelude.{ℕ, ◌≤◌, Bool, true, false, if◌then◌else◌, List, [], ◌∷◌, Contains, Option, None, Some, IsSomeAnd, codes, slice_index_or, IsTrue, ⊤}
+use Rattle.std.specs.Prelude.{ℕ, ◌+◌, ◌≤◌, ◌==◌, Bool, true, false, if◌then◌else◌, List, [], ◌∷◌, map, Contains, Option, None, Some, IsSomeAnd, codes, slice_index_or, IsTrue, ⊤}
+use Rattle.std.specs.List.{range_with_len}
 use Rattle.std.specs.Option.{option_map}
 use Rattle.std.specs.Str.{bytes_eq}
 use Rattle.nk_bits.specs.Paging.{is_canonical}
 use Rattle.nk_run.specs.declared.command_line.Role.{Role}
-use Rattle.nk_run.specs.declared.command_line.Role.TheVariants.{Image, Input, Plan, Journal}
+use Rattle.nk_run.specs.declared.command_line.Role.TheVariants.{Image, Input, Plan, Journal, ModuleList, Module}
 use Rattle.nk_run.specs.NumberWords.{decimal_within, address_word}
 
 -- what the words ask for, by the numbers among them; the names of the files are read beside it
@@ -15,6 +16,7 @@ pub data Command : Type 0 where
   Replay : ℕ → Command
   Make : ℕ → Command
   Work : ℕ → Command
+  Join : Command
 
 -- `scan IMAGE`; and `make NUMBER` and `work NUMBER`, NUMBER from 1 to 100
 abbrev pub short_of : List ℕ → List ℕ → Option Command
@@ -23,6 +25,10 @@ short_of name word =
     else if bytes_eq name (codes "make") then option_map Make (decimal_within 1 100 word)
     else if bytes_eq name (codes "work") then option_map Work (decimal_within 1 100 word)
     else None
+
+-- `join IMAGE LIST`
+abbrev pub pair_of : List ℕ → Option Command
+pair_of name = if bytes_eq name (codes "join") then Some Join else None
 
 -- `map IMAGE FRAMES VA`: FRAMES from 512 to 65,536, which are 2 MiB to 256 MiB, and VA a canonical address
 abbrev pub map_with : Option ℕ → Option ℕ → Option Command
@@ -52,6 +58,7 @@ run_of name steps frames =
 -- the command that the words spell, without the program's own name; other words have no form
 abbrev pub command_of : List (List ℕ) → Option Command
 command_of (name ∷ word ∷ []) = short_of name word
+command_of (name ∷ image ∷ list ∷ []) = pair_of name
 command_of (name ∷ image ∷ frames ∷ word ∷ []) = middle_of name frames word
 command_of (name ∷ image ∷ input ∷ plan ∷ steps ∷ frames ∷ []) = run_of name steps frames
 command_of _ = None
@@ -64,6 +71,7 @@ IsBounded (Run steps frames) = (steps ≤ 4294967296) × (512 ≤ frames) × (fr
 IsBounded (Replay frames) = (512 ≤ frames) × (frames ≤ 65536)
 IsBounded (Make number) = (1 ≤ number) × (number ≤ 100)
 IsBounded (Work number) = (1 ≤ number) × (number ≤ 100)
+IsBounded Join = ⊤
 
 -- two roles are one
 abbrev pub is_same : Role → Role → Bool
@@ -71,20 +79,24 @@ is_same Image Image = true
 is_same Input Input = true
 is_same Plan Plan = true
 is_same Journal Journal = true
+is_same ModuleList ModuleList = true
+is_same (Module number) (Module other) = number == other
 is_same _ _ = false
 
--- the place among the words of the name of a role's file
+-- the place among the words of the name of a role's file; a module's stands in the list, as if that came behind the words
 abbrev pub word_place : Role → ℕ
 word_place Image = 1
 word_place Input = 2
 word_place Plan = 3
 word_place Journal = 3
+word_place ModuleList = 2
+word_place (Module number) = 3 + number
 
 -- the name of a role's file
 abbrev pub name_in : List (List ℕ) → Role → List ℕ
 name_in words role = slice_index_or words (word_place role) []
 
--- the roles of a command's files, in the order in which they are fetched
+-- the roles of a command's files, in the order in which they are fetched; a list has at most 32 modules
 abbrev pub roles_of : Command → List Role
 roles_of Scan = Image ∷ []
 roles_of (Map frames va) = Image ∷ []
@@ -92,6 +104,7 @@ roles_of (Run steps frames) = Image ∷ Input ∷ Plan ∷ []
 roles_of (Replay frames) = Image ∷ Journal ∷ []
 roles_of (Make number) = []
 roles_of (Work number) = []
+roles_of Join = Image ∷ ModuleList ∷ map Module (range_with_len 0 32)
 
 -- the words have a form, and the role is one of its command's
 abbrev pub IsAsked : List (List ℕ) → Role → Type 0

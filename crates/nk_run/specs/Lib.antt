@@ -8,6 +8,7 @@ pub mod ReplayedRuns
 pub mod WorkSummary
 pub mod Outcome
 pub mod JournalLaw
+pub mod JoinedRuns
 pub mod Clauses
 -- Words of private clauses and proofs.
 pub mod Statuses

@@ -4,11 +4,20 @@ use Rattle.std.specs.Fmt.{decimal}
 use Rattle.nk_bits.specs.declared.leaf.Leaf.{Leaf}
 use Rattle.nk_bits.specs.declared.leaf.Rights.{Rights}
 use Rattle.nk_run.specs.declared.command_line.Role.{Role}
-use Rattle.nk_run.specs.declared.command_line.Role.TheVariants.{Image, Input, Plan, Journal}
+use Rattle.nk_run.specs.declared.command_line.Role.TheVariants.{Image, Input, Plan, Journal, ModuleList, Module}
 
 -- the most bytes of a file that is read: 64 MiB
 abbrev pub longest_file : ℕ
 longest_file = 67108864
+
+-- of a module that is read: 1 MiB
+abbrev pub longest_module : ℕ
+longest_module = 1048576
+
+-- of a role's file
+abbrev pub most_of : Role → ℕ
+most_of (Module number) = longest_module
+most_of _ = longest_file
 
 -- a role's word
 abbrev pub role_text : Role → List ℕ
@@ -16,10 +25,12 @@ role_text Image = codes "image"
 role_text Input = codes "input"
 role_text Plan = codes "plan"
 role_text Journal = codes "journal"
+role_text ModuleList = codes "list"
+role_text (Module number) = codes "module"
 
 -- the words have none of the forms
 unfoldable pub usage_line : List ℕ
-usage_line = codes "usage: nkrun scan IMAGE | map IMAGE FRAMES VA | run IMAGE INPUT PLAN STEPS FRAMES | replay IMAGE FRAMES JOURNAL | make NUMBER | work NUMBER\n"
+usage_line = codes "usage: nkrun scan IMAGE | map IMAGE FRAMES VA | run IMAGE INPUT PLAN STEPS FRAMES | replay IMAGE FRAMES JOURNAL | make NUMBER | work NUMBER | join IMAGE LIST\n"
 
 -- there was no memory
 unfoldable pub no_memory_line : List ℕ
@@ -29,9 +40,9 @@ no_memory_line = codes "no memory\n"
 unfoldable pub unread_line : Role → List ℕ
 unread_line role = codes "unread " ++ (role_text role ++ codes "\n")
 
--- a file has more bytes than the limit
+-- a file has more bytes than its limit
 unfoldable pub longer_line : Role → List ℕ
-longer_line role = codes "longer " ++ (role_text role ++ (codes " " ++ (decimal longest_file ++ codes "\n")))
+longer_line role = codes "longer " ++ (role_text role ++ (codes " " ++ (decimal (most_of role) ++ codes "\n")))
 
 -- the opening needs more frames than there are
 unfoldable pub noroom_line : ℕ → ℕ → List ℕ
@@ -44,6 +55,18 @@ plan_line number = codes "plan line " ++ (decimal number ++ codes "\n")
 -- the first line of a journal that isn't well formed, or that says of a call what the nested kernel's state doesn't give
 unfoldable pub journal_line : ℕ → List ℕ
 journal_line number = codes "journal line " ++ (decimal number ++ codes "\n")
+
+-- the first line of a list of modules that isn't well formed
+unfoldable pub list_line : ℕ → List ℕ
+list_line number = codes "list line " ++ (decimal number ++ codes "\n")
+
+-- the first module without bytes, numbered from 0
+unfoldable pub empty_line : ℕ → List ℕ
+empty_line number = codes "module " ++ (decimal number ++ codes " empty\n")
+
+-- the modules don't fit behind the image
+unfoldable pub nofit_line : List ℕ
+nofit_line = codes "nofit\n"
 
 -- rights, a letter each: read; write; execute; user or supervisor
 unfoldable pub rights_text : Rights → List ℕ

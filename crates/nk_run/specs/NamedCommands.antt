@@ -3,11 +3,12 @@ use Rattle.std.specs.Prelude.{◌≡◌, ℕ, List, ⊤}
 use Rattle.nk_run.specs.declared.command_line.Request.{Request}
 use Rattle.nk_run.specs.declared.command_line.Request.TheVariants as named
 use Rattle.nk_run.specs.declared.command_line.FileName.{FileName}
+use Rattle.nk_run.specs.declared.command_line.JoinFiles.{JoinFiles}
 use Rattle.nk_run.specs.declared.command_line.ReplayFiles.{ReplayFiles}
 use Rattle.nk_run.specs.declared.command_line.Role.{Role}
-use Rattle.nk_run.specs.declared.command_line.Role.TheVariants.{Image, Input, Plan, Journal}
+use Rattle.nk_run.specs.declared.command_line.Role.TheVariants.{Image, Input, Plan, Journal, ModuleList}
 use Rattle.nk_run.specs.declared.command_line.RunFiles.{RunFiles}
-use Rattle.nk_run.specs.CommandLine.{Command, Scan, Map, Run, Replay, Make, Work, name_in}
+use Rattle.nk_run.specs.CommandLine.{Command, Scan, Map, Run, Replay, Make, Work, Join, name_in}
 
 -- the command without the names
 abbrev pub command_as : Request → Command
@@ -17,6 +18,7 @@ command_as (named.Run files steps frames) = Run steps frames
 command_as (named.Replay files frames) = Replay frames
 command_as (named.Make number) = Make number
 command_as (named.Work number) = Work number
+command_as (named.Join files) = Join
 
 -- the name is that of a role's file among the words
 abbrev pub Names : List (List ℕ) → Role → FileName → Type 0
@@ -31,6 +33,10 @@ pub record NamesReplay (words : List (List ℕ)) (files : ReplayFiles) : Type 0 
   pub image : Names words Image files.image
   pub journal : Names words Journal files.journal
 
+pub record NamesJoin (words : List (List ℕ)) (files : JoinFiles) : Type 0 where
+  pub image : Names words Image files.image
+  pub list : Names words ModuleList files.list
+
 -- and so is each name of a command
 abbrev pub NamesFiles : List (List ℕ) → Request → Type 0
 NamesFiles words (named.Scan image) = Names words Image image
@@ -39,3 +45,4 @@ NamesFiles words (named.Run files steps frames) = NamesRun words files
 NamesFiles words (named.Replay files frames) = NamesReplay words files
 NamesFiles words (named.Make number) = ⊤
 NamesFiles words (named.Work number) = ⊤
+NamesFiles words (named.Join files) = NamesJoin words files

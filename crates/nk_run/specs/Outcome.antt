@@ -1,6 +1,7 @@
 -- The outcome of words and files: status and text without a fault of the outside and without want of memory. It is a
 -- list of checks in order; the first that doesn't pass decides, and where all pass the command's text is written.
-use Rattle.std.specs.Prelude.{ℕ, List, [], ◌∷◌, ◌++◌, length, take, Option, None, Some, Result, Ok, Err, if◌then◌else◌, nat_lt, nat_le, unwrap_or, MatchBool, ⊤}
+use Rattle.std.specs.Prelude.{ℕ, ◌+◌, List, [], ◌∷◌, ◌++◌, length, map, take, slice_get, Option, None, Some, Result, Ok, Err, if◌then◌else◌, nat_lt, nat_le, unwrap_or, MatchBool, ⊤}
+use Rattle.std.specs.Option.{option_map}
 use Rattle.elf_image.specs.declared.fault.ImageFault.{ImageFault}
 use Rattle.elf_image.specs.ImageFaults.{fault_number, name_of}
 use Rattle.elf_image.specs.Rows.{first_fault}
@@ -20,11 +21,16 @@ use Rattle.report_text.specs.ClosingSection.{section}
 use Rattle.report_text.specs.ImageLines.{admitted_line, image_line, protected_line}
 use Rattle.replay_core.specs.ReplayedCalls.{WholeReplay, Replayed, replay_of}
 use Rattle.image_maker.specs.MadeImage.{image_of_number}
+use Rattle.code_modules.specs.declared.fault.JoinFault.{JoinFault}
+use Rattle.code_modules.specs.declared.fault.JoinFault.TheVariants as join
+use Rattle.code_modules.specs.JoinAnswers.{join_answer}
+use Rattle.code_modules.specs.JoinedParts.{CodeModule}
+use Rattle.code_modules.specs.ModuleList.{Listed, list_of}
 use Rattle.nk_run.specs.declared.command_line.Role.{Role}
-use Rattle.nk_run.specs.declared.command_line.Role.TheVariants.{Image, Input, Plan, Journal}
-use Rattle.nk_run.specs.CommandLine.{Command, Scan, Map, Run, Replay, Make, Work, command_of, is_same, name_in}
+use Rattle.nk_run.specs.declared.command_line.Role.TheVariants.{Image, Input, Plan, Journal, ModuleList, Module}
+use Rattle.nk_run.specs.CommandLine.{Command, Scan, Map, Run, Replay, Make, Work, Join, command_of, is_same, name_in}
 use Rattle.nk_run.specs.Witness.{Files}
-use Rattle.nk_run.specs.Lines.{longest_file, usage_line, longer_line, noroom_line, plan_line, journal_line, walk_line}
+use Rattle.nk_run.specs.Lines.{most_of, usage_line, longer_line, noroom_line, plan_line, journal_line, list_line, empty_line, nofit_line, walk_line}
 use Rattle.nk_run.specs.RunStates.{run_text}
 use Rattle.nk_run.specs.WorkSummary.{work_text}
 
@@ -65,11 +71,11 @@ decided unheld answer = None
 abbrev pub test : Verdict → Check
 test verdict = record { fetches = None; finds = verdict }
 
--- the fetch of a role's file: it has to be held, and to have at most the limit's number of bytes
+-- the fetch of a role's file: it has to be held, and to have at most as many bytes as such a file may have
 abbrev pub fetch_verdict : Role → Option (List ℕ) → Verdict
 fetch_verdict role None = unheld
 fetch_verdict role (Some file) =
-    if nat_lt longest_file (length file) then ends (record { status = 7; text = longer_line role }) else passes
+    if nat_lt (most_of role) (length file) then ends (record { status = 7; text = longer_line role }) else passes
 
 abbrev pub fetch : Files → List (List ℕ) → Role → Check
 fetch files words role = record { fetches = Some role; finds = fetch_verdict role (files (name_in words role)) }
@@ -148,6 +154,67 @@ abbrev pub journaled : Option ℕ → Verdict
 journaled None = passes
 journaled (Some number) = ends (record { status = 6; text = journal_line number })
 
+-- the list of modules has a line that is out of form: the first is named
+abbrev pub well_listed : Result (List Listed) ℕ → Verdict
+well_listed (Ok listed) = passes
+well_listed (Err number) = ends (record { status = 6; text = list_line number })
+
+-- what a list names that is in form
+abbrev pub listed_in : Result (List Listed) ℕ → List Listed
+listed_in (Ok listed) = listed
+listed_in (Err number) = []
+
+abbrev pub modules_named : Files → List (List ℕ) → List Listed
+modules_named files words = listed_in (list_of (file_in files words ModuleList))
+
+-- the name in it of the file of a module of this number, from 0 on
+abbrev pub module_name : Files → List (List ℕ) → ℕ → Option (List ℕ)
+module_name files words number = option_map (λ it. it.name) (slice_get (modules_named files words) number)
+
+-- the checks on the list, and those on the image and then the list
+abbrev pub listing_checks : Files → List (List ℕ) → List Check
+listing_checks files words =
+    fetch files words ModuleList ∷ test (well_listed (list_of (file_in files words ModuleList))) ∷ []
+
+abbrev pub list_checks : Files → List (List ℕ) → List Check
+list_checks files words = image_checks files words ++ listing_checks files words
+
+-- the fetches of the files of these modules, of which the first has this number
+abbrev pub module_fetches : Files → ℕ → List Listed → List Check
+module_fetches files number [] = []
+module_fetches files number (it ∷ later) =
+    record { fetches = Some (Module number); finds = fetch_verdict (Module number) (files it.name) }
+    ∷ module_fetches files (number + 1) later
+
+-- the checks on all files of a join
+abbrev pub module_checks : Files → List (List ℕ) → List Check
+module_checks files words = list_checks files words ++ module_fetches files 0 (modules_named files words)
+
+-- the modules, with the bytes of their files
+abbrev pub module_held : Files → Listed → CodeModule
+module_held files it = record { guard = it.guard; bytes = unwrap_or (files it.name) [] }
+
+abbrev pub modules_in : Files → List (List ℕ) → List CodeModule
+modules_in files words = map (module_held files) (modules_named files words)
+
+-- what joining them with the image comes to
+abbrev pub join_in : Files → List (List ℕ) → Result (List ℕ) JoinFault
+join_in files words = join_answer (file_in files words Image) (modules_in files words)
+
+-- a module has no bytes, or they don't fit, or a protected encoding would stand in the joined image's code; want of
+-- memory is no answer
+abbrev pub joinable : Result (List ℕ) JoinFault → Verdict
+joinable (Ok file) = passes
+joinable (Err (join.Empty number)) = ends (record { status = 8; text = empty_line number })
+joinable (Err join.NoFit) = ends (record { status = 8; text = nofit_line })
+joinable (Err (join.Protected found)) = clean (Some found)
+joinable (Err join.Memory) = unheld
+
+-- the file of the joined image, where there is one
+abbrev pub file_joined : Result (List ℕ) JoinFault → List ℕ
+file_joined (Ok file) = file
+file_joined (Err fault) = []
+
 -- what `work` runs of an image that is made: 2,000,000 turns at most, in 4,096 frames, without input or events
 abbrev pub worked : List ℕ → List ℕ
 worked image = work_text 2000000 [] (opening_state (record { image = image; frames = 4096 }) [])
@@ -166,6 +233,7 @@ checks_of (Replay frames) files words =
     ∷ []
 checks_of (Make number) files words = []
 checks_of (Work number) files words = []
+checks_of Join files words = module_checks files words ++ test (joinable (join_in files words)) ∷ []
 
 abbrev pub text_of : Command → Files → List (List ℕ) → List ℕ
 text_of Scan files words =
@@ -178,6 +246,7 @@ text_of (Replay frames) files words =
     section (file_in files words Image) frames (replay_in files words frames).made.nested
 text_of (Make number) files words = image_of_number number
 text_of (Work number) files words = worked (image_of_number number)
+text_of Join files words = file_joined (join_in files words)
 
 -- the outcome of the words, of which the command is what they spell
 abbrev pub command_outcome : Option Command → List (List ℕ) → Files → Option Answer

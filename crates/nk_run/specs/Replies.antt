@@ -24,7 +24,7 @@ use Rattle.nk_run.specs.Clauses.{AreKept, IsUnread, NameRose, SinkRose, TookAll,
 
 -- a status that a command's own answer may have: neither that of the usage line nor one of the outside
 pub record IsOwn (status : ℕ) : Type 0 where
-  pub small : status ≤ 7
+  pub small : status ≤ 8
   pub not_usage : status ≢ 2
   pub not_unread : status ≢ 3
   pub not_cut : status ≢ 4
@@ -144,6 +144,11 @@ EndsBy number verdict status text = (verdict ≡ ends (record { status = status;
 -- or there was no memory to say so
 abbrev pub RefusesBy : ℕ → Verdict → ℕ → List ℕ → Type 0
 RefusesBy number verdict status text = IsWant status text ⊎ EndsBy number verdict status text
+
+-- or a check ended it with a status of the command's own
+abbrev pub EndsOwn : Verdict → ℕ → List ℕ → Type 0
+EndsOwn verdict status text =
+    IsWant status text ⊎ ((verdict ≡ ends (record { status = status; text = text })) × IsOwn status)
 
 -- after the checks on the image, the last check decides and the command's text is written, or there was no memory
 abbrev pub Concludes : Verdict → List ℕ → ℕ → List ℕ → Type 0

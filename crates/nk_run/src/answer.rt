@@ -9,6 +9,7 @@ ghost use Rattle.nk_run.specs.Replies.{IsAnswered, ReadsBytes};
 ghost use Rattle.nk_run.specs.Statuses.{status_number};
 
 use crate::command_line::Request;
+use crate::join::join;
 use crate::lines::usage_line;
 use crate::make::make;
 use crate::map::map;
@@ -64,5 +65,6 @@ pub(crate) fn answer<S: Shelf, O: Sink>(
         Some(Request::Replay { files, frames }) => replay(alloc, files, frames, shelf, sink),
         Some(Request::Make { number }) => make(alloc, number, sink),
         Some(Request::Work { number }) => work(alloc, number, sink),
+        Some(Request::Join { files }) => join(alloc, files, shelf, sink),
     }
 }

@@ -1,7 +1,7 @@
 //! The command line, read by hand: all words are positional.
 ghost use Rattle.std.specs.Prelude.{◌≡◌, [], ◌∷◌, map, option_map, IfSome};
 ghost use Rattle.std.specs.String.{string_bytes};
-ghost use Rattle.nk_run.specs.CommandLine.{command_of, middle_of, run_of, short_of, IsBounded};
+ghost use Rattle.nk_run.specs.CommandLine.{command_of, middle_of, pair_of, run_of, short_of, IsBounded};
 ghost use Rattle.nk_run.specs.NamedCommands.{command_as, NamesFiles};
 
 use crate::numbers::{address_of, decimal_within};
@@ -31,6 +31,10 @@ pub enum Role {
     Plan,
     /// The text of a run, of which the calls are made again.
     Journal,
+    /// The names of modules of code.
+    ModuleList,
+    /// The code of the module of this number in the list, from 0 on.
+    Module(u32),
 }
 
 /// The name of a file, as the words have it.
@@ -52,6 +56,13 @@ pub(crate) struct RunFiles<'w> {
 pub(crate) struct ReplayFiles<'w> {
     pub image: FileName<'w>,
     pub journal: FileName<'w>,
+}
+
+/// The files of a join.
+#[derive(Clone, Copy, Debug, PartialEq, Eq)]
+pub(crate) struct JoinFiles<'w> {
+    pub image: FileName<'w>,
+    pub list: FileName<'w>,
 }
 
 /// What the words ask for.
@@ -86,6 +97,10 @@ pub(crate) enum Request<'w> {
     Work {
         number: u64,
     },
+    /// Write the image joined with the modules of a list.
+    Join {
+        files: JoinFiles<'w>,
+    },
 }
 
 impl<'w> Request<'w> {
@@ -97,6 +112,9 @@ impl<'w> Request<'w> {
     {
         if let Some([name, word]) = words.as_array::<2>() {
             return read_short(name.as_str(), word.as_str());
+        }
+        if let Some([name, image, list]) = words.as_array::<3>() {
+            return read_pair(name.as_str(), image.as_str(), list.as_str());
         }
         if let Some([name, image, frames, word]) = words.as_array::<4>() {
             return read_middle(
@@ -132,6 +150,22 @@ fn read_short<'w>(name: &str, word: &'w str) -> Option<Request<'w>>
         return Some(Request::Work { number });
     }
     None
+}
+
+/// `join IMAGE LIST`.
+fn read_pair<'w>(name: &str, image: &'w str, list: &'w str) -> Option<Request<'w>>
+    ensures command { option_map command_as result ≡ pair_of name.now }
+    ensures bounds { IfSome result (λ it. IsBounded (command_as it)) }
+    ensures names { IfSome result (NamesFiles (name.now ∷ image.now ∷ list.now ∷ [])) }
+{
+    if name != "join" {
+        return None;
+    }
+    let files = JoinFiles {
+        image: FileName { text: image },
+        list: FileName { text: list },
+    };
+    Some(Request::Join { files })
 }
 
 /// `map IMAGE FRAMES VA` or `replay IMAGE FRAMES JOURNAL`.

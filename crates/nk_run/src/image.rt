@@ -1,10 +1,12 @@
-//! The checks on the image, which every command on files makes first.
+//! The fetch of a file, and the checks on the image, which every command on files makes first.
 ghost use Rattle.std.specs.Prelude.{◌≡◌, ◌≤◌, ℕ, List, None, Some, IfOk, MatchOption, MatchResult};
 ghost use Rattle.nk_host.specs.FaultCounts.{NeverFalls};
+ghost use Rattle.nk_host.specs.Files.{HoldsBytes};
 ghost use Rattle.nk_host.specs.Told.{IfTold};
 ghost use Rattle.elf_image.specs.Rows.{first_fault};
 ghost use Rattle.byte_scanner.specs.FirstFound.{first_found};
-ghost use Rattle.nk_run.specs.CommandLine.{name_in};
+ghost use Rattle.nk_run.specs.Clauses.{IsNameOf};
+ghost use Rattle.nk_run.specs.Lines.{most_of};
 ghost use Rattle.nk_run.specs.NamedCommands.{Names};
 ghost use Rattle.nk_run.specs.Witness.{shelf_change};
 ghost use Rattle.nk_run.specs.Outcome.{fetch_verdict, formed, clean, first_verdict, form_checks, image_checks, file_in, passes};
@@ -25,6 +27,19 @@ use std::alloc::Global;
 /// The most bytes of a file that is read: 64 MiB.
 pub const FILE_LIMIT: u64 = 67_108_864;
 
+/// The most bytes of a module that is read: 1 MiB.
+const MODULE_LIMIT: u64 = 1_048_576;
+
+/// The most bytes of a role's file.
+fn limit_of(role: Role) -> u64
+    ensures { result ≡ most_of role }
+{
+    match role {
+        Role::Module(_) => MODULE_LIMIT,
+        _ => FILE_LIMIT,
+    }
+}
+
 /// The file of a role, or the reply to a failed fetch.
 pub(crate) fn fetch<S: Shelf>(
     alloc: Global,
@@ -33,19 +48,19 @@ pub(crate) fn fetch<S: Shelf>(
     shelf: &mut S,
 ) -> Result<Vec<u8>, Reply>
     ghost words: { List (List ℕ) }
-    requires { Names words role name }
+    requires { IsNameOf words (S.files shelf.old) role name.text.now }
     ensures files_stay { S.files shelf.new ≡ S.files shelf.old }
     ensures never_falls { NeverFalls (S.faults shelf.old) (S.faults shelf.new) }
-    ensures bytes { TellsBytes words (S.files shelf.old) role }
+    ensures bytes { IfTold (S.files shelf.old) (λ files. HoldsBytes files name.entry.text.now) }
     ensures fetched { MatchResult result
         (λ bytes. IfTold (S.files shelf.old) (λ files.
-        (files (name_in words role) ≡ Some bytes.items)
-        × (fetch_verdict role (files (name_in words role)) ≡ passes)))
+        (files name.entry.text.now ≡ Some bytes.items)
+        × (fetch_verdict role (files name.entry.text.now) ≡ passes)))
         (λ reply. Stops words (shelf_change S.files S.faults S.wants shelf.old shelf.new) role
-        (λ files. fetch_verdict role (files (name_in words role)))
+        (λ files. fetch_verdict role (files name.entry.text.now))
         (status_number reply.status) (line_bytes reply.line)) }
 {
-    match shelf.fetch(alloc, name.text, FILE_LIMIT) {
+    match shelf.fetch(alloc, name.text, limit_of(role)) {
         Ok(bytes) => Ok(bytes),
         Err(FetchFault::Memory) => Err(no_memory()),
         Err(FetchFault::Failed) => Err(Reply {

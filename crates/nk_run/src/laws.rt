@@ -1,4 +1,4 @@
-//! What follows from the definitions for the runs that are made.
+//! What follows from the definitions for the runs that are made, and for the images that are joined.
 
 ghost use Rattle.std.specs.Prelude.{◌≡◌, ◌≤◌, ℕ, List, Some};
 ghost use Rattle.irq_plan.specs.declared.event.Event.{Event};
@@ -6,13 +6,15 @@ ghost use Rattle.irq_plan.specs.PlannedEvents.{IsPlan};
 ghost use Rattle.gate_state.specs.GuardedStates.{IsAdmitted};
 ghost use Rattle.gate_state.specs.MachineStates.{MachineState, Opening};
 ghost use Rattle.nk_run.specs.CommandLine.{Command, command_of};
-ghost use Rattle.nk_run.specs.Clauses.{HasEnd, HasJournal, HasSafeRun};
+ghost use Rattle.nk_run.specs.Clauses.{HasEnd, HasJoined, HasJournal, HasSafeRun};
 ghost use Rattle.nk_run.specs.JournalLaw.{IsReplayedRun};
 ghost use Rattle.nk_run.specs.Replies.{ReadsBytes};
 ghost use Rattle.nk_run.specs.RunStates.{EndsAfter, run_length};
 ghost use Rattle.nk_run.specs.Witness.{Files};
 
+use boot_map::{opening_bytes_law, opening_kinds_law, slot_leaf_law};
 use byte_scanner::clean_law;
+use code_modules::{joined_law, list_law};
 use elf_image::pages_law;
 use gate_state::{moves_law, safety_law, shown_law};
 use irq_plan::plan_law;
@@ -33,6 +35,19 @@ pub(crate) fn run_law()
     safety_law();
     journal_law();
     length_law();
+}
+
+/// Where the checks of a join pass, its file is an image that loads all that was joined and nothing else, and holds no
+/// protected encoding; and in every state of every run of it the modules' bytes stand where they were put.
+pub(crate) fn join_law()
+    ensures { (words : List (List ℕ)) (files : Files) (command : Command) → HasJoined command words files }
+{
+    joined_law();
+    list_law();
+    opening_kinds_law();
+    opening_bytes_law();
+    slot_leaf_law();
+    safety_law();
 }
 
 /// As many steps as a run's length says are taken: the state after them is the first at which it ends.

@@ -19,6 +19,7 @@ mod page_pieces;
 mod pieces;
 
 // The commands.
+mod join;
 mod make;
 mod map;
 mod replay;

@@ -9,6 +9,9 @@ ghost use Rattle.nk_run.specs.Lines.{
   noroom_line,
   plan_line,
   journal_line,
+  list_line,
+  empty_line,
+  nofit_line,
   rights_text,
   frame_line,
   missing_line,
@@ -24,7 +27,7 @@ use std::alloc::{AllocError, Global};
 pub(crate) fn usage_line() -> &'static str
     ensures { result.now ≡ usage_line }
 {
-    "usage: nkrun scan IMAGE | map IMAGE FRAMES VA | run IMAGE INPUT PLAN STEPS FRAMES | replay IMAGE FRAMES JOURNAL | make NUMBER | work NUMBER\n"
+    "usage: nkrun scan IMAGE | map IMAGE FRAMES VA | run IMAGE INPUT PLAN STEPS FRAMES | replay IMAGE FRAMES JOURNAL | make NUMBER | work NUMBER | join IMAGE LIST\n"
 }
 
 /// There was no memory.
@@ -45,10 +48,12 @@ pub(crate) fn unread_line(role: Role) -> &'static str
         Role::Input => "unread input\n",
         Role::Plan => "unread plan\n",
         Role::Journal => "unread journal\n",
+        Role::ModuleList => "unread list\n",
+        Role::Module(_) => "unread module\n",
     }
 }
 
-/// A role's file has more bytes than the limit.
+/// A role's file has more bytes than such a file may have.
 pub(crate) fn longer_line(role: Role) -> &'static str
     ensures { result.now ≡ longer_line role }
 {
@@ -57,6 +62,8 @@ pub(crate) fn longer_line(role: Role) -> &'static str
         Role::Input => "longer input 67108864\n",
         Role::Plan => "longer plan 67108864\n",
         Role::Journal => "longer journal 67108864\n",
+        Role::ModuleList => "longer list 67108864\n",
+        Role::Module(_) => "longer module 1048576\n",
     }
 }
 
@@ -85,6 +92,30 @@ pub(crate) fn journal_line(alloc: Global, number: u64) -> Result<String, AllocEr
     ensures { IfOk result (λ line. string_bytes line ≡ journal_line number) }
 {
     format!(in alloc; "journal line {number}\n")
+}
+
+/// The first line of the list of modules that is out of form, numbered from 1.
+#[tactic(auto, unfolding(crate::specs::Lines::list_line))]
+pub(crate) fn list_line(alloc: Global, number: u64) -> Result<String, AllocError>
+    ensures { IfOk result (λ line. string_bytes line ≡ list_line number) }
+{
+    format!(in alloc; "list line {number}\n")
+}
+
+/// The first module without bytes, numbered from 0.
+#[tactic(auto, unfolding(crate::specs::Lines::empty_line))]
+pub(crate) fn empty_line(alloc: Global, number: u32) -> Result<String, AllocError>
+    ensures { IfOk result (λ line. string_bytes line ≡ empty_line number) }
+{
+    format!(in alloc; "module {number} empty\n")
+}
+
+/// The modules don't fit behind the image.
+#[tactic(auto, unfolding(crate::specs::Lines::nofit_line))]
+pub(crate) fn nofit_line() -> &'static str
+    ensures { result.now ≡ nofit_line }
+{
+    "nofit\n"
 }
 
 /// The four letters of rights.

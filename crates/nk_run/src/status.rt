@@ -19,10 +19,12 @@ pub(crate) enum Status {
     Cut,
     /// There was no memory.
     NoMemory,
-    /// A line of the plan or of the journal isn't right.
+    /// A line of the plan, of the journal or of the list of modules isn't right.
     WrongLine,
-    /// A file is longer than the limit.
+    /// A file is longer than such a file may be.
     TooLong,
+    /// A module has no bytes, or the modules don't fit behind the image.
+    Unfit,
 }
 
 impl Status {
@@ -39,6 +41,7 @@ impl Status {
             Status::NoMemory => 5,
             Status::WrongLine => 6,
             Status::TooLong => 7,
+            Status::Unfit => 8,
         }
     }
 

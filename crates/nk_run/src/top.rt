@@ -5,7 +5,7 @@ ghost use Rattle.nk_run.specs.Witness.{shelf_change, sink_change};
 ghost use Rattle.nk_run.specs.Clauses.{Promises};
 
 use crate::answer::answer;
-use crate::laws::run_law;
+use crate::laws::{join_law, run_law};
 use nk_host::{Shelf, Sink};
 use std::alloc::Global;
 
@@ -13,8 +13,8 @@ use std::alloc::Global;
 /// text of a run is written while its turns are taken.
 ///
 /// The statuses: 0 done; 1 the image is refused; 2 the words have none of the forms; 3 a file couldn't be read; 4 the
-/// text couldn't be written whole; 5 there was no memory; 6 a line of the plan or of the journal isn't right; 7 a file
-/// is longer than the limit.
+/// text couldn't be written whole; 5 there was no memory; 6 a line of the plan, of the journal or of the list of modules
+/// isn't right; 7 a file is longer than such a file may be; 8 a module has no bytes, or the modules don't fit.
 ///
 /// The promises are the fields of `Promises`, each over what was seen of words, shelf and sink before and after. That
 /// is named here once, so that no promise can take one thing for another.
@@ -31,5 +31,6 @@ pub fn nk_main<S: Shelf, O: Sink>(
     }) result }
 {
     run_law();
+    join_law();
     answer(alloc, words, shelf, sink).number()
 }

@@ -6,6 +6,7 @@ mod deliveries;
 mod descriptors;
 mod entries;
 mod hostile;
+mod joins;
 mod journals;
 mod long_files;
 mod made;
@@ -37,7 +38,7 @@ const READ_WRITE: u32 = 6;
 const ROOM: usize = 524_288;
 
 const USAGE: &str =
-    "usage: nkrun scan IMAGE | map IMAGE FRAMES VA | run IMAGE INPUT PLAN STEPS FRAMES | replay IMAGE FRAMES JOURNAL | make NUMBER | work NUMBER\n";
+    "usage: nkrun scan IMAGE | map IMAGE FRAMES VA | run IMAGE INPUT PLAN STEPS FRAMES | replay IMAGE FRAMES JOURNAL | make NUMBER | work NUMBER | join IMAGE LIST\n";
 
 /// What the top call gave and wrote.
 #[derive(Drop)]
@@ -242,11 +243,13 @@ fn a_file_past_the_limit_is_longer(rt: HostRuntime) -> Result<(), Fail> {
 #[test]
 fn other_words_have_no_form(rt: HostRuntime) -> Result<(), Fail> {
     let alloc = rt.alloc();
-    let forms: [&[&str]; 16] = [
+    let forms: [&[&str]; 18] = [
         &[],
         &["scan"],
         &["scan", NAME, NAME],
         &["Scan", NAME],
+        &["join", NAME],
+        &["join", NAME, NAME, NAME],
         &["--help"],
         &["run", NAME, NAME, NAME, "10", "511"],
         &["map", NAME, "512"],

@@ -17,3 +17,6 @@ ghost-make g a = g.names
 
 abbrev pub ghost-work : goal.ghost-work
 ghost-work g a = g.names
+
+abbrev pub ghost-join : goal.ghost-join
+ghost-join g a = g.names

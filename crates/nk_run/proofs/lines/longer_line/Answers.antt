@@ -18,3 +18,11 @@ returns-in-Plan c = search rules
 pub returns-in-Journal : goal.returns-in-Journal
 unfolding longer_line digits
 returns-in-Journal c = search rules
+
+pub returns-in-ModuleList : goal.returns-in-ModuleList
+unfolding longer_line digits
+returns-in-ModuleList c = search rules
+
+pub returns-in-Module : goal.returns-in-Module
+unfolding longer_line digits
+returns-in-Module c = search rules

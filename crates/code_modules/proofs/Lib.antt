@@ -1,0 +1,14 @@
+pub mod FilePlaces
+pub mod GuardedModules
+pub mod JoinSteps
+pub mod JoinableParts
+pub mod JoinedHeaders
+pub mod JoinedPages
+pub mod ListSteps
+pub mod LoadedBytes
+pub mod NameText
+pub mod PlacedParts
+pub mod PlacingSteps
+mod RefutedJoins
+mod WorkedLists
+mod WorkedParts
