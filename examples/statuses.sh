@@ -39,7 +39,7 @@ expect_within() { # KIB STATUS LINE WORDS..
 }
 
 usage='usage: nkrun scan IMAGE | map IMAGE FRAMES VA | run IMAGE INPUT PLAN STEPS FRAMES | replay IMAGE FRAMES JOURNAL'
-usage="$usage | make NUMBER | work NUMBER | join IMAGE LIST"
+usage="$usage | make NUMBER | work NUMBER | join IMAGE LIST | audit IMAGE FRAMES JOURNAL ID"
 printf '0 irq 32\n0 irq 31\n' >"$work/plan"
 printf 'k\n' >"$work/journal"
 printf 'pack -\npack A\n' >"$work/list"
@@ -72,6 +72,12 @@ expect 3 'unread module' join "$image" gone.list
 expect 7 'longer module 1048576' join "$image" long.list
 expect 8 'module 0 empty' join "$image" empty.list
 count "$("$program" join "$image" list >joined 2>/dev/null && "$program" scan joined | grep -q 'pages 2$' || echo 'a joined image is not admitted')"
+# The made image logs one write, of which the next leads to no slot.
+"$program" make 1 >made 2>/dev/null || exit 70
+expect 0 'b 0' audit made 4096 "$top/examples/journals/made.journal" 256
+expect 6 'journal line 19' audit made 4096 "$top/examples/journals/tampered.journal" 256
+expect 9 'noregion 257' audit made 4096 "$top/examples/journals/made.journal" 257
+expect 9 'noregion 256' audit "$image" 512 /dev/null 256
 expect 64 '' scan "$(printf '\377')"
 if [ -e /dev/full ]; then
         "$program" scan "$image" >/dev/full 2>/dev/null

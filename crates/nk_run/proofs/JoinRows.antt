@@ -16,7 +16,7 @@ use Rattle.code_modules.specs.JoinedParts.{CodeModule, modules_behind}
 use Rattle.code_modules.specs.ModuleList.{Listed, list_of}
 use Rattle.nk_run.specs.declared.command_line.Role.TheVariants.{Image, Module, ModuleList}
 use Rattle.nk_run.specs.Clauses.{HasJoined}
-use Rattle.nk_run.specs.CommandLine.{Command, Scan, Map, Run, Replay, Make, Work, Join, command_of, roles_of}
+use Rattle.nk_run.specs.CommandLine.{Command, Scan, Map, Run, Replay, Make, Work, Join, Audit, command_of, roles_of}
 use Rattle.nk_run.specs.JoinedRuns.{KeepsCode}
 use Rattle.nk_run.specs.Outcome.{Answer, Check, Verdict, checks_of, ends, file_in, file_joined, first_verdict, join_in, joinable, list_checks, listed_in, module_checks, module_fetches, module_held, modules_in, modules_named, outcome, passes, test, unless_ended, well_listed}
 use Rattle.nk_run.specs.Replies.{CommandSays, EndsOwn, IsOwn, IsWant, StopsIn}
@@ -25,7 +25,7 @@ use Rattle.nk_run.specs.Statuses.{status_number}
 use Rattle.nk_run.specs.Witness.{Change, Files, ShelfState}
 use Rattle.nk_run.proofs.Checks.{first_verdict-append}
 use Rattle.nk_run.proofs.ModuleFetches.{named_stops}
-use Rattle.nk_run.proofs.Rows.{all_says, both_pass, outcome_says, own_zero, row_passed, row_says, stops_after, stops_longer, wants_says}
+use Rattle.nk_run.proofs.Rows.{all_says, both_pass, outcome_says, own_large, own_zero, row_passed, row_says, stops_after, stops_longer, wants_says}
 use Rattle.nk_run.proofs.SafeRuns.{no_fault}
 use Rattle.nk_run.proofs.Told.{if_told, told_at}
 
@@ -120,13 +120,7 @@ guards_all modules i guards end so_far =
     ap (λ n. take n guards) (sym end) ∙ so_far ∙ take_all i (map f modules) (omega (arith, end, length-map modules f))
 
 pub own_eight : IsOwn 8
-own_eight = record {
-  small = omega arith;
-  not_usage = λ h. omega (arith, h);
-  not_unread = λ h. omega (arith, h);
-  not_cut = λ h. omega (arith, h);
-  not_want = λ h. omega (arith, h);
-}
+own_eight = own_large 8 (omega arith) (omega arith)
 
 -- a line that was made ends the command with its status, or there was no memory for it
 pub made_ends : {A E : Type 0} (line : Result A E) (bytes : A → List ℕ) (own said : Status) (text written : List ℕ)
@@ -231,6 +225,7 @@ joined_where_join law some code words files Scan = tt
 joined_where_join law some code words files (Map frames va) = tt
 joined_where_join law some code words files (Run steps frames) = tt
 joined_where_join law some code words files (Replay frames) = tt
+joined_where_join law some code words files (Audit frames id) = tt
 joined_where_join law some code words files (Make number) = tt
 joined_where_join law some code words files (Work number) = tt
 joined_where_join law some code words files Join = λ passed.

@@ -4,6 +4,7 @@ pub mod Forms
 pub mod Numerals
 pub mod Rows
 pub mod RunRows
+pub mod AuditRows
 pub mod ModuleFetches
 pub mod Promises
 pub mod HeldFiles
@@ -33,5 +34,6 @@ pub mod JournalOpening
 pub mod CodeKept
 pub mod RunsReplayed
 mod WorkedWords
+mod WorkedAudits
 mod RefutedPromises
 mod RefutedReplays

@@ -11,10 +11,10 @@ use Rattle.boot_map.specs.Division.{need}
 use Rattle.gate_state.specs.MachineStates.{Opening}
 use Rattle.replay_core.specs.ReplayedCalls.{replay_of}
 use Rattle.nk_run.specs.declared.command_line.Role.TheVariants.{Image, Input, Plan, Journal, ModuleList, Module}
-use Rattle.nk_run.specs.CommandLine.{Command, Scan, Map, Run, Replay, Make, Work, Join, command_of, name_in}
+use Rattle.nk_run.specs.CommandLine.{Command, Scan, Map, Run, Replay, Make, Work, Join, Audit, command_of, name_in}
 use Rattle.nk_run.specs.Lines.{longest_file, longest_module}
 use Rattle.nk_run.specs.Witness.{Change, Files, ShelfState, Witness}
-use Rattle.nk_run.specs.Outcome.{Answer, Verdict, passes, decided, first_verdict, checks_of, text_of, outcome, command_outcome, fetch_verdict, formed, clean, join_in, joinable, journaled, list_checks, listing_checks, module_checks, module_fetches, modules_named, opened, opening_in, planned, replay_in, roomy, file_in, test, unless_ended, well_listed}
+use Rattle.nk_run.specs.Outcome.{Answer, Verdict, passes, decided, first_verdict, checks_of, text_of, outcome, command_outcome, fetch_verdict, formed, clean, given, join_in, joinable, journaled, list_checks, listing_checks, module_checks, module_fetches, modules_named, opened, opening_in, planned, replay_in, roomy, file_in, size_in, test, unless_ended, well_listed}
 use Rattle.code_modules.specs.declared.fault.JoinFault.{JoinFault}
 use Rattle.code_modules.specs.ModuleList.{Listed, list_of}
 use Rattle.nk_run.proofs.Checks.{first_verdict-append}
@@ -42,6 +42,10 @@ read_passes (Err number) good = cc
 listed_passes : (read : Result (List Listed) ℕ) → IsOk read → well_listed read ≡ passes
 listed_passes (Ok modules) good = refl
 listed_passes (Err number) good = cc
+
+given_passes : (id : ℕ) (size : Option ℕ) → IsSome size → given id size ≡ passes
+given_passes id (Some size) some = refl
+given_passes id None some = cc
 
 joined_passes : (answer : Result (List ℕ) JoinFault) → IsOk answer → joinable answer ≡ passes
 joined_passes (Ok file) good = refl
@@ -130,6 +134,13 @@ module _ (words : List (List ℕ)) (files : Files) (image : List ℕ) (held : fi
   replay_passes frames room given =
       rw (fetch_passes, form_passes, code_passes, journal_passes (opening_in files words frames) given, room_passes frames room, journal_right frames given) refl
 
+  audit_passes : (frames id : ℕ) → need image frames ≤ frames
+      → IsSomeAnd (files (name_in words Journal)) (IsGoodJournal (opening_in files words frames)) → IsSome (size_in files words id)
+      → first_verdict (checks_of (Audit frames id) files words) ≡ passes
+  audit_passes frames id room held_journal logged =
+      first_verdict-append (checks_of (Replay frames) files words) (test (given id (size_in files words id)) ∷ [])
+      ∙ rw (replay_passes frames room held_journal, given_passes id (size_in files words id) logged) refl
+
   list_passes : IsSomeAnd (files (name_in words ModuleList)) IsGoodList
       → fetch_verdict ModuleList (files (name_in words ModuleList)) ≡ passes
   list_passes wanted =
@@ -167,6 +178,9 @@ checks_pass words files (Run steps frames) doable =
 checks_pass words files (Replay frames) doable =
     let (image, held, good) = some_and (files (name_in words Image)) _ doable.0 in
     replay_passes words files image held good.0 frames good.1 doable.1
+checks_pass words files (Audit frames id) doable =
+    let (image, held, good) = some_and (files (name_in words Image)) _ doable.0 in
+    audit_passes words files image held good.0 frames id good.1 doable.1 doable.2
 checks_pass words files (Make number) doable = refl
 checks_pass words files (Work number) doable = refl
 checks_pass words files Join doable =
@@ -217,7 +231,7 @@ module _ (seen : Witness) (status : ℕ) (text : List ℕ) (result : ℕ) where
     status_is : result ≡ status
     taken : TookAll seen.sink text
 
-  status_range : Says seen.words seen.shelf status text → IsWritten seen.sink status text result → result ≤ 8
+  status_range : Says seen.words seen.shelf status text → IsWritten seen.sink status text result → result ≤ 9
   status_range says (inr cut) = omega (arith, cut.0)
   status_range (inl plain) (inl whole) = omega (arith, whole.0, plain.status_is)
   status_range (inr (inl said)) (inl whole) = omega (arith, whole.0, said.status_is)

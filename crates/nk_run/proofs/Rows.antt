@@ -183,37 +183,57 @@ fetch_stops words shelf role name roles later status text same named (inr (inr s
 }))
 
 -- a number that isn't one of those of the usage line and of the outside
-own_number : (number status : ℕ) → (number ≡ 0) ⊎ ((number ≡ 1) ⊎ (number ≡ 6)) → status ≡ number → IsOwn status
-own_number number status kinds e = record {
-  small = bound kinds;
-  not_usage = λ h. other 2 kinds h (omega arith) (omega arith) (omega arith);
-  not_unread = λ h. other 3 kinds h (omega arith) (omega arith) (omega arith);
-  not_cut = λ h. other 4 kinds h (omega arith) (omega arith) (omega arith);
-  not_want = λ h. other 5 kinds h (omega arith) (omega arith) (omega arith);
-}
-  where
-    bound : (number ≡ 0) ⊎ ((number ≡ 1) ⊎ (number ≡ 6)) → status ≤ 8
-    bound (inl zero) = omega (arith, e, zero)
-    bound (inr (inl one)) = omega (arith, e, one)
-    bound (inr (inr six)) = omega (arith, e, six)
-
-    other : (n : ℕ) → (number ≡ 0) ⊎ ((number ≡ 1) ⊎ (number ≡ 6)) → status ≡ n → n ≢ 0 → n ≢ 1 → n ≢ 6 → ⊥
-    other n (inl zero) h a b c = a (omega (arith, e, zero, h))
-    other n (inr (inl one)) h a b c = b (omega (arith, e, one, h))
-    other n (inr (inr six)) h a b c = c (omega (arith, e, six, h))
-
-pub own_zero : IsOwn 0
-own_zero = own_number 0 0 (inl refl) refl
-
--- the statuses of a walk are two of them
-pub own_small : (status : ℕ) → status ≤ 1 → IsOwn status
-own_small status small = record {
+own_number : (number : ℕ) → (number ≤ 1) ⊎ ((6 ≤ number) × (number ≤ 9)) → IsOwn number
+own_number number (inl small) = record {
   small = omega (arith, small);
   not_usage = λ h. omega (arith, small, h);
   not_unread = λ h. omega (arith, small, h);
   not_cut = λ h. omega (arith, small, h);
   not_want = λ h. omega (arith, small, h);
 }
+own_number number (inr (large, within)) = record {
+  small = within;
+  not_usage = λ h. omega (arith, large, h);
+  not_unread = λ h. omega (arith, large, h);
+  not_cut = λ h. omega (arith, large, h);
+  not_want = λ h. omega (arith, large, h);
+}
+
+-- the statuses of a walk are two of them
+pub own_small : (status : ℕ) → status ≤ 1 → IsOwn status
+own_small status small = own_number status (inl small)
+
+pub own_zero : IsOwn 0
+own_zero = own_small 0 (omega arith)
+
+pub own_one : IsOwn 1
+own_one = own_small 1 (omega arith)
+
+-- and those from 6 on are the others
+pub own_large : (status : ℕ) → 6 ≤ status → status ≤ 9 → IsOwn status
+own_large status large within = own_number status (inr (large, within))
+
+pub own_six : IsOwn 6
+own_six = own_large 6 (omega arith) (omega arith)
+
+pub own_nine : IsOwn 9
+own_nine = own_large 9 (omega arith) (omega arith)
+
+-- a row passed, and then a check behind it refused
+pub refused_stops : (words : List (List ℕ)) (shelf : Change ShelfState) (roles : List Role) (row later : Files → List Check)
+    (number status : ℕ) (text : List ℕ) (verdict : Verdict) → IsOwn number
+    → IfTold shelf.before.files (λ files. (first_verdict (row files) ≡ passes)
+    × ((it : Answer) → verdict ≡ ends it → first_verdict (later files) ≡ ends it))
+    → RefusesBy number verdict status text → StopsIn words shelf roles (λ files. row files ++ later files) status text
+refused_stops words shelf roles row later number status text verdict own passed (inl want) = inr (inl want)
+refused_stops words shelf roles row later number status text verdict own passed (inr (ended, is)) = inr (inr (record {
+  ended = if_told shelf.before.files _ (λ files e.
+      let given = told_at shelf.before.files _ files e passed in
+      first_verdict-append (row files) (later files)
+      ∙ ap (λ (v : Verdict). unless_ended v (first_verdict (later files))) given.0
+      ∙ given.1 (record { status = status; text = text }) ended);
+  own = subst IsOwn (sym is) own;
+}))
 
 pub some_is : {A : Type 0} (o : Option A) (x : A) → o ≡ Some x → IsSome o
 some_is {A = A} o x e = let P : Option A → Type 0 = λ p. IsSome p in subst P (sym e) refl
@@ -333,14 +353,13 @@ module _ (words : List (List ℕ)) (command : Command) (asked : command_of words
   outcome_says shelf status text own is = inr (inr (record { asked = some_is (command_of words) _ asked; outcome_is = is; own = own }))
 
   -- the row passed, and then a check refused
-  pub later_says : (shelf : Change ShelfState) (number status : ℕ) (text : List ℕ) (verdict : Verdict)
-      → (number ≡ 0) ⊎ ((number ≡ 1) ⊎ (number ≡ 6))
+  pub later_says : (shelf : Change ShelfState) (number status : ℕ) (text : List ℕ) (verdict : Verdict) → IsOwn number
       → IfTold shelf.before.files (λ files. (first_verdict (row files) ≡ passes)
       × ((it : Answer) → verdict ≡ ends it → first_verdict (later files) ≡ ends it))
       → RefusesBy number verdict status text → CommandSays words shelf status text
-  later_says shelf number status text verdict kinds passed (inl want) = wants_says shelf status text want
-  later_says shelf number status text verdict kinds passed (inr (ended, is)) =
-      outcome_says shelf status text (own_number number status kinds is) (if_told shelf.before.files _ (λ files e.
+  later_says shelf number status text verdict own passed (inl want) = wants_says shelf status text want
+  later_says shelf number status text verdict own passed (inr (ended, is)) =
+      outcome_says shelf status text (subst IsOwn (sym is) own) (if_told shelf.before.files _ (λ files e.
       let given = told_at shelf.before.files _ files e passed in
       let it : Answer = record { status = status; text = text } in
       row_passed files (ends it) given.0 (given.1 it ended)))

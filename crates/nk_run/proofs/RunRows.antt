@@ -4,6 +4,7 @@ use Rattle.nk_host.specs.Told.{IfTold}
 use Rattle.irq_plan.specs.declared.event.Event.{Event}
 use Rattle.irq_plan.specs.PlanFile.{plan_of}
 use Rattle.boot_map.specs.Division.{need}
+use Rattle.nk_body.specs.NestedRecord.{Nested}
 use Rattle.gate_state.specs.MachineOpening.{opening_state}
 use Rattle.gate_state.specs.MachineStates.{Opening}
 use Rattle.report_text.specs.ClosingSection.{section}
@@ -11,15 +12,16 @@ use Rattle.replay_core.specs.ReplayedCalls.{WholeReplay, replay_of}
 use Rattle.image_maker.specs.MadeImage.{image_of_number}
 use Rattle.nk_run.specs.declared.command_line.Role.TheVariants.{Image, Input, Journal, Plan}
 use Rattle.nk_run.specs.CommandLine.{Make, Map, Replay, Run, Work, command_of, roles_of}
-use Rattle.nk_run.specs.Outcome.{Answer, Check, Verdict, decided, ends, events_in, file_in, first_verdict, image_checks, journal_checks, journaled, opened, opening_in, outcome, passes, replay_in, roomy, run_checks, test, translation_of, unheld, unless_ended, worked}
-use Rattle.nk_run.specs.Replies.{CommandSays, Concludes, IsWant, RefusesBy, Stops, StopsIn}
+use Rattle.nk_run.specs.Outcome.{Answer, Check, Verdict, checks_of, decided, ends, events_in, file_in, first_verdict, image_checks, journal_checks, journaled, opened, opening_in, outcome, passes, replay_in, roomy, run_checks, test, translation_of, unheld, unless_ended, worked}
+use Rattle.nk_run.specs.Replies.{CommandSays, Concludes, HoldsReplay, IsWant, RefusesBy, Stops, StopsIn}
 use Rattle.nk_run.specs.Lines.{walk_line}
 use Rattle.nk_run.specs.RunStates.{run_text}
 use Rattle.nk_run.specs.Witness.{Change, Files, ShelfState}
-use Rattle.nk_run.proofs.Rows.{all_says, image_stops, later_says, outcome_says, own_small, own_zero, row_passed, row_says, wants_says}
+use Rattle.nk_run.proofs.Checks.{first_verdict-append}
+use Rattle.nk_run.proofs.Rows.{all_says, image_stops, later_says, outcome_says, own_one, own_six, own_small, own_zero, refused_stops, row_passed, row_says, stops_longer, wants_says}
 use Rattle.nk_run.proofs.Told.{if_told, told_at}
 
-last_ends : (v later : Verdict) (it : Answer) → v ≡ ends it → unless_ended v later ≡ ends it
+pub last_ends : (v later : Verdict) (it : Answer) → v ≡ ends it → unless_ended v later ≡ ends it
 last_ends v later it e = rw e refl
 
 next_ends : (u v : Verdict) (it : Answer) → u ≡ passes → v ≡ ends it → unless_ended u (unless_ended v passes) ≡ ends it
@@ -92,7 +94,7 @@ module _ (words : List (List ℕ)) (steps frames : ℕ) (asked : command_of word
         → RefusesBy 1 (roomy (need image frames) frames) status text → CommandSays words shelf status text
     run_room_says shelf status text same refuses =
         later_says words (Run steps frames) asked (λ files. run_checks files words) (λ files. test (roomy (need (file_in files words Image) frames) frames) ∷ []) (λ files. refl) (λ e. cc)
-        shelf 1 status text (roomy (need image frames) frames) (inr (inl refl))
+        shelf 1 status text (roomy (need image frames) frames) own_one
         (if_told shelf.before.files _ (λ files e.
         let told_is : told ≡ Some files = sym same ∙ e in
         ((told_at told _ files told_is held).3, λ it is. last_ends _ passes it (run_room files _ told_is is)))) refuses
@@ -122,28 +124,27 @@ module _ (words : List (List ℕ)) (steps frames : ℕ) (asked : command_of word
         files given.3 (ap (λ (v : Verdict). unless_ended v passes) (run_room files passes e fits))
         ∙ ap (λ (l : List ℕ). Some (record { status = 0; text = l })) (text_is files given.2 given.0 given.1))
 
--- A replay.
-module _ (words : List (List ℕ)) (frames : ℕ) (asked : command_of words ≡ Some (Replay frames)) where
-  abbrev replay_row : Files → List Check
-  replay_row files = journal_checks files words
+-- A replay, whose checks are the first of an audit.
+module _ (words : List (List ℕ)) (frames : ℕ) where
+  abbrev journal_row : Files → List Check
+  journal_row files = journal_checks files words
 
-  abbrev replay_later : Files → List Check
-  replay_later files =
+  abbrev replay_last : Files → List Check
+  replay_last files =
       test (roomy (need (file_in files words Image) frames) frames) ∷ test (journaled (replay_in files words frames).bad) ∷ []
 
-  pub replay_row_says : (shelf : Change ShelfState) (status : ℕ) (text : List ℕ)
-      → StopsIn words shelf (roles_of (Replay frames)) (λ files. journal_checks files words) status text → CommandSays words shelf status text
-  replay_row_says = row_says words (Replay frames) asked replay_row replay_later (λ files. refl) (λ e. cc)
+  abbrev pub replay_row : Files → List Check
+  replay_row files = checks_of (Replay frames) files words
 
-  pub replayed_says : (shelf : Change ShelfState) (text : List ℕ)
-      → IfTold shelf.before.files (λ files. outcome words files ≡ Some (record { status = 0; text = text })) → CommandSays words shelf 0 text
-  replayed_says shelf text is =
-      outcome_says words (Replay frames) asked replay_row replay_later (λ files. refl) (λ e. cc) shelf 0 text own_zero is
+  -- a check on the files stops it
+  pub held_stops : (shelf : Change ShelfState) (status : ℕ) (text : List ℕ)
+      → StopsIn words shelf (Image ∷ Journal ∷ []) (λ files. journal_checks files words) status text
+      → StopsIn words shelf (Image ∷ Journal ∷ []) (λ files. checks_of (Replay frames) files words) status text
+  held_stops shelf status text stops =
+      stops_longer words shelf (Image ∷ Journal ∷ []) [] journal_row replay_last status text stops
 
-  module _ (told : Option Files) (image journal : List ℕ) (held : IfTold told (λ files. (image ≡ file_in files words Image) × (journal ≡ file_in files words Journal) × (first_verdict (journal_checks files words) ≡ passes))) where
-    replay_made : WholeReplay
-    replay_made = replay_of journal (opened (record { image = image; frames = frames }))
-
+  -- the files are those that are told, where they are told, and the row passed on them
+  module _ (told : Option Files) (image journal : List ℕ) (held : HoldsReplay words told image journal (λ files. journal_checks files words)) where
     replay_room : (files : Files) (v : Verdict) → told ≡ Some files → roomy (need image frames) frames ≡ v
         → roomy (need (file_in files words Image) frames) frames ≡ v
     replay_room files v e is =
@@ -156,42 +157,81 @@ module _ (words : List (List ℕ)) (frames : ℕ) (asked : command_of words ≡ 
         ap (λ (b : List ℕ). replay_of b (opened (opening_in files words frames))) (sym given.1)
         ∙ ap (λ (b : List ℕ). replay_of journal (opened (record { image = b; frames = frames }))) (sym given.0)
 
-    pub replay_room_says : (shelf : Change ShelfState) (status : ℕ) (text : List ℕ) → shelf.before.files ≡ told
-        → RefusesBy 1 (roomy (need image frames) frames) status text → CommandSays words shelf status text
-    replay_room_says shelf status text same refuses =
-        later_says words (Replay frames) asked replay_row replay_later (λ files. refl) (λ e. cc)
-        shelf 1 status text (roomy (need image frames) frames) (inr (inl refl))
+    -- the opening has no room
+    pub room_stops : (shelf : Change ShelfState) (status : ℕ) (text : List ℕ) → shelf.before.files ≡ told
+        → RefusesBy 1 (roomy (need image frames) frames) status text
+        → StopsIn words shelf (Image ∷ Journal ∷ []) (λ files. checks_of (Replay frames) files words) status text
+    room_stops shelf status text same refuses =
+        refused_stops words shelf (Image ∷ Journal ∷ []) journal_row replay_last 1 status text (roomy (need image frames) frames) own_one
         (if_told shelf.before.files _ (λ files e.
         let told_is : told ≡ Some files = sym same ∙ e in
         ((told_at told _ files told_is held).2, λ it is. last_ends _ _ it (replay_room files _ told_is is)))) refuses
 
     -- a line of the journal isn't right
-    pub journal_says : roomy (need image frames) frames ≡ passes → (shelf : Change ShelfState) (status : ℕ) (text : List ℕ) → shelf.before.files ≡ told
-        → RefusesBy 6 (journaled (replay_of journal (opened (record { image = image; frames = frames }))).bad) status text
-        → CommandSays words shelf status text
-    journal_says fits shelf status text same refuses =
-        later_says words (Replay frames) asked replay_row replay_later (λ files. refl) (λ e. cc)
-        shelf 6 status text (journaled (replay_of journal (opened (record { image = image; frames = frames }))).bad) (inr (inr refl))
+    pub journal_stops : roomy (need image frames) frames ≡ passes → (at : ℕ) → at ≡ frames
+        → (shelf : Change ShelfState) (status : ℕ) (text : List ℕ) → shelf.before.files ≡ told
+        → RefusesBy 6 (journaled (replay_of journal (opened (record { image = image; frames = at }))).bad) status text
+        → StopsIn words shelf (Image ∷ Journal ∷ []) (λ files. checks_of (Replay frames) files words) status text
+    journal_stops fits at at_is shelf status text same refuses =
+        let bad : ℕ → Verdict = λ n. journaled (replay_of journal (opened (record { image = image; frames = n }))).bad in
+        refused_stops words shelf (Image ∷ Journal ∷ []) journal_row replay_last 6 status text (bad at) own_six
         (if_told shelf.before.files _ (λ files e.
         let told_is : told ≡ Some files = sym same ∙ e in (
           (told_at told _ files told_is held).2,
           λ it is. next_ends _ _ it (replay_room files passes told_is fits)
-              (ap (λ (r : WholeReplay). journaled r.bad) (replay_is files told_is) ∙ is),
+              (ap (λ (r : WholeReplay). journaled r.bad) (replay_is files told_is) ∙ ap bad (sym at_is) ∙ is),
         ))) refuses
 
-    -- the row, the room and the journal pass, and the text is the section of what the calls made
-    pub made_says : roomy (need image frames) frames ≡ passes → (replay_of journal (opened (record { image = image; frames = frames }))).bad ≡ None
-        → IfTold told (λ files. outcome words files ≡ Some (record {
-          status = 0;
-          text = section image frames (replay_of journal (opened (record { image = image; frames = frames }))).made.nested;
-        }))
-    made_says fits right =
+    -- the row, the room and the journal pass
+    pub replay_passed : roomy (need image frames) frames ≡ passes → (at : ℕ) → at ≡ frames
+        → (replay_of journal (opened (record { image = image; frames = at }))).bad ≡ None
+        → HoldsReplay words told image journal (λ files. checks_of (Replay frames) files words)
+    replay_passed fits at at_is right =
         if_told told _ (λ files e.
         let given = told_at told _ files e held in
-        all_says words (Replay frames) asked replay_row replay_later (λ files. refl) (λ e. cc)
-        files given.2 (both _ _ (replay_room files passes e fits) (ap (λ (r : WholeReplay). journaled r.bad) (replay_is files e) ∙ ap journaled right))
-        ∙ ap (λ (r : WholeReplay). Some (record { status = 0; text = section (file_in files words Image) frames r.made.nested })) (replay_is files e)
-        ∙ ap (λ (b : List ℕ). Some (record { status = 0; text = section b frames (replay_of journal (opened (record { image = image; frames = frames }))).made.nested })) (sym given.0))
+        let bad : ℕ → Verdict = λ n. journaled (replay_of journal (opened (record { image = image; frames = n }))).bad in
+        let well : journaled (replay_in files words frames).bad ≡ passes =
+        ap (λ (r : WholeReplay). journaled r.bad) (replay_is files e) ∙ ap bad (sym at_is) ∙ ap journaled right in (
+          given.0,
+          given.1,
+          first_verdict-append (journal_row files) (replay_last files)
+              ∙ ap (λ (v : Verdict). unless_ended v (first_verdict (replay_last files))) given.2
+              ∙ both _ _ (replay_room files passes e fits) well,
+        ))
+
+  -- where those checks pass on what is told, the calls of the journal were made
+  module _ (told : Option Files) (image journal : List ℕ) (passed : HoldsReplay words told image journal (λ files. checks_of (Replay frames) files words)) (at : ℕ) (at_is : at ≡ frames) where
+    pub calls_are : (files : Files) → told ≡ Some files
+        → replay_in files words frames ≡ replay_of journal (opened (record { image = image; frames = at }))
+    calls_are files e =
+        let given = told_at told _ files e passed in
+        ap (λ (b : List ℕ). replay_of b (opened (opening_in files words frames))) (sym given.1)
+        ∙ ap (λ (b : List ℕ). replay_of journal (opened (record { image = b; frames = frames }))) (sym given.0)
+        ∙ ap (λ (n : ℕ). replay_of journal (opened (record { image = image; frames = n }))) (sym at_is)
+
+    -- and the text of a replay is the section of what they made
+    pub section_says : command_of words ≡ Some (Replay frames) → (nested : Nested)
+        → nested ≡ (replay_of journal (opened (record { image = image; frames = at }))).made.nested
+        → IfTold told (λ files. outcome words files ≡ Some (record { status = 0; text = section image at nested }))
+    section_says asked nested made =
+        if_told told _ (λ files e.
+        let given = told_at told _ files e passed in
+        all_says words (Replay frames) asked replay_row (λ files. []) (λ files. refl) (λ e. cc) files given.2 refl
+        ∙ ap (λ (r : WholeReplay). Some (record { status = 0; text = section (file_in files words Image) frames r.made.nested })) (calls_are files e)
+        ∙ ap (λ (nk : Nested). Some (record { status = 0; text = section (file_in files words Image) frames nk })) (sym made)
+        ∙ ap (λ (b : List ℕ). Some (record { status = 0; text = section b frames nested })) (sym given.0)
+        ∙ ap (λ (n : ℕ). Some (record { status = 0; text = section image n nested })) (sym at_is))
+
+module _ (words : List (List ℕ)) (frames : ℕ) (asked : command_of words ≡ Some (Replay frames)) where
+  pub replay_row_says : (shelf : Change ShelfState) (status : ℕ) (text : List ℕ)
+      → StopsIn words shelf (Image ∷ Journal ∷ []) (λ files. checks_of (Replay frames) files words) status text
+      → CommandSays words shelf status text
+  replay_row_says = row_says words (Replay frames) asked (λ files. checks_of (Replay frames) files words) (λ files. []) (λ files. refl) (λ e. cc)
+
+  pub replayed_says : (shelf : Change ShelfState) (text : List ℕ)
+      → IfTold shelf.before.files (λ files. outcome words files ≡ Some (record { status = 0; text = text })) → CommandSays words shelf 0 text
+  replayed_says shelf text is =
+      outcome_says words (Replay frames) asked (λ files. checks_of (Replay frames) files words) (λ files. []) (λ files. refl) (λ e. cc) shelf 0 text own_zero is
 
 -- A made image needs no check.
 module _ (words : List (List ℕ)) (number : ℕ) (asked : command_of words ≡ Some (Work number)) where

@@ -18,7 +18,7 @@ use Rattle.gate_state.specs.MachineStates.{Opening}
 use Rattle.std.specs.Option.{option_map}
 use Rattle.nk_run.specs.declared.command_line.Role.TheVariants.{Image, Input, Plan}
 use Rattle.nk_run.specs.Clauses.{HasJournal, HasSafeRun, IsGoodImage, IsSafeRun}
-use Rattle.nk_run.specs.CommandLine.{Command, Scan, Map, Run, Replay, Make, Work, Join, command_of, map_with, name_in, run_with}
+use Rattle.nk_run.specs.CommandLine.{Command, Scan, Map, Run, Replay, Make, Work, Join, Audit, audit_with, command_of, map_with, name_in, run_with}
 use Rattle.nk_run.specs.NumberWords.{address_word, bounded, decimal_within, is_least_long, is_numeral}
 use Rattle.nk_run.specs.JournalLaw.{IsReplayedRun}
 use Rattle.nk_run.specs.Lines.{longest_file}
@@ -86,6 +86,12 @@ no_middle false true (Some n) y steps frames e = cc
 no_middle false true None y steps frames e = cc
 no_middle false false x y steps frames e = cc
 
+no_audit : (audits : Bool) (x y : Option ℕ) (steps frames : ℕ) → (if audits then audit_with x y else None) ≡ Some (Run steps frames) → ⊥
+no_audit true (Some f) (Some id) steps frames e = cc
+no_audit true (Some f) None steps frames e = cc
+no_audit true None y steps frames e = cc
+no_audit false x y steps frames e = cc
+
 run_steps : (a b : Option ℕ) (steps frames : ℕ) → run_with a b ≡ Some (Run steps frames) → a ≡ Some steps
 run_steps (Some s) (Some f) steps frames e = cc
 run_steps (Some s) None steps frames e = absurd (cc)
@@ -113,7 +119,7 @@ run_within (a ∷ []) steps frames e = absurd (cc)
 run_within (a ∷ b ∷ []) steps frames e = absurd (no_short _ _ _ (decimal_within 1 100 b) steps frames e)
 run_within (a ∷ b ∷ c ∷ []) steps frames e = absurd (no_pair _ steps frames e)
 run_within (a ∷ b ∷ c ∷ d ∷ []) steps frames e = absurd (no_middle _ _ (decimal_within 512 65536 c) (address_word d) steps frames e)
-run_within (a ∷ b ∷ c ∷ d ∷ x ∷ []) steps frames e = absurd (cc)
+run_within (a ∷ b ∷ c ∷ d ∷ x ∷ []) steps frames e = absurd (no_audit _ (decimal_within 512 65536 c) (decimal_within 256 8589934591 x) steps frames e)
 run_within (a ∷ b ∷ c ∷ d ∷ x ∷ f ∷ []) steps frames e = run_chosen _ x f steps frames e
 run_within (a ∷ b ∷ c ∷ d ∷ x ∷ f ∷ g ∷ more) steps frames e = absurd (cc)
 
@@ -202,6 +208,7 @@ module _ (pages_hold : (b : List ℕ) → first_fault b ≡ None → IsPageList 
   safe_where_run law words files Scan asked bytes = tt
   safe_where_run law words files (Map frames va) asked bytes = tt
   safe_where_run law words files (Replay frames) asked bytes = tt
+  safe_where_run law words files (Audit frames id) asked bytes = tt
   safe_where_run law words files (Make number) asked bytes = tt
   safe_where_run law words files (Work number) asked bytes = tt
   safe_where_run law words files Join asked bytes = tt
@@ -215,6 +222,7 @@ module _ (pages_hold : (b : List ℕ) → first_fault b ≡ None → IsPageList 
   replayed_where_run law words files Scan asked bytes = tt
   replayed_where_run law words files (Map frames va) asked bytes = tt
   replayed_where_run law words files (Replay frames) asked bytes = tt
+  replayed_where_run law words files (Audit frames id) asked bytes = tt
   replayed_where_run law words files (Make number) asked bytes = tt
   replayed_where_run law words files (Work number) asked bytes = tt
   replayed_where_run law words files Join asked bytes = tt

@@ -7,8 +7,8 @@ use Rattle.nk_bits.specs.declared.leaf.Rights.{Rights}
 use Rattle.report_text.specs.ImageLines.{admitted_line, image_line, protected_line}
 use Rattle.report_text.specs.RunLines.{hex_16}
 use Rattle.nk_run.specs.declared.command_line.Role.TheVariants.{Image, Input, Plan, Journal, ModuleList, Module}
-use Rattle.nk_run.specs.CommandLine.{Command, Scan, Map, Run, Replay, Make, Work, Join, command_of}
-use Rattle.nk_run.specs.Lines.{empty_line, frame_line, journal_line, list_line, longer_line, missing_line, no_memory_line, nofit_line, noroom_line, plan_line, rights_text, unread_line, usage_line, walk_line}
+use Rattle.nk_run.specs.CommandLine.{Command, Scan, Map, Run, Replay, Make, Work, Join, Audit, command_of}
+use Rattle.nk_run.specs.Lines.{empty_line, frame_line, journal_line, list_line, longer_line, missing_line, no_memory_line, nofit_line, noregion_line, noroom_line, plan_line, rights_text, unread_line, usage_line, walk_line}
 
 -- `scan IMAGE`, whatever the name of the file
 scans :
@@ -74,18 +74,23 @@ runs :
     (run_by (codes "01") (codes "512") ≡ None) ×
     (run_by (codes "+1") (codes "512") ≡ None) ×
     (run_by (codes "1") (codes "511") ≡ None) ×
+    (run_by (codes "4294967296") (codes "512") ≡ Some (Run 4294967296 512)) ×
+    (run_by (codes "4294967296") (codes "16384") ≡ Some (Run 4294967296 16384)) ×
     (run_by (codes "1") (codes "16385") ≡ Some (Run 1 16385)) ×
+    (run_by (codes "1") (codes "65535") ≡ Some (Run 1 65535)) ×
     (run_by (codes "1") (codes "65537") ≡ None) ×
     (run_by [] (codes "512") ≡ None) ×
     (command_of (codes "run" ∷ codes "a" ∷ codes "b" ∷ codes "c" ∷ codes "1" ∷ []) ≡ None) ×
     (command_of (codes "run" ∷ codes "a" ∷ codes "b" ∷ codes "c" ∷ codes "1" ∷ codes "512" ∷ codes "d" ∷ []) ≡ None) ×
     (command_of (codes "run" ∷ codes "a" ∷ codes "512" ∷ codes "1" ∷ []) ≡ None)
-runs = (refl, refl, refl, refl, refl, refl, refl, refl, refl, refl, refl, refl, refl, refl)
+runs = (refl, refl, refl, refl, refl, refl, refl, refl, refl, refl, refl, refl, refl, refl, refl, refl, refl)
 
 -- `replay IMAGE FRAMES JOURNAL`
 replays :
     (command_of (codes "replay" ∷ codes "a" ∷ codes "512" ∷ codes "b" ∷ []) ≡ Some (Replay 512)) ×
+    (command_of (codes "replay" ∷ codes "a" ∷ codes "16384" ∷ codes "b" ∷ []) ≡ Some (Replay 16384)) ×
     (command_of (codes "replay" ∷ codes "a" ∷ codes "16385" ∷ codes "b" ∷ []) ≡ Some (Replay 16385)) ×
+    (command_of (codes "replay" ∷ codes "a" ∷ codes "65535" ∷ codes "b" ∷ []) ≡ Some (Replay 65535)) ×
     (command_of (codes "replay" ∷ codes "a" ∷ codes "65536" ∷ codes "b" ∷ []) ≡ Some (Replay 65536)) ×
     (command_of (codes "replay" ∷ codes "a" ∷ codes "511" ∷ codes "b" ∷ []) ≡ None) ×
     (command_of (codes "replay" ∷ codes "a" ∷ codes "65537" ∷ codes "b" ∷ []) ≡ None) ×
@@ -93,7 +98,7 @@ replays :
     (command_of (codes "replay" ∷ codes "a" ∷ codes "b" ∷ codes "512" ∷ []) ≡ None) ×
     (command_of (codes "replay" ∷ codes "a" ∷ codes "512" ∷ []) ≡ None) ×
     (command_of (codes "replays" ∷ codes "a" ∷ codes "512" ∷ codes "b" ∷ []) ≡ None)
-replays = (refl, refl, refl, refl, refl, refl, refl, refl, refl)
+replays = (refl, refl, refl, refl, refl, refl, refl, refl, refl, refl, refl)
 
 abbrev making : List ℕ → Option Command
 making number = command_of (codes "make" ∷ number ∷ [])
@@ -130,6 +135,32 @@ joins :
     (command_of ([] ∷ codes "a" ∷ codes "b" ∷ []) ≡ None)
 joins = (refl, refl, refl, refl, refl, refl, refl)
 
+abbrev auditing : List ℕ → List ℕ → Option Command
+auditing frames id = command_of (codes "audit" ∷ codes "a" ∷ frames ∷ codes "b" ∷ id ∷ [])
+
+-- ID is 256 to 8,589,934,591; the words of `audit` have their order
+audits :
+    (auditing (codes "512") (codes "256") ≡ Some (Audit 512 256)) ×
+    (auditing (codes "65536") (codes "8589934591") ≡ Some (Audit 65536 8589934591)) ×
+    (auditing (codes "512") (codes "4294967296") ≡ Some (Audit 512 4294967296)) ×
+    (auditing (codes "512") (codes "255") ≡ None) ×
+    (auditing (codes "512") (codes "8589934592") ≡ None) ×
+    (auditing (codes "512") (codes "18446744073709551872") ≡ None) ×
+    (auditing (codes "512") (codes "0256") ≡ None) ×
+    (auditing (codes "512") (codes "+256") ≡ None) ×
+    (auditing (codes "512") (codes "256 ") ≡ None) ×
+    (auditing (codes "512") (codes "0x100") ≡ None) ×
+    (auditing (codes "512") [] ≡ None) ×
+    (auditing (codes "511") (codes "256") ≡ None) ×
+    (auditing (codes "65537") (codes "256") ≡ None) ×
+    (auditing (codes "0512") (codes "256") ≡ None) ×
+    (command_of (codes "audit" ∷ codes "a" ∷ codes "512" ∷ codes "b" ∷ []) ≡ None) ×
+    (command_of (codes "audit" ∷ codes "a" ∷ codes "b" ∷ codes "512" ∷ codes "256" ∷ []) ≡ None) ×
+    (command_of (codes "audit" ∷ codes "a" ∷ codes "512" ∷ codes "b" ∷ codes "256" ∷ codes "c" ∷ []) ≡ None) ×
+    (command_of (codes "audits" ∷ codes "a" ∷ codes "512" ∷ codes "b" ∷ codes "256" ∷ []) ≡ None) ×
+    (command_of (codes "replay" ∷ codes "a" ∷ codes "512" ∷ codes "b" ∷ codes "256" ∷ []) ≡ None)
+audits = (refl, refl, refl, refl, refl, refl, refl, refl, refl, refl, refl, refl, refl, refl, refl, refl, refl, refl, refl)
+
 -- no other words have a form
 formless :
     (command_of [] ≡ None) ×
@@ -144,7 +175,7 @@ formless :
 formless = (refl, refl, refl, refl, refl, refl, refl, refl, refl)
 
 -- the usage line, as the formats have it
-usage : usage_line ≡ codes "usage: nkrun scan IMAGE | map IMAGE FRAMES VA | run IMAGE INPUT PLAN STEPS FRAMES | replay IMAGE FRAMES JOURNAL | make NUMBER | work NUMBER | join IMAGE LIST\n"
+usage : usage_line ≡ codes "usage: nkrun scan IMAGE | map IMAGE FRAMES VA | run IMAGE INPUT PLAN STEPS FRAMES | replay IMAGE FRAMES JOURNAL | make NUMBER | work NUMBER | join IMAGE LIST | audit IMAGE FRAMES JOURNAL ID\n"
 unfolding usage_line
 usage = refl
 
@@ -168,12 +199,14 @@ refusals :
     (list_line 33 ≡ codes "list line 33\n") ×
     (empty_line 0 ≡ codes "module 0 empty\n") ×
     (nofit_line ≡ codes "nofit\n") ×
+    (noregion_line 300 ≡ codes "noregion 300\n") ×
+    (noregion_line 8589934591 ≡ codes "noregion 8589934591\n") ×
     (noroom_line 600 512 ≡ codes "noroom 600 512\n") ×
     (image_line 13 (codes "TooLarge") 0 ≡ codes "image 13 TooLarge 0\n") ×
     (image_line 1 (codes "Short") 18446744073709551615 ≡ codes "image 1 Short 18446744073709551615\n") ×
     (protected_line 0xFFFFFFFF80001FFE (0x0F ∷ 0x22 ∷ 0xC0 ∷ []) ≡ codes "protected ffffffff80001ffe 0f22c0\n")
-unfolding no_memory_line unread_line longer_line plan_line journal_line list_line empty_line nofit_line noroom_line image_line protected_line hex_16 padded_integral char_count digits encode_with
-refusals = (refl, refl, refl, refl, refl, refl, refl, refl, refl, refl, refl, refl, refl, refl, refl, refl, refl, refl, refl, refl, refl, refl)
+unfolding no_memory_line unread_line longer_line plan_line journal_line list_line empty_line nofit_line noregion_line noroom_line image_line protected_line hex_16 padded_integral char_count digits encode_with
+refusals = (refl, refl, refl, refl, refl, refl, refl, refl, refl, refl, refl, refl, refl, refl, refl, refl, refl, refl, refl, refl, refl, refl, refl, refl)
 
 abbrev rights : Rights → Leaf
 rights given = record { frame = 71; rights = given }

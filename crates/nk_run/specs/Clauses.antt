@@ -1,6 +1,6 @@
 -- What the top call promises, in the order of the record `Promises` at the end: each promise is over what the call saw
 -- and its status.
-use Rattle.std.specs.Prelude.{◌≡◌, ℕ, ◌≤◌, ◌⊎◌, List, [], length, Option, None, Some, MatchOption, IfSome, IsSomeAnd, IsOk, ⊤}
+use Rattle.std.specs.Prelude.{◌≡◌, ℕ, ◌≤◌, ◌⊎◌, List, [], length, Option, None, Some, MatchOption, IfSome, IsSome, IsSomeAnd, IsOk, ⊤}
 use Rattle.std.specs.List.{All}
 use Rattle.std.specs.Io.KnownBytes.{Appends}
 use Rattle.nk_host.specs.FaultCounts.{Rose, RoseTo}
@@ -26,13 +26,13 @@ use Rattle.gate_state.specs.SafeStates.{IsSafe}
 use Rattle.gate_state.specs.WindowLeft.{IsShortWindow}
 use Rattle.nk_run.specs.declared.command_line.Role.{Role}
 use Rattle.nk_run.specs.declared.command_line.Role.TheVariants.{Image, Input, Plan, Journal, ModuleList, Module}
-use Rattle.nk_run.specs.CommandLine.{Command, Scan, Map, Run, Replay, Make, Work, Join, command_of, name_in, IsAsked}
+use Rattle.nk_run.specs.CommandLine.{Command, Scan, Map, Run, Replay, Make, Work, Join, Audit, command_of, name_in, IsAsked}
 use Rattle.nk_run.specs.JoinedRuns.{KeepsCode}
 use Rattle.nk_run.specs.JournalLaw.{IsJournal}
 use Rattle.nk_run.specs.Lines.{longest_file, longest_module, no_memory_line, unread_line, usage_line}
 use Rattle.nk_run.specs.RunStates.{EndsAfter, run_length}
 use Rattle.nk_run.specs.Witness.{Change, Files, ShelfState, SinkState, Witness}
-use Rattle.nk_run.specs.Outcome.{checks_of, events_in, file_in, first_verdict, join_in, module_name, modules_in, modules_named, opened, opening_in, outcome, passes, text_of, IsReached}
+use Rattle.nk_run.specs.Outcome.{checks_of, events_in, file_in, first_verdict, join_in, module_name, modules_in, modules_named, opened, opening_in, outcome, passes, size_in, text_of, IsReached}
 
 -- the name is that of a role's file: a module's stands in the list, where it is in form, and every name counts as one
 -- where files aren't told; any other stands among the words
@@ -188,6 +188,10 @@ IsDoable (Run steps frames) words files = HasImage words files (HasRoom frames) 
 IsDoable (Replay frames) words files =
     HasImage words files (HasRoom frames)
     × IsSomeAnd (files (name_in words Journal)) (IsGoodJournal (opening_in files words frames))
+IsDoable (Audit frames id) words files =
+    HasImage words files (HasRoom frames)
+    × IsSomeAnd (files (name_in words Journal)) (IsGoodJournal (opening_in files words frames))
+    × IsSome (size_in files words id)
 IsDoable (Make number) words files = ⊤
 IsDoable (Work number) words files = ⊤
 IsDoable Join words files = HasImage words files (λ image. ⊤) × HasModules words files
@@ -270,7 +274,7 @@ IsWholeWhereJoined seen = IfTold seen.shelf.before.files (λ files.
     IfSome (command_of seen.words) (λ command. HasJoined command seen.words files))
 
 pub record Promises (seen : Witness) (status : ℕ) : Type 0 where
-  pub status_range : status ≤ 8
+  pub status_range : status ≤ 9
   -- words without a form, and the counts: over every shelf and sink, whether they tell their content or not
   pub usage : IsUsage seen status
   pub usage_alone : IsUsageAlone seen status

@@ -17,6 +17,7 @@ pub data Command : Type 0 where
   Make : ℕ → Command
   Work : ℕ → Command
   Join : Command
+  Audit : ℕ → ℕ → Command
 
 -- `scan IMAGE`; and `make NUMBER` and `work NUMBER`, NUMBER from 1 to 100
 abbrev pub short_of : List ℕ → List ℕ → Option Command
@@ -43,6 +44,18 @@ middle_of name frames word =
     else if bytes_eq name (codes "replay") then option_map Replay (decimal_within 512 65536 frames)
     else None
 
+-- `audit IMAGE FRAMES JOURNAL ID`: FRAMES as above, and ID from 256 to 2^33 - 1, the identifiers that regions may have
+abbrev pub audit_with : Option ℕ → Option ℕ → Option Command
+audit_with (Some frames) (Some id) = Some (Audit frames id)
+audit_with (Some frames) None = None
+audit_with None id = None
+
+abbrev pub audit_of : List ℕ → List ℕ → List ℕ → Option Command
+audit_of name frames id =
+    if bytes_eq name (codes "audit")
+    then audit_with (decimal_within 512 65536 frames) (decimal_within 256 8589934591 id)
+    else None
+
 -- `run IMAGE INPUT PLAN STEPS FRAMES`: STEPS at most 2^32, the most turns that the run may take, and FRAMES as above
 abbrev pub run_with : Option ℕ → Option ℕ → Option Command
 run_with (Some steps) (Some frames) = Some (Run steps frames)
@@ -60,6 +73,7 @@ abbrev pub command_of : List (List ℕ) → Option Command
 command_of (name ∷ word ∷ []) = short_of name word
 command_of (name ∷ image ∷ list ∷ []) = pair_of name
 command_of (name ∷ image ∷ frames ∷ word ∷ []) = middle_of name frames word
+command_of (name ∷ image ∷ frames ∷ journal ∷ id ∷ []) = audit_of name frames id
 command_of (name ∷ image ∷ input ∷ plan ∷ steps ∷ frames ∷ []) = run_of name steps frames
 command_of _ = None
 
@@ -72,6 +86,7 @@ IsBounded (Replay frames) = (512 ≤ frames) × (frames ≤ 65536)
 IsBounded (Make number) = (1 ≤ number) × (number ≤ 100)
 IsBounded (Work number) = (1 ≤ number) × (number ≤ 100)
 IsBounded Join = ⊤
+IsBounded (Audit frames id) = (512 ≤ frames) × (frames ≤ 65536) × (256 ≤ id) × (id ≤ 8589934591)
 
 -- two roles are one
 abbrev pub is_same : Role → Role → Bool
@@ -104,6 +119,7 @@ roles_of (Run steps frames) = Image ∷ Input ∷ Plan ∷ []
 roles_of (Replay frames) = Image ∷ Journal ∷ []
 roles_of (Make number) = []
 roles_of (Work number) = []
+roles_of (Audit frames id) = Image ∷ Journal ∷ []
 roles_of Join = Image ∷ ModuleList ∷ map Module (range_with_len 0 32)
 
 -- the words have a form, and the role is one of its command's

@@ -30,7 +30,7 @@ role_text (Module number) = codes "module"
 
 -- the words have none of the forms
 unfoldable pub usage_line : List ℕ
-usage_line = codes "usage: nkrun scan IMAGE | map IMAGE FRAMES VA | run IMAGE INPUT PLAN STEPS FRAMES | replay IMAGE FRAMES JOURNAL | make NUMBER | work NUMBER | join IMAGE LIST\n"
+usage_line = codes "usage: nkrun scan IMAGE | map IMAGE FRAMES VA | run IMAGE INPUT PLAN STEPS FRAMES | replay IMAGE FRAMES JOURNAL | make NUMBER | work NUMBER | join IMAGE LIST | audit IMAGE FRAMES JOURNAL ID\n"
 
 -- there was no memory
 unfoldable pub no_memory_line : List ℕ
@@ -67,6 +67,10 @@ empty_line number = codes "module " ++ (decimal number ++ codes " empty\n")
 -- the modules don't fit behind the image
 unfoldable pub nofit_line : List ℕ
 nofit_line = codes "nofit\n"
+
+-- no call of the journal gave a region this identifier, or its writes aren't logged
+unfoldable pub noregion_line : ℕ → List ℕ
+noregion_line id = codes "noregion " ++ (decimal id ++ codes "\n")
 
 -- rights, a letter each: read; write; execute; user or supervisor
 unfoldable pub rights_text : Rights → List ℕ

@@ -8,7 +8,7 @@ use Rattle.nk_run.specs.declared.command_line.ReplayFiles.{ReplayFiles}
 use Rattle.nk_run.specs.declared.command_line.Role.{Role}
 use Rattle.nk_run.specs.declared.command_line.Role.TheVariants.{Image, Input, Plan, Journal, ModuleList}
 use Rattle.nk_run.specs.declared.command_line.RunFiles.{RunFiles}
-use Rattle.nk_run.specs.CommandLine.{Command, Scan, Map, Run, Replay, Make, Work, Join, name_in}
+use Rattle.nk_run.specs.CommandLine.{Command, Scan, Map, Run, Replay, Make, Work, Join, Audit, name_in}
 
 -- the command without the names
 abbrev pub command_as : Request → Command
@@ -19,6 +19,7 @@ command_as (named.Replay files frames) = Replay frames
 command_as (named.Make number) = Make number
 command_as (named.Work number) = Work number
 command_as (named.Join files) = Join
+command_as (named.Audit files frames id) = Audit frames id
 
 -- the name is that of a role's file among the words
 abbrev pub Names : List (List ℕ) → Role → FileName → Type 0
@@ -46,3 +47,4 @@ NamesFiles words (named.Replay files frames) = NamesReplay words files
 NamesFiles words (named.Make number) = ⊤
 NamesFiles words (named.Work number) = ⊤
 NamesFiles words (named.Join files) = NamesJoin words files
+NamesFiles words (named.Audit files frames id) = NamesReplay words files

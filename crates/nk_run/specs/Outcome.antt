@@ -1,6 +1,6 @@
 -- The outcome of words and files: status and text without a fault of the outside and without want of memory. It is a
 -- list of checks in order; the first that doesn't pass decides, and where all pass the command's text is written.
-use Rattle.std.specs.Prelude.{ℕ, ◌+◌, List, [], ◌∷◌, ◌++◌, length, map, take, slice_get, Option, None, Some, Result, Ok, Err, if◌then◌else◌, nat_lt, nat_le, unwrap_or, MatchBool, ⊤}
+use Rattle.std.specs.Prelude.{ℕ, ◌+◌, ◌==◌, ◌&&◌, List, [], ◌∷◌, ◌++◌, length, map, take, slice_get, Option, None, Some, Result, Ok, Err, if◌then◌else◌, nat_lt, nat_le, unwrap_or, MatchBool, ⊤}
 use Rattle.std.specs.Option.{option_map}
 use Rattle.elf_image.specs.declared.fault.ImageFault.{ImageFault}
 use Rattle.elf_image.specs.ImageFaults.{fault_number, name_of}
@@ -8,6 +8,7 @@ use Rattle.elf_image.specs.Rows.{first_fault}
 use Rattle.elf_image.specs.Pages.{entry_of, executable_page_count}
 use Rattle.byte_scanner.specs.declared.encoding.Found.{Found}
 use Rattle.byte_scanner.specs.FirstFound.{first_found}
+use Rattle.nk_bits.specs.declared.call.CallWords.{CallWords}
 use Rattle.nk_bits.specs.declared.leaf.Leaf.{Leaf}
 use Rattle.nk_bits.specs.Paging.{page_of, walk}
 use Rattle.irq_plan.specs.declared.event.Event.{Event}
@@ -17,8 +18,10 @@ use Rattle.nk_bits.specs.KernelLayout.{opening_root}
 use Rattle.boot_map.specs.OpeningEntries.{opening_entry}
 use Rattle.gate_state.specs.MachineOpening.{opening_memory, opening_state}
 use Rattle.gate_state.specs.MachineStates.{Opening, nested_of}
+use Rattle.report_text.specs.AuditLines.{audit_text}
 use Rattle.report_text.specs.ClosingSection.{section}
 use Rattle.report_text.specs.ImageLines.{admitted_line, image_line, protected_line}
+use Rattle.replay_core.specs.GrantedCalls.{granted_of}
 use Rattle.replay_core.specs.ReplayedCalls.{WholeReplay, Replayed, replay_of}
 use Rattle.image_maker.specs.MadeImage.{image_of_number}
 use Rattle.code_modules.specs.declared.fault.JoinFault.{JoinFault}
@@ -28,9 +31,9 @@ use Rattle.code_modules.specs.JoinedParts.{CodeModule}
 use Rattle.code_modules.specs.ModuleList.{Listed, list_of}
 use Rattle.nk_run.specs.declared.command_line.Role.{Role}
 use Rattle.nk_run.specs.declared.command_line.Role.TheVariants.{Image, Input, Plan, Journal, ModuleList, Module}
-use Rattle.nk_run.specs.CommandLine.{Command, Scan, Map, Run, Replay, Make, Work, Join, command_of, is_same, name_in}
+use Rattle.nk_run.specs.CommandLine.{Command, Scan, Map, Run, Replay, Make, Work, Join, Audit, command_of, is_same, name_in}
 use Rattle.nk_run.specs.Witness.{Files}
-use Rattle.nk_run.specs.Lines.{most_of, usage_line, longer_line, noroom_line, plan_line, journal_line, list_line, empty_line, nofit_line, walk_line}
+use Rattle.nk_run.specs.Lines.{most_of, usage_line, longer_line, noroom_line, plan_line, journal_line, list_line, empty_line, nofit_line, noregion_line, walk_line}
 use Rattle.nk_run.specs.RunStates.{run_text}
 use Rattle.nk_run.specs.WorkSummary.{work_text}
 
@@ -154,6 +157,21 @@ abbrev pub journaled : Option ℕ → Verdict
 journaled None = passes
 journaled (Some number) = ends (record { status = 6; text = journal_line number })
 
+-- the size of a region that a call gave, where it is of the pool and its writes are logged: the call's number is 7, and its
+-- policy 4
+abbrev pub logged_size : Option CallWords → Option ℕ
+logged_size None = None
+logged_size (Some call) = if call.number == 7 && call.b == 4 then Some call.a else None
+
+-- and of the one to which a call of the journal gave this identifier
+abbrev pub size_in : Files → List (List ℕ) → ℕ → Option ℕ
+size_in files words id = logged_size (granted_of (file_in files words Journal) id)
+
+-- no call gave such a region this identifier
+abbrev pub given : ℕ → Option ℕ → Verdict
+given id (Some size) = passes
+given id None = ends (record { status = 9; text = noregion_line id })
+
 -- the list of modules has a line that is out of form: the first is named
 abbrev pub well_listed : Result (List Listed) ℕ → Verdict
 well_listed (Ok listed) = passes
@@ -231,6 +249,12 @@ checks_of (Replay frames) files words =
     ++ test (roomy (need (file_in files words Image) frames) frames)
     ∷ test (journaled (replay_in files words frames).bad)
     ∷ []
+checks_of (Audit frames id) files words =
+    journal_checks files words
+    ++ test (roomy (need (file_in files words Image) frames) frames)
+    ∷ test (journaled (replay_in files words frames).bad)
+    ∷ test (given id (size_in files words id))
+    ∷ []
 checks_of (Make number) files words = []
 checks_of (Work number) files words = []
 checks_of Join files words = module_checks files words ++ test (joinable (join_in files words)) ∷ []
@@ -244,6 +268,8 @@ text_of (Run steps frames) files words =
     (opening_state (opening_in files words frames) (file_in files words Input))
 text_of (Replay frames) files words =
     section (file_in files words Image) frames (replay_in files words frames).made.nested
+text_of (Audit frames id) files words =
+    audit_text id (unwrap_or (size_in files words id) 0) (replay_in files words frames).made.nested.ledger.log
 text_of (Make number) files words = image_of_number number
 text_of (Work number) files words = worked (image_of_number number)
 text_of Join files words = file_joined (join_in files words)

@@ -1,5 +1,5 @@
 -- What the top call says, and how it is written.
-use Rattle.std.specs.Prelude.{◌≡◌, ◌≢◌, ℕ, ◌*◌, Bool, true, ◌<◌, ◌≤◌, ◌⊎◌, List, length, Option, None, Some, OnErr, OnOk, Result, IsSome, ⊤}
+use Rattle.std.specs.Prelude.{◌≡◌, ◌≢◌, ℕ, ◌+◌, ◌*◌, Bool, true, ◌<◌, ◌≤◌, ◌⊎◌, List, length, replicate, Contains, Option, None, Some, OnErr, OnOk, Result, IsSome, ⊤}
 use Rattle.std.specs.List.{list_any}
 use Rattle.nk_bits.specs.declared.leaf.Leaf.{Leaf}
 use Rattle.irq_plan.specs.declared.event.Event.{Event}
@@ -8,23 +8,26 @@ use Rattle.nk_host.specs.Files.{HoldsBytes}
 use Rattle.nk_host.specs.Told.{IfTold}
 use Rattle.byte_scanner.specs.FirstFound.{first_found}
 use Rattle.boot_map.specs.Division.{Division, IsLayout}
+use Rattle.write_log.specs.LogBytes.{HoldsLog, log_in}
+use Rattle.write_log.specs.LogRecords.{LogRecord}
 use Rattle.nk_body.specs.NestedRecord.{HoldsBooks, OwnState, nested_held}
 use Rattle.gate_state.specs.MachineOpening.{opening_state}
-use Rattle.report_text.specs.ClosingSection.{section}
+use Rattle.report_text.specs.AuditLines.{audit_text}
+use Rattle.replay_core.specs.ReplayedCalls.{replay_of}
 use Rattle.image_maker.specs.MadeImage.{image_of_number}
 use Rattle.nk_run.specs.declared.command_line.Role.{Role}
-use Rattle.nk_run.specs.declared.command_line.Role.TheVariants.{Image}
+use Rattle.nk_run.specs.declared.command_line.Role.TheVariants.{Image, Journal}
 use Rattle.nk_run.specs.declared.count.Tally.{Tally}
-use Rattle.nk_run.specs.CommandLine.{Command, Run, Scan, command_of, is_same, name_in}
+use Rattle.nk_run.specs.CommandLine.{Command, Replay, Run, Scan, command_of, is_same, name_in}
 use Rattle.nk_run.specs.Lines.{no_memory_line, unread_line, usage_line, walk_line}
 use Rattle.nk_run.specs.Witness.{Change, Files, ShelfState, SinkState, Witness}
-use Rattle.nk_run.specs.Outcome.{Check, Verdict, ends, decided, first_verdict, outcome, IsReached}
+use Rattle.nk_run.specs.Outcome.{Check, Verdict, checks_of, ends, decided, file_in, first_verdict, opened, outcome, passes, IsReached}
 use Rattle.nk_run.specs.RunStates.{run_text}
 use Rattle.nk_run.specs.Clauses.{AreKept, IsUnread, NameRose, SinkRose, TookAll, TookPrefix}
 
 -- a status that a command's own answer may have: neither that of the usage line nor one of the outside
 pub record IsOwn (status : ℕ) : Type 0 where
-  pub small : status ≤ 8
+  pub small : status ≤ 9
   pub not_usage : status ≢ 2
   pub not_unread : status ≢ 3
   pub not_cut : status ≢ 4
@@ -173,16 +176,38 @@ pub record IsReady (words : List (List ℕ)) (told : Option Files) (steps frames
         (opening_state (record { image = image; frames = frames }) input);
   }))
 
--- a replay was made: the image has its layout, memory holds the books, and where files are told the closing
--- section of that record is the outcome's text
-pub record IsReplayedFrom (words : List (List ℕ)) (told : Option Files) (frames : ℕ) (image : List ℕ) (layout : Division)
-    (own : OwnState) (memory : List ℕ) : Type 0 where
+-- where files are told, image and journal are theirs, and these checks pass on them
+abbrev pub HoldsReplay : List (List ℕ) → Option Files → List ℕ → List ℕ → (Files → List Check) → Type 0
+HoldsReplay words told image journal checks =
+    IfTold told (λ files. (image ≡ file_in files words Image) × (journal ≡ file_in files words Journal)
+    × (first_verdict (checks files) ≡ passes))
+
+-- a replay was made: the image has its layout, memory holds the books and what the calls of the journal made, each of its
+-- lines is right, and where files are told a replay's checks pass
+pub record IsReplayedFrom (words : List (List ℕ)) (told : Option Files) (frames : ℕ) (image journal : List ℕ)
+    (layout : Division) (own : OwnState) (memory : List ℕ) : Type 0 where
   pub layout_is : IsLayout image layout
+  pub frames_are : layout.frames ≡ frames
   pub books_are : HoldsBooks own memory
   pub size : length memory ≡ 4096 * layout.frames
+  pub made : nested_held own memory ≡ (replay_of journal (opened (record { image = image; frames = layout.frames }))).made.nested
+  pub right : (replay_of journal (opened (record { image = image; frames = layout.frames }))).bad ≡ None
+  pub passed : HoldsReplay words told image journal (λ files. checks_of (Replay frames) files words)
+
+-- each record of this region in the log lies within its first so many bytes
+abbrev pub LiesWithin : ℕ → ℕ → List LogRecord → Type 0
+LiesWithin id size log = (it : LogRecord) → Contains log it → it.region ≡ id → it.offset + length it.bytes ≤ size
+
+-- an audit may be written, of a region with these bytes: all are 0, memory holds the log, whose records of the region lie
+-- within it, and where files are told the text is the outcome's
+pub record IsAuditable (words : List (List ℕ)) (told : Option Files) (id : ℕ) (bytes : List ℕ) (own : OwnState) (memory : List ℕ)
+    : Type 0 where
+  pub fresh : bytes ≡ replicate (length bytes) 0
+  pub log_is : HoldsLog own.log memory
+  pub within : LiesWithin id (length bytes) (log_in own.log memory)
   pub outcome_is : IfTold told (λ files. outcome words files ≡ Some (record {
     status = 0;
-    text = section image layout.frames (nested_held own memory);
+    text = audit_text id (length bytes) (log_in own.log memory);
   }))
 
 -- a run of the image of a number may begin: it was made, holds no protected encoding, and has its layout in 4,096 frames

@@ -8,6 +8,7 @@ ghost use Rattle.nk_run.specs.ReplyText.{line_bytes};
 ghost use Rattle.nk_run.specs.Replies.{IsAnswered, ReadsBytes};
 ghost use Rattle.nk_run.specs.Statuses.{status_number};
 
+use crate::audit::audit;
 use crate::command_line::Request;
 use crate::join::join;
 use crate::lines::usage_line;
@@ -66,5 +67,6 @@ pub(crate) fn answer<S: Shelf, O: Sink>(
         Some(Request::Make { number }) => make(alloc, number, sink),
         Some(Request::Work { number }) => work(alloc, number, sink),
         Some(Request::Join { files }) => join(alloc, files, shelf, sink),
+        Some(Request::Audit { files, frames, id }) => audit(alloc, files, frames, id, shelf, sink),
     }
 }

@@ -1,7 +1,7 @@
 //! The command line, read by hand: all words are positional.
 ghost use Rattle.std.specs.Prelude.{◌≡◌, [], ◌∷◌, map, option_map, IfSome};
 ghost use Rattle.std.specs.String.{string_bytes};
-ghost use Rattle.nk_run.specs.CommandLine.{command_of, middle_of, pair_of, run_of, short_of, IsBounded};
+ghost use Rattle.nk_run.specs.CommandLine.{audit_of, command_of, middle_of, pair_of, run_of, short_of, IsBounded};
 ghost use Rattle.nk_run.specs.NamedCommands.{command_as, NamesFiles};
 
 use crate::numbers::{address_of, decimal_within};
@@ -19,6 +19,11 @@ const MOST_STEPS: u64 = 4_294_967_296;
 const LEAST_NUMBER: u64 = 1;
 
 const MOST_NUMBER: u64 = 100;
+
+/// The least and the greatest identifier that a region may have.
+const LEAST_ID: u64 = 256;
+
+const MOST_ID: u64 = 8_589_934_591;
 
 /// What a file is to a command.
 #[derive(Clone, Copy, Debug, PartialEq, Eq)]
@@ -51,7 +56,7 @@ pub(crate) struct RunFiles<'w> {
     pub plan: FileName<'w>,
 }
 
-/// The files of a replay.
+/// The files of a replay, and of an audit.
 #[derive(Clone, Copy, Debug, PartialEq, Eq)]
 pub(crate) struct ReplayFiles<'w> {
     pub image: FileName<'w>,
@@ -101,6 +106,12 @@ pub(crate) enum Request<'w> {
     Join {
         files: JoinFiles<'w>,
     },
+    /// Make the calls of a journal, in a memory of so many frames, and write the audit of the region of this identifier.
+    Audit {
+        files: ReplayFiles<'w>,
+        frames: u32,
+        id: u64,
+    },
 }
 
 impl<'w> Request<'w> {
@@ -122,6 +133,15 @@ impl<'w> Request<'w> {
                 image.as_str(),
                 frames.as_str(),
                 word.as_str(),
+            );
+        }
+        if let Some([name, image, frames, journal, id]) = words.as_array::<5>() {
+            return read_audit(
+                name.as_str(),
+                image.as_str(),
+                frames.as_str(),
+                journal.as_str(),
+                id.as_str(),
             );
         }
         if let Some(words) = words.as_array::<6>() {
@@ -195,6 +215,36 @@ fn read_middle<'w>(name: &str, image: &'w str, frames: &str, word: &'w str) -> O
         });
     }
     None
+}
+
+/// `audit IMAGE FRAMES JOURNAL ID`.
+fn read_audit<'w>(
+    name: &str,
+    image: &'w str,
+    frames: &str,
+    journal: &'w str,
+    id: &str,
+) -> Option<Request<'w>>
+    ensures command { option_map command_as result ≡ audit_of
+        name.now frames.now id.now }
+    ensures bounds { IfSome result (λ it. IsBounded (command_as it)) }
+    ensures names { IfSome result (NamesFiles
+        (name.now ∷ image.now ∷ frames.now ∷ journal.now ∷ id.now ∷ [])) }
+{
+    if name != "audit" {
+        return None;
+    }
+    let frames = decimal_within(frames, LEAST_FRAMES, MOST_FRAMES)?;
+    let id = decimal_within(id, LEAST_ID, MOST_ID)?;
+    let files = ReplayFiles {
+        image: FileName { text: image },
+        journal: FileName { text: journal },
+    };
+    Some(Request::Audit {
+        files,
+        frames: frames as u32,
+        id,
+    })
 }
 
 /// The command that six words spell.

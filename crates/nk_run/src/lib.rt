@@ -19,6 +19,7 @@ mod page_pieces;
 mod pieces;
 
 // The commands.
+mod audit;
 mod join;
 mod make;
 mod map;
@@ -49,6 +50,3 @@ pub use crate::command_line::Role;
 pub use crate::image::FILE_LIMIT;
 pub use crate::program::nk_program;
 pub use crate::top::nk_main;
-
-#[cfg(test)]
-mod tests;

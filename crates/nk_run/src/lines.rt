@@ -12,6 +12,7 @@ ghost use Rattle.nk_run.specs.Lines.{
   list_line,
   empty_line,
   nofit_line,
+  noregion_line,
   rights_text,
   frame_line,
   missing_line,
@@ -27,7 +28,7 @@ use std::alloc::{AllocError, Global};
 pub(crate) fn usage_line() -> &'static str
     ensures { result.now ≡ usage_line }
 {
-    "usage: nkrun scan IMAGE | map IMAGE FRAMES VA | run IMAGE INPUT PLAN STEPS FRAMES | replay IMAGE FRAMES JOURNAL | make NUMBER | work NUMBER | join IMAGE LIST\n"
+    "usage: nkrun scan IMAGE | map IMAGE FRAMES VA | run IMAGE INPUT PLAN STEPS FRAMES | replay IMAGE FRAMES JOURNAL | make NUMBER | work NUMBER | join IMAGE LIST | audit IMAGE FRAMES JOURNAL ID\n"
 }
 
 /// There was no memory.
@@ -116,6 +117,14 @@ pub(crate) fn nofit_line() -> &'static str
     ensures { result.now ≡ nofit_line }
 {
     "nofit\n"
+}
+
+/// No call of the journal gave a region this identifier, or its writes aren't logged.
+#[tactic(auto, unfolding(crate::specs::Lines::noregion_line))]
+pub(crate) fn noregion_line(alloc: Global, id: u64) -> Result<String, AllocError>
+    ensures { IfOk result (λ line. string_bytes line ≡ noregion_line id) }
+{
+    format!(in alloc; "noregion {id}\n")
 }
 
 /// The four letters of rights.

@@ -1,6 +1,5 @@
-//! The command `replay IMAGE FRAMES JOURNAL`.
+//! The command `replay IMAGE FRAMES JOURNAL`, and what an audit has in common with it.
 ghost use Rattle.std.specs.Prelude.{◌≡◌, ◌*◌, ℕ, List, None, length, MatchResult, Some, [], ◌∷◌};
-ghost use Rattle.nk_host.specs.Told.{IfTold};
 ghost use Rattle.byte_scanner.specs.FirstFound.{first_found};
 ghost use Rattle.boot_map.specs.Division.{IsLayout};
 ghost use Rattle.nk_body.specs.NestedRecord.{HoldsBooks, nested_held};
@@ -9,10 +8,10 @@ ghost use Rattle.replay_core.specs.ReplayedCalls.{replay_of};
 ghost use Rattle.nk_run.specs.CommandLine.{command_of, IsBounded, Replay};
 ghost use Rattle.nk_run.specs.NamedCommands.{NamesReplay};
 ghost use Rattle.nk_run.specs.Witness.{shelf_change, sink_change};
-ghost use Rattle.nk_run.specs.Outcome.{file_in, first_verdict, journal_checks, journaled, opened, passes};
+ghost use Rattle.nk_run.specs.Outcome.{checks_of, journal_checks, journaled, opened};
 ghost use Rattle.nk_run.specs.ReplyText.{line_bytes};
 ghost use Rattle.nk_run.specs.Statuses.{status_number};
-ghost use Rattle.nk_run.specs.Replies.{CommandSays, IsAnswered, IsTextPut, IsReplayedFrom, RefusesBy, StopsIn};
+ghost use Rattle.nk_run.specs.Replies.{HoldsReplay, IsAnswered, IsTextPut, IsReplayedFrom, RefusesBy, StopsIn};
 
 use crate::command_line::{ReplayFiles, Role};
 use crate::image::{fetch, open};
@@ -32,11 +31,12 @@ struct Held {
     journal: Vec<u8>,
 }
 
-/// What the calls of a journal left.
+/// A journal, and what its calls left of an opening.
 #[derive(Drop)]
-struct Replayed {
-    opened: Opened,
-    left: Guarded,
+pub(crate) struct Replayed {
+    pub opened: Opened,
+    pub journal: Vec<u8>,
+    pub left: Guarded,
 }
 
 /// The files of a replay, or the reply to the first check on them that doesn't pass.
@@ -46,9 +46,7 @@ fn hold<S: Shelf>(alloc: Global, files: ReplayFiles<'_>, shelf: &mut S) -> Resul
     ensures files_stay { S.files shelf.new ≡ S.files shelf.old }
     ensures held { MatchResult result
         (λ held. (first_found held.image ≡ None)
-        × IfTold (S.files shelf.old) (λ files. (held.image ≡ file_in files words Role.Image)
-        × (held.journal.items ≡ file_in files words Role.Journal)
-        × (first_verdict (journal_checks files words) ≡ passes)))
+        × HoldsReplay words (S.files shelf.old) held.image held.journal.items (λ files. journal_checks files words))
         (λ reply. StopsIn words (shelf_change S.files S.faults S.wants shelf.old shelf.new)
         (Role.Image ∷ Role.Journal ∷ []) (λ files. journal_checks files words)
         (status_number reply.status) (line_bytes reply.line)) }
@@ -95,22 +93,22 @@ fn make_calls(alloc: Global, opening: &Opened, journal: &[u8]) -> Result<Guarded
     }
 }
 
-/// What the calls of the journal left, or the reply where they aren't all made.
-fn make_replay<S: Shelf>(
+/// What the calls of the journal left, or the reply to the first check of a replay that doesn't pass.
+pub(crate) fn make_replay<S: Shelf>(
     alloc: Global,
     files: ReplayFiles<'_>,
     frames: u32,
     shelf: &mut S,
 ) -> Result<Replayed, Reply>
     ghost words: { List (List ℕ) }
-    requires asked { command_of words ≡ Some (Replay frames) }
     requires named { NamesReplay words files }
     requires bounds { IsBounded (Replay frames) }
     ensures files_stay { S.files shelf.new ≡ S.files shelf.old }
     ensures made { MatchResult result
-        (λ it. IsReplayedFrom words (S.files shelf.old) frames it.opened.image it.opened.layout
-        it.left.kernel it.left.memory)
-        (λ reply. CommandSays words (shelf_change S.files S.faults S.wants shelf.old shelf.new)
+        (λ it. IsReplayedFrom words (S.files shelf.old) frames it.opened.image it.journal.items
+        it.opened.layout it.left.kernel it.left.memory)
+        (λ reply. StopsIn words (shelf_change S.files S.faults S.wants shelf.old shelf.new)
+        (Role.Image ∷ Role.Journal ∷ []) (λ files. checks_of (Replay frames) files words)
         (status_number reply.status) (line_bytes reply.line)) }
 {
     let held = match hold(alloc, files, shelf) {
@@ -123,7 +121,11 @@ fn make_replay<S: Shelf>(
         Err(reply) => return Err(reply),
     };
     match make_calls(alloc, &opened, &journal) {
-        Ok(left) => Ok(Replayed { opened, left }),
+        Ok(left) => Ok(Replayed {
+            opened,
+            journal,
+            left,
+        }),
         Err(reply) => Err(reply),
     }
 }

@@ -25,6 +25,8 @@ pub(crate) enum Status {
     TooLong,
     /// A module has no bytes, or the modules don't fit behind the image.
     Unfit,
+    /// No call of the journal gave a region the identifier, or its writes aren't logged.
+    NoRegion,
 }
 
 impl Status {
@@ -42,6 +44,7 @@ impl Status {
             Status::WrongLine => 6,
             Status::TooLong => 7,
             Status::Unfit => 8,
+            Status::NoRegion => 9,
         }
     }
 

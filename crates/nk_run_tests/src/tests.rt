@@ -1,4 +1,5 @@
 //! Worked cases of the command line, over a shelf and a sink in memory.
+mod audits;
 mod books;
 mod calls;
 mod compiled;
@@ -38,7 +39,7 @@ const READ_WRITE: u32 = 6;
 const ROOM: usize = 524_288;
 
 const USAGE: &str =
-    "usage: nkrun scan IMAGE | map IMAGE FRAMES VA | run IMAGE INPUT PLAN STEPS FRAMES | replay IMAGE FRAMES JOURNAL | make NUMBER | work NUMBER | join IMAGE LIST\n";
+    "usage: nkrun scan IMAGE | map IMAGE FRAMES VA | run IMAGE INPUT PLAN STEPS FRAMES | replay IMAGE FRAMES JOURNAL | make NUMBER | work NUMBER | join IMAGE LIST | audit IMAGE FRAMES JOURNAL ID\n";
 
 /// What the top call gave and wrote.
 #[derive(Drop)]

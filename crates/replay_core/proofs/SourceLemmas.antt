@@ -1,14 +1,18 @@
 -- The bytes of a source's word, read into a buffer of as many.
 use Rattle.std.proofs.Common.{◌≡◌, ℕ, ◌/◌, ◌%◌, ◌==◌, Bool, true, false, List, length, ◌++◌, Option, None, Some, Result, Ok, Err, codes, refl, sym, ap, ◌∙◌, if◌then◌else◌, inl, inr, arith}
+use Rattle.std.specs.Prelude.{◌&&◌, is_some}
+use Rattle.std.specs.List.{list_all}
 use Rattle.std.specs.Option.{option_map}
 use Rattle.std.specs.Str.{bytes_eq}
-use Rattle.std.proofs.lemmas.Bool.{cases_Bool, cond-true, cond-false}
+use Rattle.std.proofs.lemmas.Bool.{and_from, and_left, and_right, cases_Bool, cond-true, cond-false, eq-eqb, ne_eqb}
 use Rattle.std.proofs.lemmas.List.{take_at}
+use Rattle.std.proofs.lemmas.List.Folds.{list_all_at}
+use Rattle.std.proofs.lemmas.List.Sums.{list_all-from_AllPass}
 use Rattle.std.proofs.lemmas.Slice.Eq.{bytes_eq-Decides}
-use Rattle.hex.proofs.HexLemmas.{decode_pairs-ok}
+use Rattle.hex.proofs.HexLemmas.{decode_of-err, decode_of-ok, decode_pairs-ok}
 use Rattle.hex.specs.declared.error.FromHexError.{FromHexError}
 use Rattle.hex.specs.declared.error.FromHexError.TheVariants.{OddLength, InvalidStringLength}
-use Rattle.hex.specs.Hex.{decode_of, decode_pairs, decode_sized}
+use Rattle.hex.specs.Hex.{decode_of, decode_pairs, decode_sized, is_hex_digit}
 use Rattle.nk_body.specs.CallRules.{Bytes, Sourced}
 use Rattle.replay_core.specs.declared.source.Taken.TheVariants as taken
 use Rattle.replay_core.specs.HeardLines.{given_source, put_in, so_many, source_in}
@@ -74,3 +78,28 @@ module _ (count : ℕ) (front back : List ℕ) (size : length front ≡ count) w
             of_bytes done (bytes_of_word word) put
             ∙ ap (given_source (Some count)) (sym (cond-false _ _ _ some ∙ cond-false _ _ _ (sym other)))
       ]
+
+-- a word decodes where it has an even number of digits
+module _ (word : List ℕ) where
+  abbrev even : Bool
+  even = length word % 2 == 0
+
+  abbrev digits : Bool
+  digits = list_all is_hex_digit word
+
+  decodes_by : (r : Result (List ℕ) FromHexError) → decode_of word ≡ r → is_some (decoded r) ≡ (even && digits)
+  decodes_by (Ok bytes) is =
+      let ok = decode_of-ok word bytes is in
+      sym (and_from even digits (eq-eqb (length word % 2) 0 ok.0) (list_all-from_AllPass is_hex_digit word ok.1))
+  decodes_by (Err fault) is = elim (decode_of-err word fault is) [
+    | inl odd ↦ sym (and_left even digits (ne_eqb (length word % 2) 0 (λ none. absurd (omega arith))))
+    | inr bad ↦ sym (and_right even digits (list_all_at is_hex_digit word bad.0 0 bad.2 bad.3))
+  ]
+
+  pub decodes : is_some (decoded (decode_of word)) ≡ (length word % 2 == 0 && list_all is_hex_digit word)
+  decodes = decodes_by (decode_of word) refl
+
+-- bytes that are noted are noted as a source
+pub notes_bytes : (o : Option (List ℕ)) → is_some (option_map Bytes o) ≡ is_some o
+notes_bytes None = refl
+notes_bytes (Some bytes) = refl

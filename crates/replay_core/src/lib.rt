@@ -11,8 +11,10 @@ mod heard;
 mod source;
 mod word;
 
-// The calls of all lines.
+// The calls of all lines, and one of them by its answer.
 mod calls;
+mod granting;
 
 pub use calls::replay;
 pub use fault::ReplayFault;
+pub use granting::{granted, granted_law};

@@ -1,8 +1,9 @@
 //! What a call took from memory, as a journal notes it.
 
-ghost use Rattle.std.specs.Prelude.{◌≡◌, ◌≤◌, IfSome, length};
+ghost use Rattle.std.specs.Prelude.{◌≡◌, ◌≤◌, IfSome, is_some, length};
 ghost use Rattle.std.specs.Option.{option_map};
-ghost use Rattle.hex.specs.Hex.{decode_sized};
+ghost use Rattle.std.specs.List.{list_all};
+ghost use Rattle.hex.specs.Hex.{decode_sized, is_hex_digit};
 ghost use Rattle.nk_body.specs.SourceWords.{sourced_of};
 ghost use Rattle.replay_core.specs.JournalLines.{bytes_of_word, decoded, source_of_word};
 ghost use Rattle.replay_core.specs.HeardLines.{taken_count, given_source, put_in, so_many, source_in};
@@ -67,4 +68,33 @@ pub(crate) fn source<'b>(buffer: &'b [u8], taken: Taken) -> Source<'b>
         Taken::Unreadable => Source::Unreadable,
         Taken::Bytes(count) => Source::Bytes(&buffer[..count]),
     }
+}
+
+/// A digit of either case.
+fn is_hex_digit(byte: u8) -> bool
+    ensures { result ≡ is_hex_digit byte }
+{
+    matches!(byte, b'0'..=b'9' | b'A'..=b'F' | b'a'..=b'f')
+}
+
+fn are_hex_digits(word: &[u8]) -> bool
+    ensures { result ≡ list_all is_hex_digit word.now }
+{
+    word.iter().all(|byte| is_hex_digit(*byte))
+}
+
+/// The word is of bytes of two digits each.
+#[tactic(auto, using(crate::proofs::SourceLemmas::decodes))]
+fn is_bytes(word: &[u8]) -> bool
+    ensures { result ≡ is_some (bytes_of_word word.now) }
+{
+    is_lower(word) && word.len() % 2 == 0 && are_hex_digits(word)
+}
+
+/// The word notes a source: nothing, one that couldn't be read, or bytes.
+#[tactic(auto, using(crate::proofs::SourceLemmas::notes_bytes))]
+pub(crate) fn is_source(word: &[u8]) -> bool
+    ensures { result ≡ is_some (source_of_word word.now) }
+{
+    is_text(word, b"-") || is_text(word, b"!") || is_bytes(word)
 }

@@ -2,6 +2,8 @@
 //! 68, 69 and 70, and frame 71 is the first free one, which entry 71 of frame 70 maps for writing. The handler stands
 //! in memory from 2000 on, the pool from A000 on.
 
+mod grants;
+
 ghost use Rattle.std.specs.Prelude.{◌≡◌, IfSome};
 ghost use Rattle.nk_body.specs.NestedRecord.{HoldsBooks, books_in};
 ghost use Rattle.nk_body.specs.SourceWords.{opening_ledger};

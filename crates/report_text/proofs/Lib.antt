@@ -9,4 +9,9 @@ pub mod TakenUp
 pub mod HeldBooks
 pub mod LedgerLines
 mod WorkedLines
+pub mod CountedLists
+pub mod ToldRecords
+pub mod AuditParts
+pub mod WorkedAudits
+mod RefutedAudits
 pub mod FaultNames

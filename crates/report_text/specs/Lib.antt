@@ -1,5 +1,8 @@
 -- What a reader must believe.
 pub mod RunLines
 pub mod ImageLines
+pub mod AuditLines
 pub mod ClosingSection
 pub mod RunSummary
+-- Words of private clauses and proofs.
+pub mod SlotLines

@@ -110,7 +110,7 @@ fn put_regions<O: Sink>(sink: &mut O, it: &RunCounts) -> Result<(), SinkFault>
 
 /// A line of a word and a number, at the end of the room.
 #[tactic(auto, unfolding(crate::specs::RunSummary::count_line))]
-fn one_count<'a>(room: &'a mut [u8; NUMBERED], word: &str, number: u64) -> &'a [u8]
+pub(crate) fn one_count<'a>(room: &'a mut [u8; NUMBERED], word: &str, number: u64) -> &'a [u8]
     requires { length word.now ≤ 11 }
     ensures { result.now ≡ count_line word.now number }
 {

@@ -1,7 +1,8 @@
-//! The text of a run: its lines, and the section that closes it. Each call appends to a sink exactly what
-//! `specs/RunLines.antt` and `specs/ClosingSection.antt` say, or a first part of that where the sink fails. The lines on
-//! an image are handed back instead, each as a `ShortLine`. It reads what it is handed, writes to the sink alone, and
-//! takes no memory. Which line comes when, and what follows a fault, it leaves to the crates above. Floor: whole.
+//! The text of a run: its lines, and the section that closes it; and the text of an audit. Each call appends to a sink
+//! exactly what `specs/RunLines.antt`, `specs/ClosingSection.antt` and `specs/AuditLines.antt` say, or a first part of
+//! that where the sink fails. The lines on an image are handed back instead, each as a `ShortLine`. It reads what it is
+//! handed, writes to the sink alone, and takes memory only for an audit, before its first line. Which line comes when, and
+//! what follows a fault, it leaves to the crates above. Floor: whole.
 #![tactic(auto)]
 
 // Words, each put before the one behind it.
@@ -24,8 +25,15 @@ mod closing;
 // Counts in place of lines.
 mod counts;
 
+// The text of an audit: its lines, the bytes of the region before and after a record, and the whole of it.
+mod list_lines;
+mod region_audit;
+mod two_states;
+
 pub use call_lines::called;
 pub use closing::section;
 pub use counts::{RunCounts, summary};
+pub use region_audit::audit;
 pub use run_lines::{console, delivery, ending};
 pub use short_line::{ShortLine, admitted_line, image_line, protected_line};
+pub use two_states::Auditing;

@@ -20,3 +20,6 @@ ghost-work g a = g.names
 
 abbrev pub ghost-join : goal.ghost-join
 ghost-join g a = g.names
+
+abbrev pub ghost-audit : goal.ghost-audit
+ghost-audit g a = g.names

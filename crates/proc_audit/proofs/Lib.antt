@@ -1,0 +1,6 @@
+pub mod NumberTests
+pub mod ChainLinks
+pub mod ChainLaws
+pub mod ChainSteps
+pub mod WorkedProcesses
+mod RefutedProcesses
