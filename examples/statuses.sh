@@ -40,6 +40,7 @@ expect_within() { # KIB STATUS LINE WORDS..
 
 usage='usage: nkrun scan IMAGE | map IMAGE FRAMES VA | run IMAGE INPUT PLAN STEPS FRAMES | replay IMAGE FRAMES JOURNAL'
 usage="$usage | make NUMBER | work NUMBER | join IMAGE LIST | audit IMAGE FRAMES JOURNAL ID"
+usage="$usage | asm TEXT | list IMAGE ADDR COUNT"
 printf '0 irq 32\n0 irq 31\n' >"$work/plan"
 printf 'k\n' >"$work/journal"
 printf 'pack -\npack A\n' >"$work/list"
@@ -78,6 +79,13 @@ expect 0 'b 0' audit made 4096 "$top/examples/journals/made.journal" 256
 expect 6 'journal line 19' audit made 4096 "$top/examples/journals/tampered.journal" 256
 expect 9 'noregion 257' audit made 4096 "$top/examples/journals/made.journal" 257
 expect 9 'noregion 256' audit "$image" 512 /dev/null 256
+printf 'mov.8 r0 value 41\nmov.9 r0 r1 0\n' >text
+expect 3 'unread text' asm gone
+expect 6 'text line 2' asm text
+expect 7 'longer text 67108864' asm long
+count "$(printf 'mov.8 r0 value 41' >text && [ "$("$program" asm text | od -An -tx1 | tr -d ' \n')" = b041 ] || echo 'asm writes other bytes')"
+expect 0 'ffffffff80000000 48c7c300100080 mov.64 r3 value ffffffff80001000' list made ffffffff80000000 1
+expect 10 'noaddress 0000000000000000' list made 0 1
 expect 64 '' scan "$(printf '\377')"
 if [ -e /dev/full ]; then
         "$program" scan "$image" >/dev/full 2>/dev/null

@@ -16,7 +16,7 @@ use Rattle.code_modules.specs.JoinedParts.{CodeModule, modules_behind}
 use Rattle.code_modules.specs.ModuleList.{Listed, list_of}
 use Rattle.nk_run.specs.declared.command_line.Role.TheVariants.{Image, Module, ModuleList}
 use Rattle.nk_run.specs.Clauses.{HasJoined}
-use Rattle.nk_run.specs.CommandLine.{Command, Scan, Map, Run, Replay, Make, Work, Join, Audit, command_of, roles_of}
+use Rattle.nk_run.specs.CommandLine.{Command, Scan, Map, Run, Replay, Make, Work, Join, Audit, Assemble, Listing, command_of, roles_of}
 use Rattle.nk_run.specs.JoinedRuns.{KeepsCode}
 use Rattle.nk_run.specs.Outcome.{Answer, Check, Verdict, checks_of, ends, file_in, file_joined, first_verdict, join_in, joinable, list_checks, listed_in, module_checks, module_fetches, module_held, modules_in, modules_named, outcome, passes, test, unless_ended, well_listed}
 use Rattle.nk_run.specs.Replies.{CommandSays, EndsOwn, IsOwn, IsWant, StopsIn}
@@ -226,6 +226,8 @@ joined_where_join law some code words files (Map frames va) = tt
 joined_where_join law some code words files (Run steps frames) = tt
 joined_where_join law some code words files (Replay frames) = tt
 joined_where_join law some code words files (Audit frames id) = tt
+joined_where_join law some code words files Assemble = tt
+joined_where_join law some code words files (Listing address count) = tt
 joined_where_join law some code words files (Make number) = tt
 joined_where_join law some code words files (Work number) = tt
 joined_where_join law some code words files Join = λ passed.

@@ -5,6 +5,7 @@ pub mod Numerals
 pub mod Rows
 pub mod RunRows
 pub mod AuditRows
+pub mod TextRows
 pub mod ModuleFetches
 pub mod Promises
 pub mod HeldFiles

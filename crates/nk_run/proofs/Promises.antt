@@ -1,24 +1,26 @@
 -- From what the top call says in the end, and how that is written, to its promises.
-use Rattle.std.proofs.Common.{◌≡◌, ℕ, ◌+◌, ◌≤◌, ◌⊎◌, inl, inr, List, [], ◌∷◌, length, suc, ◌<◌, Option, Some, None, Result, Ok, Err, MatchOption, IfSome, IsOk, IsSome, IsSomeAnd, arith, refl, sym, ◌∙◌, ap, subst}
+use Rattle.std.proofs.Common.{◌≡◌, ℕ, ◌+◌, ◌/◌, ◌≤◌, Bool, ◌⊎◌, inl, inr, List, [], ◌∷◌, length, suc, ◌<◌, Option, Some, None, Result, Ok, Err, MatchOption, IfSome, IsOk, IsSome, IsSomeAnd, arith, refl, sym, ◌∙◌, ap, subst}
 use Rattle.std.proofs.lemmas.Bool.{le-ltb, le-leb}
 use Rattle.std.specs.Prelude.{unwrap_or, ⊤}
 use Rattle.std.specs.List.{All}
+use Rattle.elf_image.specs.Pages.{is_executable}
 use Rattle.elf_image.specs.Rows.{first_fault}
+use Rattle.asm_text.specs.AssembledText.{assembled_of}
 use Rattle.byte_scanner.specs.FirstFound.{first_found}
 use Rattle.irq_plan.specs.declared.event.Event.{Event}
 use Rattle.irq_plan.specs.PlanFile.{plan_of}
 use Rattle.boot_map.specs.Division.{need}
 use Rattle.gate_state.specs.MachineStates.{Opening}
 use Rattle.replay_core.specs.ReplayedCalls.{replay_of}
-use Rattle.nk_run.specs.declared.command_line.Role.TheVariants.{Image, Input, Plan, Journal, ModuleList, Module}
-use Rattle.nk_run.specs.CommandLine.{Command, Scan, Map, Run, Replay, Make, Work, Join, Audit, command_of, name_in}
+use Rattle.nk_run.specs.declared.command_line.Role.TheVariants.{Image, Input, Plan, Journal, ModuleList, Module, Text}
+use Rattle.nk_run.specs.CommandLine.{Command, Scan, Map, Run, Replay, Make, Work, Join, Audit, Assemble, Listing, command_of, name_in}
 use Rattle.nk_run.specs.Lines.{longest_file, longest_module}
 use Rattle.nk_run.specs.Witness.{Change, Files, ShelfState, Witness}
-use Rattle.nk_run.specs.Outcome.{Answer, Verdict, passes, decided, first_verdict, checks_of, text_of, outcome, command_outcome, fetch_verdict, formed, clean, given, join_in, joinable, journaled, list_checks, listing_checks, module_checks, module_fetches, modules_named, opened, opening_in, planned, replay_in, roomy, file_in, size_in, test, unless_ended, well_listed}
+use Rattle.nk_run.specs.Outcome.{Answer, Verdict, addressed, assembled, passes, decided, first_verdict, checks_of, text_of, outcome, command_outcome, fetch_verdict, formed, clean, given, join_in, joinable, journaled, list_checks, listing_checks, module_checks, module_fetches, modules_named, opened, opening_in, planned, replay_in, roomy, file_in, size_in, test, unless_ended, well_listed}
 use Rattle.code_modules.specs.declared.fault.JoinFault.{JoinFault}
 use Rattle.code_modules.specs.ModuleList.{Listed, list_of}
 use Rattle.nk_run.proofs.Checks.{first_verdict-append}
-use Rattle.nk_run.specs.Clauses.{HasEnd, HasJoined, HasJournal, HasModules, HasOutside, HasSafeRun, IsComplete, IsCutByCount, IsCutWritten, IsDoable, IsDone, IsFaultless, IsGoodImage, IsGoodJournal, IsGoodList, IsGoodPlan, IsOutside, IsStatus, IsText, IsUnreadByCount, IsUnreadWritten, IsUsage, IsUsageAlone, IsWantByCount, IsWantWritten, MaySay, Promises, TookAll, TookPrefix}
+use Rattle.nk_run.specs.Clauses.{HasCodeAt, HasEnd, HasJoined, HasJournal, HasModules, HasOutside, HasSafeRun, IsComplete, IsCutByCount, IsCutWritten, IsDoable, IsDone, IsFaultless, IsGoodImage, IsGoodJournal, IsGoodList, IsGoodPlan, IsGoodText, IsOutside, IsStatus, IsText, IsUnreadByCount, IsUnreadWritten, IsUsage, IsUsageAlone, IsWantByCount, IsWantWritten, MaySay, Promises, TookAll, TookPrefix}
 use Rattle.nk_host.specs.Told.{IfTold}
 use Rattle.nk_run.proofs.Told.{if_told, told_at}
 use Rattle.nk_run.specs.Replies.{CommandSays, IsAnswered, IsWritten, ReadsBytes, Says, SaysUsage}
@@ -46,6 +48,10 @@ listed_passes (Err number) good = cc
 given_passes : (id : ℕ) (size : Option ℕ) → IsSome size → given id size ≡ passes
 given_passes id (Some size) some = refl
 given_passes id None some = cc
+
+assembled_passes : (code : Result (List ℕ) ℕ) → IsOk code → assembled code ≡ passes
+assembled_passes (Ok code) good = refl
+assembled_passes (Err number) good = cc
 
 joined_passes : (answer : Result (List ℕ) JoinFault) → IsOk answer → joinable answer ≡ passes
 joined_passes (Ok file) good = refl
@@ -165,6 +171,29 @@ module _ (words : List (List ℕ)) (files : Files) (image : List ℕ) (held : fi
       ∙ ap (λ (v : Verdict). unless_ended v last) (modules_pass files 0 (modules_named files words) given.held)
       ∙ ap (λ (v : Verdict). unless_ended v passes) (joined_passes (join_in files words) given.joined)
 
+-- the checks on a good text pass
+assemble_passes : (words : List (List ℕ)) (files : Files) (text : List ℕ) → files (name_in words Text) ≡ Some text → IsGoodText text
+    → first_verdict (checks_of Assemble files words) ≡ passes
+assemble_passes words files text held good =
+    let fetched : fetch_verdict Text (files (name_in words Text)) ≡ passes =
+    rw held (rw (le-ltb longest_file (length text) good.within) refl) in
+    let coded : assembled (assembled_of (file_in files words Text)) ≡ passes =
+    ap (λ (o : Option (List ℕ)). assembled (assembled_of (unwrap_or o []))) held ∙ assembled_passes (assembled_of text) good.coded in
+    rw (fetched, coded) refl
+
+-- those on an image of which the code is listed do
+listing_passes : (words : List (List ℕ)) (files : Files) (image : List ℕ) → files (name_in words Image) ≡ Some image
+    → (address count : ℕ) → HasCodeAt address image → first_verdict (checks_of (Listing address count) files words) ≡ passes
+listing_passes words files image held address count good =
+    let fetched : fetch_verdict Image (files (name_in words Image)) ≡ passes =
+    rw held (rw (le-ltb longest_file (length image) good.within) refl) in
+    let form : formed (first_fault (file_in files words Image)) ≡ passes =
+    ap (λ (o : Option (List ℕ)). formed (first_fault (unwrap_or o []))) held ∙ ap formed good.formed in
+    let code : addressed (is_executable (file_in files words Image) (address / 4096)) address ≡ passes =
+    ap (λ (o : Option (List ℕ)). addressed (is_executable (unwrap_or o []) (address / 4096)) address) held
+    ∙ ap (λ (b : Bool). addressed b address) good.code in
+    rw (fetched, form, code) refl
+
 -- where what the words ask for can be done, all checks pass
 checks_pass : (words : List (List ℕ)) (files : Files) (command : Command) → IsDoable command words files
     → first_verdict (checks_of command files words) ≡ passes
@@ -181,6 +210,11 @@ checks_pass words files (Replay frames) doable =
 checks_pass words files (Audit frames id) doable =
     let (image, held, good) = some_and (files (name_in words Image)) _ doable.0 in
     audit_passes words files image held good.0 frames id good.1 doable.1 doable.2
+checks_pass words files Assemble doable =
+    let (text, held, good) = some_and (files (name_in words Text)) _ doable in assemble_passes words files text held good
+checks_pass words files (Listing address count) doable =
+    let (image, held, good) = some_and (files (name_in words Image)) _ doable in
+    listing_passes words files image held address count good
 checks_pass words files (Make number) doable = refl
 checks_pass words files (Work number) doable = refl
 checks_pass words files Join doable =
@@ -231,7 +265,7 @@ module _ (seen : Witness) (status : ℕ) (text : List ℕ) (result : ℕ) where
     status_is : result ≡ status
     taken : TookAll seen.sink text
 
-  status_range : Says seen.words seen.shelf status text → IsWritten seen.sink status text result → result ≤ 9
+  status_range : Says seen.words seen.shelf status text → IsWritten seen.sink status text result → result ≤ 10
   status_range says (inr cut) = omega (arith, cut.0)
   status_range (inl plain) (inl whole) = omega (arith, whole.0, plain.status_is)
   status_range (inr (inl said)) (inl whole) = omega (arith, whole.0, said.status_is)

@@ -26,9 +26,9 @@ module _ (seen : Witness) where
       subst (λ (b : Option (List ℕ)). Appends b seen.sink.after.taken text) began took in
       subst (λ (a : Option (List ℕ)). Appends (Some before) a text) ended first
 
-  -- there is no status 10
-  status_10 : Promises seen 10 → ⊥
-  status_10 it = absurd (omega (arith, it.status_range))
+  -- there is no status 11
+  status_11 : Promises seen 11 → ⊥
+  status_11 it = absurd (omega (arith, it.status_range))
 
   -- status 2 isn't the answer to words that have a form
   usage_for_a_form : (command : Command) → command_of seen.words ≡ Some command → Promises seen 2 → ⊥

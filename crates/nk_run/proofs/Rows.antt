@@ -5,12 +5,13 @@ use Rattle.std.proofs.lemmas.Grind.{common_steps}
 use Rattle.std.specs.Prelude.{MatchBool, ⊤}
 use Rattle.nk_host.specs.FaultCounts.{NeverFalls, RoseTo}
 use Rattle.nk_host.specs.Told.{IfTold}
+use Rattle.elf_image.specs.Rows.{first_fault}
 use Rattle.nk_run.specs.declared.command_line.Role.{Role}
-use Rattle.nk_run.specs.declared.command_line.Role.TheVariants.{Image, Input, Plan, Journal, ModuleList, Module}
+use Rattle.nk_run.specs.declared.command_line.Role.TheVariants.{Image, Input, Plan, Journal, ModuleList, Module, Text}
 use Rattle.nk_run.specs.CommandLine.{Command, Scan, IsAsked, command_of, is_same, name_in, roles_of}
 use Rattle.nk_run.specs.Witness.{Change, Files, ShelfState}
 use Rattle.nk_run.specs.Clauses.{IsNameOf, NameRose}
-use Rattle.nk_run.specs.Outcome.{Answer, Check, DoesPass, IsReached, IsReachedAfter, Verdict, checks_of, decided, ends, fetch, fetch_verdict, file_in, first_verdict, outcome, command_outcome, passes, form_checks, image_checks, text_of, unheld, unless_ended}
+use Rattle.nk_run.specs.Outcome.{Answer, Check, DoesPass, IsReached, IsReachedAfter, Verdict, checks_of, decided, ends, fetch, fetch_verdict, file_in, first_verdict, outcome, command_outcome, passes, form_checks, formed, formed_checks, image_checks, test, text_of, unheld, unless_ended}
 use Rattle.nk_run.specs.Replies.{CommandSays, IsOwn, IsWant, RefusesBy, Stops, StopsIn, is_listed}
 use Rattle.nk_run.proofs.Checks.{first_verdict-append}
 use Rattle.nk_run.proofs.Told.{if_told, told_at}
@@ -153,7 +154,13 @@ first_stops words shelf role later status text same (inl stop) = inl (record {
 first_stops words shelf role later status text same (inr (inl want)) = inr (inl want)
 first_stops words shelf role later status text same (inr (inr stop)) = inr (inr stop)
 
--- those on the image do
+-- those on an image that isn't scanned, and those on the image, do
+pub formed_stops : (words : List (List ℕ)) (shelf : Change ShelfState) (status : ℕ) (text : List ℕ)
+    → Stops words shelf Image (λ files. first_verdict (formed_checks files words)) status text
+    → StopsIn words shelf (Image ∷ []) (λ files. formed_checks files words) status text
+formed_stops words shelf status text stops =
+    first_stops words shelf Image (λ files. test (formed (first_fault (file_in files words Image))) ∷ []) status text refl stops
+
 pub image_stops : (words : List (List ℕ)) (shelf : Change ShelfState) (status : ℕ) (text : List ℕ)
     → Stops words shelf Image (λ files. first_verdict (image_checks files words)) status text
     → StopsIn words shelf (Image ∷ []) (λ files. image_checks files words) status text
@@ -183,7 +190,7 @@ fetch_stops words shelf role name roles later status text same named (inr (inr s
 }))
 
 -- a number that isn't one of those of the usage line and of the outside
-own_number : (number : ℕ) → (number ≤ 1) ⊎ ((6 ≤ number) × (number ≤ 9)) → IsOwn number
+own_number : (number : ℕ) → (number ≤ 1) ⊎ ((6 ≤ number) × (number ≤ 10)) → IsOwn number
 own_number number (inl small) = record {
   small = omega (arith, small);
   not_usage = λ h. omega (arith, small, h);
@@ -210,7 +217,7 @@ pub own_one : IsOwn 1
 own_one = own_small 1 (omega arith)
 
 -- and those from 6 on are the others
-pub own_large : (status : ℕ) → 6 ≤ status → status ≤ 9 → IsOwn status
+pub own_large : (status : ℕ) → 6 ≤ status → status ≤ 10 → IsOwn status
 own_large status large within = own_number status (inr (large, within))
 
 pub own_six : IsOwn 6
@@ -218,6 +225,9 @@ own_six = own_large 6 (omega arith) (omega arith)
 
 pub own_nine : IsOwn 9
 own_nine = own_large 9 (omega arith) (omega arith)
+
+pub own_ten : IsOwn 10
+own_ten = own_large 10 (omega arith) (omega arith)
 
 -- a row passed, and then a check behind it refused
 pub refused_stops : (words : List (List ℕ)) (shelf : Change ShelfState) (roles : List Role) (row later : Files → List Check)
@@ -246,6 +256,7 @@ same_role Plan Plan e = refl
 same_role Journal Journal e = refl
 same_role ModuleList ModuleList e = refl
 same_role (Module a) (Module b) e = ap Module (eqb-true a b e)
+same_role Text Text e = refl
 same_role Image Input e = cc
 same_role Image Plan e = cc
 same_role Image Journal e = cc
@@ -276,6 +287,18 @@ same_role (Module a) Input e = cc
 same_role (Module a) Plan e = cc
 same_role (Module a) Journal e = cc
 same_role (Module a) ModuleList e = cc
+same_role Image Text e = cc
+same_role Input Text e = cc
+same_role Plan Text e = cc
+same_role Journal Text e = cc
+same_role ModuleList Text e = cc
+same_role (Module a) Text e = cc
+same_role Text Image e = cc
+same_role Text Input e = cc
+same_role Text Plan e = cc
+same_role Text Journal e = cc
+same_role Text ModuleList e = cc
+same_role Text (Module b) e = cc
 
 contains_there : (roles : List Role) (role other : Role) → Contains roles role → Contains (other ∷ roles) role
 contains_there roles role other (n, within, is) = (suc n, omega (arith, within), is)

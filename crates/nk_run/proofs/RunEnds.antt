@@ -9,7 +9,7 @@ use Rattle.gate_state.specs.MachineStates.{MachineState}
 use Rattle.gate_state.specs.MachineSteps.{move_of, next, state}
 use Rattle.gate_state.specs.StepsTaken.{CountsSteps}
 use Rattle.image_maker.specs.MadeImage.{image_of_number}
-use Rattle.nk_run.specs.CommandLine.{Command, Scan, Map, Run, Replay, Make, Work, Join, Audit}
+use Rattle.nk_run.specs.CommandLine.{Command, Scan, Map, Run, Replay, Make, Work, Join, Audit, Assemble, Listing}
 use Rattle.nk_run.specs.declared.command_line.Role.TheVariants.{Input, Plan}
 use Rattle.nk_run.specs.declared.ending.Ending.{Ending}
 use Rattle.nk_run.specs.Clauses.{HasEnd}
@@ -69,6 +69,8 @@ ended_where_run law words files Scan = tt
 ended_where_run law words files (Map frames va) = tt
 ended_where_run law words files (Replay frames) = tt
 ended_where_run law words files (Audit frames id) = tt
+ended_where_run law words files Assemble = tt
+ended_where_run law words files (Listing address count) = tt
 ended_where_run law words files (Make number) = tt
 ended_where_run law words files Join = tt
 ended_where_run law words files (Run steps frames) =

@@ -13,12 +13,13 @@ use Rattle.byte_scanner.specs.LeastPlace.{IsNowhere}
 use Rattle.irq_plan.specs.declared.event.Event.{Event}
 use Rattle.irq_plan.specs.PlanFile.{plan_of}
 use Rattle.irq_plan.specs.PlannedEvents.{IsPlan}
+use Rattle.text_lines.specs.Numerals.{numeral}
 use Rattle.gate_state.specs.GuardedStates.{IsAdmitted}
 use Rattle.gate_state.specs.MachineStates.{Opening}
 use Rattle.std.specs.Option.{option_map}
 use Rattle.nk_run.specs.declared.command_line.Role.TheVariants.{Image, Input, Plan}
 use Rattle.nk_run.specs.Clauses.{HasJournal, HasSafeRun, IsGoodImage, IsSafeRun}
-use Rattle.nk_run.specs.CommandLine.{Command, Scan, Map, Run, Replay, Make, Work, Join, Audit, audit_with, command_of, map_with, name_in, run_with}
+use Rattle.nk_run.specs.CommandLine.{Command, Scan, Map, Run, Replay, Make, Work, Join, Audit, Assemble, Listing, audit_with, command_of, listing_with, map_with, name_in, run_with}
 use Rattle.nk_run.specs.NumberWords.{address_word, bounded, decimal_within, is_least_long, is_numeral}
 use Rattle.nk_run.specs.JournalLaw.{IsReplayedRun}
 use Rattle.nk_run.specs.Lines.{longest_file}
@@ -65,26 +66,34 @@ no_map (Some f) (Some va) steps frames e = cc
 no_map (Some f) None steps frames e = cc
 no_map None va steps frames e = cc
 
-no_short : (scans makes works : Bool) (n : Option ℕ) (steps frames : ℕ)
-    → (if scans then Some Scan else if makes then option_map Make n else if works then option_map Work n else None)
+no_short : (scans assembles makes works : Bool) (n : Option ℕ) (steps frames : ℕ)
+    → (if scans then Some Scan else if assembles then Some Assemble else if makes then option_map Make n else if works then option_map Work n else None)
     ≡ Some (Run steps frames) → ⊥
-no_short true makes works n steps frames e = cc
-no_short false true works (Some n) steps frames e = cc
-no_short false true works None steps frames e = cc
-no_short false false true (Some n) steps frames e = cc
-no_short false false true None steps frames e = cc
-no_short false false false n steps frames e = cc
+no_short true assembles makes works n steps frames e = cc
+no_short false true makes works n steps frames e = cc
+no_short false false true works (Some n) steps frames e = cc
+no_short false false true works None steps frames e = cc
+no_short false false false true (Some n) steps frames e = cc
+no_short false false false true None steps frames e = cc
+no_short false false false false n steps frames e = cc
 
 no_pair : (joins : Bool) (steps frames : ℕ) → (if joins then Some Join else None) ≡ Some (Run steps frames) → ⊥
 no_pair true steps frames e = cc
 no_pair false steps frames e = cc
 
-no_middle : (maps replays : Bool) (x y : Option ℕ) (steps frames : ℕ)
-    → (if maps then map_with x y else if replays then option_map Replay x else None) ≡ Some (Run steps frames) → ⊥
-no_middle true replays x y steps frames e = no_map x y steps frames e
-no_middle false true (Some n) y steps frames e = cc
-no_middle false true None y steps frames e = cc
-no_middle false false x y steps frames e = cc
+no_listing : (a b : Option ℕ) (steps frames : ℕ) → listing_with a b ≡ Some (Run steps frames) → ⊥
+no_listing (Some address) (Some count) steps frames e = cc
+no_listing (Some address) None steps frames e = cc
+no_listing None b steps frames e = cc
+
+no_middle : (maps replays lists : Bool) (x y a b : Option ℕ) (steps frames : ℕ)
+    → (if maps then map_with x y else if replays then option_map Replay x else if lists then listing_with a b else None)
+    ≡ Some (Run steps frames) → ⊥
+no_middle true replays lists x y a b steps frames e = no_map x y steps frames e
+no_middle false true lists (Some n) y a b steps frames e = cc
+no_middle false true lists None y a b steps frames e = cc
+no_middle false false true x y a b steps frames e = no_listing a b steps frames e
+no_middle false false false x y a b steps frames e = cc
 
 no_audit : (audits : Bool) (x y : Option ℕ) (steps frames : ℕ) → (if audits then audit_with x y else None) ≡ Some (Run steps frames) → ⊥
 no_audit true (Some f) (Some id) steps frames e = cc
@@ -116,9 +125,9 @@ run_chosen false word_steps word_frames steps frames e = absurd (cc)
 run_within : (words : List (List ℕ)) (steps frames : ℕ) → command_of words ≡ Some (Run steps frames) → IsRunWithin steps frames
 run_within [] steps frames e = absurd (cc)
 run_within (a ∷ []) steps frames e = absurd (cc)
-run_within (a ∷ b ∷ []) steps frames e = absurd (no_short _ _ _ (decimal_within 1 100 b) steps frames e)
+run_within (a ∷ b ∷ []) steps frames e = absurd (no_short _ _ _ _ (decimal_within 1 100 b) steps frames e)
 run_within (a ∷ b ∷ c ∷ []) steps frames e = absurd (no_pair _ steps frames e)
-run_within (a ∷ b ∷ c ∷ d ∷ []) steps frames e = absurd (no_middle _ _ (decimal_within 512 65536 c) (address_word d) steps frames e)
+run_within (a ∷ b ∷ c ∷ d ∷ []) steps frames e = absurd (no_middle _ _ _ (decimal_within 512 65536 c) (address_word d) (numeral 16 16 c) (decimal_within 1 4096 d) steps frames e)
 run_within (a ∷ b ∷ c ∷ d ∷ x ∷ []) steps frames e = absurd (no_audit _ (decimal_within 512 65536 c) (decimal_within 256 8589934591 x) steps frames e)
 run_within (a ∷ b ∷ c ∷ d ∷ x ∷ f ∷ []) steps frames e = run_chosen _ x f steps frames e
 run_within (a ∷ b ∷ c ∷ d ∷ x ∷ f ∷ g ∷ more) steps frames e = absurd (cc)
@@ -209,6 +218,8 @@ module _ (pages_hold : (b : List ℕ) → first_fault b ≡ None → IsPageList 
   safe_where_run law words files (Map frames va) asked bytes = tt
   safe_where_run law words files (Replay frames) asked bytes = tt
   safe_where_run law words files (Audit frames id) asked bytes = tt
+  safe_where_run law words files Assemble asked bytes = tt
+  safe_where_run law words files (Listing address count) asked bytes = tt
   safe_where_run law words files (Make number) asked bytes = tt
   safe_where_run law words files (Work number) asked bytes = tt
   safe_where_run law words files Join asked bytes = tt
@@ -223,6 +234,8 @@ module _ (pages_hold : (b : List ℕ) → first_fault b ≡ None → IsPageList 
   replayed_where_run law words files (Map frames va) asked bytes = tt
   replayed_where_run law words files (Replay frames) asked bytes = tt
   replayed_where_run law words files (Audit frames id) asked bytes = tt
+  replayed_where_run law words files Assemble asked bytes = tt
+  replayed_where_run law words files (Listing address count) asked bytes = tt
   replayed_where_run law words files (Make number) asked bytes = tt
   replayed_where_run law words files (Work number) asked bytes = tt
   replayed_where_run law words files Join asked bytes = tt

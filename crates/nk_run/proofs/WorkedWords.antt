@@ -6,9 +6,9 @@ use Rattle.nk_bits.specs.declared.leaf.Leaf.{Leaf}
 use Rattle.nk_bits.specs.declared.leaf.Rights.{Rights}
 use Rattle.report_text.specs.ImageLines.{admitted_line, image_line, protected_line}
 use Rattle.report_text.specs.RunLines.{hex_16}
-use Rattle.nk_run.specs.declared.command_line.Role.TheVariants.{Image, Input, Plan, Journal, ModuleList, Module}
-use Rattle.nk_run.specs.CommandLine.{Command, Scan, Map, Run, Replay, Make, Work, Join, Audit, command_of}
-use Rattle.nk_run.specs.Lines.{empty_line, frame_line, journal_line, list_line, longer_line, missing_line, no_memory_line, nofit_line, noregion_line, noroom_line, plan_line, rights_text, unread_line, usage_line, walk_line}
+use Rattle.nk_run.specs.declared.command_line.Role.TheVariants.{Image, Input, Plan, Journal, ModuleList, Module, Text}
+use Rattle.nk_run.specs.CommandLine.{Command, Scan, Map, Run, Replay, Make, Work, Join, Audit, Assemble, Listing, command_of}
+use Rattle.nk_run.specs.Lines.{empty_line, frame_line, journal_line, list_line, longer_line, missing_line, no_memory_line, nofit_line, noaddress_line, noregion_line, text_line, noroom_line, plan_line, rights_text, unread_line, usage_line, walk_line}
 
 -- `scan IMAGE`, whatever the name of the file
 scans :
@@ -161,6 +161,32 @@ audits :
     (command_of (codes "replay" ∷ codes "a" ∷ codes "512" ∷ codes "b" ∷ codes "256" ∷ []) ≡ None)
 audits = (refl, refl, refl, refl, refl, refl, refl, refl, refl, refl, refl, refl, refl, refl, refl, refl, refl, refl, refl)
 
+abbrev listing_from : List ℕ → List ℕ → Option Command
+listing_from address count = command_of (codes "list" ∷ codes "a" ∷ address ∷ count ∷ [])
+
+-- ADDR is of 1 to 16 digits, canonical or not, and COUNT 1 to 4,096; `asm` has one word
+listings :
+    (listing_from (codes "ffffffff80000000") (codes "1") ≡ Some (Listing 0xFFFFFFFF80000000 1)) ×
+    (listing_from (codes "FFFF") (codes "4096") ≡ Some (Listing 65535 4096)) ×
+    (listing_from (codes "0000000000000000") (codes "12") ≡ Some (Listing 0 12)) ×
+    (listing_from (codes "0000800000000000") (codes "1") ≡ Some (Listing 0x800000000000 1)) ×
+    (listing_from (codes "ffffffffffffffff") (codes "1") ≡ Some (Listing 0xFFFFFFFFFFFFFFFF 1)) ×
+    (listing_from (codes "00000000000000000") (codes "1") ≡ None) ×
+    (listing_from (codes "0x1") (codes "1") ≡ None) ×
+    (listing_from (codes "g") (codes "1") ≡ None) ×
+    (listing_from [] (codes "1") ≡ None) ×
+    (listing_from (codes "0") (codes "0") ≡ None) ×
+    (listing_from (codes "0") (codes "4097") ≡ None) ×
+    (listing_from (codes "0") (codes "01") ≡ None) ×
+    (listing_from (codes "0") [] ≡ None) ×
+    (command_of (codes "lists" ∷ codes "a" ∷ codes "0" ∷ codes "1" ∷ []) ≡ None) ×
+    (command_of (codes "list" ∷ codes "a" ∷ codes "0" ∷ []) ≡ None) ×
+    (command_of (codes "asm" ∷ codes "a" ∷ []) ≡ Some Assemble) ×
+    (command_of (codes "asm" ∷ []) ≡ None) ×
+    (command_of (codes "asm" ∷ codes "a" ∷ codes "b" ∷ []) ≡ None) ×
+    (command_of (codes "ASM" ∷ codes "a" ∷ []) ≡ None)
+listings = (refl, refl, refl, refl, refl, refl, refl, refl, refl, refl, refl, refl, refl, refl, refl, refl, refl, refl, refl)
+
 -- no other words have a form
 formless :
     (command_of [] ≡ None) ×
@@ -175,7 +201,7 @@ formless :
 formless = (refl, refl, refl, refl, refl, refl, refl, refl, refl)
 
 -- the usage line, as the formats have it
-usage : usage_line ≡ codes "usage: nkrun scan IMAGE | map IMAGE FRAMES VA | run IMAGE INPUT PLAN STEPS FRAMES | replay IMAGE FRAMES JOURNAL | make NUMBER | work NUMBER | join IMAGE LIST | audit IMAGE FRAMES JOURNAL ID\n"
+usage : usage_line ≡ codes "usage: nkrun scan IMAGE | map IMAGE FRAMES VA | run IMAGE INPUT PLAN STEPS FRAMES | replay IMAGE FRAMES JOURNAL | make NUMBER | work NUMBER | join IMAGE LIST | audit IMAGE FRAMES JOURNAL ID | asm TEXT | list IMAGE ADDR COUNT\n"
 unfolding usage_line
 usage = refl
 
@@ -201,12 +227,17 @@ refusals :
     (nofit_line ≡ codes "nofit\n") ×
     (noregion_line 300 ≡ codes "noregion 300\n") ×
     (noregion_line 8589934591 ≡ codes "noregion 8589934591\n") ×
+    (unread_line Text ≡ codes "unread text\n") ×
+    (longer_line Text ≡ codes "longer text 67108864\n") ×
+    (text_line 2 ≡ codes "text line 2\n") ×
+    (noaddress_line 0 ≡ codes "noaddress 0000000000000000\n") ×
+    (noaddress_line 0xFFFFFFFF80001000 ≡ codes "noaddress ffffffff80001000\n") ×
     (noroom_line 600 512 ≡ codes "noroom 600 512\n") ×
     (image_line 13 (codes "TooLarge") 0 ≡ codes "image 13 TooLarge 0\n") ×
     (image_line 1 (codes "Short") 18446744073709551615 ≡ codes "image 1 Short 18446744073709551615\n") ×
     (protected_line 0xFFFFFFFF80001FFE (0x0F ∷ 0x22 ∷ 0xC0 ∷ []) ≡ codes "protected ffffffff80001ffe 0f22c0\n")
-unfolding no_memory_line unread_line longer_line plan_line journal_line list_line empty_line nofit_line noregion_line noroom_line image_line protected_line hex_16 padded_integral char_count digits encode_with
-refusals = (refl, refl, refl, refl, refl, refl, refl, refl, refl, refl, refl, refl, refl, refl, refl, refl, refl, refl, refl, refl, refl, refl, refl, refl)
+unfolding no_memory_line unread_line longer_line plan_line journal_line list_line empty_line nofit_line noregion_line text_line noaddress_line noroom_line image_line protected_line hex_16 padded_integral char_count digits encode_with
+refusals = (refl, refl, refl, refl, refl, refl, refl, refl, refl, refl, refl, refl, refl, refl, refl, refl, refl, refl, refl, refl, refl, refl, refl, refl, refl, refl, refl, refl, refl)
 
 abbrev rights : Rights → Leaf
 rights given = record { frame = 71; rights = given }

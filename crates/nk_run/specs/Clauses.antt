@@ -1,11 +1,12 @@
 -- What the top call promises, in the order of the record `Promises` at the end: each promise is over what the call saw
 -- and its status.
-use Rattle.std.specs.Prelude.{◌≡◌, ℕ, ◌≤◌, ◌⊎◌, List, [], length, Option, None, Some, MatchOption, IfSome, IsSome, IsSomeAnd, IsOk, ⊤}
+use Rattle.std.specs.Prelude.{◌≡◌, ℕ, ◌/◌, ◌≤◌, true, ◌⊎◌, List, [], length, Option, None, Some, MatchOption, IfSome, IsSome, IsSomeAnd, IsOk, ⊤}
 use Rattle.std.specs.List.{All}
 use Rattle.std.specs.Io.KnownBytes.{Appends}
 use Rattle.nk_host.specs.FaultCounts.{Rose, RoseTo}
 use Rattle.nk_host.specs.Taken.{AppendsPrefix}
 use Rattle.nk_host.specs.Told.{IfTold}
+use Rattle.elf_image.specs.Pages.{is_executable}
 use Rattle.elf_image.specs.Rows.{first_fault}
 use Rattle.byte_scanner.specs.FirstFound.{first_found}
 use Rattle.irq_plan.specs.declared.event.Event.{Event}
@@ -19,14 +20,15 @@ use Rattle.gate_state.specs.MachineStates.{Opening, nested_of}
 use Rattle.gate_state.specs.MachineSteps.{calls, made_by_all, state}
 use Rattle.replay_core.specs.ReplayedCalls.{replay_of}
 use Rattle.image_maker.specs.MadeImage.{image_of_number}
+use Rattle.asm_text.specs.AssembledText.{assembled_of}
 use Rattle.code_modules.specs.JoinedImage.{IsJoined}
 use Rattle.code_modules.specs.JoinedParts.{CodeModule, modules_behind}
 use Rattle.code_modules.specs.ModuleList.{list_of}
 use Rattle.gate_state.specs.SafeStates.{IsSafe}
 use Rattle.gate_state.specs.WindowLeft.{IsShortWindow}
 use Rattle.nk_run.specs.declared.command_line.Role.{Role}
-use Rattle.nk_run.specs.declared.command_line.Role.TheVariants.{Image, Input, Plan, Journal, ModuleList, Module}
-use Rattle.nk_run.specs.CommandLine.{Command, Scan, Map, Run, Replay, Make, Work, Join, Audit, command_of, name_in, IsAsked}
+use Rattle.nk_run.specs.declared.command_line.Role.TheVariants.{Image, Input, Plan, Journal, ModuleList, Module, Text}
+use Rattle.nk_run.specs.CommandLine.{Command, Scan, Map, Run, Replay, Make, Work, Join, Audit, Assemble, Listing, command_of, name_in, IsAsked}
 use Rattle.nk_run.specs.JoinedRuns.{KeepsCode}
 use Rattle.nk_run.specs.JournalLaw.{IsJournal}
 use Rattle.nk_run.specs.Lines.{longest_file, longest_module, no_memory_line, unread_line, usage_line}
@@ -145,6 +147,17 @@ pub record IsGoodImage (b : List ℕ) : Type 0 where
   pub formed : first_fault b ≡ None
   pub clean : first_found b ≡ None
 
+-- the image is held within the limit, has no fault, and its code has a page with this address
+pub record HasCodeAt (address : ℕ) (b : List ℕ) : Type 0 where
+  pub within : length b ≤ longest_file
+  pub formed : first_fault b ≡ None
+  pub code : is_executable b (address / 4096) ≡ true
+
+-- a text is held within the limit, and each of its lines has code
+pub record IsGoodText (b : List ℕ) : Type 0 where
+  pub within : length b ≤ longest_file
+  pub coded : IsOk (assembled_of b)
+
 -- the opening of the image has room in a memory of so many frames
 abbrev pub HasRoom : ℕ → List ℕ → Type 0
 HasRoom frames b = need b frames ≤ frames
@@ -194,6 +207,8 @@ IsDoable (Audit frames id) words files =
     × IsSome (size_in files words id)
 IsDoable (Make number) words files = ⊤
 IsDoable (Work number) words files = ⊤
+IsDoable Assemble words files = IsSomeAnd (files (name_in words Text)) IsGoodText
+IsDoable (Listing address count) words files = IsSomeAnd (files (name_in words Image)) (HasCodeAt address)
 IsDoable Join words files = HasImage words files (λ image. ⊤) × HasModules words files
 
 -- what can be done is done: without a fault the status is 0, or that of want of memory
@@ -274,7 +289,7 @@ IsWholeWhereJoined seen = IfTold seen.shelf.before.files (λ files.
     IfSome (command_of seen.words) (λ command. HasJoined command seen.words files))
 
 pub record Promises (seen : Witness) (status : ℕ) : Type 0 where
-  pub status_range : status ≤ 9
+  pub status_range : status ≤ 10
   -- words without a form, and the counts: over every shelf and sink, whether they tell their content or not
   pub usage : IsUsage seen status
   pub usage_alone : IsUsageAlone seen status

@@ -1,11 +1,12 @@
 -- The command line: the forms that the words may have, and the name that stands for each role's file.
-use Rattle.std.specs.Prelude.{ℕ, ◌+◌, ◌≤◌, ◌==◌, Bool, true, false, if◌then◌else◌, List, [], ◌∷◌, map, Contains, Option, None, Some, IsSomeAnd, codes, slice_index_or, IsTrue, ⊤}
+use Rattle.std.specs.Prelude.{ℕ, ◌+◌, ◌^◌, ◌<◌, ◌≤◌, ◌==◌, Bool, true, false, if◌then◌else◌, List, [], ◌∷◌, map, Contains, Option, None, Some, IsSomeAnd, codes, slice_index_or, IsTrue, ⊤}
 use Rattle.std.specs.List.{range_with_len}
 use Rattle.std.specs.Option.{option_map}
 use Rattle.std.specs.Str.{bytes_eq}
 use Rattle.nk_bits.specs.Paging.{is_canonical}
+use Rattle.text_lines.specs.Numerals.{numeral}
 use Rattle.nk_run.specs.declared.command_line.Role.{Role}
-use Rattle.nk_run.specs.declared.command_line.Role.TheVariants.{Image, Input, Plan, Journal, ModuleList, Module}
+use Rattle.nk_run.specs.declared.command_line.Role.TheVariants.{Image, Input, Plan, Journal, ModuleList, Module, Text}
 use Rattle.nk_run.specs.NumberWords.{decimal_within, address_word}
 
 -- what the words ask for, by the numbers among them; the names of the files are read beside it
@@ -18,11 +19,14 @@ pub data Command : Type 0 where
   Work : ℕ → Command
   Join : Command
   Audit : ℕ → ℕ → Command
+  Assemble : Command
+  Listing : ℕ → ℕ → Command
 
--- `scan IMAGE`; and `make NUMBER` and `work NUMBER`, NUMBER from 1 to 100
+-- `scan IMAGE`; `asm TEXT`; and `make NUMBER` and `work NUMBER`, NUMBER from 1 to 100
 abbrev pub short_of : List ℕ → List ℕ → Option Command
 short_of name word =
     if bytes_eq name (codes "scan") then Some Scan
+    else if bytes_eq name (codes "asm") then Some Assemble
     else if bytes_eq name (codes "make") then option_map Make (decimal_within 1 100 word)
     else if bytes_eq name (codes "work") then option_map Work (decimal_within 1 100 word)
     else None
@@ -37,12 +41,22 @@ map_with (Some frames) (Some va) = Some (Map frames va)
 map_with (Some frames) None = None
 map_with None va = None
 
--- that, or `replay IMAGE FRAMES JOURNAL` with the same bounds on FRAMES
+-- `list IMAGE ADDR COUNT`: ADDR has 1 to 16 hexadecimal digits, and COUNT is from 1 to 4,096
+abbrev pub listing_with : Option ℕ → Option ℕ → Option Command
+listing_with (Some address) (Some count) = Some (Listing address count)
+listing_with (Some address) None = None
+listing_with None count = None
+
+abbrev pub listing_of : List ℕ → List ℕ → List ℕ → Option Command
+listing_of name address count =
+    if bytes_eq name (codes "list") then listing_with (numeral 16 16 address) (decimal_within 1 4096 count) else None
+
+-- that, `map`, or `replay IMAGE FRAMES JOURNAL` with the same bounds on FRAMES
 abbrev pub middle_of : List ℕ → List ℕ → List ℕ → Option Command
-middle_of name frames word =
-    if bytes_eq name (codes "map") then map_with (decimal_within 512 65536 frames) (address_word word)
-    else if bytes_eq name (codes "replay") then option_map Replay (decimal_within 512 65536 frames)
-    else None
+middle_of name third last =
+    if bytes_eq name (codes "map") then map_with (decimal_within 512 65536 third) (address_word last)
+    else if bytes_eq name (codes "replay") then option_map Replay (decimal_within 512 65536 third)
+    else listing_of name third last
 
 -- `audit IMAGE FRAMES JOURNAL ID`: FRAMES as above, and ID from 256 to 2^33 - 1, the identifiers that regions may have
 abbrev pub audit_with : Option ℕ → Option ℕ → Option Command
@@ -72,7 +86,7 @@ run_of name steps frames =
 abbrev pub command_of : List (List ℕ) → Option Command
 command_of (name ∷ word ∷ []) = short_of name word
 command_of (name ∷ image ∷ list ∷ []) = pair_of name
-command_of (name ∷ image ∷ frames ∷ word ∷ []) = middle_of name frames word
+command_of (name ∷ image ∷ third ∷ last ∷ []) = middle_of name third last
 command_of (name ∷ image ∷ frames ∷ journal ∷ id ∷ []) = audit_of name frames id
 command_of (name ∷ image ∷ input ∷ plan ∷ steps ∷ frames ∷ []) = run_of name steps frames
 command_of _ = None
@@ -87,6 +101,8 @@ IsBounded (Make number) = (1 ≤ number) × (number ≤ 100)
 IsBounded (Work number) = (1 ≤ number) × (number ≤ 100)
 IsBounded Join = ⊤
 IsBounded (Audit frames id) = (512 ≤ frames) × (frames ≤ 65536) × (256 ≤ id) × (id ≤ 8589934591)
+IsBounded Assemble = ⊤
+IsBounded (Listing address count) = (address < 2 ^ 64) × (1 ≤ count) × (count ≤ 4096)
 
 -- two roles are one
 abbrev pub is_same : Role → Role → Bool
@@ -96,6 +112,7 @@ is_same Plan Plan = true
 is_same Journal Journal = true
 is_same ModuleList ModuleList = true
 is_same (Module number) (Module other) = number == other
+is_same Text Text = true
 is_same _ _ = false
 
 -- the place among the words of the name of a role's file; a module's stands in the list, as if that came behind the words
@@ -106,6 +123,7 @@ word_place Plan = 3
 word_place Journal = 3
 word_place ModuleList = 2
 word_place (Module number) = 3 + number
+word_place Text = 1
 
 -- the name of a role's file
 abbrev pub name_in : List (List ℕ) → Role → List ℕ
@@ -120,6 +138,8 @@ roles_of (Replay frames) = Image ∷ Journal ∷ []
 roles_of (Make number) = []
 roles_of (Work number) = []
 roles_of (Audit frames id) = Image ∷ Journal ∷ []
+roles_of Assemble = Text ∷ []
+roles_of (Listing address count) = Image ∷ []
 roles_of Join = Image ∷ ModuleList ∷ map Module (range_with_len 0 32)
 
 -- the words have a form, and the role is one of its command's

@@ -3,8 +3,9 @@ use Rattle.std.specs.Prelude.{ℕ, ◌++◌, if◌then◌else◌, List, codes, R
 use Rattle.std.specs.Fmt.{decimal}
 use Rattle.nk_bits.specs.declared.leaf.Leaf.{Leaf}
 use Rattle.nk_bits.specs.declared.leaf.Rights.{Rights}
+use Rattle.report_text.specs.RunLines.{hex_16}
 use Rattle.nk_run.specs.declared.command_line.Role.{Role}
-use Rattle.nk_run.specs.declared.command_line.Role.TheVariants.{Image, Input, Plan, Journal, ModuleList, Module}
+use Rattle.nk_run.specs.declared.command_line.Role.TheVariants.{Image, Input, Plan, Journal, ModuleList, Module, Text}
 
 -- the most bytes of a file that is read: 64 MiB
 abbrev pub longest_file : ℕ
@@ -27,10 +28,11 @@ role_text Plan = codes "plan"
 role_text Journal = codes "journal"
 role_text ModuleList = codes "list"
 role_text (Module number) = codes "module"
+role_text Text = codes "text"
 
 -- the words have none of the forms
 unfoldable pub usage_line : List ℕ
-usage_line = codes "usage: nkrun scan IMAGE | map IMAGE FRAMES VA | run IMAGE INPUT PLAN STEPS FRAMES | replay IMAGE FRAMES JOURNAL | make NUMBER | work NUMBER | join IMAGE LIST | audit IMAGE FRAMES JOURNAL ID\n"
+usage_line = codes "usage: nkrun scan IMAGE | map IMAGE FRAMES VA | run IMAGE INPUT PLAN STEPS FRAMES | replay IMAGE FRAMES JOURNAL | make NUMBER | work NUMBER | join IMAGE LIST | audit IMAGE FRAMES JOURNAL ID | asm TEXT | list IMAGE ADDR COUNT\n"
 
 -- there was no memory
 unfoldable pub no_memory_line : List ℕ
@@ -71,6 +73,14 @@ nofit_line = codes "nofit\n"
 -- no call of the journal gave a region this identifier, or its writes aren't logged
 unfoldable pub noregion_line : ℕ → List ℕ
 noregion_line id = codes "noregion " ++ (decimal id ++ codes "\n")
+
+-- the first line of a text that has no code
+unfoldable pub text_line : ℕ → List ℕ
+text_line number = codes "text line " ++ (decimal number ++ codes "\n")
+
+-- no code of the image stands at this address
+unfoldable pub noaddress_line : ℕ → List ℕ
+noaddress_line address = codes "noaddress " ++ (hex_16 address ++ codes "\n")
 
 -- rights, a letter each: read; write; execute; user or supervisor
 unfoldable pub rights_text : Rights → List ℕ

@@ -6,9 +6,9 @@ use Rattle.nk_run.specs.declared.command_line.FileName.{FileName}
 use Rattle.nk_run.specs.declared.command_line.JoinFiles.{JoinFiles}
 use Rattle.nk_run.specs.declared.command_line.ReplayFiles.{ReplayFiles}
 use Rattle.nk_run.specs.declared.command_line.Role.{Role}
-use Rattle.nk_run.specs.declared.command_line.Role.TheVariants.{Image, Input, Plan, Journal, ModuleList}
+use Rattle.nk_run.specs.declared.command_line.Role.TheVariants.{Image, Input, Plan, Journal, ModuleList, Text}
 use Rattle.nk_run.specs.declared.command_line.RunFiles.{RunFiles}
-use Rattle.nk_run.specs.CommandLine.{Command, Scan, Map, Run, Replay, Make, Work, Join, Audit, name_in}
+use Rattle.nk_run.specs.CommandLine.{Command, Scan, Map, Run, Replay, Make, Work, Join, Audit, Assemble, Listing, name_in}
 
 -- the command without the names
 abbrev pub command_as : Request → Command
@@ -20,6 +20,8 @@ command_as (named.Make number) = Make number
 command_as (named.Work number) = Work number
 command_as (named.Join files) = Join
 command_as (named.Audit files frames id) = Audit frames id
+command_as (named.Assemble text) = Assemble
+command_as (named.Listing image address count) = Listing address count
 
 -- the name is that of a role's file among the words
 abbrev pub Names : List (List ℕ) → Role → FileName → Type 0
@@ -48,3 +50,5 @@ NamesFiles words (named.Make number) = ⊤
 NamesFiles words (named.Work number) = ⊤
 NamesFiles words (named.Join files) = NamesJoin words files
 NamesFiles words (named.Audit files frames id) = NamesReplay words files
+NamesFiles words (named.Assemble text) = Names words Text text
+NamesFiles words (named.Listing image address count) = Names words Image image

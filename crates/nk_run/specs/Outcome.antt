@@ -1,11 +1,11 @@
 -- The outcome of words and files: status and text without a fault of the outside and without want of memory. It is a
 -- list of checks in order; the first that doesn't pass decides, and where all pass the command's text is written.
-use Rattle.std.specs.Prelude.{ℕ, ◌+◌, ◌==◌, ◌&&◌, List, [], ◌∷◌, ◌++◌, length, map, take, slice_get, Option, None, Some, Result, Ok, Err, if◌then◌else◌, nat_lt, nat_le, unwrap_or, MatchBool, ⊤}
+use Rattle.std.specs.Prelude.{ℕ, ◌+◌, ◌/◌, ◌==◌, ◌&&◌, Bool, true, false, List, [], ◌∷◌, ◌++◌, length, map, take, slice_get, Option, None, Some, Result, Ok, Err, if◌then◌else◌, nat_lt, nat_le, unwrap_or, MatchBool, ⊤}
 use Rattle.std.specs.Option.{option_map}
 use Rattle.elf_image.specs.declared.fault.ImageFault.{ImageFault}
 use Rattle.elf_image.specs.ImageFaults.{fault_number, name_of}
 use Rattle.elf_image.specs.Rows.{first_fault}
-use Rattle.elf_image.specs.Pages.{entry_of, executable_page_count}
+use Rattle.elf_image.specs.Pages.{entry_of, executable_page_count, is_executable}
 use Rattle.byte_scanner.specs.declared.encoding.Found.{Found}
 use Rattle.byte_scanner.specs.FirstFound.{first_found}
 use Rattle.nk_bits.specs.declared.call.CallWords.{CallWords}
@@ -21,19 +21,21 @@ use Rattle.gate_state.specs.MachineStates.{Opening, nested_of}
 use Rattle.report_text.specs.AuditLines.{audit_text}
 use Rattle.report_text.specs.ClosingSection.{section}
 use Rattle.report_text.specs.ImageLines.{admitted_line, image_line, protected_line}
+use Rattle.report_text.specs.ListingLines.{code_listing}
 use Rattle.replay_core.specs.GrantedCalls.{granted_of}
 use Rattle.replay_core.specs.ReplayedCalls.{WholeReplay, Replayed, replay_of}
 use Rattle.image_maker.specs.MadeImage.{image_of_number}
+use Rattle.asm_text.specs.AssembledText.{assembled_of}
 use Rattle.code_modules.specs.declared.fault.JoinFault.{JoinFault}
 use Rattle.code_modules.specs.declared.fault.JoinFault.TheVariants as join
 use Rattle.code_modules.specs.JoinAnswers.{join_answer}
 use Rattle.code_modules.specs.JoinedParts.{CodeModule}
 use Rattle.code_modules.specs.ModuleList.{Listed, list_of}
 use Rattle.nk_run.specs.declared.command_line.Role.{Role}
-use Rattle.nk_run.specs.declared.command_line.Role.TheVariants.{Image, Input, Plan, Journal, ModuleList, Module}
-use Rattle.nk_run.specs.CommandLine.{Command, Scan, Map, Run, Replay, Make, Work, Join, Audit, command_of, is_same, name_in}
+use Rattle.nk_run.specs.declared.command_line.Role.TheVariants.{Image, Input, Plan, Journal, ModuleList, Module, Text}
+use Rattle.nk_run.specs.CommandLine.{Command, Scan, Map, Run, Replay, Make, Work, Join, Audit, Assemble, Listing, command_of, is_same, name_in}
 use Rattle.nk_run.specs.Witness.{Files}
-use Rattle.nk_run.specs.Lines.{most_of, usage_line, longer_line, noroom_line, plan_line, journal_line, list_line, empty_line, nofit_line, noregion_line, walk_line}
+use Rattle.nk_run.specs.Lines.{most_of, usage_line, longer_line, noroom_line, plan_line, journal_line, list_line, empty_line, nofit_line, noaddress_line, noregion_line, text_line, walk_line}
 use Rattle.nk_run.specs.RunStates.{run_text}
 use Rattle.nk_run.specs.WorkSummary.{work_text}
 
@@ -233,6 +235,31 @@ abbrev pub file_joined : Result (List ℕ) JoinFault → List ℕ
 file_joined (Ok file) = file
 file_joined (Err fault) = []
 
+-- a text has a line without code: the first is named
+abbrev pub assembled : Result (List ℕ) ℕ → Verdict
+assembled (Ok code) = passes
+assembled (Err number) = ends (record { status = 6; text = text_line number })
+
+-- the code of a text, where each line has some
+abbrev pub code_in : Result (List ℕ) ℕ → List ℕ
+code_in (Ok code) = code
+code_in (Err number) = []
+
+-- the checks on a text
+abbrev pub text_checks : Files → List (List ℕ) → List Check
+text_checks files words =
+    fetch files words Text ∷ test (assembled (assembled_of (file_in files words Text))) ∷ []
+
+-- the checks on an image of which the code is listed, whatever it holds
+abbrev pub formed_checks : Files → List (List ℕ) → List Check
+formed_checks files words =
+    fetch files words Image ∷ test (formed (first_fault (file_in files words Image))) ∷ []
+
+-- an address lies in no page of the image's code
+abbrev pub addressed : Bool → ℕ → Verdict
+addressed true address = passes
+addressed false address = ends (record { status = 10; text = noaddress_line address })
+
 -- what `work` runs of an image that is made: 2,000,000 turns at most, in 4,096 frames, without input or events
 abbrev pub worked : List ℕ → List ℕ
 worked image = work_text 2000000 [] (opening_state (record { image = image; frames = 4096 }) [])
@@ -257,6 +284,10 @@ checks_of (Audit frames id) files words =
     ∷ []
 checks_of (Make number) files words = []
 checks_of (Work number) files words = []
+checks_of Assemble files words = text_checks files words
+checks_of (Listing address count) files words =
+    formed_checks files words
+    ++ test (addressed (is_executable (file_in files words Image) (address / 4096)) address) ∷ []
 checks_of Join files words = module_checks files words ++ test (joinable (join_in files words)) ∷ []
 
 abbrev pub text_of : Command → Files → List (List ℕ) → List ℕ
@@ -272,6 +303,8 @@ text_of (Audit frames id) files words =
     audit_text id (unwrap_or (size_in files words id) 0) (replay_in files words frames).made.nested.ledger.log
 text_of (Make number) files words = image_of_number number
 text_of (Work number) files words = worked (image_of_number number)
+text_of Assemble files words = code_in (assembled_of (file_in files words Text))
+text_of (Listing address count) files words = code_listing (file_in files words Image) address count
 text_of Join files words = file_joined (join_in files words)
 
 -- the outcome of the words, of which the command is what they spell

@@ -1,11 +1,12 @@
 -- What the top call says, and how it is written.
-use Rattle.std.specs.Prelude.{◌≡◌, ◌≢◌, ℕ, ◌+◌, ◌*◌, Bool, true, ◌<◌, ◌≤◌, ◌⊎◌, List, length, replicate, Contains, Option, None, Some, OnErr, OnOk, Result, IsSome, ⊤}
+use Rattle.std.specs.Prelude.{◌≡◌, ◌≢◌, ℕ, ◌+◌, ◌*◌, ◌/◌, Bool, true, ◌<◌, ◌≤◌, ◌⊎◌, List, length, replicate, Contains, Option, None, Some, OnErr, OnOk, Result, IsSome, ⊤}
 use Rattle.std.specs.List.{list_any}
 use Rattle.nk_bits.specs.declared.leaf.Leaf.{Leaf}
 use Rattle.irq_plan.specs.declared.event.Event.{Event}
 use Rattle.nk_host.specs.FaultCounts.{RoseTo}
 use Rattle.nk_host.specs.Files.{HoldsBytes}
 use Rattle.nk_host.specs.Told.{IfTold}
+use Rattle.elf_image.specs.Pages.{is_executable}
 use Rattle.byte_scanner.specs.FirstFound.{first_found}
 use Rattle.boot_map.specs.Division.{Division, IsLayout}
 use Rattle.write_log.specs.LogBytes.{HoldsLog, log_in}
@@ -13,6 +14,7 @@ use Rattle.write_log.specs.LogRecords.{LogRecord}
 use Rattle.nk_body.specs.NestedRecord.{HoldsBooks, OwnState, nested_held}
 use Rattle.gate_state.specs.MachineOpening.{opening_state}
 use Rattle.report_text.specs.AuditLines.{audit_text}
+use Rattle.report_text.specs.ListingLines.{code_listing}
 use Rattle.replay_core.specs.ReplayedCalls.{replay_of}
 use Rattle.image_maker.specs.MadeImage.{image_of_number}
 use Rattle.nk_run.specs.declared.command_line.Role.{Role}
@@ -27,7 +29,7 @@ use Rattle.nk_run.specs.Clauses.{AreKept, IsUnread, NameRose, SinkRose, TookAll,
 
 -- a status that a command's own answer may have: neither that of the usage line nor one of the outside
 pub record IsOwn (status : ℕ) : Type 0 where
-  pub small : status ≤ 9
+  pub small : status ≤ 10
   pub not_usage : status ≢ 2
   pub not_unread : status ≢ 3
   pub not_cut : status ≢ 4
@@ -208,6 +210,15 @@ pub record IsAuditable (words : List (List ℕ)) (told : Option Files) (id : ℕ
   pub outcome_is : IfTold told (λ files. outcome words files ≡ Some (record {
     status = 0;
     text = audit_text id (length bytes) (log_in own.log memory);
+  }))
+
+-- an image may be listed from an address on: its code has a page with the address, and where files are told the text is
+-- the outcome's
+pub record IsListable (words : List (List ℕ)) (told : Option Files) (address count : ℕ) (image : List ℕ) : Type 0 where
+  pub code : is_executable image (address / 4096) ≡ true
+  pub outcome_is : IfTold told (λ files. outcome words files ≡ Some (record {
+    status = 0;
+    text = code_listing image address count;
   }))
 
 -- a run of the image of a number may begin: it was made, holds no protected encoding, and has its layout in 4,096 frames

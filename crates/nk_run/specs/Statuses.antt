@@ -1,7 +1,7 @@
 -- The exit statuses.
 use Rattle.std.specs.Prelude.{ℕ}
 use Rattle.nk_run.specs.declared.status.Status.{Status}
-use Rattle.nk_run.specs.declared.status.Status.TheVariants.{Done, Refused, Usage, Unread, Cut, NoMemory, WrongLine, TooLong, Unfit, NoRegion}
+use Rattle.nk_run.specs.declared.status.Status.TheVariants.{Done, Refused, Usage, Unread, Cut, NoMemory, WrongLine, TooLong, Unfit, NoRegion, NoAddress}
 
 abbrev pub status_number : Status → ℕ
 status_number Done = 0
@@ -14,3 +14,4 @@ status_number WrongLine = 6
 status_number TooLong = 7
 status_number Unfit = 8
 status_number NoRegion = 9
+status_number NoAddress = 10

@@ -8,10 +8,12 @@ ghost use Rattle.nk_run.specs.ReplyText.{line_bytes};
 ghost use Rattle.nk_run.specs.Replies.{IsAnswered, ReadsBytes};
 ghost use Rattle.nk_run.specs.Statuses.{status_number};
 
+use crate::assemble::assemble;
 use crate::audit::audit;
 use crate::command_line::Request;
 use crate::join::join;
 use crate::lines::usage_line;
+use crate::listing::list_code;
 use crate::make::make;
 use crate::map::map;
 use crate::replay::replay;
@@ -68,5 +70,13 @@ pub(crate) fn answer<S: Shelf, O: Sink>(
         Some(Request::Work { number }) => work(alloc, number, sink),
         Some(Request::Join { files }) => join(alloc, files, shelf, sink),
         Some(Request::Audit { files, frames, id }) => audit(alloc, files, frames, id, shelf, sink),
+        Some(Request::Assemble { text }) => assemble(alloc, text, shelf, sink),
+        Some(
+            Request::Listing {
+                image,
+                address,
+                count,
+            },
+        ) => list_code(alloc, image, address, count, shelf, sink),
     }
 }

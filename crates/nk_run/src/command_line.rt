@@ -1,10 +1,11 @@
 //! The command line, read by hand: all words are positional.
 ghost use Rattle.std.specs.Prelude.{◌≡◌, [], ◌∷◌, map, option_map, IfSome};
 ghost use Rattle.std.specs.String.{string_bytes};
-ghost use Rattle.nk_run.specs.CommandLine.{audit_of, command_of, middle_of, pair_of, run_of, short_of, IsBounded};
+ghost use Rattle.nk_run.specs.CommandLine.{audit_of, command_of, listing_of, middle_of, pair_of, run_of, short_of, IsBounded};
 ghost use Rattle.nk_run.specs.NamedCommands.{command_as, NamesFiles};
 
 use crate::numbers::{address_of, decimal_within};
+use text_lines::hexadecimal;
 
 /// The least number of frames that a memory may have: 2 MiB.
 const LEAST_FRAMES: u64 = 512;
@@ -25,6 +26,11 @@ const LEAST_ID: u64 = 256;
 
 const MOST_ID: u64 = 8_589_934_591;
 
+/// The most digits of an address, and the most lines of a listing.
+const ADDRESS_DIGITS: usize = 16;
+
+const MOST_LINES: u64 = 4_096;
+
 /// What a file is to a command.
 #[derive(Clone, Copy, Debug, PartialEq, Eq)]
 pub enum Role {
@@ -40,6 +46,8 @@ pub enum Role {
     ModuleList,
     /// The code of the module of this number in the list, from 0 on.
     Module(u32),
+    /// Texts of instructions, one a line.
+    Text,
 }
 
 /// The name of a file, as the words have it.
@@ -112,6 +120,16 @@ pub(crate) enum Request<'w> {
         frames: u32,
         id: u64,
     },
+    /// Write the code of a text.
+    Assemble {
+        text: FileName<'w>,
+    },
+    /// List the code of an image from a linear address on, in at most so many lines.
+    Listing {
+        image: FileName<'w>,
+        address: u64,
+        count: u32,
+    },
 }
 
 impl<'w> Request<'w> {
@@ -127,13 +145,8 @@ impl<'w> Request<'w> {
         if let Some([name, image, list]) = words.as_array::<3>() {
             return read_pair(name.as_str(), image.as_str(), list.as_str());
         }
-        if let Some([name, image, frames, word]) = words.as_array::<4>() {
-            return read_middle(
-                name.as_str(),
-                image.as_str(),
-                frames.as_str(),
-                word.as_str(),
-            );
+        if let Some([name, image, third, last]) = words.as_array::<4>() {
+            return read_middle(name.as_str(), image.as_str(), third.as_str(), last.as_str());
         }
         if let Some([name, image, frames, journal, id]) = words.as_array::<5>() {
             return read_audit(
@@ -151,7 +164,7 @@ impl<'w> Request<'w> {
     }
 }
 
-/// `scan IMAGE`, `make NUMBER` or `work NUMBER`.
+/// `scan IMAGE`, `asm TEXT`, `make NUMBER` or `work NUMBER`.
 fn read_short<'w>(name: &str, word: &'w str) -> Option<Request<'w>>
     ensures command { option_map command_as result ≡ short_of name.now word.now }
     ensures bounds { IfSome result (λ it. IsBounded (command_as it)) }
@@ -160,6 +173,10 @@ fn read_short<'w>(name: &str, word: &'w str) -> Option<Request<'w>>
     if name == "scan" {
         let image = FileName { text: word };
         return Some(Request::Scan { image });
+    }
+    if name == "asm" {
+        let text = FileName { text: word };
+        return Some(Request::Assemble { text });
     }
     if name == "make" {
         let number = decimal_within(word, LEAST_NUMBER, MOST_NUMBER)?;
@@ -188,18 +205,38 @@ fn read_pair<'w>(name: &str, image: &'w str, list: &'w str) -> Option<Request<'w
     Some(Request::Join { files })
 }
 
-/// `map IMAGE FRAMES VA` or `replay IMAGE FRAMES JOURNAL`.
-fn read_middle<'w>(name: &str, image: &'w str, frames: &str, word: &'w str) -> Option<Request<'w>>
-    ensures command { option_map command_as result ≡ middle_of
-        name.now frames.now word.now }
+/// `list IMAGE ADDR COUNT`.
+fn read_listing<'w>(name: &str, image: &'w str, address: &str, count: &str) -> Option<Request<'w>>
+    ensures command { option_map command_as result ≡ listing_of
+        name.now address.now count.now }
     ensures bounds { IfSome result (λ it. IsBounded (command_as it)) }
     ensures names { IfSome result (NamesFiles
-        (name.now ∷ image.now ∷ frames.now ∷ word.now ∷ [])) }
+        (name.now ∷ image.now ∷ address.now ∷ count.now ∷ [])) }
 {
-    let image = FileName { text: image };
+    if name != "list" {
+        return None;
+    }
+    let address = hexadecimal(address.as_bytes(), ADDRESS_DIGITS)?;
+    let count = decimal_within(count, 1, MOST_LINES)?;
+    Some(Request::Listing {
+        image: FileName { text: image },
+        address,
+        count: count as u32,
+    })
+}
+
+/// `map IMAGE FRAMES VA`, `replay IMAGE FRAMES JOURNAL` or `list IMAGE ADDR COUNT`.
+fn read_middle<'w>(name: &str, image: &'w str, third: &str, last: &'w str) -> Option<Request<'w>>
+    ensures command { option_map command_as result ≡ middle_of
+        name.now third.now last.now }
+    ensures bounds { IfSome result (λ it. IsBounded (command_as it)) }
+    ensures names { IfSome result (NamesFiles
+        (name.now ∷ image.now ∷ third.now ∷ last.now ∷ [])) }
+{
     if name == "map" {
-        let frames = decimal_within(frames, LEAST_FRAMES, MOST_FRAMES)?;
-        let va = address_of(word)?;
+        let image = FileName { text: image };
+        let frames = decimal_within(third, LEAST_FRAMES, MOST_FRAMES)?;
+        let va = address_of(last)?;
         return Some(Request::Map {
             image,
             frames: frames as u32,
@@ -207,14 +244,17 @@ fn read_middle<'w>(name: &str, image: &'w str, frames: &str, word: &'w str) -> O
         });
     }
     if name == "replay" {
-        let frames = decimal_within(frames, LEAST_FRAMES, MOST_FRAMES)?;
-        let journal = FileName { text: word };
+        let frames = decimal_within(third, LEAST_FRAMES, MOST_FRAMES)?;
+        let files = ReplayFiles {
+            image: FileName { text: image },
+            journal: FileName { text: last },
+        };
         return Some(Request::Replay {
-            files: ReplayFiles { image, journal },
+            files,
             frames: frames as u32,
         });
     }
-    None
+    read_listing(name, image, third, last)
 }
 
 /// `audit IMAGE FRAMES JOURNAL ID`.

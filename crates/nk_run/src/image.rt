@@ -9,7 +9,7 @@ ghost use Rattle.nk_run.specs.Clauses.{IsNameOf};
 ghost use Rattle.nk_run.specs.Lines.{most_of};
 ghost use Rattle.nk_run.specs.NamedCommands.{Names};
 ghost use Rattle.nk_run.specs.Witness.{shelf_change};
-ghost use Rattle.nk_run.specs.Outcome.{fetch_verdict, formed, clean, first_verdict, form_checks, image_checks, file_in, passes};
+ghost use Rattle.nk_run.specs.Outcome.{fetch_verdict, formed, clean, first_verdict, form_checks, formed_checks, image_checks, file_in, passes};
 ghost use Rattle.nk_run.specs.ReplyText.{line_bytes};
 ghost use Rattle.nk_run.specs.Statuses.{status_number};
 ghost use Rattle.nk_run.specs.Replies.{EndsBy, Stops, TellsBytes};
@@ -112,6 +112,29 @@ fn form(bytes: Vec<u8>) -> Result<Image, Reply>
         Ok(image) => Ok(image),
         Err(fault) => Err(faulty(&fault)),
     }
+}
+
+/// The image, whatever its code holds, or the reply to the first check on it that doesn't pass.
+pub(crate) fn open_formed<S: Shelf>(
+    alloc: Global,
+    name: FileName<'_>,
+    shelf: &mut S,
+) -> Result<Image, Reply>
+    ghost words: { List (List ℕ) }
+    requires { Names words Role.Image name }
+    ensures files_stay { S.files shelf.new ≡ S.files shelf.old }
+    ensures opened { MatchResult result
+        (λ image. IfTold (S.files shelf.old) (λ files. (image ≡ file_in files words Role.Image)
+        × (first_verdict (formed_checks files words) ≡ passes)))
+        (λ reply. Stops words (shelf_change S.files S.faults S.wants shelf.old shelf.new) Role.Image
+        (λ files. first_verdict (formed_checks files words))
+        (status_number reply.status) (line_bytes reply.line)) }
+{
+    let bytes = match fetch(alloc, name, Role::Image, shelf) {
+        Ok(bytes) => bytes,
+        Err(reply) => return Err(reply),
+    };
+    form(bytes)
 }
 
 /// Nothing where the image's code holds no protected encoding, else the reply to the first one.

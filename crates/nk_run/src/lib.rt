@@ -19,8 +19,10 @@ mod page_pieces;
 mod pieces;
 
 // The commands.
+mod assemble;
 mod audit;
 mod join;
+mod listing;
 mod make;
 mod map;
 mod replay;

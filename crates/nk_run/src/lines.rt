@@ -13,6 +13,8 @@ ghost use Rattle.nk_run.specs.Lines.{
   empty_line,
   nofit_line,
   noregion_line,
+  text_line,
+  noaddress_line,
   rights_text,
   frame_line,
   missing_line,
@@ -28,7 +30,7 @@ use std::alloc::{AllocError, Global};
 pub(crate) fn usage_line() -> &'static str
     ensures { result.now ≡ usage_line }
 {
-    "usage: nkrun scan IMAGE | map IMAGE FRAMES VA | run IMAGE INPUT PLAN STEPS FRAMES | replay IMAGE FRAMES JOURNAL | make NUMBER | work NUMBER | join IMAGE LIST | audit IMAGE FRAMES JOURNAL ID\n"
+    "usage: nkrun scan IMAGE | map IMAGE FRAMES VA | run IMAGE INPUT PLAN STEPS FRAMES | replay IMAGE FRAMES JOURNAL | make NUMBER | work NUMBER | join IMAGE LIST | audit IMAGE FRAMES JOURNAL ID | asm TEXT | list IMAGE ADDR COUNT\n"
 }
 
 /// There was no memory.
@@ -51,6 +53,7 @@ pub(crate) fn unread_line(role: Role) -> &'static str
         Role::Journal => "unread journal\n",
         Role::ModuleList => "unread list\n",
         Role::Module(_) => "unread module\n",
+        Role::Text => "unread text\n",
     }
 }
 
@@ -65,6 +68,7 @@ pub(crate) fn longer_line(role: Role) -> &'static str
         Role::Journal => "longer journal 67108864\n",
         Role::ModuleList => "longer list 67108864\n",
         Role::Module(_) => "longer module 1048576\n",
+        Role::Text => "longer text 67108864\n",
     }
 }
 
@@ -125,6 +129,22 @@ pub(crate) fn noregion_line(alloc: Global, id: u64) -> Result<String, AllocError
     ensures { IfOk result (λ line. string_bytes line ≡ noregion_line id) }
 {
     format!(in alloc; "noregion {id}\n")
+}
+
+/// The first line of the text that has no code, numbered from 1.
+#[tactic(auto, unfolding(crate::specs::Lines::text_line))]
+pub(crate) fn text_line(alloc: Global, number: u64) -> Result<String, AllocError>
+    ensures { IfOk result (λ line. string_bytes line ≡ text_line number) }
+{
+    format!(in alloc; "text line {number}\n")
+}
+
+/// No code of the image stands at this address.
+#[tactic(auto, unfolding(crate::specs::Lines::noaddress_line, report_text::specs::RunLines::hex_16))]
+pub(crate) fn noaddress_line(alloc: Global, address: u64) -> Result<String, AllocError>
+    ensures { IfOk result (λ line. string_bytes line ≡ noaddress_line address) }
+{
+    format!(in alloc; "noaddress {address:016x}\n")
 }
 
 /// The four letters of rights.

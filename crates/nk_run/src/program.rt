@@ -20,7 +20,7 @@ fn words<R: Env + AllocGlobal>(rt: &R) -> io::Result<Vec<String>> {
 /// Passes the program's words to the top call, over the machine's files and standard output, and gives its status; 64
 /// where the runtime doesn't give the words.
 pub fn nk_program<R: Env + AllocGlobal + Files + Print>(rt: &R) -> u8
-    ensures { (result ≤ 9) ⊎ (result ≡ 64) }
+    ensures { (result ≤ 10) ⊎ (result ≡ 64) }
 {
     match words(rt) {
         Ok(words) => {

@@ -19,7 +19,7 @@ pub(crate) enum Status {
     Cut,
     /// There was no memory.
     NoMemory,
-    /// A line of the plan, of the journal or of the list of modules isn't right.
+    /// A line of the plan, of the journal, of the list of modules or of the text isn't right.
     WrongLine,
     /// A file is longer than such a file may be.
     TooLong,
@@ -27,6 +27,8 @@ pub(crate) enum Status {
     Unfit,
     /// No call of the journal gave a region the identifier, or its writes aren't logged.
     NoRegion,
+    /// No code of the image stands at the address.
+    NoAddress,
 }
 
 impl Status {
@@ -45,6 +47,7 @@ impl Status {
             Status::TooLong => 7,
             Status::Unfit => 8,
             Status::NoRegion => 9,
+            Status::NoAddress => 10,
         }
     }
 

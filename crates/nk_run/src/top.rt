@@ -13,9 +13,10 @@ use std::alloc::Global;
 /// text of a run is written while its turns are taken.
 ///
 /// The statuses: 0 done; 1 the image is refused; 2 the words have none of the forms; 3 a file couldn't be read; 4 the
-/// text couldn't be written whole; 5 there was no memory; 6 a line of the plan, of the journal or of the list of modules
-/// isn't right; 7 a file is longer than such a file may be; 8 a module has no bytes, or the modules don't fit; 9 no call
-/// of the journal gave a region the identifier, or its writes aren't logged.
+/// text couldn't be written whole; 5 there was no memory; 6 a line of the plan, of the journal, of the list of modules
+/// or of the text isn't right; 7 a file is longer than such a file may be; 8 a module has no bytes, or the modules don't fit; 9 no call
+/// of the journal gave a region the identifier, or its writes aren't logged; 10 no code of the image stands at the
+/// address.
 ///
 /// The promises are the fields of `Promises`, each over what was seen of words, shelf and sink before and after. That
 /// is named here once, so that no promise can take one thing for another.

@@ -16,6 +16,7 @@ mod run;
 mod scans;
 mod sources;
 mod tables;
+mod texts;
 
 use nk_host::{MemShelf, MemSink};
 use nk_run::nk_main;
@@ -39,7 +40,7 @@ const READ_WRITE: u32 = 6;
 const ROOM: usize = 524_288;
 
 const USAGE: &str =
-    "usage: nkrun scan IMAGE | map IMAGE FRAMES VA | run IMAGE INPUT PLAN STEPS FRAMES | replay IMAGE FRAMES JOURNAL | make NUMBER | work NUMBER | join IMAGE LIST | audit IMAGE FRAMES JOURNAL ID\n";
+    "usage: nkrun scan IMAGE | map IMAGE FRAMES VA | run IMAGE INPUT PLAN STEPS FRAMES | replay IMAGE FRAMES JOURNAL | make NUMBER | work NUMBER | join IMAGE LIST | audit IMAGE FRAMES JOURNAL ID | asm TEXT | list IMAGE ADDR COUNT\n";
 
 /// What the top call gave and wrote.
 #[derive(Drop)]

@@ -15,3 +15,5 @@ pub mod AuditParts
 pub mod WorkedAudits
 mod RefutedAudits
 pub mod FaultNames
+pub mod CodeRuns
+pub mod ListedCode

@@ -2,7 +2,9 @@
 pub mod RunLines
 pub mod ImageLines
 pub mod AuditLines
+pub mod ListingLines
 pub mod ClosingSection
 pub mod RunSummary
 -- Words of private clauses and proofs.
 pub mod SlotLines
+pub mod CodeBounds

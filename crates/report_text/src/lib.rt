@@ -1,6 +1,6 @@
-//! The text of a run: its lines, and the section that closes it; and the text of an audit. Each call appends to a sink
-//! exactly what `specs/RunLines.antt`, `specs/ClosingSection.antt` and `specs/AuditLines.antt` say, or a first part of
-//! that where the sink fails. The lines on an image are handed back instead, each as a `ShortLine`. It reads what it is
+//! The text of a run: its lines, and the section that closes it; the text of an audit; and the listing of an image's
+//! code. Each call appends to a sink exactly what `specs/RunLines.antt`, `specs/ClosingSection.antt`,
+//! `specs/AuditLines.antt` and `specs/ListingLines.antt` say, or a first part of that where the sink fails. The lines on an image are handed back instead, each as a `ShortLine`. It reads what it is
 //! handed, writes to the sink alone, and takes memory only for an audit, before its first line. Which line comes when, and
 //! what follows a fault, it leaves to the crates above. Floor: whole.
 #![tactic(auto)]
@@ -30,8 +30,12 @@ mod list_lines;
 mod region_audit;
 mod two_states;
 
+// The listing of code.
+mod code_listing;
+
 pub use call_lines::called;
 pub use closing::section;
+pub use code_listing::list;
 pub use counts::{RunCounts, summary};
 pub use region_audit::audit;
 pub use run_lines::{console, delivery, ending};

@@ -1,13 +1,13 @@
 //! The lines on an image, each at the end of a room of 64 bytes on the stack, in which every word is put before those
 //! behind it.
 
-ghost use Rattle.std.specs.Prelude.{◌≡◌, ◌+◌, ◌*◌, ◌≤◌, ◌++◌, [], decimal, drop, length};
+ghost use Rattle.std.specs.Prelude.{◌≡◌, ◌+◌, ◌≤◌, ◌++◌, [], decimal, drop, length};
 ghost use Rattle.hex.specs.Hex.{encode_lower};
 ghost use Rattle.elf_image.specs.ImageFaults.{name_of, fault_number};
 ghost use Rattle.report_text.specs.ImageLines.{admitted_line, image_line, protected_line};
 ghost use Rattle.report_text.specs.RunLines.{hex_16};
 
-use crate::words::{put, put_16, put_decimal};
+use crate::words::{put, put_16, put_bytes, put_decimal};
 use elf_image::{FaultKind, ImageFault};
 use std::marker::Model;
 
@@ -30,20 +30,6 @@ impl Model for ShortLine {
     ghost view = { λ l. drop l.start l.room };
 
     ghost invariant = { λ l. l.start ≤ 64 };
-}
-
-/// Puts two hexadecimal digits for each of at most three bytes.
-fn put_bytes(room: &mut [u8], end: usize, bytes: &[u8]) -> usize
-    requires few { length bytes.now ≤ 3 }
-    requires room { 6 ≤ end }
-    requires end { end ≤ length room.old }
-    ensures start { result + 2 * length bytes.now ≡ end }
-    ensures written { drop result room.new ≡ encode_lower bytes.now ++ drop end room.old }
-{
-    let mut digits = [0; 6];
-    let shown = &mut digits[..2 * bytes.len()];
-    let _whole = hex::encode_to_slice(bytes, shown);
-    put(room, end, shown)
 }
 
 impl ShortLine {

@@ -1,7 +1,8 @@
 //! Words of a line. Each is put before the one behind it, so that the line stands at the end of its room, which is on
 //! the stack. A text of hexadecimal digits has room for just its bytes, so that its encoding never fails.
-ghost use Rattle.std.specs.Prelude.{◌≡◌, ◌+◌, ◌<◌, ◌≤◌, ◌++◌, false, drop, length, codes, decimal};
+ghost use Rattle.std.specs.Prelude.{◌≡◌, ◌+◌, ◌*◌, ◌<◌, ◌≤◌, ◌++◌, false, drop, length, codes, decimal};
 ghost use Rattle.std.specs.Fmt.{digit_glyph, digits};
+ghost use Rattle.hex.specs.Hex.{encode_lower};
 ghost use Rattle.report_text.specs.RunLines.{hex_16, hex_16_word, hex_word};
 
 /// Puts a text before a place of the room, and gives the place where it starts.
@@ -36,6 +37,23 @@ pub(crate) fn put_16(room: &mut [u8], end: usize, number: u64) -> usize
     let mut digits = [0; 16];
     let _whole = hex::encode_to_slice(number.to_be_bytes(), &mut digits);
     put(room, end, &digits)
+}
+
+/// The most bytes of which the digits are put into a line at once.
+const MOST_BYTES: usize = 15;
+
+/// Puts two hexadecimal digits for each of some bytes.
+pub(crate) fn put_bytes(room: &mut [u8], end: usize, bytes: &[u8]) -> usize
+    requires few { length bytes.now ≤ 15 }
+    requires room { 2 * length bytes.now ≤ end }
+    requires end { end ≤ length room.old }
+    ensures start { result + 2 * length bytes.now ≡ end }
+    ensures written { drop result room.new ≡ encode_lower bytes.now ++ drop end room.old }
+{
+    let mut digits = [0; 2 * MOST_BYTES];
+    let shown = &mut digits[..2 * bytes.len()];
+    let _whole = hex::encode_to_slice(bytes, shown);
+    put(room, end, shown)
 }
 
 /// Puts as few hexadecimal digits as there are, from the last to the first.

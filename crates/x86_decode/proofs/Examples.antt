@@ -81,7 +81,7 @@ unfolding slots_from
 eight first = omega (arith, length-take 8 (drop first GROUPS))
 
 -- a place with a row is one of eight
-place_small : (first place : ℕ) (op : Op) (shape : Shape) → slice_index_or (slots_from first) place slot.Empty ≡ slot.Row op shape → place < 8
+pub place_small : (first place : ℕ) (op : Op) (shape : Shape) → slice_index_or (slots_from first) place slot.Empty ≡ slot.Row op shape → place < 8
 place_small first place op shape is = elim (cases_lt place (length (slots_from first))) [
   | inl within ↦ omega (arith, eight first)
   | inr past ↦ absurd (empty_row op shape (sym (get_or_past (slots_from first) place slot.Empty past) ∙ is))

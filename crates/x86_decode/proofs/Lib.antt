@@ -13,3 +13,4 @@ pub mod Finding
 pub mod Law
 pub mod Forms
 pub mod Answers
+pub mod RowPlaces

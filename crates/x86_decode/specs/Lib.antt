@@ -9,5 +9,7 @@ pub mod WellFormed
 -- Computations that a law says are right.
 pub mod Reader
 pub mod Grid
+pub mod RowList
 -- Laws: what is proved of the definitions.
 pub mod SpellingLaws
+pub mod RowListLaws

@@ -103,7 +103,7 @@ fn place(by: Selector, prefixes: &Prefixes, modrm: Option<u8>) -> Option<usize>
 }
 
 /// The slot at a place of a group.
-fn slot(first: u8, place: usize) -> Slot
+pub(crate) fn slot(first: u8, place: usize) -> Slot
     requires { place < 8 }
     ensures { result ≡ slice_index_or (slots_from first) place Slot.Empty }
 {

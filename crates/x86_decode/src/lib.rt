@@ -20,6 +20,8 @@ pub use conditions::{Conditions, UndefinedWhere, conditions_of};
 
 mod shape;
 
+pub use shape::{Number, Operand, RowLayout, Shape, Width};
+
 // the tables, whose rows the macros of `entry` write
 mod entry;
 mod one_byte;
@@ -32,4 +34,9 @@ mod fields;
 // all bytes
 mod reader;
 
-pub use reader::{decode, decoding_law, spelling_law};
+pub use reader::{Map, decode, decoding_law, spelling_law};
+
+// the table's rows, one by one
+mod row_list;
+
+pub use row_list::{TableRow, number_bytes, row_at, row_places, row_width, rows_law};

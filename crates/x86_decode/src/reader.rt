@@ -28,14 +28,14 @@ const ESCAPE: u8 = 0x0F;
 /// The bytes of the longest spelling that is lawful.
 const LONGEST: usize = 15;
 
-/// A map of opcodes.
+/// A map of opcodes: those of one byte, and those after 0F.
 #[derive(Clone, Copy)]
-pub(crate) enum Map {
+pub enum Map {
     OneByte,
     TwoByte,
 }
 
-fn entry(map: Map, opcode: u8) -> OpcodeEntry
+pub(crate) fn entry(map: Map, opcode: u8) -> OpcodeEntry
     ensures { result ≡ entry_at map opcode }
 {
     match map {

@@ -7,7 +7,7 @@
 
 /// An operand of a row: by its letter, or AL to RAX, CL, DX, or the row's number.
 #[derive(Clone, Copy)]
-pub(crate) enum Operand {
+pub enum Operand {
     Absent,
     Eb,
     Ev,
@@ -24,7 +24,7 @@ pub(crate) enum Operand {
 /// Where the row's number comes from: 0 or 1, bytes with a sign (I, J) or without (U), or reg, which numbers a
 /// control or debug register (C). Ib and Ub have 8 bits, Uw has 16, Jz 32, Iz 16 or 32, Iv the operand size.
 #[derive(Clone, Copy)]
-pub(crate) enum Number {
+pub enum Number {
     Zero,
     One,
     Ib,
@@ -39,7 +39,7 @@ pub(crate) enum Number {
 /// Which width counts: the operand size (64 bits with REX.W, else 16 with 66, else 32), that of the stack (16 with 66
 /// and without REX.W, else 64), or always one.
 #[derive(Clone, Copy)]
-pub(crate) enum Width {
+pub enum Width {
     Byte,
     Word,
     Quad,
@@ -50,7 +50,7 @@ pub(crate) enum Width {
 /// What follows the opcode: no ModRM; ModRM of any form, of a memory form, or of a register form; or a ModRM byte
 /// whose mod is taken as 3.
 #[derive(Clone, Copy)]
-pub(crate) enum RowLayout {
+pub enum RowLayout {
     Plain,
     AnyForm,
     Memory,
@@ -60,7 +60,7 @@ pub(crate) enum RowLayout {
 
 /// The form of a row.
 #[derive(Clone, Copy)]
-pub(crate) struct Shape {
+pub struct Shape {
     pub layout: RowLayout,
     pub to: Operand,
     pub from: Operand,

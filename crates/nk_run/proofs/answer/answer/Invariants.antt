@@ -23,3 +23,9 @@ ghost-join g a = g.names
 
 abbrev pub ghost-audit : goal.ghost-audit
 ghost-audit g a = g.names
+
+abbrev pub ghost-assemble : goal.ghost-assemble
+ghost-assemble g a = g.names
+
+abbrev pub ghost-list_code : goal.ghost-list_code
+ghost-list_code g a = g.names

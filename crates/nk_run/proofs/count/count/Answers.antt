@@ -1,4 +1,4 @@
-use Rattle.std.proofs.Common.{◌≡◌, ◌∙◌, ap, arith, refl, sym, subst}
+use Rattle.std.proofs.Common.{◌∙◌, ap, arith, refl, sym, subst}
 use Rattle.gate_state.specs.MachineOf.{whole_of}
 use Rattle.gate_state.specs.MachineSteps.{move_of}
 use Rattle.gate_state.specs.WholeMachine.{WholeState}

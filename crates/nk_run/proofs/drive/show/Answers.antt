@@ -1,11 +1,10 @@
-use Rattle.std.proofs.Common.{◌≡◌, ℕ, List, [], OnErr, OnOk, ap, sym, subst, ◌∙◌}
+use Rattle.std.proofs.Common.{◌≡◌, ℕ, List, OnErr, OnOk, ap, sym, subst, ◌∙◌}
 use Rattle.std.specs.Io.KnownBytes.{Appends}
 use Rattle.nk_host.specs.Taken.{AppendsPrefix}
 use Rattle.nk_body.specs.SourceWords.{sourced_of}
 use Rattle.gate_state.specs.declared.seen.Step.{Step}
 use Rattle.gate_state.specs.MachineSteps.{source_of}
 use Rattle.report_text.specs.RunLines.{call_line}
-use Rattle.nk_run.specs.RunStates.{shown_by}
 use Rattle.nk_run.proofs.StepTexts.{called_source, lines_of, shows_step}
 use Rattle.nk_run.proofs.drive.show.Goals as goal
 

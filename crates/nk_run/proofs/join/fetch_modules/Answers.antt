@@ -1,4 +1,4 @@
-use Rattle.std.proofs.Common.{◌≡◌, ◌∙◌, [], ◌∷◌, ◌++◌, ap, arith, length, length-append, map, Vec, Global, ℕ, List}
+use Rattle.std.proofs.Common.{◌∙◌, [], ◌∷◌, ap, arith, length, length-append, map, Vec, Global, ℕ, List}
 use Rattle.std.proofs.lemmas.List.{map-append}
 use Rattle.nk_run.proofs.ModuleFetches.{fetched_more, module_stops}
 use Rattle.nk_run.proofs.Told.{if_told, told_at}

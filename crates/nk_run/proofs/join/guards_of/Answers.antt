@@ -1,4 +1,4 @@
-use Rattle.std.proofs.Common.{◌≡◌, ◌∙◌, arith, length-set}
+use Rattle.std.proofs.Common.{◌∙◌, arith, length-set}
 use Rattle.nk_run.proofs.JoinRows.{guard_more}
 use Rattle.nk_run.proofs.join.guards_of.Goals as goal
 

@@ -26,3 +26,7 @@ returns-in-ModuleList c = search rules
 pub returns-in-Module : goal.returns-in-Module
 unfolding longer_line digits
 returns-in-Module c = search rules
+
+pub returns-in-Text : goal.returns-in-Text
+unfolding longer_line digits
+returns-in-Text c = search rules

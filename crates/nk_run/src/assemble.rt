@@ -1,0 +1,75 @@
+//! The command `asm TEXT`.
+ghost use Rattle.std.specs.Prelude.{◌≡◌, ℕ, List, Ok, Some, MatchResult};
+ghost use Rattle.nk_host.specs.Told.{IfTold};
+ghost use Rattle.asm_text.specs.AssembledText.{assembled_of};
+ghost use Rattle.nk_run.specs.CommandLine.{command_of, Assemble};
+ghost use Rattle.nk_run.specs.NamedCommands.{Names};
+ghost use Rattle.nk_run.specs.Witness.{shelf_change, sink_change};
+ghost use Rattle.nk_run.specs.Outcome.{assembled, file_in, first_verdict, passes, text_checks};
+ghost use Rattle.nk_run.specs.ReplyText.{line_bytes};
+ghost use Rattle.nk_run.specs.Statuses.{status_number};
+ghost use Rattle.nk_run.specs.Replies.{IsAnswered, RefusesBy, Stops};
+
+use crate::command_line::{FileName, Role};
+use crate::image::fetch;
+use crate::lines::text_line;
+use crate::reply::{Reply, made, no_memory};
+use crate::status::Status;
+use asm_text::TextFault;
+use nk_host::{Shelf, Sink, put_all};
+use std::alloc::Global;
+
+/// The code of a text, or the reply to its first line without code.
+fn assemble_text(alloc: Global, text: &[u8]) -> Result<Vec<u8>, Reply>
+    ensures { MatchResult result
+        (λ code. assembled_of text.now ≡ Ok code.items)
+        (λ reply. RefusesBy 6 (assembled (assembled_of text.now))
+        (status_number reply.status) (line_bytes reply.line)) }
+{
+    match asm_text::assemble(alloc, text) {
+        Ok(code) => Ok(code),
+        Err(TextFault::Line(number)) => Err(made(Status::WrongLine, text_line(alloc, number))),
+        Err(TextFault::Memory) => Err(no_memory()),
+    }
+}
+
+/// The code of a file's text, or the reply to the first check on it that doesn't pass.
+fn make_code<S: Shelf>(alloc: Global, name: FileName<'_>, shelf: &mut S) -> Result<Vec<u8>, Reply>
+    ghost words: { List (List ℕ) }
+    requires { Names words Role.Text name }
+    ensures files_stay { S.files shelf.new ≡ S.files shelf.old }
+    ensures made { MatchResult result
+        (λ code. IfTold (S.files shelf.old) (λ files. (assembled_of (file_in files words Role.Text) ≡ Ok code.items)
+        × (first_verdict (text_checks files words) ≡ passes)))
+        (λ reply. Stops words (shelf_change S.files S.faults S.wants shelf.old shelf.new) Role.Text
+        (λ files. first_verdict (text_checks files words))
+        (status_number reply.status) (line_bytes reply.line)) }
+{
+    match fetch(alloc, name, Role::Text, shelf) {
+        Ok(bytes) => assemble_text(alloc, &bytes),
+        Err(reply) => Err(reply),
+    }
+}
+
+/// Assembles a text, and writes its code.
+#[inline(never)]
+pub(crate) fn assemble<S: Shelf, O: Sink>(
+    alloc: Global,
+    text: FileName<'_>,
+    shelf: &mut S,
+    sink: &mut O,
+) -> Status
+    ghost words: { List (List ℕ) }
+    requires asked { command_of words ≡ Some Assemble }
+    requires named { Names words Role.Text text }
+    ensures { IsAnswered (record {
+      words = words;
+      shelf = shelf_change S.files S.faults S.wants shelf.old shelf.new;
+      sink = sink_change O.taken O.faults sink.old sink.new;
+    }) (status_number result) }
+{
+    match make_code(alloc, text, shelf) {
+        Ok(code) => Status::Done.unless_cut(put_all(sink, &code)),
+        Err(reply) => reply.write(sink),
+    }
+}
