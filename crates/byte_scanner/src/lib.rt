@@ -16,8 +16,6 @@ mod seam;
 mod image_scan;
 // What follows where nothing is found, and what the pieces of an image's code say of it.
 mod laws;
-#[cfg(test)]
-mod tests;
 
 pub use crate::encoding::Found;
 pub use crate::image_scan::scan;

@@ -25,8 +25,6 @@ mod image_join;
 
 // What follows.
 mod laws;
-#[cfg(test)]
-mod tests;
 
 pub use fault::{JoinFault, ListFault};
 pub use image_join::join;

@@ -31,8 +31,6 @@ mod image_headers;
 mod written;
 // What follows.
 mod laws;
-#[cfg(test)]
-mod tests;
 
 pub use elf::{HOME_END, HOME_START, MOST_PAGES, PAGE_SIZE};
 pub use fault::{FaultKind, ImageFault};

@@ -21,8 +21,6 @@ mod script;
 // The whole file, and what holds of it.
 mod image;
 mod laws;
-#[cfg(test)]
-mod tests;
 
 pub use image::{NoMemory, make_image};
 pub use laws::made_image_law;

@@ -28,6 +28,3 @@ pub use rotations::rotate;
 pub use scans::scan_bit;
 pub use shifts::shift;
 pub use sums::{add, sub};
-
-#[cfg(test)]
-mod tests;

@@ -2,7 +2,7 @@
 //! Flags that an operation leaves alone, and those that the manual leaves undefined, stay as they were before.
 
 use super::{MOST, ONES, TOP, out, width_of};
-use crate::{Divide, Quotient, divide, multiply};
+use x86_alu::{Divide, Quotient, divide, multiply};
 
 /// Width in bits, a, b, the flags before; the low half, the high half, the flags.
 type Product = (u8, u64, u64, u64, u64, u64, u64);

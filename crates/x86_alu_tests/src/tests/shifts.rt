@@ -2,7 +2,7 @@
 //! Flags that an operation leaves alone, and those that the manual leaves undefined, stay as they were before.
 
 use super::{ONES, TOP, out, width_of};
-use crate::{Shift, rotate, scan_bit, shift};
+use x86_alu::{Shift, rotate, scan_bit, shift};
 
 /// Width in bits, the operand, the count, the flags before; the value, the flags.
 type Turned = (u8, u64, u8, u64, u64, u64);

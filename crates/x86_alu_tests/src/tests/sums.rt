@@ -2,7 +2,7 @@
 //! Flags that an operation leaves alone, and those that the manual leaves undefined, stay as they were before.
 
 use super::{MOST, ONES, TOP, out, width_of};
-use crate::{Logic, add, logic, sub};
+use x86_alu::{Logic, add, logic, sub};
 
 /// Width in bits, a, b, the carry or borrow in; the value, the flags, from flags 2.
 type Sum = (u8, u64, u64, bool, u64, u64);

@@ -1,10 +1,10 @@
 //! A small file in form, changed in one place after another: each row on both sides of its edge, and what a file loads.
 
-use crate::FaultKind::{
+use elf_image::FaultKind::{
     Align, BadEntry, Class, FileType, Machine, Magic, OutsideHome, SegmentRange, SharedPage, Short,
     Table, TooLarge, WritableCode,
 };
-use crate::{FaultKind, Headers, Image, ImageFault, Shape};
+use elf_image::{FaultKind, Headers, Image, ImageFault, Shape};
 use std::alloc::{AllocError, Global};
 use std::process::Abort;
 use std::test::Fail;

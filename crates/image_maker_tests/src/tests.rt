@@ -1,6 +1,6 @@
 //! Images at worked values.
 
-use crate::make_image;
+use image_maker::make_image;
 use std::process::Abort;
 use std::test::Fail;
 

@@ -1,7 +1,7 @@
 //! Lists and joined images at worked values, and joined images read back.
 
-use crate::{JoinFault, List, ListFault, join, read_list};
 use byte_scanner::{Found, scan};
+use code_modules::{JoinFault, List, ListFault, join, read_list};
 use elf_image::Image;
 use std::alloc::{AllocError, Global};
 use std::process::Abort;

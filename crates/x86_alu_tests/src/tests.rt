@@ -7,7 +7,7 @@ mod sums;
 ghost use Rattle.std.specs.Prelude.{IfSome};
 ghost use Rattle.decode_fields.specs.Widths.{IsWidth};
 
-use crate::Out;
+use x86_alu::Out;
 
 /// All of 64 bits.
 const ONES: u64 = u64::MAX;

@@ -1,6 +1,6 @@
 //! Each encoding once, and what stands close to one; runs in pieces; encodings at the edges of an image's pages.
 
-use crate::{Found, Scanner, first_protected, scan};
+use byte_scanner::{Found, Scanner, first_protected, scan};
 use elf_image::Image;
 use std::alloc::{AllocError, Global};
 use std::process::Abort;
