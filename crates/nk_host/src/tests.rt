@@ -1,4 +1,4 @@
-//! The shelves and sinks at worked values.
+//! The shelves and sinks at worked values, where more is looked at than what the crate publishes.
 ghost use Rattle.std.specs.Prelude.{length};
 ghost use Rattle.nk_host.specs.Files.{IsWithin};
 ghost use Rattle.nk_host.specs.Told.{IfTold};
@@ -7,15 +7,11 @@ use crate::counted::Counted;
 use crate::fill::{fill, fill_from};
 use crate::placed::Placed;
 use crate::whole::{read_whole, write_whole};
-use crate::{
-    FetchFault, FileShelf, MemShelf, MemSink, PIECE, PieceFault, Pieces, Shelf, Sink, SinkFault,
-    StdSink, put_all,
-};
+use crate::{FetchFault, MemShelf, PieceFault, Shelf, Sink, SinkFault, StdSink, put_all};
 use std::alloc::Global;
 use std::fmt::Display;
-use std::fs::{self, File};
+use std::fs::File;
 use std::io::{Cursor, Error, ErrorKind, Read, Result as IoResult, Seek, SeekFrom, Write};
-use std::rt::Files;
 use std::test::Fail;
 
 fn named(alloc: Global, name: &str, bytes: &[u8]) -> Result<(String, Vec<u8>), Fail> {
@@ -30,20 +26,7 @@ fn two_files(alloc: Global, failing: &[u64]) -> Result<MemShelf, Fail> {
     Ok(MemShelf::new(alloc, files, failing.to_vec(alloc)?)?)
 }
 
-fn sink(alloc: Global, room: usize, failing: &[u64], cut: usize) -> Result<MemSink, Fail> {
-    Ok(MemSink::new(alloc, room, failing.to_vec(alloc)?, cut)?)
-}
-
 // These hide the exact contracts: the tests run the code, and their proofs stay short.
-
-fn fetch<S: Shelf>(
-    shelf: &mut S,
-    alloc: Global,
-    name: &str,
-    most: u64,
-) -> Result<Vec<u8>, FetchFault> {
-    shelf.fetch(alloc, name, most)
-}
 
 fn fault<S: Shelf>(shelf: &mut S, alloc: Global, name: &str, most: u64) -> Option<FetchFault> {
     shelf.fetch(alloc, name, most).err()
@@ -103,42 +86,6 @@ fn held_fault(shelf: &mut MemShelf, alloc: Global, name: &str) -> Result<Option<
 }
 
 #[test]
-fn the_first_file_of_a_name_counts(rt: HostRuntime) -> Result<(), Fail> {
-    let alloc = rt.alloc();
-    let mut shelf = two_files(alloc, &[])?;
-    let file = fetch(&mut shelf, alloc, "one", 5)?;
-    assert_eq!(rt; file.as_slice(), b"first".as_slice());
-    let empty = fetch(&mut shelf, alloc, "two", 0)?;
-    assert_eq!(rt; empty.len(), 0);
-    assert_eq!(rt;
-        fault(&mut shelf, alloc, "one", 4),
-        Some(FetchFault::Longer)
-    );
-    assert_eq!(rt;
-        fault(&mut shelf, alloc, "three", 9),
-        Some(FetchFault::Failed)
-    );
-    Ok(())
-}
-
-#[test]
-fn a_fetch_fails_at_its_number(rt: HostRuntime) -> Result<(), Fail> {
-    let alloc = rt.alloc();
-    let mut shelf = two_files(alloc, &[2, 3])?;
-    assert_eq!(rt; fault(&mut shelf, alloc, "one", 5), None);
-    assert_eq!(rt;
-        fault(&mut shelf, alloc, "one", 5),
-        Some(FetchFault::Failed)
-    );
-    assert_eq!(rt;
-        fault(&mut shelf, alloc, "one", 4),
-        Some(FetchFault::Failed)
-    );
-    assert_eq!(rt; fault(&mut shelf, alloc, "one", 5), None);
-    Ok(())
-}
-
-#[test]
 fn a_file_in_memory_is_read_in_pieces(rt: HostRuntime) -> Result<(), Fail> {
     let alloc = rt.alloc();
     let mut shelf = two_files(alloc, &[])?;
@@ -177,115 +124,6 @@ fn fetches_sizes_and_pieces_are_counted_together(rt: HostRuntime) -> Result<(), 
     assert!(rt; held_gives(&mut shelf, alloc, 1, b"irs")?);
     assert_eq!(rt; fault(&mut shelf, alloc, "one", 5), None);
     assert_eq!(rt; size(&mut shelf, alloc, "one", 5), Ok(5));
-    Ok(())
-}
-
-#[test]
-fn a_put_is_cut_at_its_number_and_at_the_room(rt: HostRuntime) -> Result<(), Fail> {
-    let mut out = sink(rt.alloc(), 10, &[2, 4], 3)?;
-    assert_eq!(rt; put(&mut out, b"abcd"), Ok(()));
-    assert_eq!(rt; put(&mut out, b""), Ok(()));
-    assert_eq!(rt; put(&mut out, b"efgh"), Err(SinkFault));
-    assert_eq!(rt; out.taken(), b"abcdefg".as_slice());
-    assert_eq!(rt; put(&mut out, b"ij"), Ok(()));
-    assert_eq!(rt; put(&mut out, b"klm"), Err(SinkFault));
-    assert_eq!(rt; out.taken(), b"abcdefgijk".as_slice());
-    assert_eq!(rt; put(&mut out, b"n"), Err(SinkFault));
-    assert_eq!(rt; out.taken(), b"abcdefgijk".as_slice());
-    Ok(())
-}
-
-/// How many bytes a sink took of so many zeros, where the put of one number fails and takes none.
-fn taken_of(alloc: Global, len: usize, failing: u64) -> Result<(bool, usize), Fail> {
-    let mut out = sink(alloc, 3 * PIECE, &[failing], 0)?;
-    let zeros = vec![in alloc; 0; len]?;
-    let all = put_all(&mut out, &zeros).is_ok();
-    Ok((all, out.taken().len()))
-}
-
-#[test]
-fn texts_go_out_in_pieces(rt: HostRuntime) -> Result<(), Fail> {
-    let alloc = rt.alloc();
-    assert_eq!(rt; taken_of(alloc, 0, 1)?, (true, 0));
-    assert_eq!(rt; taken_of(alloc, 4096, 1)?, (false, 0));
-    assert_eq!(rt; taken_of(alloc, 4096, 2)?, (true, 4096));
-    assert_eq!(rt; taken_of(alloc, 4097, 2)?, (false, 4096));
-    assert_eq!(rt; taken_of(alloc, 4097, 3)?, (true, 4097));
-    assert_eq!(rt; taken_of(alloc, 8192, 2)?, (false, 4096));
-    assert_eq!(rt; taken_of(alloc, 8192, 3)?, (true, 8192));
-    Ok(())
-}
-
-fn push_line<O: Sink>(
-    pieces: &mut Pieces,
-    out: &mut O,
-    text: &[u8],
-    byte: u8,
-) -> Result<(), SinkFault> {
-    pieces.push_all(out, text)?;
-    pieces.push_hex(out, byte)?;
-    pieces.push(out, b'\n')?;
-    pieces.finish(out)
-}
-
-/// What a sink took of a line of so many bytes `a`, two digits and a line's end, where the put of one
-/// number fails and takes at most `cut` bytes.
-fn line_taken(
-    alloc: Global,
-    len: usize,
-    byte: u8,
-    failing: u64,
-    cut: usize,
-) -> Result<(bool, Vec<u8>), Fail> {
-    let mut out = sink(alloc, 3 * PIECE, &[failing], cut)?;
-    let text = vec![in alloc; b'a'; len]?;
-    let all = push_line(&mut Pieces::new(), &mut out, &text, byte).is_ok();
-    Ok((all, out.taken().to_vec(alloc)?))
-}
-
-/// Whether all went out, and how many bytes.
-fn line_size(alloc: Global, len: usize, failing: u64, cut: usize) -> Result<(bool, usize), Fail> {
-    let (all, taken) = line_taken(alloc, len, 0, failing, cut)?;
-    Ok((all, taken.len()))
-}
-
-#[test]
-fn lines_go_out_in_pieces(rt: HostRuntime) -> Result<(), Fail> {
-    let alloc = rt.alloc();
-    assert_eq!(rt; line_size(alloc, 4093, 1, 0)?, (false, 0));
-    assert_eq!(rt; line_size(alloc, 4093, 2, 0)?, (true, 4096));
-    assert_eq!(rt; line_size(alloc, 4094, 2, 0)?, (false, 4096));
-    assert_eq!(rt; line_size(alloc, 4094, 3, 0)?, (true, 4097));
-    assert_eq!(rt; line_size(alloc, 8189, 2, 0)?, (false, 4096));
-    assert_eq!(rt; line_size(alloc, 8189, 3, 0)?, (true, 8192));
-    Ok(())
-}
-
-#[test]
-fn a_byte_is_two_digits(rt: HostRuntime) -> Result<(), Fail> {
-    let alloc = rt.alloc();
-    for (byte, line) in [
-        (0x00, b"a00\n"),
-        (0x09, b"a09\n"),
-        (0xa0, b"aa0\n"),
-        (0xff, b"aff\n"),
-    ] {
-        let taken = line_taken(alloc, 1, byte, 2, 0)?.1;
-        assert_eq!(rt; taken.as_slice(), line.as_slice());
-    }
-    Ok(())
-}
-
-#[test]
-fn a_cut_line_leaves_a_prefix(rt: HostRuntime) -> Result<(), Fail> {
-    let alloc = rt.alloc();
-    let (all, first) = line_taken(alloc, 2, 0x1e, 1, 3)?;
-    assert_eq!(rt; all, false);
-    assert_eq!(rt; first.as_slice(), b"aa1".as_slice());
-    let (all, second) = line_taken(alloc, 4095, 0x1e, 2, 1)?;
-    assert_eq!(rt; all, false);
-    assert_eq!(rt; second.len(), 4097);
-    assert_eq!(rt; &second[4094..], b"a1e".as_slice());
     Ok(())
 }
 
@@ -487,162 +325,6 @@ fn a_reader_is_moved_where_it_stands_elsewhere(rt: HostRuntime) {
     let (from, last) = two_from(from, 10);
     assert_eq!(rt; last, Some([10, 11]));
     assert_eq!(rt; from.file.seeks, 5);
-}
-
-#[test]
-fn the_machine_s_files_are_fetched(rt: HostRuntime) -> Result<(), Fail> {
-    let alloc = rt.alloc();
-    let zeros = vec![in alloc; 0; 5000]?;
-    fs::write(&rt, "fetched.tmp", zeros.as_slice())?;
-    let mut shelf = FileShelf::new(&rt);
-    let file = fetch(&mut shelf, alloc, "fetched.tmp", 5000);
-    let longer = fetch(&mut shelf, alloc, "fetched.tmp", 4999);
-    fs::remove_file(&rt, "fetched.tmp")?;
-    assert_eq!(rt; file?.as_slice(), zeros.as_slice());
-    assert_eq!(rt; longer.err(), Some(FetchFault::Longer));
-    assert_eq!(rt;
-        fault(&mut shelf, alloc, "fetched.tmp", 5000),
-        Some(FetchFault::Failed)
-    );
-    assert_eq!(rt;
-        fault(&mut shelf, alloc, ".", 5000),
-        Some(FetchFault::Failed)
-    );
-    assert_eq!(rt;
-        fault(&mut shelf, alloc, "/dev/zero", 10),
-        Some(FetchFault::Longer)
-    );
-    Ok(())
-}
-
-fn counting_bytes(alloc: Global, len: usize) -> Result<Vec<u8>, Fail> {
-    let mut bytes = Vec::new(alloc);
-    for i in 0..len {
-        bytes.push((i % 251) as u8)?;
-    }
-    Ok(bytes)
-}
-
-/// Whether the piece of so many bytes from a place on is what stands there in all of the file.
-fn gives_part<R: Files>(
-    shelf: &mut FileShelf<'_, R>,
-    alloc: Global,
-    all: &[u8],
-    at: usize,
-    len: usize,
-) -> Result<bool, Fail> {
-    if at > all.len() || len > all.len() - at {
-        return Ok(false);
-    }
-    let part = all.split_at(at).1.split_at(len).0;
-    gives(shelf, alloc, "pieces.tmp", at as u64, part)
-}
-
-#[test]
-fn a_file_on_disk_is_read_in_pieces(rt: HostRuntime) -> Result<(), Fail> {
-    let alloc = rt.alloc();
-    let bytes = counting_bytes(alloc, 5000)?;
-    fs::write(&rt, "pieces.tmp", bytes.as_slice())?;
-    let mut shelf = FileShelf::new(&rt);
-    assert_eq!(rt; size(&mut shelf, alloc, "pieces.tmp", 5000), Ok(5000));
-    assert_eq!(rt;
-        size(&mut shelf, alloc, "pieces.tmp", 4999),
-        Err(FetchFault::Longer)
-    );
-    for len in [1, 2, 4096] {
-        for at in [0, 1, 451, 5000 - len] {
-            assert!(rt;
-                gives_part(&mut shelf, alloc, &bytes, at, len)?,
-                "{len} from {at}"
-            );
-        }
-    }
-    assert!(rt; gives_part(&mut shelf, alloc, &bytes, 5000, 0)?);
-    let past = piece_fault(&mut shelf, alloc, "pieces.tmp", 4999, 2)?;
-    fs::remove_file(&rt, "pieces.tmp")?;
-    assert_eq!(rt; past, Some(PieceFault::Failed));
-    Ok(())
-}
-
-#[test]
-fn a_file_that_shrinks_is_a_fault(rt: HostRuntime) -> Result<(), Fail> {
-    let alloc = rt.alloc();
-    fs::write(&rt, "shrinks.tmp", b"twelve bytes".as_slice())?;
-    let mut shelf = FileShelf::new(&rt);
-    assert_eq!(rt; size(&mut shelf, alloc, "shrinks.tmp", 12), Ok(12));
-    fs::write(&rt, "shrinks.tmp", b"four".as_slice())?;
-    let across = piece_fault(&mut shelf, alloc, "shrinks.tmp", 2, 4)?;
-    let past = piece_fault(&mut shelf, alloc, "shrinks.tmp", 8, 4)?;
-    let left = gives(&mut shelf, alloc, "shrinks.tmp", 0, b"four")?;
-    fs::remove_file(&rt, "shrinks.tmp")?;
-    assert_eq!(rt; across, Some(PieceFault::Failed));
-    assert_eq!(rt; past, Some(PieceFault::Failed));
-    assert!(rt; left);
-    Ok(())
-}
-
-#[test]
-fn each_piece_is_of_its_own_file(rt: HostRuntime) -> Result<(), Fail> {
-    let alloc = rt.alloc();
-    fs::write(&rt, "a.tmp", b"of a".as_slice())?;
-    fs::write(&rt, "b.tmp", b"of b".as_slice())?;
-    let mut shelf = FileShelf::new(&rt);
-    assert_eq!(rt; size(&mut shelf, alloc, "a.tmp", 4), Ok(4));
-    assert!(rt; gives(&mut shelf, alloc, "b.tmp", 3, b"b")?);
-    assert!(rt; gives(&mut shelf, alloc, "a.tmp", 3, b"a")?);
-    assert!(rt; gives(&mut shelf, alloc, "a.tmp", 0, b"of a")?);
-    fs::remove_file(&rt, "a.tmp")?;
-    fs::remove_file(&rt, "b.tmp")?;
-    Ok(())
-}
-
-#[test]
-fn what_has_no_piece_is_a_fault(rt: HostRuntime) -> Result<(), Fail> {
-    let alloc = rt.alloc();
-    fs::write(&rt, "empty.tmp", b"".as_slice())?;
-    let mut shelf = FileShelf::new(&rt);
-    assert_eq!(rt; size(&mut shelf, alloc, "empty.tmp", 0), Ok(0));
-    assert!(rt; gives(&mut shelf, alloc, "empty.tmp", 0, b"")?);
-    for (name, at) in [
-        ("empty.tmp", 0),
-        ("empty.tmp", u64::MAX),
-        (".", 0),
-        ("missing.tmp", 0),
-    ] {
-        let fault = piece_fault(&mut shelf, alloc, name, at, 1)?;
-        assert_eq!(rt; fault, Some(PieceFault::Failed), "{name}");
-    }
-    fs::remove_file(&rt, "empty.tmp")?;
-    for name in [".", "missing.tmp"] {
-        let fault = size(&mut shelf, alloc, name, u64::MAX);
-        assert_eq!(rt; fault, Err(FetchFault::Failed), "{name}");
-    }
-    Ok(())
-}
-
-/// Many blocks of reads: nothing but memory and the caller's limit bounds a file.
-#[test]
-fn a_long_file_is_fetched(rt: HostRuntime) -> Result<(), Fail> {
-    let alloc = rt.alloc();
-    let zeros = vec![in alloc; 0; 1_000_000]?;
-    fs::write(&rt, "long.tmp", zeros.as_slice())?;
-    let mut shelf = FileShelf::new(&rt);
-    let file = fetch(&mut shelf, alloc, "long.tmp", 1_000_000);
-    fs::remove_file(&rt, "long.tmp")?;
-    assert_eq!(rt; file?.as_slice(), zeros.as_slice());
-    let mut files = Vec::new(alloc);
-    files.push(named(alloc, "long", &zeros)?)?;
-    let mut held = MemShelf::new(alloc, files, Vec::new(alloc))?;
-    let file = fetch(&mut held, alloc, "long", 1_000_000)?;
-    assert_eq!(rt; file.as_slice(), zeros.as_slice());
-    Ok(())
-}
-
-#[test]
-fn standard_output_takes_bytes(rt: HostRuntime) {
-    let mut out = StdSink::new(&rt);
-    assert_eq!(rt; put(&mut out, b""), Ok(()));
-    assert_eq!(rt; put_all(&mut out, b"a line\n"), Ok(()));
 }
 
 /// A runtime whose standard output is an open file.

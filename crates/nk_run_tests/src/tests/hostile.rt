@@ -13,6 +13,15 @@ const INPUT: &str = "input";
 
 const PLAN: &str = "plan";
 
+const LIST: &str = "list";
+
+const MODULE: &str = "a";
+
+const TEXT: &str = "text";
+
+/// A journal of one call: a region of 64 bytes, whose writes are logged.
+const GIVES: &str = "k 7 40 4 0 0 - 256 ffffff8000010000\n";
+
 /// HLT.
 const HALTS: [u8; 1] = [0xf4];
 
@@ -143,14 +152,21 @@ fn a_plan_s_first_line_out_of_form_is_named(rt: HostRuntime) -> Result<(), Fail>
     Ok(())
 }
 
-/// The shelf's files: the halting kernel, an input and a plan without bytes, and this journal.
+/// The shelf's files: the halting kernel, an input and a plan without bytes, this journal, a list of one module of RET, and
+/// a text of RET.
 fn files_with(alloc: Global, journal: &str) -> Result<Vec<(String, Vec<u8>)>, AllocError> {
-    let mut files = Vec::new(alloc);
-    files.push((String::from_str(alloc, NAME)?, image(alloc, &HALTS)?))?;
-    files.push((String::from_str(alloc, INPUT)?, Vec::new(alloc)))?;
-    files.push((String::from_str(alloc, PLAN)?, Vec::new(alloc)))?;
-    let journal = journal.as_bytes().to_vec(alloc)?;
-    files.push((String::from_str(alloc, JOURNAL)?, journal))?;
+    let others: [(&str, &[u8]); 6] = [
+        (INPUT, b""),
+        (PLAN, b""),
+        (JOURNAL, journal.as_bytes()),
+        (LIST, b"pack a"),
+        (MODULE, &[0xc3]),
+        (TEXT, b"ret.64 - value 0"),
+    ];
+    let mut files = vec![in alloc; (String::from_str(alloc, NAME)?, image(alloc, &HALTS)?)]?;
+    for (name, bytes) in others {
+        files.push((String::from_str(alloc, name)?, bytes.to_vec(alloc)?))?;
+    }
     Ok(files)
 }
 
@@ -180,7 +196,7 @@ struct Calls<'a> {
 }
 
 /// Each command once, over the halting kernel. `scan` asks for its file's size, first bytes, table and page.
-const EACH: [Calls; 6] = [
+const EACH: [Calls; 10] = [
     Calls {
         words: &["scan", NAME],
         files: &["image", "image", "image", "image"],
@@ -199,7 +215,7 @@ const EACH: [Calls; 6] = [
     Calls {
         words: &["replay", NAME, "512", JOURNAL],
         files: &["image", "journal"],
-        puts: 2,
+        puts: 3,
     },
     Calls {
         words: &["make", "1"],
@@ -211,6 +227,26 @@ const EACH: [Calls; 6] = [
         files: &[],
         puts: 7,
     },
+    Calls {
+        words: &["join", NAME, LIST],
+        files: &["image", "list", "module"],
+        puts: 4,
+    },
+    Calls {
+        words: &["audit", NAME, "512", JOURNAL, "256"],
+        files: &["image", "journal"],
+        puts: 3,
+    },
+    Calls {
+        words: &["asm", TEXT],
+        files: &["text"],
+        puts: 1,
+    },
+    Calls {
+        words: &["list", NAME, "ffffffff80000000", "1"],
+        files: &["image"],
+        puts: 1,
+    },
 ];
 
 /// What a command gives where a call of the shelf or of the sink fails, by their numbers, 0 for none.
@@ -218,7 +254,7 @@ fn give(alloc: Global, calls: &Calls, fetch: u64, put: u64, cut: usize) -> Resul
     run_over(
         alloc,
         calls.words,
-        files_with(alloc, "")?,
+        files_with(alloc, GIVES)?,
         &[fetch],
         &[put],
         cut,
@@ -248,12 +284,12 @@ fn each_call_of_the_shelf_may_fail(rt: HostRuntime) -> Result<(), Fail> {
     Ok(())
 }
 
-/// How many bytes of a text stand before a put of this number: lines go out one by one, and an image in pieces of 4,096
-/// bytes.
+/// How many bytes of a text stand before a put of this number: lines go out one by one, and an image, a joined file and
+/// code in pieces of 4,096 bytes.
 fn before(calls: &Calls, text: &[u8], number: usize) -> usize
     requires { number < 100 }
 {
-    if calls.words.first() == Some(&"make") {
+    if matches!(calls.words.first(), Some(&"make" | &"join" | &"asm")) {
         return 4096 * number;
     }
     let mut taken = 0usize;

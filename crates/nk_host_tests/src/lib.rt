@@ -1,0 +1,11 @@
+//! Tests of `nk_host` over what it publishes. Floor: tests.
+#![tactic(auto)]
+
+#[cfg(test)]
+mod asked;
+#[cfg(test)]
+mod disk;
+#[cfg(test)]
+mod memory;
+#[cfg(test)]
+mod output;
