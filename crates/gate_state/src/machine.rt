@@ -1,6 +1,7 @@
 //! The machine in one of its three states.
 
 ghost use Rattle.std.specs.Prelude.{◌≡◌, ◌<◌, false, length, ◌*◌};
+ghost use Rattle.cpu_step.specs.Processor.{IsSound};
 ghost use Rattle.cpu_step.specs.Turns.{enters_body};
 ghost use Rattle.phys_mem.specs.MaskedMemory.{seen};
 ghost use Rattle.page_desc.specs.DescriptorBytes.{kinds_in};
@@ -19,8 +20,10 @@ use crate::outer::OuterMachine;
 use crate::seen::{Seen, Step, Took};
 use crate::source::sourced;
 use crate::whole::{Finished, Whole};
+use cpu_step::Cpu;
 use irq_plan::Plan;
 use nk_body::Source;
+use phys_mem::PhysMem;
 
 /// The machine between two steps, by what its supervisor may write: with WP set, with WP clear in the gates, and with WP
 /// clear at the nested kernel's body.
@@ -79,6 +82,33 @@ impl<'i> Machine<'i> {
             Machine::Outer(machine) => sourced(took, machine.source()),
             Machine::Gate(machine) => sourced(took, machine.source()),
             Machine::Nested(machine) => sourced(took, machine.source()),
+        }
+    }
+
+    /// The processor, lent for looking.
+    pub fn processor(&self) -> &Cpu
+        ensures processor { result.now ≡ (whole_of self.now).state.processor }
+        ensures sound { IsSound (length (whole_of self.now).state.memory) result.now }
+    {
+        self.whole().processor()
+    }
+
+    /// Memory, lent for looking, with what the nested kernel hides in it.
+    pub fn memory(&self) -> &PhysMem
+        ensures seen { seen result.now ≡ (whole_of self.now).state.memory }
+        ensures length { length result.now ≡ length (whole_of self.now).state.memory }
+    {
+        self.whole().memory()
+    }
+
+    /// What the three states share.
+    fn whole(&self) -> &Whole<'i>
+        ensures { result.now ≡ whole_of self.now }
+    {
+        match self {
+            Machine::Outer(machine) => &machine.whole,
+            Machine::Gate(machine) => &machine.whole,
+            Machine::Nested(machine) => &machine.whole,
         }
     }
 

@@ -3,6 +3,7 @@
 ghost use Rattle.std.specs.Prelude.{◌≡◌, ℕ, ◌+◌, ◌<◌, ◌≤◌, ◌^◌, true, false, slice_get, IfSome, Some, None, length, ◌*◌};
 ghost use Rattle.irq_plan.specs.PlannedEvents.{IsPlannable};
 ghost use Rattle.nk_bits.specs.Accesses.{wp_of};
+ghost use Rattle.cpu_step.specs.Processor.{IsSound};
 ghost use Rattle.cpu_step.specs.Turns.{enters_body};
 ghost use Rattle.phys_mem.specs.MaskedMemory.{seen};
 ghost use Rattle.page_desc.specs.DescriptorBytes.{kinds_in};
@@ -280,6 +281,24 @@ impl<'i> Whole<'i> {
     {
         steps_law();
         let _taken = self.taken;
+    }
+
+    /// The processor.
+    pub(crate) fn processor(&self) -> &Cpu
+        ensures processor { result.now ≡ self.now.state.processor }
+        ensures sound { IsSound (length self.now.state.memory) result.now }
+    {
+        steps_law();
+        &self.cpu
+    }
+
+    /// Memory, with what the nested kernel hides in it.
+    pub(crate) fn memory(&self) -> &PhysMem
+        ensures seen { seen result.now ≡ self.now.state.memory }
+        ensures length { length result.now ≡ length self.now.state.memory }
+    {
+        mask_law();
+        &self.mem
     }
 
     /// Memory and books.

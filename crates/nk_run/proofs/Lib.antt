@@ -8,6 +8,7 @@ pub mod AuditRows
 pub mod TextRows
 pub mod ModuleFetches
 pub mod Promises
+pub mod RunsBegun
 pub mod HeldFiles
 pub mod HeaderPieces
 pub mod PageReads

@@ -10,6 +10,7 @@ pub mod Outcome
 pub mod JournalLaw
 pub mod JoinedRuns
 pub mod Clauses
+pub mod RunsBegun
 -- Words of private clauses and proofs.
 pub mod Statuses
 pub mod NamedCommands

@@ -26,7 +26,7 @@ use nk_host::{Shelf, Sink};
 use std::alloc::Global;
 
 /// The reply to words without a form.
-fn usage() -> Reply
+pub(crate) fn usage() -> Reply
     ensures status { status_number result.status ≡ 2 }
     ensures text { line_bytes result.line ≡ usage_line }
 {

@@ -30,9 +30,10 @@ mod run;
 mod scan;
 mod work;
 
-// What runs and replays begin from: a run's other files, the opening.
+// What runs and replays begin from: a run's other files, the opening, and both for a program that takes the steps itself.
 mod inputs;
 mod opening;
+mod ready;
 
 // A run: why it ends, how it goes on, its loop, and its loop where it is counted.
 mod count;
@@ -50,5 +51,7 @@ mod program;
 
 pub use crate::command_line::Role;
 pub use crate::image::FILE_LIMIT;
+pub use crate::opening::{Opened, begin};
 pub use crate::program::nk_program;
+pub use crate::ready::{ReadyRun, Refusal, ready_run};
 pub use crate::top::nk_main;

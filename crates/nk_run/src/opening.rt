@@ -27,7 +27,7 @@ use std::alloc::Global;
 
 /// An image, and the division of a memory for it.
 #[derive(Drop)]
-pub(crate) struct Opened {
+pub struct Opened {
     pub image: Image,
     pub layout: Layout,
 }
@@ -77,11 +77,7 @@ pub(crate) fn guard(alloc: Global, opened: &Opened) -> Option<Guarded>
 }
 
 /// The machine as a run begins; None where there is no memory for it.
-pub(crate) fn begin<'i>(
-    alloc: Global,
-    opened: &'i Opened,
-    input: Vec<u8>,
-) -> Option<OuterMachine<'i>>
+pub fn begin<'i>(alloc: Global, opened: &'i Opened, input: Vec<u8>) -> Option<OuterMachine<'i>>
     requires layout { IsLayout opened.now.image opened.now.layout }
     requires clean { first_found opened.now.image ≡ None }
     ensures opening { IfSome result (λ machine. machine.opening

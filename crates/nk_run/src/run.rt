@@ -34,9 +34,9 @@ struct Held {
 
 /// What a run begins from.
 #[derive(Drop)]
-struct Ready {
-    opened: Opened,
-    outside: Outside,
+pub(crate) struct Ready {
+    pub opened: Opened,
+    pub outside: Outside,
 }
 
 /// The files of a run, or the reply to the first check on them that doesn't pass.
@@ -66,7 +66,7 @@ fn hold<S: Shelf>(alloc: Global, files: RunFiles<'_>, shelf: &mut S) -> Result<H
 }
 
 /// What the run begins from, or the reply where it doesn't.
-fn make_ready<S: Shelf>(
+pub(crate) fn make_ready<S: Shelf>(
     alloc: Global,
     files: RunFiles<'_>,
     steps: u64,

@@ -1,0 +1,84 @@
+//! What a run begins from, for a program that takes the run's steps itself.
+ghost use Rattle.std.specs.Prelude.{◌≡◌, ◌≤◌, ℕ, List, map, IfErr, IfOk};
+ghost use Rattle.std.specs.String.{string_bytes};
+ghost use Rattle.nk_run.specs.RunsBegun.{IsAnswerPut, IsRefusedRun, MayRun};
+ghost use Rattle.nk_run.specs.Witness.{shelf_change, sink_change};
+
+use crate::answer::usage;
+use crate::command_line::Request;
+use crate::opening::Opened;
+use crate::reply::Reply;
+use crate::run::make_ready;
+use irq_plan::Plan;
+use nk_host::{Shelf, Sink};
+use std::alloc::Global;
+use std::marker::Model;
+
+/// A run that may begin: the image with its memory's division, the input, the plan, and the most turns.
+#[derive(Drop)]
+pub struct ReadyRun {
+    pub opened: Opened,
+    pub input: Vec<u8>,
+    pub plan: Plan,
+    pub steps: u64,
+}
+
+/// What the top call answers where a run doesn't begin: its exit status, and its text.
+#[derive(Drop)]
+pub struct Refusal {
+    reply: Reply,
+}
+
+impl Model for Refusal {
+    ghost use Rattle.nk_run.specs.Outcome.{Answer};
+    ghost use Rattle.nk_run.specs.ReplyText.{line_bytes};
+    ghost use Rattle.nk_run.specs.Statuses.{status_number};
+
+    ghost Value = { Answer };
+
+    ghost view = { λ it. record { status = status_number it.reply.status; text = line_bytes it.reply.line } };
+}
+
+impl Refusal {
+    /// Writes the text and gives the status, or 4 where it couldn't be written whole.
+    pub fn write<O: Sink>(&self, sink: &mut O) -> u8
+        ensures never_falls { O.faults sink.old ≤ O.faults sink.new }
+        ensures written { IsAnswerPut (sink_change O.taken O.faults sink.old sink.new) self.now result }
+    {
+        self.reply.write(sink).number()
+    }
+}
+
+/// What the run of these words begins from, or what the top call answers where they aren't those of a run, or where it
+/// doesn't begin.
+pub fn ready_run<S: Shelf>(
+    alloc: Global,
+    words: &[String],
+    shelf: &mut S,
+) -> Result<ReadyRun, Refusal>
+    ghost names: { List (List ℕ) }
+    requires { names ≡ map string_bytes words.now }
+    ensures files_stay { S.files shelf.new ≡ S.files shelf.old }
+    ensures ready { IfOk result (λ it. MayRun names (S.files shelf.old) it.steps it.opened.image it.opened.layout
+        it.input.items it.plan) }
+    ensures refused { IfErr result (IsRefusedRun names (shelf_change S.files S.faults S.wants shelf.old shelf.new)) }
+{
+    match Request::read(words) {
+        Some(
+            Request::Run {
+                files,
+                steps,
+                frames,
+            },
+        ) => match make_ready(alloc, files, steps, frames, shelf) {
+            Ok(ready) => Ok(ReadyRun {
+                opened: ready.opened,
+                input: ready.outside.input,
+                plan: ready.outside.plan,
+                steps,
+            }),
+            Err(reply) => Err(Refusal { reply }),
+        },
+        _ => Err(Refusal { reply: usage() }),
+    }
+}
