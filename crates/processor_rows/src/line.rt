@@ -1,21 +1,13 @@
 //! The line of a row: `CODE FIELD.. > FIELD..`, each field a key and a value, all numbers hexadecimal.
 
-ghost use Rattle.std.specs.Prelude.{◌<◌};
-
-use crate::row::{After, Before, MemoryByte, Row};
+use crate::row::{After, Before, Row};
 use anyhow::{Context, Result, bail, ensure};
-use std::alloc::{AllocError, Global};
-use x86_regs::{Fault, Regs};
+use row_fields::{Register, parse_bytes, parse_number, parse_register, push_bytes, split_field};
+use std::alloc::Global;
+use x86_regs::{Fault, Regs, set_register};
 
 /// The most bytes of an instruction.
 const LONGEST: usize = 15;
-
-/// A general register's number.
-#[derive(Clone, Copy)]
-struct Register {
-    number: u8,
-    ghost in_range: { number < 16 },
-}
 
 /// What a field says.
 #[derive(Drop)]
@@ -48,7 +40,7 @@ pub fn parse_row(alloc: Global, line: &str) -> Result<Row> {
     let Some((digits, fields)) = left.split_once(' ') else {
         bail!("no space stands behind the code");
     };
-    let code = hex::decode(alloc, digits).context("the code")?;
+    let code = parse_bytes(alloc, digits).context("the code")?;
     ensure!(
         !code.is_empty() && code.len() <= LONGEST,
         "the code hasn't 1 to 15 bytes"
@@ -66,7 +58,9 @@ fn parse_before(alloc: Global, fields: &str) -> Result<Before> {
     let mut before = Before::base(alloc);
     for word in fields.split_whitespace() {
         match parse_field(alloc, word)? {
-            Field::General(register, value) => set_general(&mut before.regs, register, value),
+            Field::General(register, value) => {
+                set_register(&mut before.regs.general, register.number, value);
+            }
             Field::Flags(value) => before.regs.flags = value,
             Field::Memory(address, bytes) => push_bytes(&mut before.memory, address, &bytes)?,
             _ => bail!("the field may only stand behind >: {word}"),
@@ -87,7 +81,9 @@ fn parse_after(alloc: Global, fields: &str, before: &Regs, size: usize) -> Resul
     let mut raised = Raised::default();
     for word in fields.split_whitespace() {
         match parse_field(alloc, word)? {
-            Field::General(register, value) => set_general(&mut after.regs, register, value),
+            Field::General(register, value) => {
+                set_register(&mut after.regs.general, register.number, value);
+            }
             Field::Rip(value) => rip = Some(value),
             Field::Flags(value) => after.regs.flags = value,
             Field::Undefined(value) => after.undefined = value,
@@ -129,17 +125,15 @@ impl Raised {
 }
 
 fn parse_field(alloc: Global, word: &str) -> Result<Field> {
-    let Some((key, value)) = word.split_once('=') else {
-        bail!("no = stands in the field {word}");
-    };
+    let (key, value) = split_field(word)?;
     if let Some(address) = key.strip_prefix('m') {
-        let bytes = hex::decode(alloc, value).context(format_args!("the field {word}"))?;
-        return Ok(Field::Memory(number(address)?, bytes));
+        let bytes = parse_bytes(alloc, value)?;
+        return Ok(Field::Memory(parse_number(address)?, bytes));
     }
     if let Some(name) = key.strip_prefix('r') {
-        return Ok(Field::General(parse_register(name)?, number(value)?));
+        return Ok(Field::General(parse_register(name)?, parse_number(value)?));
     }
-    let value = number(value)?;
+    let value = parse_number(value)?;
     Ok(match key {
         "i" => Field::Rip(value),
         "f" => Field::Flags(value),
@@ -149,36 +143,4 @@ fn parse_field(alloc: Global, word: &str) -> Result<Field> {
         "a" => Field::FaultAddress(value),
         _ => bail!("no field has the key {key}"),
     })
-}
-
-fn number(digits: &str) -> Result<u64> {
-    u64::from_str_radix(digits, 16).context(format_args!("the number {digits}"))
-}
-
-fn parse_register(name: &str) -> Result<Register> {
-    let number = number(name)?;
-    ensure!(number < 16, "no register is r{name}");
-    Ok(Register {
-        number: number as u8,
-    })
-}
-
-fn set_general(regs: &mut Regs, register: Register, value: u64) {
-    regs.general[register.number as usize] = value;
-}
-
-fn push_bytes(
-    memory: &mut Vec<MemoryByte>,
-    address: u64,
-    bytes: &[u8],
-) -> std::result::Result<(), AllocError> {
-    let mut address = address;
-    for byte in bytes {
-        memory.push(MemoryByte {
-            address,
-            byte: *byte,
-        })?;
-        address = address.wrapping_add(1);
-    }
-    Ok(())
 }

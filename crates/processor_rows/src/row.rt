@@ -2,6 +2,7 @@
 
 ghost use Rattle.std.specs.Prelude.{◌≤◌, vec_len};
 
+use row_fields::{MemoryByte, byte_at};
 use std::alloc::Global;
 use x86_regs::{Fault, Regs};
 
@@ -30,14 +31,6 @@ const BASE: Regs = Regs {
     cpl: 3,
     ss: 0x23,
 };
-
-/// A byte of memory.
-#[derive(Clone, Copy, Debug, PartialEq, Eq)]
-pub struct MemoryByte {
-    /// Its linear address.
-    pub address: u64,
-    pub byte: u8,
-}
 
 /// What stands before an instruction.
 #[derive(Drop)]
@@ -92,9 +85,4 @@ impl Row {
     pub fn names_after(&self, address: u64) -> bool {
         byte_at(&self.after.memory, address).is_some()
     }
-}
-
-fn byte_at(bytes: &[MemoryByte], address: u64) -> Option<u8> {
-    let found = bytes.iter().find(|it| it.address == address)?;
-    Some(found.byte)
 }

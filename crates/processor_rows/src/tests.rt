@@ -66,7 +66,7 @@ const TOLD: [(&str, &str); 27] = [
     ("9090 >", "the bytes aren't one instruction\n"),
     // lines out of form
     ("90", "no > stands in the line"),
-    ("9 >", "the code: Odd number of digits"),
+    ("9 >", "the code: the bytes 9: Odd number of digits"),
     ("90 r10=1 >", "no register is r10"),
     (
         "90 > x=e e=4",
