@@ -1,0 +1,2 @@
+pub mod NearerSteps
+pub mod Rises

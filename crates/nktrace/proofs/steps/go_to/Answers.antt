@@ -1,0 +1,10 @@
+use Rattle.std.proofs.Common.{arith, subst}
+use Rattle.gate_state.specs.MachineOf.{whole_of}
+use Rattle.nktrace.specs.StepsLeft.{LeavesFewer}
+use Rattle.nktrace.proofs.NearerSteps.{hurried_left}
+use Rattle.nktrace.proofs.steps.go_to.Goals as goal
+
+pub loop-hurried-smaller : goal.loop-hurried-smaller
+loop-hurried-smaller c =
+    let less = subst (LeavesFewer c.args.limit c.args.plan.now (whole_of c.hurry-hurried.result)) c.in-Goes.is c.take_step.ensures in
+    omega (arith, less, hurried_left c.args.limit c.hurry-hurried.ensures.hurried)

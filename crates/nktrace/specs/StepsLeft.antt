@@ -1,0 +1,16 @@
+-- How many steps are left: each takes a turn, or an event of the plan.
+use Rattle.std.specs.Prelude.{ℕ, ◌+◌, ◌-◌, ◌<◌, List, length, ⊤}
+use Rattle.irq_plan.specs.declared.event.Event.{Event}
+use Rattle.gate_state.specs.MachineOf.{whole_of}
+use Rattle.gate_state.specs.WholeMachine.{WholeState}
+use Rattle.nktrace.specs.declared.steps.Taken.{Taken}
+use Rattle.nktrace.specs.declared.steps.Taken.TheVariants as taken
+
+-- the most steps from a state on, up to so many turns
+abbrev pub steps_left : ℕ → List Event → WholeState → ℕ
+steps_left limit plan w = (limit - w.state.turns) + (length plan - w.state.taken)
+
+-- behind a step fewer are left
+abbrev pub LeavesFewer : ℕ → List Event → WholeState → Taken → Type 0
+LeavesFewer limit plan w (taken.Rests machine) = ⊤
+LeavesFewer limit plan w (taken.Goes machine it) = steps_left limit plan (whole_of machine) < steps_left limit plan w

@@ -1,0 +1,113 @@
+//! The trace of a run: the run's own refusals, or its steps as far as they are shown.
+
+ghost use Rattle.std.specs.Prelude.{◌≡◌, ◌≤◌, None, MatchResult, map};
+ghost use Rattle.std.specs.String.{string_bytes};
+ghost use Rattle.byte_scanner.specs.FirstFound.{first_found};
+ghost use Rattle.boot_map.specs.Division.{IsLayout};
+ghost use Rattle.nk_run.specs.Witness.{shelf_change, sink_change};
+ghost use Rattle.nktrace.specs.TracedRuns.{IsTraced, IsTraceStatus};
+
+use crate::asked::Shown;
+use crate::steps::drive_shown;
+use gate_state::Machine;
+use irq_plan::Plan;
+use nk_host::{Shelf, Sink, SinkFault, put_all};
+use nk_run::{ReadyRun, begin, ready_run};
+use phys_mem::PhysMem;
+use std::alloc::Global;
+
+/// The status where all was written.
+const DONE: u8 = 0;
+
+/// The status where the text couldn't be written whole.
+const CUT: u8 = 4;
+
+/// The status where there is no memory for the run.
+const NO_MEMORY: u8 = 5;
+
+/// This status where a text was put.
+fn unless_cut(status: u8, put: Result<(), SinkFault>) -> u8
+    ensures { MatchResult put (λ _. result ≡ status) (λ _. result ≡ 4) }
+{
+    match put {
+        Ok(()) => status,
+        Err(_) => CUT,
+    }
+}
+
+/// Says that there is no memory.
+fn no_memory<O: Sink>(sink: &mut O) -> u8
+    ensures { IsTraceStatus (O.faults sink.old) (O.faults sink.new) result }
+{
+    unless_cut(NO_MEMORY, put_all(sink, b"no memory\n"))
+}
+
+/// Shows the steps of a machine.
+fn show_machine<'i, O: Sink>(
+    alloc: Global,
+    machine: Machine<'i>,
+    plan: &Plan,
+    steps: u64,
+    shown: &Shown,
+    sink: &mut O,
+) -> u8
+    requires { steps ≤ 4294967296 }
+    ensures { IsTraceStatus (O.faults sink.old) (O.faults sink.new) result }
+{
+    let frames = machine.memory().frames();
+    match PhysMem::new(alloc, frames) {
+        Ok(copy) => {
+            let mut copy = copy;
+            unless_cut(
+                DONE,
+                drive_shown(machine, plan, steps, shown, &mut copy, sink),
+            )
+        }
+        Err(_) => {
+            let _finished = machine.finish();
+            no_memory(sink)
+        }
+    }
+}
+
+/// Shows the steps of a run that may begin.
+fn show_run<O: Sink>(alloc: Global, ready: ReadyRun, shown: &Shown, sink: &mut O) -> u8
+    requires layout { IsLayout ready.opened.image ready.opened.layout }
+    requires clean { first_found ready.opened.image ≡ None }
+    requires steps { ready.steps ≤ 4294967296 }
+    ensures { IsTraceStatus (O.faults sink.old) (O.faults sink.new) result }
+{
+    let ReadyRun {
+        opened,
+        input,
+        plan,
+        steps,
+    } = ready;
+    match begin(alloc, &opened, input) {
+        Some(machine) => {
+            let machine = Machine::Outer(machine);
+            show_machine(alloc, machine, &plan, steps, shown, sink)
+        }
+        None => no_memory(sink),
+    }
+}
+
+/// Shows the run of these words, or answers as the top call of `nkrun` does where they aren't those of a run, or it
+/// doesn't begin. Status 4 comes only where the sink failed, and 5 where there is no memory for the run.
+pub fn trace<S: Shelf, O: Sink>(
+    alloc: Global,
+    words: &[String],
+    shown: &Shown,
+    shelf: &mut S,
+    sink: &mut O,
+) -> u8
+    ensures files_stay { S.files shelf.new ≡ S.files shelf.old }
+    ensures traced { IsTraced (map string_bytes words.now)
+        (shelf_change S.files S.faults S.wants shelf.old shelf.new)
+        (sink_change O.taken O.faults sink.old sink.new) result }
+{
+    match ready_run(alloc, words, shelf) {
+        Ok(ready) => show_run(alloc, ready, shown, sink),
+        Err(refusal) => refusal.write(sink),
+    }
+}

@@ -1,0 +1,167 @@
+//! The words of the command line.
+
+use crate::asked::{Kind, Shown};
+use clap::builder::ValueParser;
+use clap::error::ErrorKind;
+use clap::{Arg, ArgAction, ArgMatches, Command, Error};
+use std::alloc::{AllocError, Global};
+use text_lines::hexadecimal;
+
+/// The most turns of a run.
+const MOST_TURNS: u64 = 4_294_967_296;
+
+/// The most digits of an address.
+const DIGITS: usize = 16;
+
+/// The names of kinds of steps.
+static KINDS: [&str; 6] = ["gate", "call", "delivery", "event", "memory", "console"];
+
+/// What the words ask for.
+#[derive(Drop)]
+pub enum Request {
+    /// The words of a run, and what is shown of it.
+    Trace(Vec<String>, Shown),
+    /// Help or the version, or what is wrong with the words.
+    Told(Error),
+    /// There is no memory for the words.
+    NoMemory,
+}
+
+/// A word that has to be there.
+fn file<'a>(alloc: Global, name: &'a str, help: &'a str) -> Arg<'a> {
+    Arg::new(alloc, name)
+        .required(true)
+        .action(ArgAction::Set)
+        .help(help)
+}
+
+/// A number of turns.
+fn turns<'a>(alloc: Global, name: &'a str, help: &'a str) -> Arg<'a> {
+    Arg::new(alloc, name)
+        .action(ArgAction::Set)
+        .value_parser(ValueParser::unsigned(0, MOST_TURNS))
+        .help(help)
+}
+
+/// An option with a value.
+fn option<'a>(alloc: Global, name: &'a str, value: &'a str, help: &'a str) -> Arg<'a> {
+    Arg::new(alloc, name)
+        .long(name)
+        .action(ArgAction::Set)
+        .value_name(value)
+        .help(help)
+}
+
+/// An option without a value.
+fn flag<'a>(alloc: Global, name: &'a str, help: &'a str) -> Arg<'a> {
+    Arg::new(alloc, name)
+        .long(name)
+        .action(ArgAction::SetTrue)
+        .help(help)
+}
+
+/// The command with the words of a run.
+fn run_command<'a>(alloc: Global) -> Result<Command<'a>, AllocError> {
+    Command::new(alloc, "nktrace")
+        .version("0.1.0")
+        .about(
+            "The steps of a run, a line each, with what they change; docs/FORMATS.md has the lines",
+        )
+        .arg(file(alloc, "IMAGE", "the image, as of nkrun run"))?
+        .arg(file(alloc, "INPUT", "the bytes that the image may take"))?
+        .arg(file(alloc, "PLAN", "the plan of events"))?
+        .arg(file(alloc, "STEPS", "the most turns of the run"))?
+        .arg(file(alloc, "FRAMES", "the frames of memory"))
+}
+
+/// The whole command.
+fn whole_command<'a>(alloc: Global) -> Result<Command<'a>, AllocError> {
+    let until = "ends behind a step that leaves RIP at this hexadecimal address";
+    let changes = "leaves out steps that change nothing but RIP and show nothing";
+    let only = option(alloc, "only", "KIND", "leaves out steps of other kinds");
+    run_command(alloc)?
+        .arg(turns(alloc, "FROM", "the turns before the first step shown"))?
+        .arg(turns(alloc, "TO", "the turns before the last step shown"))?
+        .arg(option(alloc, "until", "ADDRESS", until))?
+        .arg(flag(alloc, "changes", changes))?
+        .arg(only.value_parser(KINDS.as_slice()))?
+        .arg(flag(alloc, "memory", "shows memory as the trace begins"))
+}
+
+fn kind_of(name: &str) -> Option<Kind> {
+    match name {
+        "gate" => Some(Kind::Gate),
+        "call" => Some(Kind::Call),
+        "delivery" => Some(Kind::Delivery),
+        "event" => Some(Kind::Event),
+        "memory" => Some(Kind::Memory),
+        "console" => Some(Kind::Console),
+        _ => None,
+    }
+}
+
+/// The words of the run, as `nkrun` has them.
+fn run_words(alloc: Global, matches: &ArgMatches<'_>) -> Result<Vec<String>, AllocError> {
+    let mut words = Vec::new(alloc);
+    words.push(String::from_str(alloc, "run")?)?;
+    for name in ["IMAGE", "INPUT", "PLAN", "STEPS", "FRAMES"] {
+        let word = matches.get_str(name).unwrap_or("");
+        words.push(String::from_str(alloc, word)?)?;
+    }
+    Ok(words)
+}
+
+/// What is shown, but for the address.
+fn shown_of(matches: &ArgMatches<'_>, until: Option<u64>) -> Shown {
+    Shown {
+        from: matches.get_one::<u64>("FROM").unwrap_or(0),
+        to: matches.get_one::<u64>("TO"),
+        until,
+        changes: matches.get_flag("changes"),
+        only: matches.get_str("only").and_then(kind_of),
+        memory: matches.get_flag("memory"),
+    }
+}
+
+fn no_address(alloc: Global) -> Result<Error, AllocError> {
+    let mut command = whole_command(alloc)?;
+    command.error(
+        ErrorKind::ValueValidation,
+        "invalid value for '--until <ADDRESS>': it has 1 to 16 hexadecimal digits",
+    )
+}
+
+/// What the words that match ask for.
+fn asked_by(alloc: Global, matches: &ArgMatches<'_>) -> Result<Request, AllocError> {
+    let until = match matches.get_str("until") {
+        Some(word) => match hexadecimal(word.as_bytes(), DIGITS) {
+            Some(address) => Some(address),
+            None => return Ok(Request::Told(no_address(alloc)?)),
+        },
+        None => None,
+    };
+    Ok(Request::Trace(run_words(alloc, matches)?, shown_of(matches, until)))
+}
+
+/// What a parse that gave no matches tells.
+fn told_by(error: Error) -> Request {
+    if error.kind() == ErrorKind::OutOfMemory {
+        Request::NoMemory
+    } else {
+        Request::Told(error)
+    }
+}
+
+/// What the words ask for; the first of them is the program's own name.
+pub fn read_words(alloc: Global, words: &[String]) -> Request {
+    let Ok(command) = whole_command(alloc) else {
+        return Request::NoMemory;
+    };
+    match command.try_get_matches_from(words) {
+        Ok(matches) => match asked_by(alloc, &matches) {
+            Ok(asked) => asked,
+            Err(_) => Request::NoMemory,
+        },
+        Err(error) => told_by(error),
+    }
+}
