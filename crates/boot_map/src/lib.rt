@@ -26,6 +26,3 @@ pub use laws::{
 };
 pub use layout::{Layout, NoRoom};
 pub use opening::{NoMemory, prepare};
-
-#[cfg(test)]
-mod tests;

@@ -32,6 +32,3 @@ pub use fetch::Fetched;
 pub use laws::{alike_fetch_law, fetch_law, pending_law, turn_stores_law};
 pub use processor::{Cpu, NoMemory};
 pub use stepped::Stepped;
-
-#[cfg(test)]
-mod tests;

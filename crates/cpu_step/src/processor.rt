@@ -121,6 +121,27 @@ impl Cpu {
         &self.control
     }
 
+    /// The bases and limits of the tables.
+    pub fn tables(&self) -> &Tables
+        ensures { result.now ≡ self.now.tables }
+    {
+        &self.tables
+    }
+
+    /// The vectors that wait: bit v - 32 is that of the vector v, 32 to 47.
+    pub fn pending(&self) -> u16
+        ensures { result ≡ self.now.pending }
+    {
+        self.pending
+    }
+
+    /// Whether no interrupt is delivered before the next instruction, whatever IF is.
+    pub fn shielded(&self) -> bool
+        ensures { result ≡ self.now.shielded }
+    {
+        self.shielded
+    }
+
     /// Whether HLT stopped the processor.
     pub fn halted(&self) -> bool
         ensures { result ≡ self.now.halted }

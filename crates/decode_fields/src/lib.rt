@@ -27,6 +27,3 @@ pub use number::immediate;
 mod law;
 
 pub use law::{longer_law, prefixes_law};
-
-#[cfg(test)]
-mod tests;

@@ -15,13 +15,8 @@ use Rattle.gate_state.specs.MachineStates.{Opening}
 
 -- the frame holds code of the image
 abbrev pub is_code : Kind → Bool
-is_code Data = false
 is_code Code = true
-is_code (Table level) = false
-is_code Fixed = false
-is_code Trap = false
-is_code Guarded = false
-is_code Hidden = false
+is_code _ = false
 
 -- two truth values are one
 abbrev pub is_alike : Bool → Bool → Bool

@@ -33,6 +33,3 @@ pub use opening::NoMemory;
 pub use outer::OuterMachine;
 pub use seen::{Called, Seen, Step, Took};
 pub use whole::Finished;
-
-#[cfg(test)]
-mod tests;

@@ -26,8 +26,6 @@ mod rule;
 
 // What follows from the definitions.
 mod laws;
-#[cfg(test)]
-mod tests;
 
 pub use access::Access;
 pub use address::{canonical, index};

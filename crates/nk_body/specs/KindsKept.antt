@@ -6,19 +6,12 @@ use Rattle.nk_bits.specs.declared.kind.Kind.TheVariants.{Data, Code, Table, Fixe
 -- no call changes this kind of a frame
 abbrev pub is_settled : Kind → Bool
 is_settled Data = false
-is_settled Code = true
 is_settled (Table level) = false
-is_settled Fixed = true
-is_settled Trap = true
-is_settled Guarded = true
-is_settled Hidden = true
+is_settled _ = true
 
 -- no call gives a frame this kind
 abbrev pub is_reserved : Kind → Bool
 is_reserved Data = false
-is_reserved Code = true
 is_reserved (Table level) = false
-is_reserved Fixed = true
-is_reserved Trap = true
 is_reserved Guarded = false
-is_reserved Hidden = true
+is_reserved _ = true

@@ -19,8 +19,9 @@ use Rattle.gate_state.specs.MachineStates.{Opening}
 use Rattle.std.specs.Option.{option_map}
 use Rattle.nk_run.specs.declared.command_line.Role.TheVariants.{Image, Input, Plan}
 use Rattle.nk_run.specs.Clauses.{HasJournal, HasSafeRun, IsGoodImage, IsSafeRun}
-use Rattle.nk_run.specs.CommandLine.{Command, Scan, Map, Run, Replay, Make, Work, Join, Audit, Assemble, Listing, audit_with, command_of, listing_with, map_with, name_in, run_with}
-use Rattle.nk_run.specs.NumberWords.{address_word, bounded, decimal_within, is_least_long, is_numeral}
+use Rattle.nk_run.specs.CommandLine.{Command, Scan, Map, Run, Replay, Make, Work, Join, Audit, Assemble, Listing, both, command_of, name_in}
+use Rattle.nk_run.specs.NumberWords.{address_word, bounded, decimal_within, is_numeral}
+use Rattle.replay_core.specs.JournalLines.{is_least}
 use Rattle.nk_run.specs.JournalLaw.{IsReplayedRun}
 use Rattle.nk_run.specs.Lines.{longest_file}
 use Rattle.nk_run.specs.Outcome.{Answer, checks_of, clean, ends, events_in, fetch_verdict, file_in, first_verdict, formed, opening_in, passes, planned, roomy}
@@ -50,18 +51,18 @@ bounded_by low high n f e =
     none_some b h = cc
 
 spelled_within : (low high : ℕ) (word : List ℕ) (f : ℕ) → decimal_within low high word ≡ Some f → (low ≤ f) × (f ≤ high)
-spelled_within low high word f e = chosen (is_numeral 10 word && is_least_long word) _ e
+spelled_within low high word f e = chosen (is_numeral 10 word && is_least word) _ e
   where
     chosen : (b : Bool) (n : ℕ) → (if b then bounded low high n else None) ≡ Some f → (low ≤ f) × (f ≤ high)
     chosen true n h = bounded_by low high n f h
     chosen false n h = absurd (cc)
 
-run_frames : (a b : Option ℕ) (steps frames : ℕ) → run_with a b ≡ Some (Run steps frames) → b ≡ Some frames
+run_frames : (a b : Option ℕ) (steps frames : ℕ) → both Run a b ≡ Some (Run steps frames) → b ≡ Some frames
 run_frames (Some s) (Some f) steps frames e = cc
 run_frames (Some s) None steps frames e = absurd (cc)
 run_frames None b steps frames e = absurd (cc)
 
-no_map : (a b : Option ℕ) (steps frames : ℕ) → map_with a b ≡ Some (Run steps frames) → ⊥
+no_map : (a b : Option ℕ) (steps frames : ℕ) → both Map a b ≡ Some (Run steps frames) → ⊥
 no_map (Some f) (Some va) steps frames e = cc
 no_map (Some f) None steps frames e = cc
 no_map None va steps frames e = cc
@@ -81,13 +82,13 @@ no_pair : (joins : Bool) (steps frames : ℕ) → (if joins then Some Join else 
 no_pair true steps frames e = cc
 no_pair false steps frames e = cc
 
-no_listing : (a b : Option ℕ) (steps frames : ℕ) → listing_with a b ≡ Some (Run steps frames) → ⊥
+no_listing : (a b : Option ℕ) (steps frames : ℕ) → both Listing a b ≡ Some (Run steps frames) → ⊥
 no_listing (Some address) (Some count) steps frames e = cc
 no_listing (Some address) None steps frames e = cc
 no_listing None b steps frames e = cc
 
 no_middle : (maps replays lists : Bool) (x y a b : Option ℕ) (steps frames : ℕ)
-    → (if maps then map_with x y else if replays then option_map Replay x else if lists then listing_with a b else None)
+    → (if maps then both Map x y else if replays then option_map Replay x else if lists then both Listing a b else None)
     ≡ Some (Run steps frames) → ⊥
 no_middle true replays lists x y a b steps frames e = no_map x y steps frames e
 no_middle false true lists (Some n) y a b steps frames e = cc
@@ -95,13 +96,13 @@ no_middle false true lists None y a b steps frames e = cc
 no_middle false false true x y a b steps frames e = no_listing a b steps frames e
 no_middle false false false x y a b steps frames e = cc
 
-no_audit : (audits : Bool) (x y : Option ℕ) (steps frames : ℕ) → (if audits then audit_with x y else None) ≡ Some (Run steps frames) → ⊥
+no_audit : (audits : Bool) (x y : Option ℕ) (steps frames : ℕ) → (if audits then both Audit x y else None) ≡ Some (Run steps frames) → ⊥
 no_audit true (Some f) (Some id) steps frames e = cc
 no_audit true (Some f) None steps frames e = cc
 no_audit true None y steps frames e = cc
 no_audit false x y steps frames e = cc
 
-run_steps : (a b : Option ℕ) (steps frames : ℕ) → run_with a b ≡ Some (Run steps frames) → a ≡ Some steps
+run_steps : (a b : Option ℕ) (steps frames : ℕ) → both Run a b ≡ Some (Run steps frames) → a ≡ Some steps
 run_steps (Some s) (Some f) steps frames e = cc
 run_steps (Some s) None steps frames e = absurd (cc)
 run_steps None b steps frames e = absurd (cc)
@@ -113,7 +114,7 @@ record IsRunWithin (steps frames : ℕ) : Type 0 where
   turns : steps ≤ 4294967296
 
 run_chosen : (b : Bool) (word_steps word_frames : List ℕ) (steps frames : ℕ)
-    → (if b then run_with (decimal_within 0 4294967296 word_steps) (decimal_within 512 65536 word_frames) else None) ≡ Some (Run steps frames)
+    → (if b then both Run (decimal_within 0 4294967296 word_steps) (decimal_within 512 65536 word_frames) else None) ≡ Some (Run steps frames)
     → IsRunWithin steps frames
 run_chosen true word_steps word_frames steps frames e =
     let room = spelled_within 512 65536 word_frames frames (run_frames (decimal_within 0 4294967296 word_steps) (decimal_within 512 65536 word_frames) steps frames e) in

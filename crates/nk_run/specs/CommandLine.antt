@@ -22,6 +22,11 @@ pub data Command : Type 0 where
   Assemble : Command
   Listing : ℕ → ℕ → Command
 
+-- a command of two numbers, where the words are numbers both
+abbrev pub both : (ℕ → ℕ → Command) → Option ℕ → Option ℕ → Option Command
+both command (Some a) (Some b) = Some (command a b)
+both command a b = None
+
 -- `scan IMAGE`; `asm TEXT`; and `make NUMBER` and `work NUMBER`, NUMBER from 1 to 100
 abbrev pub short_of : List ℕ → List ℕ → Option Command
 short_of name word =
@@ -35,51 +40,31 @@ short_of name word =
 abbrev pub pair_of : List ℕ → Option Command
 pair_of name = if bytes_eq name (codes "join") then Some Join else None
 
--- `map IMAGE FRAMES VA`: FRAMES from 512 to 65,536, which are 2 MiB to 256 MiB, and VA a canonical address
-abbrev pub map_with : Option ℕ → Option ℕ → Option Command
-map_with (Some frames) (Some va) = Some (Map frames va)
-map_with (Some frames) None = None
-map_with None va = None
-
 -- `list IMAGE ADDR COUNT`: ADDR has 1 to 16 hexadecimal digits, and COUNT is from 1 to 4,096
-abbrev pub listing_with : Option ℕ → Option ℕ → Option Command
-listing_with (Some address) (Some count) = Some (Listing address count)
-listing_with (Some address) None = None
-listing_with None count = None
-
 abbrev pub listing_of : List ℕ → List ℕ → List ℕ → Option Command
 listing_of name address count =
-    if bytes_eq name (codes "list") then listing_with (numeral 16 16 address) (decimal_within 1 4096 count) else None
+    if bytes_eq name (codes "list") then both Listing (numeral 16 16 address) (decimal_within 1 4096 count) else None
 
--- that, `map`, or `replay IMAGE FRAMES JOURNAL` with the same bounds on FRAMES
+-- that; `map IMAGE FRAMES VA`: FRAMES from 512 to 65,536, which are 2 MiB to 256 MiB, and VA a canonical address; or `replay
+-- IMAGE FRAMES JOURNAL` with the same bounds on FRAMES
 abbrev pub middle_of : List ℕ → List ℕ → List ℕ → Option Command
 middle_of name third last =
-    if bytes_eq name (codes "map") then map_with (decimal_within 512 65536 third) (address_word last)
+    if bytes_eq name (codes "map") then both Map (decimal_within 512 65536 third) (address_word last)
     else if bytes_eq name (codes "replay") then option_map Replay (decimal_within 512 65536 third)
     else listing_of name third last
 
 -- `audit IMAGE FRAMES JOURNAL ID`: FRAMES as above, and ID from 256 to 2^33 - 1, the identifiers that regions may have
-abbrev pub audit_with : Option ℕ → Option ℕ → Option Command
-audit_with (Some frames) (Some id) = Some (Audit frames id)
-audit_with (Some frames) None = None
-audit_with None id = None
-
 abbrev pub audit_of : List ℕ → List ℕ → List ℕ → Option Command
 audit_of name frames id =
     if bytes_eq name (codes "audit")
-    then audit_with (decimal_within 512 65536 frames) (decimal_within 256 8589934591 id)
+    then both Audit (decimal_within 512 65536 frames) (decimal_within 256 8589934591 id)
     else None
 
 -- `run IMAGE INPUT PLAN STEPS FRAMES`: STEPS at most 2^32, the most turns that the run may take, and FRAMES as above
-abbrev pub run_with : Option ℕ → Option ℕ → Option Command
-run_with (Some steps) (Some frames) = Some (Run steps frames)
-run_with (Some steps) None = None
-run_with None frames = None
-
 abbrev pub run_of : List ℕ → List ℕ → List ℕ → Option Command
 run_of name steps frames =
     if bytes_eq name (codes "run")
-    then run_with (decimal_within 0 4294967296 steps) (decimal_within 512 65536 frames)
+    then both Run (decimal_within 0 4294967296 steps) (decimal_within 512 65536 frames)
     else None
 
 -- the command that the words spell, without the program's own name; other words have no form

@@ -1,7 +1,8 @@
 //! Numbers as words of the command line.
 ghost use Rattle.std.specs.Prelude.{◌≡◌, ◌≤◌, ◌^◌, ◌-◌, true, IsTrue, IfSome};
 ghost use Rattle.nk_bits.specs.Paging.{is_canonical};
-ghost use Rattle.nk_run.specs.NumberWords.{address_word, bounded, decimal_within, is_least_long, is_numeral};
+ghost use Rattle.nk_run.specs.NumberWords.{address_word, bounded, decimal_within, is_numeral};
+ghost use Rattle.replay_core.specs.JournalLines.{is_least};
 ghost use Rattle.std.specs.Str.Parse.{digits_value};
 ghost use Rattle.std.specs.Char.{is_digit};
 ghost use Rattle.std.specs.List.{list_all};
@@ -26,8 +27,8 @@ fn is_numeral(word: &[u8], radix: u32) -> bool
 }
 
 /// Whether no zero leads other digits.
-fn is_least_long(word: &[u8]) -> bool
-    ensures { result ≡ is_least_long word.now }
+fn is_least(word: &[u8]) -> bool
+    ensures { result ≡ is_least word.now }
 {
     word.len() == 1 || word.first() != Some(&b'0')
 }
@@ -47,7 +48,7 @@ pub(crate) fn decimal_within(word: &str, low: u64, high: u64) -> Option<u64>
     ensures number { result ≡ decimal_within low high word.now }
     ensures bounds { IfSome result (λ n. (low ≤ n) × (n ≤ high)) }
 {
-    if !is_numeral(word.as_bytes(), 10) || !is_least_long(word.as_bytes()) {
+    if !is_numeral(word.as_bytes(), 10) || !is_least(word.as_bytes()) {
         return None;
     }
     match value(word, 10) {

@@ -55,13 +55,9 @@ holds_links kinds frame = is_link_level (level_of (kind_of kinds frame))
 
 -- a frame of this kind may hold a page table: it is one by its kind, or Fixed, as the kernel slot's own tables are
 abbrev pub may_hold_table : Kind → Bool
-may_hold_table Data = false
-may_hold_table Code = false
 may_hold_table (Table level) = true
 may_hold_table Fixed = true
-may_hold_table Trap = false
-may_hold_table Guarded = false
-may_hold_table Hidden = false
+may_hold_table _ = false
 
 -- how many loose leaves the frame has, in all tables of level 1, linked or not
 unfoldable pub loose_in : List Kind → (ℕ → ℕ → ℕ) → ℕ → ℕ

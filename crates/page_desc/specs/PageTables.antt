@@ -25,13 +25,9 @@ is_table kind = nat_lt 0 (level_of kind)
 
 -- the bytes of the frame never change: they are fixed, or code of the image
 abbrev pub is_unchanging : Kind → Bool
-is_unchanging Data = false
 is_unchanging Code = true
-is_unchanging (Table level) = false
 is_unchanging Fixed = true
-is_unchanging Trap = false
-is_unchanging Guarded = false
-is_unchanging Hidden = false
+is_unchanging _ = false
 
 -- the handler slot: the first eight bytes of frame 2
 abbrev pub is_handler_byte : ℕ → ℕ → Bool

@@ -1,9 +1,9 @@
 //! The comparison at rows worked out by the manual: right ones, ones that are wrong in one place each, and lines out of
 //! form.
 
-use crate::compare_row;
 use crate::machine::Machine;
 use anyhow::Result;
+use row_fields::Comparison;
 use std::alloc::Global;
 use std::fmt::Write;
 
@@ -77,7 +77,7 @@ const TOLD: [(&str, &str); 27] = [
 fn told(alloc: Global, line: &str) -> Result<String> {
     let mut machine = Machine::new(alloc)?;
     let mut text = String::new(alloc);
-    for difference in &compare_row(alloc, &mut machine, line)? {
+    for difference in &machine.compare(alloc, line)? {
         writeln!(text, "{difference}")?;
     }
     Ok(text)

@@ -1,9 +1,9 @@
 //! The comparison at rows worked out by the manual: right ones, ones that are wrong in one place each, and lines out of
 //! form. All rows of a test are compared on one machine.
 
-use crate::compare_row;
 use crate::machine::Machine;
 use anyhow::Result;
+use row_fields::Comparison;
 use std::alloc::Global;
 use std::fmt::Write;
 use std::test::Fail;
@@ -146,7 +146,7 @@ const REFUSED: [(&str, &str); 16] = [
 
 fn told(alloc: Global, machine: &mut Machine, line: &str) -> Result<String> {
     let mut text = String::new(alloc);
-    for difference in &compare_row(alloc, machine, line)? {
+    for difference in &machine.compare(alloc, line)? {
         writeln!(text, "{difference}")?;
     }
     Ok(text)

@@ -26,6 +26,3 @@ pub use gate::interrupt_allowed;
 pub use laws::{alike_reads_law, delivery_law, return_law};
 pub use shutdown::Shut;
 pub use trap_return::iretq;
-
-#[cfg(test)]
-mod tests;

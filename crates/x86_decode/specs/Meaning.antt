@@ -48,11 +48,9 @@ when_stands (AtRexB bit) prefixes operands = rex_b (rex_number prefixes) == bit
 
 -- the form of ModRM that a layout asks for stands
 abbrev pub layout_stands : RowLayout → List ℕ → Bool
-layout_stands Plain operands = true
-layout_stands AnyForm operands = true
 layout_stands Memory operands = not (is_register (modrm_byte operands))
 layout_stands Register operands = is_register (modrm_byte operands)
-layout_stands Ignored operands = true
+layout_stands _ operands = true
 
 -- the row stands at these prefixes, before these bytes
 abbrev pub row_stands : OpcodeRow → Prefixes → List ℕ → Bool
@@ -61,22 +59,18 @@ row_stands row prefixes operands = when_stands row.when prefixes operands && lay
 -- the bytes of ModRM, SIB and displacement
 abbrev pub layout_length : RowLayout → List ℕ → ℕ
 layout_length Plain operands = 0
-layout_length AnyForm operands = modrm_length operands
-layout_length Memory operands = modrm_length operands
-layout_length Register operands = modrm_length operands
 layout_length Ignored operands = 1
+layout_length _ operands = modrm_length operands
 
 -- the bytes of a row's number, by the row's width
 abbrev pub number_size : Number → ℕ → ℕ
-number_size Zero width = 0
-number_size One width = 0
 number_size Ib width = 1
 number_size Iz width = if width == 16 then 2 else 4
 number_size Iv width = width / 8
 number_size Jz width = 4
 number_size Ub width = 1
 number_size Uw width = 2
-number_size Cn width = 0
+number_size _ width = 0
 
 -- the bytes behind the opcode
 abbrev pub operand_length : Shape → Prefixes → List ℕ → ℕ
@@ -90,10 +84,8 @@ cut_number size width bytes = signed_number (8 * size) bytes % 2 ^ width
 -- what ModRM says where a layout has it, and nothing where it hasn't; with mod taken as 3, rm names a register
 abbrev pub fields_of : RowLayout → List ℕ → ℕ → ModRm
 fields_of Plain operands rex = record { reg = 0; place = Nothing; length = 0 }
-fields_of AnyForm operands rex = record { reg = reg_of operands rex; place = place_of operands rex; length = modrm_length operands }
-fields_of Memory operands rex = record { reg = reg_of operands rex; place = place_of operands rex; length = modrm_length operands }
-fields_of Register operands rex = record { reg = reg_of operands rex; place = place_of operands rex; length = modrm_length operands }
 fields_of Ignored operands rex = record { reg = reg_of operands rex; place = Reg (rm_field (modrm_byte operands) + 8 * rex_b rex); length = 1 }
+fields_of _ operands rex = record { reg = reg_of operands rex; place = place_of operands rex; length = modrm_length operands }
 
 -- the same, unless the bytes end before the last of these
 abbrev pub fields_in : RowLayout → List ℕ → ℕ → Option ModRm

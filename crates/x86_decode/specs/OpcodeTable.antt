@@ -6,7 +6,11 @@ use Rattle.x86_decode.specs.declared.operation.Op.TheVariants.{Add, Or, Adc, Sbb
 use Rattle.x86_decode.specs.declared.reader.Map.{Map}
 use Rattle.x86_decode.specs.declared.reader.Map.TheVariants.{OneByte, TwoByte}
 use Rattle.x86_decode.specs.declared.shape.Shape.{Shape}
-use Rattle.x86_decode.specs.RowForms.{alone, alone_stack, alone_b, alone_v, shape_without_access, fence, eb, ev, eb_gb, ev_gv, gb_eb, gv_ev, gv_eb, gv_m, rv_gv, gv_ev_ib, gv_ev_iz, eb_ib, ev_ib, ev_iz, eb_ub, ev_ub, eb_1, ev_1, eb_cl, ev_cl, zb_ib, zv_iv, zv, ax_zv, al_ib, ax_iz, al_ub, ub_al, al_dx, dx_al, push_zv, push_ib, push_iz, push_ev, pop_zv, pop_ev, near_ev, jb, jz, ret_0, ret_uw, int_ub, system_ew, system_m, rq_cn, cn_rq}
+use Rattle.x86_decode.specs.declared.shape.RowLayout.TheVariants.{Plain, AnyForm, Memory, Ignored}
+use Rattle.x86_decode.specs.declared.shape.Operand.TheVariants.{Absent, Eb, Ev, Gv, Zv, Accumulator, Counter, Port, Constant}
+use Rattle.x86_decode.specs.declared.shape.Number.TheVariants.{Zero, One, Ib, Iz, Iv, Ub, Uw, Cn}
+use Rattle.x86_decode.specs.declared.shape.Width.TheVariants.{Byte, Quad, Variable, Stack}
+use Rattle.x86_decode.specs.RowForms.{shape, alone, alone_stack, alone_b, alone_v, fence, eb, ev, eb_gb, ev_gv, gb_eb, gv_ev, gv_eb, rv_gv, eb_ib, ev_ib, ev_iz, zb_ib, zv, ax_zv, al_ib, ax_iz, near_ev, jb, jz, system_ew, system_m, cn_rq}
 
 -- what a row asks for besides its opcode: nothing; reg of ModRM (/0 to /7); an operand size; REX.B clear or set
 pub data When : Type 0 where
@@ -87,13 +91,13 @@ one_byte_table = all_of (
     arithmetic 0x28 Sub ∷
     arithmetic 0x30 Xor ∷
     arithmetic 0x38 Cmp ∷
-    line 0x50 0x57 Always Push push_zv ∷
-    line 0x58 0x5F Always Pop pop_zv ∷
+    line 0x50 0x57 Always Push (shape Plain Absent Zv Zero Stack) ∷
+    line 0x58 0x5F Always Pop (shape Plain Zv Absent Zero Stack) ∷
     line 0x63 0x63 (AtSize 64) Movsxd gv_ev ∷
-    at 0x68 Push push_iz ∷
-    at 0x69 Imul3 gv_ev_iz ∷
-    at 0x6A Push push_ib ∷
-    at 0x6B Imul3 gv_ev_ib ∷
+    at 0x68 Push (shape Plain Absent Constant Iz Stack) ∷
+    at 0x69 Imul3 (shape AnyForm Gv Ev Iz Variable) ∷
+    at 0x6A Push (shape Plain Absent Constant Ib Stack) ∷
+    at 0x6B Imul3 (shape AnyForm Gv Ev Ib Variable) ∷
     conditional 0x70 J jb ∷
     arithmetic_group 0x80 eb_ib ∷
     arithmetic_group 0x81 ev_iz ∷
@@ -106,8 +110,8 @@ one_byte_table = all_of (
     at 0x89 Mov ev_gv ∷
     at 0x8A Mov gb_eb ∷
     at 0x8B Mov gv_ev ∷
-    at 0x8D Lea gv_m ∷
-    digit 0x8F 0 Pop pop_ev ∷
+    at 0x8D Lea (shape Memory Gv Ev Zero Variable) ∷
+    digit 0x8F 0 Pop (shape AnyForm Ev Absent Zero Stack) ∷
     line 0x90 0x90 (AtRexB 0) Nop alone ∷
     line 0x90 0x90 (AtRexB 1) Xchg ax_zv ∷
     line 0x91 0x97 Always Xchg ax_zv ∷
@@ -128,32 +132,32 @@ one_byte_table = all_of (
     at 0xAE Scas alone_b ∷
     at 0xAF Scas alone_v ∷
     line 0xB0 0xB7 Always Mov zb_ib ∷
-    line 0xB8 0xBF Always Mov zv_iv ∷
-    shift_group 0xC0 eb_ub ∷
-    shift_group 0xC1 ev_ub ∷
-    at 0xC2 Ret ret_uw ∷
-    at 0xC3 Ret ret_0 ∷
+    line 0xB8 0xBF Always Mov (shape Plain Zv Constant Iv Variable) ∷
+    shift_group 0xC0 (shape AnyForm Eb Constant Ub Byte) ∷
+    shift_group 0xC1 (shape AnyForm Ev Constant Ub Variable) ∷
+    at 0xC2 Ret (shape Plain Absent Constant Uw Quad) ∷
+    at 0xC3 Ret (shape Plain Absent Constant Zero Quad) ∷
     digit 0xC6 0 Mov eb_ib ∷
     digit 0xC7 0 Mov ev_iz ∷
     at 0xC9 Leave alone ∷
     at 0xCC Int3 alone ∷
-    at 0xCD Int int_ub ∷
+    at 0xCD Int (shape Plain Absent Constant Ub Quad) ∷
     line 0xCF 0xCF (AtSize 64) Iretq alone ∷
-    shift_group 0xD0 eb_1 ∷
-    shift_group 0xD1 ev_1 ∷
-    shift_group 0xD2 eb_cl ∷
-    shift_group 0xD3 ev_cl ∷
+    shift_group 0xD0 (shape AnyForm Eb Constant One Byte) ∷
+    shift_group 0xD1 (shape AnyForm Ev Constant One Variable) ∷
+    shift_group 0xD2 (shape AnyForm Eb Counter Zero Byte) ∷
+    shift_group 0xD3 (shape AnyForm Ev Counter Zero Variable) ∷
     at 0xE0 Loopne jb ∷
     at 0xE1 Loope jb ∷
     at 0xE2 Loop jb ∷
     at 0xE3 Jrcxz jb ∷
-    at 0xE4 In al_ub ∷
-    at 0xE6 Out ub_al ∷
+    at 0xE4 In (shape Plain Accumulator Constant Ub Byte) ∷
+    at 0xE6 Out (shape Plain Constant Accumulator Ub Byte) ∷
     at 0xE8 Call jz ∷
     at 0xE9 Jmp jz ∷
     at 0xEB Jmp jb ∷
-    at 0xEC In al_dx ∷
-    at 0xEE Out dx_al ∷
+    at 0xEC In (shape Plain Accumulator Port Zero Byte) ∷
+    at 0xEE Out (shape Plain Port Accumulator Zero Byte) ∷
     at 0xF4 Hlt alone ∷
     at 0xF5 Cmc alone ∷
     unary_group 0xF6 eb_ib eb ∷
@@ -170,7 +174,7 @@ one_byte_table = all_of (
     digit 0xFF 1 Dec ev ∷
     digit 0xFF 2 Call near_ev ∷
     digit 0xFF 4 Jmp near_ev ∷
-    digit 0xFF 6 Push push_ev ∷
+    digit 0xFF 6 Push (shape AnyForm Absent Ev Zero Stack) ∷
     [])
 
 unfoldable pub two_byte_table : List OpcodeLine
@@ -182,8 +186,8 @@ two_byte_table = all_of (
     digit 0x01 6 Lmsw system_ew ∷
     digit 0x01 7 Invlpg system_m ∷
     at 0x0B Ud2 alone ∷
-    line 0x1E 0x1F Always Nop shape_without_access ∷
-    at 0x20 Movfc rq_cn ∷
+    line 0x1E 0x1F Always Nop (shape AnyForm Absent Absent Zero Quad) ∷
+    at 0x20 Movfc (shape Ignored Ev Absent Cn Quad) ∷
     at 0x22 Movtc cn_rq ∷
     at 0x23 Movtd cn_rq ∷
     at 0x30 Wrmsr alone ∷

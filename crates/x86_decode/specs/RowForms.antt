@@ -8,9 +8,9 @@ use Rattle.x86_decode.specs.declared.shape.Shape.{Shape}
 use Rattle.x86_decode.specs.declared.shape.RowLayout.{RowLayout}
 use Rattle.x86_decode.specs.declared.shape.RowLayout.TheVariants.{Plain, AnyForm, Memory, Register, Ignored}
 use Rattle.x86_decode.specs.declared.shape.Operand.{Operand}
-use Rattle.x86_decode.specs.declared.shape.Operand.TheVariants.{Absent, Eb, Ev, Gb, Gv, Zb, Zv, Accumulator, Counter, Port, Constant}
+use Rattle.x86_decode.specs.declared.shape.Operand.TheVariants.{Absent, Eb, Ev, Gb, Gv, Zb, Zv, Accumulator, Constant}
 use Rattle.x86_decode.specs.declared.shape.Number.{Number}
-use Rattle.x86_decode.specs.declared.shape.Number.TheVariants.{Zero, One, Ib, Iz, Iv, Jz, Ub, Uw, Cn}
+use Rattle.x86_decode.specs.declared.shape.Number.TheVariants.{Zero, Ib, Iz, Jz, Cn}
 use Rattle.x86_decode.specs.declared.shape.Width.{Width}
 use Rattle.x86_decode.specs.declared.shape.Width.TheVariants.{Byte, Word, Quad, Variable, Stack}
 
@@ -28,9 +28,6 @@ alone_b = shape Plain Absent Absent Zero Byte
 
 abbrev pub alone_v : Shape
 alone_v = shape Plain Absent Absent Zero Variable
-
-abbrev pub shape_without_access : Shape
-shape_without_access = shape AnyForm Absent Absent Zero Quad
 
 abbrev pub fence : Shape
 fence = shape Register Absent Absent Zero Quad
@@ -56,17 +53,8 @@ gv_ev = shape AnyForm Gv Ev Zero Variable
 abbrev pub gv_eb : Shape
 gv_eb = shape AnyForm Gv Eb Zero Variable
 
-abbrev pub gv_m : Shape
-gv_m = shape Memory Gv Ev Zero Variable
-
 abbrev pub rv_gv : Shape
 rv_gv = shape Register Ev Gv Zero Variable
-
-abbrev pub gv_ev_ib : Shape
-gv_ev_ib = shape AnyForm Gv Ev Ib Variable
-
-abbrev pub gv_ev_iz : Shape
-gv_ev_iz = shape AnyForm Gv Ev Iz Variable
 
 abbrev pub eb_ib : Shape
 eb_ib = shape AnyForm Eb Constant Ib Byte
@@ -77,29 +65,8 @@ ev_ib = shape AnyForm Ev Constant Ib Variable
 abbrev pub ev_iz : Shape
 ev_iz = shape AnyForm Ev Constant Iz Variable
 
-abbrev pub eb_ub : Shape
-eb_ub = shape AnyForm Eb Constant Ub Byte
-
-abbrev pub ev_ub : Shape
-ev_ub = shape AnyForm Ev Constant Ub Variable
-
-abbrev pub eb_1 : Shape
-eb_1 = shape AnyForm Eb Constant One Byte
-
-abbrev pub ev_1 : Shape
-ev_1 = shape AnyForm Ev Constant One Variable
-
-abbrev pub eb_cl : Shape
-eb_cl = shape AnyForm Eb Counter Zero Byte
-
-abbrev pub ev_cl : Shape
-ev_cl = shape AnyForm Ev Counter Zero Variable
-
 abbrev pub zb_ib : Shape
 zb_ib = shape Plain Zb Constant Ib Byte
-
-abbrev pub zv_iv : Shape
-zv_iv = shape Plain Zv Constant Iv Variable
 
 abbrev pub zv : Shape
 zv = shape Plain Zv Absent Zero Variable
@@ -113,36 +80,6 @@ al_ib = shape Plain Accumulator Constant Ib Byte
 abbrev pub ax_iz : Shape
 ax_iz = shape Plain Accumulator Constant Iz Variable
 
-abbrev pub al_ub : Shape
-al_ub = shape Plain Accumulator Constant Ub Byte
-
-abbrev pub ub_al : Shape
-ub_al = shape Plain Constant Accumulator Ub Byte
-
-abbrev pub al_dx : Shape
-al_dx = shape Plain Accumulator Port Zero Byte
-
-abbrev pub dx_al : Shape
-dx_al = shape Plain Port Accumulator Zero Byte
-
-abbrev pub push_zv : Shape
-push_zv = shape Plain Absent Zv Zero Stack
-
-abbrev pub push_ib : Shape
-push_ib = shape Plain Absent Constant Ib Stack
-
-abbrev pub push_iz : Shape
-push_iz = shape Plain Absent Constant Iz Stack
-
-abbrev pub push_ev : Shape
-push_ev = shape AnyForm Absent Ev Zero Stack
-
-abbrev pub pop_zv : Shape
-pop_zv = shape Plain Zv Absent Zero Stack
-
-abbrev pub pop_ev : Shape
-pop_ev = shape AnyForm Ev Absent Zero Stack
-
 abbrev pub near_ev : Shape
 near_ev = shape AnyForm Absent Ev Zero Quad
 
@@ -152,23 +89,11 @@ jb = shape Plain Absent Constant Ib Quad
 abbrev pub jz : Shape
 jz = shape Plain Absent Constant Jz Quad
 
-abbrev pub ret_0 : Shape
-ret_0 = shape Plain Absent Constant Zero Quad
-
-abbrev pub ret_uw : Shape
-ret_uw = shape Plain Absent Constant Uw Quad
-
-abbrev pub int_ub : Shape
-int_ub = shape Plain Absent Constant Ub Quad
-
 abbrev pub system_ew : Shape
 system_ew = shape AnyForm Absent Ev Zero Word
 
 abbrev pub system_m : Shape
 system_m = shape Memory Absent Ev Zero Quad
-
-abbrev pub rq_cn : Shape
-rq_cn = shape Ignored Ev Absent Cn Quad
 
 abbrev pub cn_rq : Shape
 cn_rq = shape Ignored Absent Ev Cn Quad

@@ -104,8 +104,6 @@ data_plan Exchange i size regs = plan (to_span i size regs) (to_source i size re
 data_plan ExchangeAdd i size regs = plan (to_span i size regs) (to_source i size regs i.width) (from_source i size regs i.width) None
 data_plan CompareExchange i size regs = plan (to_span i size regs) (to_source i size regs i.width) (from_source i size regs i.width) None
 data_plan ScanBits i size regs = plan None (Is 0) (from_source i size regs i.width) None
-data_plan Widen i size regs = no_access
-data_plan Double i size regs = no_access
 data_plan Multiply i size regs = plan None (to_source i size regs i.width) (Is 0) None
 data_plan Divide i size regs = plan None (to_source i size regs i.width) (Is 0) None
 data_plan Push i size regs = plan None (Is 0) (from_source i size regs i.width) (Some (push_span regs i.width))
@@ -116,28 +114,21 @@ data_plan StoreString i size regs = unless_idle i regs (plan None (Is 0) (Is 0) 
 data_plan LoadString i size regs = unless_idle i regs (plan None (Is 0) (At (rsi_span i regs)) None)
 data_plan CompareStrings i size regs = unless_idle i regs (plan None (At (rsi_span i regs)) (At (rdi_span i regs)) None)
 data_plan ScanString i size regs = unless_idle i regs (plan None (Is 0) (At (rdi_span i regs)) None)
-data_plan ChangeFlag i size regs = no_access
-data_plan Nothing i size regs = no_access
+data_plan _ i size regs = no_access
 
 -- those of the forms of branches, traps, the flags as a whole, IF, ports and the system
 abbrev pub flow_plan : FlowForm → Instr → ℕ → Regs → AccessPlan
 flow_plan Branch i size regs = plan None (Is 0) (from_source i size regs 64) None
 flow_plan Call i size regs = plan None (Is 0) (from_source i size regs 64) (Some (push_span regs 64))
 flow_plan Return i size regs = plan None (pop_source regs 64) (Is 0) None
-flow_plan CountDown i size regs = no_access
-flow_plan Trap i size regs = no_access
-flow_plan TrapReturn i size regs = no_access
 flow_plan PushFlags i size regs = plan None (Is 0) (Is 0) (Some (push_span regs i.width))
 flow_plan PopFlags i size regs = plan None (pop_source regs i.width) (Is 0) None
-flow_plan ChangeInterruptFlag i size regs = no_access
-flow_plan Halt i size regs = no_access
 flow_plan Input i size regs = plan None (Is 0) (from_source i size regs 16) None
 flow_plan Output i size regs = plan None (to_source i size regs 16) (from_source i size regs 8) None
-flow_plan FromControl i size regs = no_access
 flow_plan ToControl i size regs = plan None (Is 0) (from_source i size regs 64) None
 flow_plan LoadTable i size regs = table_plan (place_span regs.general (next_of regs size) 16 i.from)
 flow_plan DropPage i size regs = plan None (Is 0) (Is (from_address i size regs)) None
-flow_plan Refused i size regs = no_access
+flow_plan _ i size regs = no_access
 
 abbrev pub plan_by : Form → Instr → ℕ → Regs → AccessPlan
 plan_by (Data form) i size regs = data_plan form i size regs

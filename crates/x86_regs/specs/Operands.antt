@@ -82,19 +82,13 @@ source_by general next w value Value = Is value
 
 -- the bytes that are written where the operand stands in memory
 abbrev pub place_span : List ℕ → ℕ → ℕ → Place → Option Span
-place_span general next w Nothing = None
-place_span general next w (Reg n) = None
-place_span general next w (High n) = None
 place_span general next w (Mem a) = Some (span_by general next w a)
-place_span general next w Value = None
+place_span general next w _ = None
 
 -- the address of an operand in memory; 0 for another
 abbrev pub place_address : List ℕ → ℕ → Place → ℕ
-place_address general next Nothing = 0
-place_address general next (Reg n) = 0
-place_address general next (High n) = 0
 place_address general next (Mem a) = address_by general next a
-place_address general next Value = 0
+place_address general next _ = 0
 
 -- the registers with this one whole
 abbrev pub with_register : List ℕ → ℕ → ℕ → List ℕ

@@ -8,35 +8,15 @@ use Rattle.x86_regs.specs.declared.form.Form.TheVariants.{Data, Flow}
 use Rattle.x86_regs.specs.declared.form.DataForm.TheVariants.{Combine, Compare, Move, Address, Exchange, ExchangeAdd, CompareExchange, ScanBits, Widen, Double, Multiply, Divide, Push, Pop, Leave, MoveString, StoreString, LoadString, CompareStrings, ScanString, ChangeFlag, Nothing}
 use Rattle.x86_regs.specs.declared.form.FlowForm.TheVariants.{Branch, Call, Return, CountDown, Trap, TrapReturn, PushFlags, PopFlags, ChangeInterruptFlag, Halt, Input, Output, FromControl, ToControl, LoadTable, DropPage, Refused}
 
--- the form of an operation; IMUL of one operand has that of MUL, which an instruction tells
+-- the form of an operation: arithmetic and logic of two operands or one, where no other is said. IMUL of one operand has
+-- that of MUL, which an instruction tells
 abbrev pub form_of : Op → Form
-form_of op.Add = Data Combine
-form_of op.Or = Data Combine
-form_of op.Adc = Data Combine
-form_of op.Sbb = Data Combine
-form_of op.And = Data Combine
-form_of op.Sub = Data Combine
-form_of op.Xor = Data Combine
 form_of op.Cmp = Data Compare
 form_of op.Test = Data Compare
-form_of op.Not = Data Combine
-form_of op.Neg = Data Combine
-form_of op.Inc = Data Combine
-form_of op.Dec = Data Combine
 form_of op.Mul = Data Multiply
-form_of op.Imul = Data Combine
-form_of op.Imul3 = Data Combine
 form_of op.Div = Data Divide
 form_of op.Idiv = Data Divide
-form_of op.Rol = Data Combine
-form_of op.Ror = Data Combine
-form_of op.Shl = Data Combine
-form_of op.Shr = Data Combine
-form_of op.Sar = Data Combine
 form_of op.Bt = Data Compare
-form_of op.Bts = Data Combine
-form_of op.Btr = Data Combine
-form_of op.Btc = Data Combine
 form_of op.Bsf = Data ScanBits
 form_of op.Bsr = Data ScanBits
 form_of op.Mov = Data Move
@@ -49,8 +29,6 @@ form_of op.Lea = Data Address
 form_of op.Xchg = Data Exchange
 form_of op.Xadd = Data ExchangeAdd
 form_of op.Cmpxchg = Data CompareExchange
-form_of op.Bswap = Data Combine
-form_of (op.Cmov condition) = Data Combine
 form_of (op.Set condition) = Data Move
 form_of op.Cbw = Data Widen
 form_of op.Cwde = Data Widen
@@ -101,6 +79,7 @@ form_of op.Lgdt = Flow Refused
 form_of op.Lidt = Flow LoadTable
 form_of op.Lmsw = Flow Refused
 form_of op.Invlpg = Flow DropPage
+form_of _ = Data Combine
 
 -- which of the two a form is
 abbrev pub IsData : Form → Type 0

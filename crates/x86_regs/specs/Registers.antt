@@ -7,19 +7,15 @@ use Rattle.decode_fields.specs.Widths.{IsWidth}
 
 -- a general register and a width, or the second byte of one of the first four
 abbrev pub IsRegister : Place → ℕ → Type 0
-IsRegister Nothing w = ⊥
 IsRegister (Reg n) w = (n < 16) × IsWidth w
 IsRegister (High n) w = (n < 4) × (w ≡ 8)
-IsRegister (Mem a) w = ⊥
-IsRegister Value w = ⊥
+IsRegister _ w = ⊥
 
 -- the register's low w bits, or its bits 15 to 8; a place that isn't a register holds nothing
 abbrev pub held : List ℕ → Place → ℕ → ℕ
-held general Nothing w = 0
 held general (Reg n) w = slice_index general n % 2 ^ w
 held general (High n) w = slice_index general n / 2 ^ 8 % 2 ^ 8
-held general (Mem a) w = 0
-held general Value w = 0
+held general _ w = 0
 
 -- the register after a write of w bits: 32 bits clear its upper half, and 8 or 16 keep the bits above
 abbrev pub low_written : ℕ → ℕ → ℕ → ℕ
@@ -31,8 +27,6 @@ high_written old value = old / 2 ^ 16 * 2 ^ 16 + value % 2 ^ 8 * 2 ^ 8 + old % 2
 
 -- the registers after a write to a place, which keeps every other register
 abbrev pub written : List ℕ → Place → ℕ → ℕ → List ℕ
-written general Nothing w value = general
 written general (Reg n) w value = slice_set general n (low_written w (slice_index general n) value)
 written general (High n) w value = slice_set general n (high_written (slice_index general n) value)
-written general (Mem a) w value = general
-written general Value w value = general
+written general _ w value = general

@@ -54,6 +54,3 @@ pub use registers::{Regs, held, low, set_place, set_register, with_register, wri
 pub use sums::{difference, sum};
 pub use taken::{count_by, count_taken, is_taken, set_count};
 pub use writes::write_of;
-
-#[cfg(test)]
-mod tests;

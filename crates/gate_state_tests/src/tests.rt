@@ -1,0 +1,291 @@
+//! Runs of short programs over an opening of 512 frames, with values by the manual: what each step shows, and where the
+//! machine stands with WP clear. A program's text begins at FFFFFFFF80000000.
+
+mod attacks;
+mod calls;
+mod jumps;
+mod opening;
+mod regions;
+mod stretches;
+mod windows;
+
+ghost use Rattle.std.specs.Prelude.{◌≡◌, IfSome, None};
+ghost use Rattle.boot_map.specs.Division.{IsLayout};
+ghost use Rattle.boot_map.specs.Opening.{IsOpening};
+ghost use Rattle.boot_map.specs.OpeningKinds.{kinds};
+ghost use Rattle.byte_scanner.specs.FirstFound.{first_found};
+ghost use Rattle.phys_mem.specs.MaskedMemory.{seen};
+ghost use Rattle.page_desc.specs.DescriptorBytes.{kinds_in};
+ghost use Rattle.nk_body.specs.NestedRecord.{HoldsBooks, books_in};
+ghost use Rattle.nk_body.specs.SourceWords.{opening_ledger};
+
+use boot_map::{Layout, prepare};
+use byte_scanner::scan;
+use elf_image::Image;
+use gate_state::{Called, Finished, Machine, OuterMachine, Seen};
+use gate_text::is_point;
+use irq_plan::Plan;
+use nk_bits::{BODY, Delivery, GATE};
+use nk_body::Kernel;
+use phys_mem::PhysMem;
+use std::alloc::{AllocError, Global};
+use std::test::Fail;
+use x86_regs::Regs;
+
+/// A file's one header loads 256 bytes at offset 4,096 to FFFFFFFF80000000, the entry, readable and executable.
+#[rattlefmt::skip]
+const HEADERS: [u8; 120] = [
+    0x7F, 0x45, 0x4C, 0x46, 2, 1, 1, 0, 0, 0, 0, 0, 0, 0, 0, 0, 2, 0, 62, 0, 1, 0, 0, 0,
+    0, 0, 0, 0x80, 0xFF, 0xFF, 0xFF, 0xFF, 64, 0, 0, 0, 0, 0, 0, 0, 0, 0, 0, 0, 0, 0, 0, 0,
+    0, 0, 0, 0, 64, 0, 56, 0, 1, 0, 0, 0, 0, 0, 0, 0, 1, 0, 0, 0, 5, 0, 0, 0,
+    0, 0x10, 0, 0, 0, 0, 0, 0, 0, 0, 0, 0x80, 0xFF, 0xFF, 0xFF, 0xFF, 0, 0, 0, 0x80, 0xFF, 0xFF, 0xFF, 0xFF,
+    0, 1, 0, 0, 0, 0, 0, 0, 0, 1, 0, 0, 0, 0, 0, 0, 0, 0x10, 0, 0, 0, 0, 0, 0,
+];
+
+/// The handler at the opening: the halt loop of the gates' text.
+const HALTS: u64 = 0xFFFF_FF80_0000_11DA;
+
+/// More turns than a test takes.
+const MOST: u64 = 1_000_000;
+
+/// The text of a program, and zeros behind it.
+fn file(alloc: Global, text: &[u8]) -> Result<Vec<u8>, AllocError> {
+    let mut file = HEADERS.to_vec(alloc)?;
+    file.resize(4096, 0)?;
+    file.extend_from_slice(text)?;
+    file.resize(4352, 0)?;
+    Ok(file)
+}
+
+/// What the steps of a run showed.
+#[derive(Clone, Copy, Debug, PartialEq, Eq)]
+struct Log {
+    /// The first delivery, and the last one.
+    delivered: [Option<Delivery>; 2],
+    /// The last call, and the first bytes that were read for it.
+    called: Option<Called>,
+    read: [u8; 4],
+    /// The last byte that went to the console.
+    console: Option<u8>,
+    /// How many events were taken.
+    events: u32,
+    /// With WP clear the machine always stood at a gate point.
+    stood: bool,
+}
+
+const NOTHING: Log = Log {
+    delivered: [None; 2],
+    called: None,
+    read: [0; 4],
+    console: None,
+    events: 0,
+    stood: true,
+};
+
+/// What a run showed, and what it left.
+#[derive(Clone, Copy, Debug, PartialEq, Eq)]
+struct Ran {
+    log: Log,
+    turns: u64,
+    regs: Regs,
+    /// The handler of traps, by the books and in memory.
+    trap: [u64; 2],
+}
+
+/// Notes what a step shows.
+fn note(log: &mut Log, seen: &Seen) {
+    match seen {
+        Seen::Event => log.events = log.events.saturating_add(1),
+        Seen::Quiet => {}
+        Seen::Console(byte) => log.console = Some(*byte),
+        Seen::Delivered(it) => {
+            let [first, _] = log.delivered;
+            log.delivered = [first.or(Some(*it)), Some(*it)];
+        }
+    }
+}
+
+/// Whether the machine stands where it may with WP clear.
+fn stands(machine: &Machine) -> bool {
+    let rip = machine.processor().regs().rip;
+    match machine {
+        Machine::Outer(_) => true,
+        Machine::Gate(_) => {
+            let offset = rip.wrapping_sub(GATE);
+            offset != BODY - GATE && offset < 4096 && is_point(offset as usize)
+        }
+        Machine::Nested(_) => rip == BODY,
+    }
+}
+
+/// The registers, and how many turns were taken.
+fn seen_in(machine: &Machine) -> (Regs, u64) {
+    (*machine.processor().regs(), machine.turns())
+}
+
+/// The first bytes of a source, where it has as many.
+fn first_bytes(source: &[u8]) -> [u8; 4] {
+    match source.first_chunk() {
+        Some(first) => *first,
+        None => [0; 4],
+    }
+}
+
+/// A step, where one is left and the turns are few.
+fn advanced<'i>(machine: Machine<'i>, plan: &Plan, log: &mut Log) -> Machine<'i> {
+    log.stood = log.stood && stands(&machine);
+    match machine {
+        Machine::Outer(outer) => {
+            if outer.done(plan) || outer.turns() >= MOST {
+                return Machine::Outer(outer);
+            }
+            let (next, seen) = outer.step(plan);
+            note(log, &seen);
+            next
+        }
+        Machine::Gate(gate) => {
+            if gate.turns() >= MOST {
+                return Machine::Gate(gate);
+            }
+            let (next, seen) = gate.step(plan);
+            note(log, &seen);
+            next
+        }
+        Machine::Nested(nested) => {
+            if nested.turns() >= MOST {
+                return Machine::Nested(nested);
+            }
+            let (next, called) = nested.serve();
+            log.called = Some(called);
+            log.read = first_bytes(next.source());
+            Machine::Gate(next)
+        }
+    }
+}
+
+fn finished(machine: Machine) -> Finished
+    ensures { HoldsBooks result.kernel result.mem }
+{
+    match machine {
+        Machine::Outer(outer) => outer.finish(),
+        Machine::Gate(gate) => gate.finish(),
+        Machine::Nested(nested) => nested.finish(),
+    }
+}
+
+/// The handler of traps by the books, and in memory.
+fn handlers(end: &Finished) -> [u64; 2]
+    requires { HoldsBooks end.now.kernel end.now.mem }
+{
+    [end.kernel.trap(), end.mem.load64(0x2000)]
+}
+
+/// So many steps of a machine, or fewer where it rests.
+fn driven(start: OuterMachine, plan: &Plan, steps: u32) -> Ran {
+    let mut log = NOTHING;
+    let mut machine = Machine::Outer(start);
+    for _ in 0..steps {
+        machine = advanced(machine, plan, &mut log);
+    }
+    ended(machine, log)
+}
+
+/// What a run showed, and what it left.
+fn ended(machine: Machine, log: Log) -> Ran {
+    let (regs, turns) = seen_in(&machine);
+    Ran {
+        log,
+        turns,
+        regs,
+        trap: handlers(&finished(machine)),
+    }
+}
+
+/// Books, and the memory that they are of.
+#[derive(Drop)]
+struct Opened {
+    kernel: Kernel,
+    mem: PhysMem,
+}
+
+/// Memory and books of the opening; None for want of memory.
+fn open(alloc: Global, image: &Image, layout: &Layout) -> Option<Opened>
+    requires { IsLayout image.now layout.now }
+    ensures opening { IfSome result (λ it. IsOpening image.now layout.now.frames (seen it.mem)) }
+    ensures kinds { IfSome result (λ it. kinds_in it.mem ≡ kinds image.now layout.now.frames) }
+    ensures root { IfSome result (λ it. it.kernel.root ≡ 5) }
+    ensures ledger { IfSome result (λ it. (books_in it.kernel it.mem).ledger ≡ opening_ledger) }
+    ensures books { IfSome result (λ it. HoldsBooks it.kernel it.mem) }
+{
+    let Ok(mut mem) = prepare(alloc, image, layout) else {
+        return None;
+    };
+    match Kernel::start(alloc, &mut mem, image, layout) {
+        Ok(kernel) => Some(Opened { kernel, mem }),
+        Err(_) => None,
+    }
+}
+
+/// The image of a program, in which nothing is protected.
+fn admitted(alloc: Global, text: &[u8]) -> Option<Image>
+    ensures { IfSome result (λ image. first_found image ≡ None) }
+{
+    let Ok(file) = file(alloc, text) else {
+        return None;
+    };
+    let Ok(image) = Image::read(file) else {
+        return None;
+    };
+    match scan(&image) {
+        Some(_) => None,
+        None => Some(image),
+    }
+}
+
+/// The machine as a run of the image begins; None for want of memory.
+fn begun<'i>(
+    alloc: Global,
+    image: &'i Image,
+    layout: &'i Layout,
+    input: Vec<u8>,
+) -> Option<OuterMachine<'i>>
+    requires layout { IsLayout image.now layout.now }
+    requires clean { first_found image.now ≡ None }
+{
+    let Some(it) = open(alloc, image, layout) else {
+        return None;
+    };
+    let Opened { kernel, mem } = it;
+    OuterMachine::start(alloc, mem, kernel, image, layout, input).ok()
+}
+
+/// So many steps of a program under a plan, or fewer where it rests; None for want of memory.
+fn run(alloc: Global, text: &[u8], plan: &Plan, steps: u32) -> Option<Ran> {
+    let Some(image) = admitted(alloc, text) else {
+        return None;
+    };
+    let Ok(layout) = Layout::of(&image, 512) else {
+        return None;
+    };
+    match begun(alloc, &image, &layout, Vec::new(alloc)) {
+        Some(machine) => Some(driven(machine, plan, steps)),
+        None => None,
+    }
+}
+
+/// The plan of one interrupt, 33, that is due after so many turns.
+fn interrupt(alloc: Global, due: u64) -> Result<Plan, Fail> {
+    let text = format!(in alloc; "{due} irq 33")?;
+    let plan = Plan::read(alloc, text.as_bytes())?;
+    Ok(plan)
+}
+
+/// That interrupt's delivery at this address.
+fn interrupted_at(rip: u64) -> Delivery {
+    Delivery {
+        vector: 33,
+        code: None,
+        rip,
+        cr2: None,
+    }
+}

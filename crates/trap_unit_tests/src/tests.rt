@@ -1,0 +1,230 @@
+//! Deliveries and returns with values by the manual, over a small memory: gate 0 is 40 10 08 00 01 8E 00 00 80 FF FF FF
+//! 00 00 00 00, and the pages of the kernel slot are those of the opening, as far as a delivery needs them.
+
+mod deliveries;
+mod interrupts;
+mod returns;
+mod shutdowns;
+
+ghost use Rattle.std.specs.Prelude.{◌≡◌, ◌⊎◌, ◌<◌, IfOk, length};
+
+use nk_bits::Control;
+use phys_mem::{NoMemory, PhysMem};
+use std::alloc::Global;
+use tlb_model::Tlb;
+use trap_unit::{Shut, deliver};
+use x86_regs::{Regs, Tables, with_register};
+
+/// The number of RSP.
+const RSP: u8 = 4;
+
+/// WP is set, and the root is frame 1.
+const CONTROL: Control = Control {
+    cr0: 0x8001_0001,
+    cr2: 0,
+    root: 1,
+    cr4: 0x10_0020,
+    efer: 0xD00,
+};
+
+const WITHOUT_WP: Control = Control {
+    cr0: 0x8000_0001,
+    cr2: 0,
+    root: 1,
+    cr4: 0x10_0020,
+    efer: 0xD00,
+};
+
+/// The last gate is that of vector 47.
+const TABLES: Tables = Tables {
+    idt: 0xFFFF_FF80_0000_0000,
+    limit: 767,
+    tss: 0xFFFF_FF80_0000_0400,
+};
+
+/// RSP is 40 0000 1008, and every flag is set.
+const REGS: Regs = Regs {
+    general: [
+        0,
+        1,
+        2,
+        3,
+        0x40_0000_1008,
+        5,
+        6,
+        7,
+        8,
+        9,
+        10,
+        11,
+        12,
+        13,
+        14,
+        15,
+    ],
+    rip: 0x40_1234,
+    flags: 0xED7,
+    cpl: 0,
+    ss: 0x10,
+};
+
+const USER: Regs = Regs {
+    general: [
+        0,
+        1,
+        2,
+        3,
+        0x40_0000_1008,
+        5,
+        6,
+        7,
+        8,
+        9,
+        10,
+        11,
+        12,
+        13,
+        14,
+        15,
+    ],
+    rip: 0x40_1234,
+    flags: 0xED7,
+    cpl: 3,
+    ss: 0x23,
+};
+
+/// A machine before a delivery: two numbers of its memory, and six that are looked at afterwards, the lowest first.
+#[derive(Clone, Copy)]
+struct Machine {
+    /// Places and numbers.
+    changes: [(u16, u64); 2],
+    control: Control,
+    tables: Tables,
+    regs: Regs,
+    /// The place of the lowest number that is looked at.
+    window: u16,
+}
+
+/// Nothing is changed, and the six numbers are those at the top of the trap stack.
+const MACHINE: Machine = Machine {
+    changes: [(0, 0), (0, 0)],
+    control: CONTROL,
+    tables: TABLES,
+    regs: REGS,
+    window: 0x9FD0,
+};
+
+/// What a delivery leaves.
+#[derive(Clone, Copy, Debug, PartialEq, Eq)]
+struct After {
+    answer: Result<(), Shut>,
+    regs: Regs,
+    window: [u64; 6],
+}
+
+/// The tables stand in frames 1 to 4. Page 0 of the kernel slot is frame 8, which is read alone and has the gates of 0,
+/// 13 and 47 and the task-state segment; page 3 and the last page of all are frame 9, the trap stack; page 4 is frame
+/// 10, which is read alone; pages 1 and 2 are absent.
+fn memory(alloc: Global) -> Result<PhysMem, NoMemory>
+    ensures { IfOk result (λ mem. length mem ≡ 69632) }
+{
+    let mut mem = PhysMem::new(alloc, 17)?;
+    mem.store64(0x1FF8, 0x2027);
+    mem.store64(0x2000, 0x3027);
+    mem.store64(0x3000, 0x4027);
+    mem.store64(0x4000, 0x8021);
+    mem.store64(0x4018, 0x9063);
+    mem.store64(0x4020, 0xA021);
+    mem.store64(0x2FF8, 0x3027);
+    mem.store64(0x3FF8, 0x4027);
+    mem.store64(0x4FF8, 0x9063);
+    mem.store64(0x8000, 0x0000_8E01_0008_1040);
+    mem.store64(0x8008, 0xFFFF_FF80);
+    mem.store64(0x80D0, 0x0000_8E01_0008_10A8);
+    mem.store64(0x80D8, 0xFFFF_FF80);
+    mem.store64(0x82F0, 0x0000_EE01_0008_11B8);
+    mem.store64(0x82F8, 0xFFFF_FF80);
+    mem.store64(0x8424, 0xFFFF_FF80_0000_4000);
+    Ok(mem)
+}
+
+/// What a delivery leaves of this machine. Want of memory is None.
+fn run(alloc: Global, before: &Machine, vector: u8, code: Option<u64>) -> Option<After> {
+    let Ok(mut mem) = memory(alloc) else {
+        return None;
+    };
+    let Ok(mut tlb) = Tlb::new(alloc) else {
+        return None;
+    };
+    change(&mut mem, before.changes[0]);
+    change(&mut mem, before.changes[1]);
+    let control = with_root(&before.control);
+    let mut regs = with_cpl(&before.regs);
+    let answer = deliver(
+        &mut mem,
+        &mut tlb,
+        &mut regs,
+        &control,
+        &before.tables,
+        vector,
+        code,
+    );
+    Some(After {
+        answer,
+        regs,
+        window: window(&mem, before.window),
+    })
+}
+
+fn change(mem: &mut PhysMem, change: (u16, u64))
+    requires { length mem.old ≡ 69632 }
+    ensures { length mem.new ≡ 69632 }
+{
+    mem.store64(u64::from(change.0), change.1);
+}
+
+fn window(mem: &PhysMem, at: u16) -> [u64; 6]
+    requires { length mem.now ≡ 69632 }
+{
+    let at = u64::from(at);
+    [
+        mem.load64(at),
+        mem.load64(at + 8),
+        mem.load64(at + 16),
+        mem.load64(at + 24),
+        mem.load64(at + 32),
+        mem.load64(at + 40),
+    ]
+}
+
+/// The control registers with the root that there is.
+fn with_root(control: &Control) -> Control
+    ensures { result.root ≡ 1 }
+{
+    Control {
+        root: 1,
+        ..*control
+    }
+}
+
+/// The registers at a CPL that there is.
+fn with_cpl(regs: &Regs) -> Regs
+    ensures { (result.cpl ≡ 0) ⊎ (result.cpl ≡ 3) }
+{
+    if regs.cpl == 0 {
+        *regs
+    } else {
+        Regs { cpl: 3, ..*regs }
+    }
+}
+
+/// The registers at a handler: IF is clear, and all other flags are set.
+fn at_handler(rip: u64, rsp: u64, ss: u16) -> Regs {
+    Regs {
+        general: with_register(&REGS.general, RSP, rsp),
+        rip,
+        flags: 0xCD7,
+        cpl: 0,
+        ss,
+    }
+}
