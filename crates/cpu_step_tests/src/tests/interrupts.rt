@@ -7,9 +7,7 @@ use std::test::Fail;
 use x86_regs::Regs;
 
 /// The same registers at another address.
-fn at(regs: &Regs, rip: u64) -> Regs
-    ensures { result.cpl ≡ regs.now.cpl }
-{
+fn at(regs: &Regs, rip: u64) -> Regs {
     Regs { rip, ..*regs }
 }
 
