@@ -1,6 +1,6 @@
 //! Prefixes, forms of ModRM and immediates. The bytes of a form are an assembler's, whose notation stands beside them.
 
-use decode_fields::{Address, ModRm, Place, Prefixes, Rep, modrm, prefixes};
+use decode_fields::{Address, ModRm, Place, Prefixes, Rep, immediate, modrm, prefixes};
 
 /// ModRM, SIB and displacement; REX; and what they name: reg, base, index, scale and displacement.
 type Form = (&'static [u8], u8, u8, Option<u8>, Option<u8>, u8, u64);

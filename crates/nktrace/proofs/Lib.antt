@@ -1,2 +1,3 @@
 pub mod NearerSteps
 pub mod Rises
+mod RefutedTraces
