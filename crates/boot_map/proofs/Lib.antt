@@ -16,3 +16,4 @@ pub mod SlotUppers
 pub mod WalkLaws
 pub mod WalkSchema
 mod WorkedValues
+mod RefutedLayouts

@@ -8,3 +8,4 @@ pub mod PartLaws
 pub mod ImageLaws
 pub mod SegmentRows
 pub mod WrittenFields
+mod RefutedPages

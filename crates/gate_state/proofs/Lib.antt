@@ -78,3 +78,5 @@ mod MaskedDeliveries
 mod MaskedTurns
 mod MaskedSources
 mod MaskedStates
+mod RefutedGuards
+mod RefutedCalls

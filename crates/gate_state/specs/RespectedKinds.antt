@@ -2,7 +2,7 @@
 -- slot those of its linear layout; and to which tables upper entries may lead.
 use Rattle.std.specs.Prelude.{ℕ, ◌+◌, nat_le, Bool, true, false, not, ◌==◌, ◌&&◌, ◌||◌, if◌then◌else◌, List, Option, None, Some}
 use Rattle.nk_bits.specs.declared.kind.Kind.{Kind}
-use Rattle.nk_bits.specs.declared.kind.Kind.TheVariants.{Data, Code, Table, Fixed, Trap, Guarded, Hidden}
+use Rattle.nk_bits.specs.declared.kind.Kind.TheVariants.{Code}
 use Rattle.nk_bits.specs.declared.leaf.Leaf.{Leaf}
 use Rattle.nk_bits.specs.declared.leaf.Upper.{Upper}
 use Rattle.nk_bits.specs.Claims.{Claim}

@@ -1,9 +1,11 @@
 -- What is no event of a plan, and no plan.
-use Rattle.std.proofs.Common.{arith}
+use Rattle.std.proofs.Common.{◌≤◌, List, [], ◌∷◌, arith}
 use Rattle.std.proofs.lemmas.Bool.{false≢true}
+use Rattle.std.proofs.lemmas.List.Elements.{All-head}
+use Rattle.irq_plan.specs.declared.event.Event.{Event}
 use Rattle.irq_plan.specs.declared.event.What.{What}
 use Rattle.irq_plan.specs.declared.event.What.TheVariants.{Irq, Drop, Fill, Keep, Forget}
-use Rattle.irq_plan.specs.PlannedEvents.{IsEvent, IsPlannable}
+use Rattle.irq_plan.specs.PlannedEvents.{IsEvent, IsPlan, IsPlannable}
 
 -- an event that is due after 2^32 + 1 turns
 late : (what : What) → IsEvent (record { due = 4294967297; what = what }) → ⊥
@@ -29,3 +31,11 @@ lowest is = let low = is.0 in omega arith
 
 above : IsPlannable (Forget 5 0x1000) → ⊥
 above is = let high = is.1 in omega arith
+
+-- a plan with such an event, and one whose second event is due before its first
+late_plan : (what : What) (later : List Event) → IsPlan (record { due = 4294967297; what = what } ∷ later) → ⊥
+late_plan what later is = late what (All-head IsEvent (record { due = 4294967297; what = what }) later is.each)
+
+falling : (one other : What) → IsPlan (record { due = 5; what = one } ∷ record { due = 4; what = other } ∷ []) → ⊥
+falling one other is =
+    let rises : 5 ≤ 4 = is.order 0 1 (record { due = 0; what = one }) (omega arith) (omega arith) in omega (arith, rises)

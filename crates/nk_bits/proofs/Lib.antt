@@ -8,6 +8,7 @@ mod TableFunctions
 mod TranslationLaws
 mod UpperLaws
 mod WalkLaws
+mod RefutedTranslations
 mod WorkedAccesses
 mod WorkedRights
 mod WorkedUppers

@@ -11,8 +11,8 @@ use Rattle.replay_core.specs.GrantedCalls.{granted_of}
 use Rattle.replay_core.specs.GrantedLaws.{GivesRegion, GrantedLaws}
 use Rattle.replay_core.specs.ReplayedCalls.{WholeReplay, replay_of}
 use Rattle.nk_run.specs.declared.command_line.Role.TheVariants.{Image, Journal}
-use Rattle.nk_run.specs.CommandLine.{Audit, Replay, command_of, roles_of}
-use Rattle.nk_run.specs.Outcome.{Answer, Check, Verdict, checks_of, file_in, first_verdict, given, logged_size, opened, outcome, passes, replay_in, size_in, test, unless_ended}
+use Rattle.nk_run.specs.CommandLine.{Audit, Replay, command_of}
+use Rattle.nk_run.specs.Outcome.{Check, checks_of, given, logged_size, opened, outcome, passes, replay_in, size_in, test, unless_ended}
 use Rattle.nk_run.specs.Replies.{CommandSays, HoldsReplay, LiesWithin, RefusesBy, StopsIn}
 use Rattle.nk_run.specs.Witness.{Change, Files, ShelfState}
 use Rattle.nk_run.proofs.Rows.{all_says, later_says, outcome_says, own_nine, own_zero, row_says}

@@ -1,6 +1,6 @@
 -- The code of modules stands in every state of a run where it was put: its frames are code, which nothing changes.
-use Rattle.std.proofs.Common.{◌≡◌, ℕ, ◌+◌, ◌-◌, ◌*◌, ◌/◌, ◌%◌, ◌<◌, ◌≤◌, Bool, true, List, [], ◌∷◌, zero, suc, length, inr, Some, refl, sym, ap, ◌∙◌, arith}
-use Rattle.std.specs.Prelude.{nat_le, slice_get, slice_index, ◌||◌, ◌&&◌}
+use Rattle.std.proofs.Common.{◌≡◌, ℕ, ◌+◌, ◌*◌, ◌/◌, ◌%◌, ◌<◌, ◌≤◌, true, List, [], ◌∷◌, zero, suc, inr, Some, refl, sym, ap, ◌∙◌, arith}
+use Rattle.std.specs.Prelude.{nat_le, slice_get, slice_index}
 use Rattle.std.proofs.lemmas.Bool.{and_from, le-leb, or_left, or_right}
 use Rattle.phys_mem.specs.Memory.{byte_at}
 use Rattle.nk_bits.specs.declared.kind.Kind.TheVariants.{Code}
@@ -23,7 +23,7 @@ use Rattle.gate_state.specs.MachineSteps.{state}
 use Rattle.code_modules.specs.JoinAnswers.{part_first, part_last}
 use Rattle.code_modules.specs.JoinedImage.{IsJoined, is_page_in, part_touches}
 use Rattle.code_modules.specs.JoinedParts.{CodeModule, JoinedPart, modules_behind}
-use Rattle.nk_run.specs.JoinedRuns.{HoldsCode, IsCodeByte, KeepsCode}
+use Rattle.nk_run.specs.JoinedRuns.{IsCodeByte, KeepsCode}
 use Rattle.nk_run.proofs.JournalOpening.{is_opening}
 
 -- a part that is listed has its own pages

@@ -1,5 +1,5 @@
 -- What the checks of a join say of its outcome, and what its text is.
-use Rattle.std.proofs.Common.{◌≡◌, ℕ, ◌+◌, ◌<◌, List, [], ◌∷◌, ◌++◌, length, map, take, set, get_or, Bool, inl, inr, Option, Some, None, Ok, Err, Result, IsOk, IfOk, refl, sym, ap, subst, ◌∙◌, arith, add-one}
+use Rattle.std.proofs.Common.{◌≡◌, ℕ, ◌+◌, ◌<◌, List, [], ◌∷◌, ◌++◌, length, map, take, set, get_or, Bool, inl, inr, Option, Some, None, Ok, Err, Result, IfOk, refl, sym, ap, subst, ◌∙◌, arith, add-one}
 use Rattle.std.specs.Prelude.{MatchResult, option_map, slice_get}
 use Rattle.std.proofs.Math.Seq.{take-suc, take-suc-set, take_all}
 use Rattle.std.proofs.lemmas.List.{get_or-map, length-map}

@@ -39,3 +39,4 @@ mod WorkedWords
 mod WorkedAudits
 mod RefutedPromises
 mod RefutedReplays
+mod RefutedOutcomes

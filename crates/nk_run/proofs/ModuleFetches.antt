@@ -1,6 +1,6 @@
 -- The modules of a list, fetched one by one.
-use Rattle.std.proofs.Common.{◌≡◌, ℕ, zero, suc, ◌+◌, ◌<◌, ◌≤◌, ◌==◌, Bool, true, List, [], ◌∷◌, ◌++◌, length, map, take, drop, get_or, Option, Some, None, Ok, Result, inl, inr, arith, refl, sym, ap, subst, ◌∙◌, add-one}
-use Rattle.std.specs.Prelude.{MatchBool, option_map, slice_get, unwrap_or, ⊤}
+use Rattle.std.proofs.Common.{◌≡◌, ℕ, zero, suc, ◌+◌, ◌<◌, ◌≤◌, ◌==◌, true, List, [], ◌∷◌, ◌++◌, length, map, take, drop, Option, Some, inl, inr, arith, refl, sym, ap, subst, ◌∙◌, add-one}
+use Rattle.std.specs.Prelude.{option_map, slice_get, unwrap_or}
 use Rattle.std.specs.List.{range_with_len}
 use Rattle.std.proofs.Math.Seq.{drop-cons, take-suc, take_all}
 use Rattle.std.proofs.lemmas.Bool.{cases_lt, eq-eqb, or_left, or_right}
@@ -11,11 +11,10 @@ use Rattle.nk_host.specs.Told.{IfTold}
 use Rattle.code_modules.specs.ModuleList.{Listed}
 use Rattle.nk_run.specs.declared.command_line.Role.{Role}
 use Rattle.nk_run.specs.declared.command_line.Role.TheVariants.{Module}
-use Rattle.nk_run.specs.CommandLine.{is_same}
-use Rattle.nk_run.specs.Outcome.{DoesPass, IsReached, Verdict, fetch_verdict, first_verdict, module_fetches, module_held, modules_named, passes, unless_ended}
+use Rattle.nk_run.specs.Outcome.{IsReached, Verdict, fetch_verdict, first_verdict, module_fetches, module_held, modules_named, passes, unless_ended}
 use Rattle.nk_run.specs.Replies.{Stops, StopsIn, is_listed}
 use Rattle.nk_run.specs.Witness.{Change, Files, ShelfState}
-use Rattle.nk_run.proofs.Rows.{name_rose_from, reached_behind}
+use Rattle.nk_run.proofs.Rows.{name_rose_from}
 use Rattle.nk_run.proofs.Told.{if_told, told_at}
 
 abbrev bytes_in : Files → Listed → List ℕ
@@ -82,9 +81,7 @@ fetched_more files modules i bytes more name b is held passed pushed so_far =
           ∙ ap (λ (v : Verdict). unless_ended v (first_verdict (module_fetches files (i + 1) (drop (i + 1) modules)))) passes_here;
       reached = λ role later.
           let P : List Listed → Type 0 = λ ms. IsReached role (module_fetches files i ms) in
-          so_far.reached role (subst P (sym at.first)
-          (reached_behind (Some (Module i)) role (fetch_verdict (Module i) (files at.it.name))
-          (IsReached role (module_fetches files (i + 1) (drop (i + 1) modules))) passes_here later));
+          so_far.reached role (subst P (sym at.first) (inr (passes_here, later)));
     }
 
 -- all were
@@ -128,10 +125,7 @@ module_stops words before mid after modules i bytes name status text few falls s
       };
       reached = if_told before.files _ (λ files e.
           let P : List Listed → Type 0 = λ ms. IsReached (Module i) (module_fetches files i ms) in
-          let Q : Bool → Type 0 = λ b. MatchBool b ⊤ (DoesPass (fetch_verdict (Module i) (files at.it.name))
-          × IsReached (Module i) (module_fetches files (i + 1) (drop (i + 1) modules))) in
-          (told_at before.files _ files e so_far).reached (Module i)
-          (subst P (sym at.first) (subst Q (sym (eq-eqb i i refl)) tt)));
+          (told_at before.files _ files e so_far).reached (Module i) (subst P (sym at.first) (inl refl)));
     })
 module_stops words before mid after modules i bytes name status text few falls same is so_far (inr (inl want)) = inr (inl want)
 module_stops words before mid after modules i bytes name status text few falls same is so_far (inr (inr stop)) =

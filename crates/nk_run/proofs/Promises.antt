@@ -1,5 +1,5 @@
 -- From what the top call says in the end, and how that is written, to its promises.
-use Rattle.std.proofs.Common.{◌≡◌, ℕ, ◌+◌, ◌/◌, ◌≤◌, Bool, ◌⊎◌, inl, inr, List, [], ◌∷◌, length, suc, ◌<◌, Option, Some, None, Result, Ok, Err, MatchOption, IfSome, IsOk, IsSome, IsSomeAnd, arith, refl, sym, ◌∙◌, ap, subst}
+use Rattle.std.proofs.Common.{◌≡◌, ℕ, ◌+◌, ◌/◌, ◌≤◌, Bool, ◌⊎◌, inl, inr, List, [], ◌∷◌, length, suc, Option, Some, None, Result, Ok, Err, MatchOption, IfSome, IsOk, IsSome, IsSomeAnd, arith, refl, sym, ◌∙◌, ap, subst}
 use Rattle.std.proofs.lemmas.Bool.{le-ltb, le-leb}
 use Rattle.std.specs.Prelude.{unwrap_or, ⊤}
 use Rattle.std.specs.List.{All}
@@ -16,7 +16,7 @@ use Rattle.nk_run.specs.declared.command_line.Role.TheVariants.{Image, Input, Pl
 use Rattle.nk_run.specs.CommandLine.{Command, Scan, Map, Run, Replay, Make, Work, Join, Audit, Assemble, Listing, command_of, name_in}
 use Rattle.nk_run.specs.Lines.{longest_file, longest_module}
 use Rattle.nk_run.specs.Witness.{Change, Files, ShelfState, Witness}
-use Rattle.nk_run.specs.Outcome.{Answer, Verdict, addressed, assembled, passes, decided, first_verdict, checks_of, text_of, outcome, command_outcome, fetch_verdict, formed, clean, given, join_in, joinable, journaled, list_checks, listing_checks, module_checks, module_fetches, modules_named, opened, opening_in, planned, replay_in, roomy, file_in, size_in, test, unless_ended, well_listed}
+use Rattle.nk_run.specs.Outcome.{Answer, Verdict, addressed, assembled, passes, decided, first_verdict, checks_of, text_of, outcome, command_outcome, fetch_verdict, formed, clean, given, join_in, joinable, journaled, list_checks, module_checks, module_fetches, modules_named, opened, opening_in, planned, replay_in, roomy, file_in, size_in, test, unless_ended, well_listed}
 use Rattle.code_modules.specs.declared.fault.JoinFault.{JoinFault}
 use Rattle.code_modules.specs.ModuleList.{Listed, list_of}
 use Rattle.nk_run.proofs.Checks.{first_verdict-append}

@@ -1,36 +1,25 @@
 -- What a row of checks says of the outcome.
-use Rattle.std.proofs.Common.{◌≡◌, ◌≢◌, ◌⊎◌, ℕ, suc, ◌≤◌, inl, inr, Bool, true, false, List, [], ◌∷◌, ◌++◌, Option, Some, None, IsSome, IsSomeAnd, Contains, arith, refl, sym, ap, subst, ◌∙◌}
+use Rattle.std.proofs.Common.{◌≡◌, ◌≢◌, ◌⊎◌, ℕ, suc, ◌≤◌, inl, inr, true, false, List, [], ◌∷◌, ◌++◌, Option, Some, IsSome, IsSomeAnd, Contains, arith, refl, sym, ap, subst, ◌∙◌}
 use Rattle.std.proofs.lemmas.Bool.{eqb-true, or_cases, or_left, or_right}
 use Rattle.std.proofs.lemmas.Grind.{common_steps}
-use Rattle.std.specs.Prelude.{MatchBool, ⊤}
 use Rattle.nk_host.specs.FaultCounts.{NeverFalls, RoseTo}
 use Rattle.nk_host.specs.Told.{IfTold}
 use Rattle.elf_image.specs.Rows.{first_fault}
 use Rattle.nk_run.specs.declared.command_line.Role.{Role}
 use Rattle.nk_run.specs.declared.command_line.Role.TheVariants.{Image, Input, Plan, Journal, ModuleList, Module, Text}
-use Rattle.nk_run.specs.CommandLine.{Command, Scan, IsAsked, command_of, is_same, name_in, roles_of}
+use Rattle.nk_run.specs.CommandLine.{Command, Scan, IsAsked, command_of, name_in, roles_of}
 use Rattle.nk_run.specs.Witness.{Change, Files, ShelfState}
 use Rattle.nk_run.specs.Clauses.{IsNameOf, NameRose}
-use Rattle.nk_run.specs.Outcome.{Answer, Check, DoesPass, IsReached, IsReachedAfter, Verdict, checks_of, decided, ends, fetch, fetch_verdict, file_in, first_verdict, outcome, command_outcome, passes, form_checks, formed, formed_checks, image_checks, test, text_of, unheld, unless_ended}
-use Rattle.nk_run.specs.Replies.{CommandSays, IsOwn, IsWant, RefusesBy, Stops, StopsIn, is_listed}
+use Rattle.nk_run.specs.Outcome.{Answer, Check, IsReached, Verdict, checks_of, decided, ends, fetch, fetch_verdict, file_in, first_verdict, outcome, command_outcome, passes, form_checks, formed, formed_checks, image_checks, test, text_of, unheld, unless_ended}
+use Rattle.nk_run.specs.Replies.{CommandSays, IsOwn, IsWant, RefusesBy, Stops, StopsIn, is_listed, is_same}
 use Rattle.nk_run.proofs.Checks.{first_verdict-append}
 use Rattle.nk_run.proofs.Told.{if_told, told_at}
 
 -- a check that is reached in a row is reached in a longer one
-unless_same : (same : Bool) (D P Q : Type 0) → (P → Q) → MatchBool same ⊤ (D × P) → MatchBool same ⊤ (D × Q)
-unless_same true D P Q f h = h
-unless_same false D P Q f h = (h.0, f h.1)
-
-reached_after : (fetches : Option Role) (role : Role) (finds : Verdict) (P Q : Type 0) → (P → Q)
-    → IsReachedAfter fetches role finds P → IsReachedAfter fetches role finds Q
-reached_after None role finds P Q f h = (h.0, f h.1)
-reached_after (Some other) role finds P Q f h =
-    unless_same (is_same other role) (DoesPass finds) P Q f h
-
 reached-append : (role : Role) (xs ys : List Check) → IsReached role xs → IsReached role (xs ++ ys)
 reached-append role [] ys h = absurd h
-reached-append role (x ∷ xs) ys h =
-    reached_after x.fetches role x.finds (IsReached role xs) (IsReached role (xs ++ ys)) (reached-append role xs ys) h
+reached-append role (x ∷ xs) ys (inl here) = inl here
+reached-append role (x ∷ xs) ys (inr later) = inr (later.0, reached-append role xs ys later.1)
 
 -- a check that is reached in a row is reached behind checks that pass
 pub both_pass : (u v : Verdict) → unless_ended u v ≡ passes → (u ≡ passes) × (v ≡ passes)
@@ -38,20 +27,10 @@ both_pass passes v h = (refl, h)
 both_pass (ends answer) v h = cc
 both_pass unheld v h = cc
 
-always : (same : Bool) (P : Type 0) → P → MatchBool same ⊤ P
-always true P h = tt
-always false P h = h
-
-pub reached_behind : (fetches : Option Role) (role : Role) (finds : Verdict) (P : Type 0) → finds ≡ passes → P
-    → IsReachedAfter fetches role finds P
-reached_behind None role finds P e h = (subst DoesPass (sym e) tt, h)
-reached_behind (Some other) role finds P e h = always (is_same other role) (DoesPass finds × P) (subst DoesPass (sym e) tt, h)
-
 reached-behind : (role : Role) (xs ys : List Check) → first_verdict xs ≡ passes → IsReached role ys → IsReached role (xs ++ ys)
 reached-behind role [] ys e h = h
 reached-behind role (x ∷ xs) ys e h =
-    let parts = both_pass x.finds (first_verdict xs) e in
-    reached_behind x.fetches role x.finds (IsReached role (xs ++ ys)) parts.0 (reached-behind role xs ys parts.1 h)
+    let parts = both_pass x.finds (first_verdict xs) e in inr (parts.0, reached-behind role xs ys parts.1 h)
 
 -- a count that rose rose from what it was before
 rose_from : (before mid after : ℕ) → before ≤ mid → RoseTo mid after → RoseTo before after
@@ -146,10 +125,7 @@ first_stops words shelf role later status text same (inl stop) = inl (record {
   role = role;
   listed = or_left (is_same role role) false same;
   unread = stop;
-  reached = if_told shelf.before.files _ (λ files e.
-      let P : Bool → Type 0 = λ b.
-      MatchBool b ⊤ (DoesPass (fetch_verdict role (files (name_in words role))) × IsReached role (later files)) in
-      subst P (sym same) tt);
+  reached = if_told shelf.before.files _ (λ files e. inl refl);
 })
 first_stops words shelf role later status text same (inr (inl want)) = inr (inl want)
 first_stops words shelf role later status text same (inr (inr stop)) = inr (inr stop)
@@ -176,10 +152,7 @@ fetch_stops words shelf role name roles later status text same named (inl stop) 
   role = role;
   listed = or_left (is_same role role) (is_listed roles role) same;
   unread = stop;
-  reached = if_told shelf.before.files _ (λ files e.
-      let P : Bool → Type 0 = λ b.
-      MatchBool b ⊤ (DoesPass (fetch_verdict role (files (name_in words role))) × IsReached role (later files)) in
-      subst P (sym same) tt);
+  reached = if_told shelf.before.files _ (λ files e. inl refl);
 })
 fetch_stops words shelf role name roles later status text same named (inr (inl want)) = inr (inl want)
 fetch_stops words shelf role name roles later status text same named (inr (inr stop)) = inr (inr (record {

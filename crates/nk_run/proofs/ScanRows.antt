@@ -109,7 +109,7 @@ module _ (words : List (List ℕ)) (asked : command_of words ≡ Some Scan) wher
       rose = (name_in words Image, refl, rose);
       reached = if_told shelf.before.files _ (λ files e.
           let P : Option Command → Type 0 = λ o. IsSomeAnd o (λ command. IsReached Image (checks_of command files words)) in
-          subst P (sym asked) tt);
+          subst P (sym asked) (inl refl));
     };
     status_is = reply.0;
     text_is = reply.1;

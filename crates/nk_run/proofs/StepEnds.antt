@@ -1,6 +1,6 @@
 -- Where a step leaves a run: at its end where the machine rests, and else on its way.
 use Rattle.std.proofs.Common.{◌≡◌, ℕ, Bool, true, false, List, refl, sym, ap, ◌∙◌}
-use Rattle.std.specs.Prelude.{◌==◌, if◌then◌else◌, Option, None, Some}
+use Rattle.std.specs.Prelude.{if◌then◌else◌, Option, None, Some}
 use Rattle.std.proofs.lemmas.Bool.{eq-eqb, ne_eqb}
 use Rattle.irq_plan.specs.declared.event.Event.{Event}
 use Rattle.gate_state.specs.declared.moves.Move.{Move}

@@ -1,5 +1,5 @@
 -- What the checks of `asm` and of `list` say of their outcomes.
-use Rattle.std.proofs.Common.{◌≡◌, ℕ, ◌/◌, List, [], ◌∷◌, Bool, true, Option, None, Some, Result, Ok, Err, refl, sym, ap, ◌∙◌}
+use Rattle.std.proofs.Common.{◌≡◌, ℕ, ◌/◌, List, [], ◌∷◌, Bool, true, Option, Some, Result, Ok, refl, sym, ap, ◌∙◌}
 use Rattle.nk_host.specs.Told.{IfTold}
 use Rattle.elf_image.specs.Pages.{is_executable}
 use Rattle.report_text.specs.ListingLines.{code_listing}

@@ -241,20 +241,12 @@ HasSafeRun (Run steps frames) words files =
     → IsSafeRun (events_in (plan_of (file_in files words Plan))) (opening_in files words frames) (file_in files words Input)
 HasSafeRun _ words files = ⊤
 
-abbrev pub IsSafeWhereRun : Witness → Type 0
-IsSafeWhereRun seen = IfTold seen.shelf.before.files (λ files.
-    IfSome (command_of seen.words) (λ command. HasSafeRun command seen.words files))
-
 -- where the checks of a run pass, its text is a journal of it
 abbrev pub HasJournal : Command → List (List ℕ) → Files → Type 0
 HasJournal (Run steps frames) words files =
     first_verdict (checks_of (Run steps frames) files words) ≡ passes
     → IsJournal (opening_in files words frames) (file_in files words Input) (events_in (plan_of (file_in files words Plan))) steps
 HasJournal _ words files = ⊤
-
-abbrev pub IsReplayedWhereRun : Witness → Type 0
-IsReplayedWhereRun seen = IfTold seen.shelf.before.files (λ files.
-    IfSome (command_of seen.words) (λ command. HasJournal command seen.words files))
 
 -- a run takes as many steps as its length says, and the state after them is the first at which it ends
 abbrev pub HasEnd : Command → List (List ℕ) → Files → Type 0
@@ -266,10 +258,6 @@ HasEnd (Work number) words files =
     let first = opening_state (record { image = image_of_number number; frames = 4096 }) [] in
     EndsAfter (run_length 2000000 [] first) 2000000 [] first
 HasEnd _ words files = ⊤
-
-abbrev pub IsEndedWhereRun : Witness → Type 0
-IsEndedWhereRun seen = IfTold seen.shelf.before.files (λ files.
-    IfSome (command_of seen.words) (λ command. HasEnd command seen.words files))
 
 -- the file loads the image, the modules and a directory of them, and holds no protected encoding; and in every state of
 -- every run of it the modules' bytes stand in the frames of their pages
@@ -284,9 +272,10 @@ HasJoined Join words files =
     → IsWholeJoin (file_in files words Image) (modules_in files words) (text_of Join files words)
 HasJoined _ words files = ⊤
 
-abbrev pub IsWholeWhereJoined : Witness → Type 0
-IsWholeWhereJoined seen = IfTold seen.shelf.before.files (λ files.
-    IfSome (command_of seen.words) (λ command. HasJoined command seen.words files))
+-- where files are told and the words have a form, this holds of the command that they spell
+abbrev pub WhereAsked : (Command → List (List ℕ) → Files → Type 0) → Witness → Type 0
+WhereAsked Holds seen = IfTold seen.shelf.before.files (λ files.
+    IfSome (command_of seen.words) (λ command. Holds command seen.words files))
 
 pub record Promises (seen : Witness) (status : ℕ) : Type 0 where
   pub status_range : status ≤ 10
@@ -308,10 +297,10 @@ pub record Promises (seen : Witness) (status : ℕ) : Type 0 where
   pub complete : IsComplete seen status
   pub done : IsDone seen status
   -- the run whose text is written goes on to the first state at which it ends
-  pub run_ends : IsEndedWhereRun seen
+  pub run_ends : WhereAsked HasEnd seen
   -- it is safe in each of its states
-  pub run_safe : IsSafeWhereRun seen
+  pub run_safe : WhereAsked HasSafeRun seen
   -- and its text is a journal: `replay` of it finds each line right, and shows the run's closing section
-  pub run_replayed : IsReplayedWhereRun seen
+  pub run_replayed : WhereAsked HasJournal seen
   -- the joined image has all that was joined and nothing else, and its runs keep it
-  pub image_joined : IsWholeWhereJoined seen
+  pub image_joined : WhereAsked HasJoined seen

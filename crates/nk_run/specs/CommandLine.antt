@@ -1,5 +1,5 @@
 -- The command line: the forms that the words may have, and the name that stands for each role's file.
-use Rattle.std.specs.Prelude.{ℕ, ◌+◌, ◌^◌, ◌<◌, ◌≤◌, ◌==◌, Bool, true, false, if◌then◌else◌, List, [], ◌∷◌, map, Contains, Option, None, Some, IsSomeAnd, codes, slice_index_or, IsTrue, ⊤}
+use Rattle.std.specs.Prelude.{ℕ, ◌+◌, ◌^◌, ◌<◌, ◌≤◌, if◌then◌else◌, List, [], ◌∷◌, map, Contains, Option, None, Some, IsSomeAnd, codes, slice_index_or, IsTrue, ⊤}
 use Rattle.std.specs.List.{range_with_len}
 use Rattle.std.specs.Option.{option_map}
 use Rattle.std.specs.Str.{bytes_eq}
@@ -88,17 +88,6 @@ IsBounded Join = ⊤
 IsBounded (Audit frames id) = (512 ≤ frames) × (frames ≤ 65536) × (256 ≤ id) × (id ≤ 8589934591)
 IsBounded Assemble = ⊤
 IsBounded (Listing address count) = (address < 2 ^ 64) × (1 ≤ count) × (count ≤ 4096)
-
--- two roles are one
-abbrev pub is_same : Role → Role → Bool
-is_same Image Image = true
-is_same Input Input = true
-is_same Plan Plan = true
-is_same Journal Journal = true
-is_same ModuleList ModuleList = true
-is_same (Module number) (Module other) = number == other
-is_same Text Text = true
-is_same _ _ = false
 
 -- the place among the words of the name of a role's file; a module's stands in the list, as if that came behind the words
 abbrev pub word_place : Role → ℕ

@@ -1,5 +1,5 @@
 -- What the top call says, and how it is written.
-use Rattle.std.specs.Prelude.{◌≡◌, ◌≢◌, ℕ, ◌+◌, ◌*◌, ◌/◌, Bool, true, ◌<◌, ◌≤◌, ◌⊎◌, List, length, replicate, Contains, Option, None, Some, OnErr, OnOk, Result, IsSome, ⊤}
+use Rattle.std.specs.Prelude.{◌≡◌, ◌≢◌, ℕ, ◌+◌, ◌*◌, ◌/◌, ◌==◌, Bool, true, false, ◌<◌, ◌≤◌, ◌⊎◌, List, length, replicate, Contains, Option, None, Some, OnErr, OnOk, Result, IsSome, ⊤}
 use Rattle.std.specs.List.{list_any}
 use Rattle.nk_bits.specs.declared.leaf.Leaf.{Leaf}
 use Rattle.irq_plan.specs.declared.event.Event.{Event}
@@ -18,9 +18,9 @@ use Rattle.report_text.specs.ListingLines.{code_listing}
 use Rattle.replay_core.specs.ReplayedCalls.{replay_of}
 use Rattle.image_maker.specs.MadeImage.{image_of_number}
 use Rattle.nk_run.specs.declared.command_line.Role.{Role}
-use Rattle.nk_run.specs.declared.command_line.Role.TheVariants.{Image, Journal}
+use Rattle.nk_run.specs.declared.command_line.Role.TheVariants.{Image, Input, Plan, Journal, ModuleList, Module, Text}
 use Rattle.nk_run.specs.declared.count.Tally.{Tally}
-use Rattle.nk_run.specs.CommandLine.{Command, Replay, Run, Scan, command_of, is_same, name_in}
+use Rattle.nk_run.specs.CommandLine.{Command, Replay, Run, Scan, command_of, name_in}
 use Rattle.nk_run.specs.Lines.{no_memory_line, unread_line, usage_line, walk_line}
 use Rattle.nk_run.specs.Witness.{Change, Files, ShelfState, SinkState, Witness}
 use Rattle.nk_run.specs.Outcome.{Check, Verdict, checks_of, ends, decided, file_in, first_verdict, opened, outcome, passes, IsReached}
@@ -123,6 +123,17 @@ abbrev pub Stops : List (List ℕ) → Change ShelfState → Role → (Files →
     → Type 0
 Stops words shelf role verdict status text =
     StopsUnread words shelf role status text ⊎ (IsWant status text ⊎ StopsEnded shelf verdict status text)
+
+-- two roles are one
+abbrev pub is_same : Role → Role → Bool
+is_same Image Image = true
+is_same Input Input = true
+is_same Plan Plan = true
+is_same Journal Journal = true
+is_same ModuleList ModuleList = true
+is_same (Module number) (Module other) = number == other
+is_same Text Text = true
+is_same _ _ = false
 
 -- the role is one of these
 abbrev pub is_listed : List Role → Role → Bool

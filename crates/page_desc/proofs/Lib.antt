@@ -20,6 +20,7 @@ pub mod PageTableValues
 pub mod RecordWalk
 mod RefutedDescriptors
 mod RefutedEntries
+mod RefutedTables
 pub mod ReplacedCounts
 pub mod SeenTables
 pub mod SlotLeafTables

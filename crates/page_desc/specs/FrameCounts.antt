@@ -5,7 +5,7 @@
 use Rattle.std.specs.Prelude.{◌≡◌, ◌<◌, ℕ, zero, suc, ◌+◌, Bool, true, false, ◌&&◌, ◌||◌, ◌==◌, nat_le, if◌then◌else◌, List, length}
 use Rattle.std.specs.List.{list_any, range_with_len}
 use Rattle.nk_bits.specs.declared.kind.Kind.{Kind}
-use Rattle.nk_bits.specs.declared.kind.Kind.TheVariants.{Data, Code, Table, Fixed, Trap, Guarded, Hidden}
+use Rattle.nk_bits.specs.declared.kind.Kind.TheVariants.{Table, Fixed}
 use Rattle.nk_bits.specs.Kinds.{kind_of, level_of}
 use Rattle.nk_bits.specs.Paging.{frame_of, is_present, is_user, grants_writes}
 use Rattle.nk_bits.specs.KernelLayout.{area_table, image_directory}

@@ -3,7 +3,7 @@ use Rattle.std.proofs.Common.{◌≡◌, ℕ, ◌+◌, ◌<◌, ◌≤◌, true,
 use Rattle.std.specs.Prelude.{slice_index}
 use Rattle.std.specs.List.{Contains, sum_by}
 use Rattle.nk_bits.specs.KernelLayout.{pool_start}
-use Rattle.region_book.specs.RegionRecords.{Book, IsBook, IsRegion, Region, pages_of_region}
+use Rattle.region_book.specs.RegionRecords.{Book, IsApart, IsBook, IsRegion, Region, pages_of_region}
 
 pub two_declared_regions_share_no_frame : (one other : Region) (next declared f : ℕ) → one.pooled ≡ false →
     other.pooled ≡ false → Contains one.frames f → Contains other.frames f →
@@ -11,6 +11,15 @@ pub two_declared_regions_share_no_frame : (one other : Region) (next declared f 
 two_declared_regions_share_no_frame one other next declared f one_is other_is in_one in_other book =
     (book.apart 0 1 one (omega arith) (omega arith)).pages one_is other_is in_one.0 f in_one.1 in_other.0 f in_other.1
     (in_one.2 ∙ sym in_other.2)
+
+module _ (one other : Region) where
+  pub regions_that_meet_are_not_apart : one.pooled ≡ true → other.pooled ≡ true → one.first < other.first + other.size →
+      other.first < one.first + one.size → IsApart one other → ⊥
+  regions_that_meet_are_not_apart one_is other_is before behind is =
+      elim (is.pool one_is other_is) [
+        | inl first ↦ omega (arith, first, behind)
+        | inr second ↦ omega (arith, second, before)
+      ]
 
 module _ (next : ℕ) (r : Region) where
   pub declared_region_has_no_frame_twice : (i j : ℕ) → r.pooled ≡ false → i < j → j < length r.frames →

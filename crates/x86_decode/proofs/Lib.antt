@@ -14,3 +14,4 @@ pub mod Law
 pub mod Forms
 pub mod Answers
 pub mod RowPlaces
+mod RefutedSpellings

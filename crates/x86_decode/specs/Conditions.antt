@@ -8,7 +8,6 @@ use Rattle.std.specs.Prelude.{Bool, true, false}
 use Rattle.x86_decode.specs.declared.operation.Op.{Op}
 use Rattle.x86_decode.specs.declared.operation.Op.TheVariants.{Add, Or, Adc, Sbb, And, Sub, Xor, Not, Neg, Inc, Dec, Bts, Btr, Btc, Xchg, Xadd, Cmpxchg, Pushfq, Popfq, Ud2, Cli, Sti, Hlt, In, Out, Movfc, Movtc, Movtd, Wrmsr, Lldt, Ltr, Lgdt, Lidt, Lmsw, Invlpg}
 use Rattle.x86_decode.specs.declared.conditions.Conditions.{Conditions}
-use Rattle.x86_decode.specs.declared.conditions.UndefinedWhere.{UndefinedWhere}
 use Rattle.x86_decode.specs.declared.conditions.UndefinedWhere.TheVariants.{Nowhere, Everywhere, AtWidth16, AtCpl0}
 
 -- no condition: it may not be locked, runs at each CPL, and loads nothing that is protected

@@ -13,7 +13,7 @@ use Rattle.x86_decode.specs.declared.operation.Op.{Op}
 use Rattle.x86_decode.specs.declared.operation.Op.TheVariants.{Movs, Cmps, Stos, Lods, Scas}
 use Rattle.x86_decode.specs.declared.shape.Shape.{Shape}
 use Rattle.x86_decode.specs.declared.shape.RowLayout.{RowLayout}
-use Rattle.x86_decode.specs.declared.shape.RowLayout.TheVariants.{Plain, AnyForm, Memory, Register, Ignored}
+use Rattle.x86_decode.specs.declared.shape.RowLayout.TheVariants.{Plain, Memory, Register, Ignored}
 use Rattle.x86_decode.specs.declared.shape.Operand.{Operand}
 use Rattle.x86_decode.specs.declared.shape.Operand.TheVariants.{Absent, Eb, Ev, Gb, Gv, Zb, Zv, Accumulator, Counter, Port, Constant}
 use Rattle.x86_decode.specs.declared.shape.Number.{Number}

@@ -1,5 +1,5 @@
 -- The computed answer, and what a spelling says.
-use Rattle.std.specs.Prelude.{◌≡◌, ◌≤◌, ◌+◌, ◌++◌, List, ℕ, true, length}
+use Rattle.std.specs.Prelude.{◌≡◌, ◌≤◌, ◌++◌, List, ℕ, true, length}
 use Rattle.x86_decode.specs.Conditions.{is_protected}
 use Rattle.x86_decode.specs.Decoding.{BeginsProtected, Decodes}
 use Rattle.x86_decode.specs.declared.instruction.Decoded.{Decoded}
