@@ -1,10 +1,12 @@
 //! Where what a turn leaves differs from what a row says.
 
-ghost use Rattle.std.specs.Prelude.{◌≡◌, ◌↔◌, ◌++◌, ◌+◌, ◌≤◌, false, IsNone, OnOk, bit_and, option_to_list};
+ghost use Rattle.std.specs.Prelude.{◌≡◌, ◌↔◌, ◌++◌, ◌+◌, ◌≤◌, [], false, IfOk, IsNone, OnOk, bit_or, option_to_list};
+ghost use Rattle.phys_mem.specs.Memory.{number_at};
+ghost use Rattle.system_rows.specs.WantedTurns.{AreGeneralWanted, AreWordsWanted, IsAsWanted, IsControlWanted, IsPrivilegeWanted, LeavesWanted};
 
-use crate::machine::{Machine, Turned};
+use crate::machine::{Left, Machine};
 use crate::memory::WORDS;
-use crate::row::{Row, State};
+use crate::row::{After, Row, State};
 use anyhow::Result;
 use std::alloc::{AllocError, Global};
 use std::fmt;
@@ -80,10 +82,19 @@ fn part_difference(part: Part, wanted: u64, found: u64) -> Option<Difference>
     }
 }
 
-fn flags_difference(wanted: u64, found: u64, defined: u64) -> Option<Difference>
-    ensures { IsNone result ↔ (bit_and wanted defined ≡ bit_and found defined) }
+/// Flags that the manual leaves undefined don't differ, and are told as 0.
+fn flags_difference(wanted: u64, found: u64, undefined: u64) -> Option<Difference>
+    ensures { IsNone result ↔ (bit_or wanted undefined ≡ bit_or found undefined) }
 {
-    part_difference(Part::Flags, wanted & defined, found & defined)
+    if wanted | undefined == found | undefined {
+        None
+    } else {
+        Some(Difference::Value {
+            part: Part::Flags,
+            wanted: wanted & !undefined,
+            found: found & !undefined,
+        })
+    }
 }
 
 fn halted_difference(wanted: bool, found: bool) -> Option<Difference>
@@ -127,41 +138,63 @@ fn push(
 /// Fails where the row is out of form, or with want of memory.
 pub fn differences(alloc: Global, machine: &mut Machine, row: &Row) -> Result<Vec<Difference>> {
     machine.lay(row)?;
-    let turned = machine.turn(alloc, &row.before.state)?;
-    Ok(compare(alloc, machine, row, &turned)?)
+    differences_of(alloc, machine, row)
 }
 
+/// As above, once memory is laid. There is none only where the defined turn leaves what the row wants.
+fn differences_of(alloc: Global, machine: &mut Machine, row: &Row) -> Result<Vec<Difference>>
+    ensures { IfOk result (λ list. list.items ≡ []
+        → LeavesWanted row.now.before.state row.now.after machine.old.found.bytes machine.old.wanted.bytes) }
+{
+    let left = machine.turn(alloc, &row.before.state)?;
+    Ok(compare(alloc, machine, &row.after, &left)?)
+}
+
+/// What is told is nothing only where the turn left what the row wants.
 fn compare(
     alloc: Global,
     machine: &Machine,
-    row: &Row,
-    turned: &Turned,
-) -> std::result::Result<Vec<Difference>, AllocError> {
+    after: &After,
+    left: &Left,
+) -> std::result::Result<Vec<Difference>, AllocError>
+    ensures { IfOk result (λ list. list.items ≡ [] → IsAsWanted after.now machine.now left.now) }
+{
     let mut list = Vec::new(alloc);
-    let wanted = &row.after.state;
-    let found = &turned.state;
-    push(&mut list, shutdown_difference(turned.is_shut_down))?;
+    let wanted = &after.state;
+    let found = &left.state;
+    push(&mut list, shutdown_difference(left.is_shut_down))?;
     push_general(&mut list, wanted, found)?;
-    push_privilege(&mut list, wanted, found, !row.after.undefined)?;
+    push_privilege(&mut list, wanted, found, after.undefined)?;
     push_control(&mut list, wanted, found)?;
-    push_memory(&mut list, machine, row.after.free)?;
+    push_memory(&mut list, machine, after.free)?;
     Ok(list)
+}
+
+fn push_part(
+    list: &mut Vec<Difference>,
+    part: Part,
+    wanted: u64,
+    found: u64,
+) -> std::result::Result<(), AllocError>
+    ensures { OnOk result (list.new.items ≡ [] → (list.old.items ≡ []) × (wanted ≡ found)) }
+{
+    push(list, part_difference(part, wanted, found))
 }
 
 fn push_general(
     list: &mut Vec<Difference>,
     wanted: &State,
     found: &State,
-) -> std::result::Result<(), AllocError> {
+) -> std::result::Result<(), AllocError>
+    ensures { OnOk result (list.new.items ≡ [] → (list.old.items ≡ []) × AreGeneralWanted wanted.now found.now) }
+{
     for number in 0..16u8 {
         let place = number as usize;
-        push(
+        push_part(
             list,
-            part_difference(
-                Part::General(number),
-                wanted.regs.general[place],
-                found.regs.general[place],
-            ),
+            Part::General(number),
+            wanted.regs.general[place],
+            found.regs.general[place],
         )?;
     }
     Ok(())
@@ -172,20 +205,17 @@ fn push_privilege(
     list: &mut Vec<Difference>,
     wanted: &State,
     found: &State,
-    defined: u64,
-) -> std::result::Result<(), AllocError> {
+    undefined: u64,
+) -> std::result::Result<(), AllocError>
+    ensures { OnOk result (list.new.items ≡ []
+        → (list.old.items ≡ []) × IsPrivilegeWanted wanted.now found.now undefined) }
+{
     let wanted = &wanted.regs;
     let found = &found.regs;
-    push(list, part_difference(Part::Rip, wanted.rip, found.rip))?;
-    push(list, flags_difference(wanted.flags, found.flags, defined))?;
-    push(
-        list,
-        part_difference(Part::Cpl, u64::from(wanted.cpl), u64::from(found.cpl)),
-    )?;
-    push(
-        list,
-        part_difference(Part::Stack, u64::from(wanted.ss), u64::from(found.ss)),
-    )
+    push_part(list, Part::Rip, wanted.rip, found.rip)?;
+    push(list, flags_difference(wanted.flags, found.flags, undefined))?;
+    push_part(list, Part::Cpl, u64::from(wanted.cpl), u64::from(found.cpl))?;
+    push_part(list, Part::Stack, u64::from(wanted.ss), u64::from(found.ss))
 }
 
 /// The control registers, and whether the processor is halted.
@@ -193,23 +223,13 @@ fn push_control(
     list: &mut Vec<Difference>,
     wanted: &State,
     found: &State,
-) -> std::result::Result<(), AllocError> {
-    push(
-        list,
-        part_difference(Part::Control(0), wanted.cr0, found.cr0),
-    )?;
-    push(
-        list,
-        part_difference(Part::Control(2), wanted.cr2, found.cr2),
-    )?;
-    push(
-        list,
-        part_difference(Part::Control(3), wanted.cr3, found.cr3),
-    )?;
-    push(
-        list,
-        part_difference(Part::Control(4), wanted.cr4, found.cr4),
-    )?;
+) -> std::result::Result<(), AllocError>
+    ensures { OnOk result (list.new.items ≡ [] → (list.old.items ≡ []) × IsControlWanted wanted.now found.now) }
+{
+    push_part(list, Part::Control(0), wanted.cr0, found.cr0)?;
+    push_part(list, Part::Control(2), wanted.cr2, found.cr2)?;
+    push_part(list, Part::Control(3), wanted.cr3, found.cr3)?;
+    push_part(list, Part::Control(4), wanted.cr4, found.cr4)?;
     push(list, halted_difference(wanted.halted, found.halted))
 }
 
@@ -219,7 +239,10 @@ fn push_memory(
     list: &mut Vec<Difference>,
     machine: &Machine,
     free: Option<u64>,
-) -> std::result::Result<(), AllocError> {
+) -> std::result::Result<(), AllocError>
+    ensures { OnOk result (list.new.items ≡ [] → (list.old.items ≡ [])
+        × AreWordsWanted machine.now.wanted.bytes machine.now.found.bytes free 32768) }
+{
     for index in 0..WORDS {
         let place = 8 * index;
         if free != Some(place) && machine.wanted.word(place) != machine.found.word(place) {
@@ -236,14 +259,13 @@ fn push_bytes(
     from: u64,
 ) -> std::result::Result<(), AllocError>
     requires { from + 8 ≤ 262144 }
+    ensures { OnOk result (list.new.items ≡ [] → (list.old.items ≡ [])
+        × (number_at machine.now.wanted.bytes 8 from ≡ number_at machine.now.found.bytes 8 from)) }
 {
     for place in from..from + 8 {
         let wanted = machine.wanted.byte(place);
         let found = machine.found.byte(place);
-        push(
-            list,
-            part_difference(Part::Byte(place), u64::from(wanted), u64::from(found)),
-        )?;
+        push_part(list, Part::Byte(place), u64::from(wanted), u64::from(found))?;
     }
     Ok(())
 }

@@ -1,7 +1,10 @@
 //! The machine that turns run on.
 
-ghost use Rattle.std.specs.Prelude.{◌≡◌, false, IfOk};
+ghost use Rattle.std.specs.Prelude.{◌≡◌, ◌≢◌, false, IfOk, OnOk};
+ghost use Rattle.cpu_step.specs.declared.stepped.Stepped.TheVariants as stepped;
 ghost use Rattle.cpu_step.specs.Processor.{IsSound};
+ghost use Rattle.cpu_step.specs.Turns.{turned};
+ghost use Rattle.system_rows.specs.WantedTurns.{processor_of, state_in};
 
 use crate::memory::{Memory, SIZE};
 use crate::row::{Row, State};
@@ -24,7 +27,7 @@ const EFER: u64 = 0xD00;
 
 /// What a turn left in the registers.
 #[derive(Clone, Copy)]
-pub struct Turned {
+pub struct Left {
     pub state: State,
     /// A delivery shut the machine down.
     pub is_shut_down: bool,
@@ -67,13 +70,20 @@ impl Machine {
     /// Makes one turn from these registers. No translation is kept before.
     ///
     /// Fails where no turn begins with these registers, or with want of memory.
-    pub fn turn(&mut self, alloc: Global, before: &State) -> Result<Turned> {
+    pub fn turn(&mut self, alloc: Global, before: &State) -> Result<Left>
+        ensures state { IfOk result (λ left. left.state
+            ≡ state_in (turned (processor_of before.now) self.old.found.bytes).processor) }
+        ensures runs { IfOk result (λ left. left.is_shut_down ≡ false
+            → (turned (processor_of before.now) self.old.found.bytes).stepped ≢ stepped.Shutdown) }
+        ensures memory { OnOk result (self.new.found.bytes ≡ (turned (processor_of before.now) self.old.found.bytes).memory) }
+        ensures wanted { self.new.wanted ≡ self.old.wanted }
+    {
         let mut cpu = processor(alloc, before)?;
         if cpu.enters_body() {
             bail!("the nested kernel's body is to run");
         }
         let stepped = self.found.turn(&mut cpu);
-        Ok(Turned {
+        Ok(Left {
             state: state_of(&cpu),
             is_shut_down: stepped == Stepped::Shutdown,
         })
@@ -93,6 +103,7 @@ fn lay_bytes(memory: &mut Memory, bytes: &[MemoryByte]) -> Result<()> {
 fn processor(alloc: Global, before: &State) -> Result<Cpu>
     ensures sound { IfOk result (λ cpu. IsSound 262144 cpu) }
     ensures running { IfOk result (λ cpu. cpu.halted ≡ false) }
+    ensures started { IfOk result (λ cpu. cpu ≡ processor_of before.now) }
 {
     let cpl = before.regs.cpl;
     if cpl != 0 && cpl != 3 {
@@ -115,7 +126,9 @@ fn processor(alloc: Global, before: &State) -> Result<Cpu>
     }
 }
 
-fn state_of(cpu: &Cpu) -> State {
+fn state_of(cpu: &Cpu) -> State
+    ensures { result ≡ state_in cpu.now }
+{
     let control = cpu.control();
     State {
         regs: *cpu.regs(),

@@ -3,7 +3,7 @@
 ghost use Rattle.std.specs.Prelude.{◌≡◌, ◌<◌, ◌+◌, ◌≤◌, false, length};
 ghost use Rattle.phys_mem.specs.Memory.{byte_at, number_at};
 ghost use Rattle.cpu_step.specs.Processor.{IsSound};
-ghost use Rattle.cpu_step.specs.Turns.{enters_body};
+ghost use Rattle.cpu_step.specs.Turns.{enters_body, turned};
 
 use anyhow::{Result, bail};
 use cpu_step::{Cpu, Stepped};
@@ -81,6 +81,8 @@ impl Memory {
         requires body { enters_body cpu.old ≡ false }
         requires running { cpu.old.halted ≡ false }
         requires sound { IsSound 262144 cpu.old }
+        ensures { record { processor = cpu.new; memory = self.new.bytes; stepped = result }
+            ≡ turned cpu.old self.old.bytes }
     {
         cpu.step(&mut self.bytes)
     }
