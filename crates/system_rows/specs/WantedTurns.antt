@@ -1,6 +1,5 @@
 -- What a turn leaves is what its row wants, by the definition of a turn.
 use Rattle.std.specs.Prelude.{◌≡◌, ◌≢◌, ℕ, ◌*◌, ◌/◌, ◌<◌, false, List, [], Option, Some, bit_or, slice_index}
-
 use Rattle.phys_mem.specs.Memory.{number_at}
 use Rattle.cpu_step.specs.declared.stepped.Stepped.TheVariants as stepped
 use Rattle.cpu_step.specs.Processor.{Processor, started}
