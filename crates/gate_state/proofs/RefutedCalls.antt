@@ -50,6 +50,10 @@ module _ (plan : List Event) (s : MachineState) (k : ℕ) where
   late_body late it =
       let sixth = it.turns in let seventh = late it.at it.before it.enters in omega (arith, sixth, seventh)
 
+  -- or none of them left an answer
+  unanswered_body : ((at : ℕ) → at < k → IsCallAnswered s (state plan s at) (state plan s k) → ⊥) → IsServed plan s k → ⊥
+  unanswered_body none it = none it.at it.before it.answered
+
   module _ (it : IsCalledThrough plan s k) where
     -- six turns later there is no body to run
     no_body : (state plan s k).turns ≡ s.turns + 6 → enters_body (state plan s k).processor ≡ false → ⊥

@@ -1,5 +1,5 @@
 -- States that are not safe or not guarded, each named by the sentence that it guards.
-use Rattle.std.proofs.Common.{◌≡◌, ◌≢◌, ℕ, suc, zero, ◌+◌, ◌/◌, ◌%◌, ◌++◌, true, false, List, [], ◌∷◌, All, refl, sym, ap, subst, ◌∙◌, ◌≤◌, arith}
+use Rattle.std.proofs.Common.{◌≡◌, ◌≢◌, ℕ, suc, zero, ◌+◌, ◌/◌, ◌%◌, ◌++◌, true, false, List, [], ◌∷◌, length, All, Err, refl, sym, ap, subst, ◌∙◌, ◌≤◌, arith}
 use Rattle.std.specs.Prelude.{None, Some, slice_get, ◌&&◌}
 use Rattle.std.specs.Int.Count.{count_leading_zeros}
 use Rattle.std.specs.List.{Contains}
@@ -7,23 +7,32 @@ use Rattle.std.proofs.lemmas.Bool.{and_parts, false≢true}
 use Rattle.std.proofs.lemmas.List.Elements.{All-contains, All-head}
 use Rattle.nk_bits.specs.declared.kind.Kind.{Kind}
 use Rattle.nk_bits.specs.declared.kind.Kind.TheVariants.{Data}
+use Rattle.nk_bits.specs.declared.leaf.Leaf.{Leaf}
 use Rattle.nk_bits.specs.declared.leaf.Upper.{Upper}
 use Rattle.nk_bits.specs.Accesses.{accessed, completed, crosses, first_part, has_canonical_bytes, reached, smep_of, wp_of}
 use Rattle.nk_bits.specs.Kinds.{kind_of, level_of}
 use Rattle.nk_bits.specs.Paging.{has_all, is_slot_page}
+use Rattle.nk_bits.specs.Translations.{IsLive}
 use Rattle.nk_bits.specs.UpperEntries.{first_of_span}
-use Rattle.phys_mem.specs.Memory.{number_at, stored, stores}
+use Rattle.phys_mem.specs.Memory.{entry_in, number_at, stored, stores}
+use Rattle.page_walk.specs.MemoryAccess.{view_of}
+use Rattle.x86_regs.specs.declared.faults.Fault.{Fault}
 use Rattle.trap_unit.specs.DeliveryStores.{delivery_stores, push_stores}
 use Rattle.trap_unit.specs.TrapDelivery.{delivered, entry_found, gate_read, pushed}
+use Rattle.x86_decode.specs.Reader.{decoded_of}
+use Rattle.x86_decode.specs.declared.instruction.Decoded.TheVariants.{Whole}
+use Rattle.cpu_step.specs.declared.fetch.Fetched.{Fetched}
+use Rattle.cpu_step.specs.InstructionFetch.{instruction_at}
 use Rattle.cpu_step.specs.Processor.{Processor, deliverable}
 use Rattle.cpu_step.specs.TurnStores.{turn_stores}
-use Rattle.cpu_step.specs.Turns.{trapped, turned}
+use Rattle.cpu_step.specs.Turns.{enters_body, trapped, turned}
 use Rattle.nk_body.specs.NestedRecord.{Ledger}
-use Rattle.gate_text.specs.GatePoints.{is_point}
+use Rattle.gate_text.specs.GatePoints.{instruction_bytes, is_point}
 use Rattle.nk_bits.specs.KernelLayout.{gate_address}
 use Rattle.gate_state.specs.GuardedStates.{IsGuarded}
 use Rattle.gate_state.specs.MachineStates.{MachineState, Opening}
-use Rattle.gate_state.specs.RespectedKinds.{respecting}
+use Rattle.gate_state.specs.MachineSteps.{waits}
+use Rattle.gate_state.specs.RespectedKinds.{respecting, respects}
 use Rattle.gate_state.specs.SafeStates.{IsGateInstruction, IsSafe, TakesTurn}
 use Rattle.gate_state.proofs.SceneProofsUppers.{Leading, entry_passes, leading}
 
@@ -132,3 +141,29 @@ module _ (o : Opening) (s : MachineState) (place level bits : ℕ) (it : Upper)
   entry_of_level_1 is guarded =
       let least : 2 ≤ level = (leads_so guarded).least in
       absurd (omega (arith, is, least))
+
+-- a live translation that doesn't respect the kinds of frames
+module _ (o : Opening) (s : MachineState) (page : ℕ) (leaf : Leaf) (it : IsSafe o s) where
+  disrespecting_translation : IsLive (entry_in s.memory) (length s.memory / 4096) s.processor.control.root s.processor.tlb page leaf
+      → respects o s.kinds (page, leaf) ≡ false → ⊥
+  disrespecting_translation live other = false≢true (sym other ∙ it.respected page leaf live)
+
+-- the place of the nested kernel's body has no instruction of the gates, nor has bytes that decode to another than the listed
+module _ (p : Processor) (m : List ℕ) (it : IsGateInstruction p m) where
+  instruction_of_the_body : p.regs.rip ≡ gate_address + 27 → ⊥
+  instruction_of_the_body is = let at = it.point.rip in absurd (it.elsewhere (omega (arith, is, at)))
+
+  unfetched_instruction : (fault : Fault) → (instruction_at m (view_of m p.control p.regs.cpl) p.regs.rip p.tlb).answer ≡ Err fault → ⊥
+  unfetched_instruction fault is = let found = it.found in cc
+
+  unlisted_instruction : ((offset : ℕ) (fetched : Fetched) → offset ≢ 27 → decoded_of (instruction_bytes offset) ≢ Whole fetched.instr fetched.size)
+      → ⊥
+  unlisted_instruction other = other it.offset it.fetched it.elsewhere it.listed
+
+-- no turn is taken where the body is to run, nor where the processor waits
+module _ (p : Processor) (it : TakesTurn p) where
+  turn_of_the_body : enters_body p ≡ true → ⊥
+  turn_of_the_body enters = false≢true (sym it.no_body ∙ enters)
+
+  turn_while_waiting : waits p ≡ true → ⊥
+  turn_while_waiting is = false≢true (sym it.runs ∙ is)

@@ -7,6 +7,3 @@
 mod text;
 
 pub use text::{byte, is_point, listing_law};
-
-#[cfg(test)]
-mod tests;

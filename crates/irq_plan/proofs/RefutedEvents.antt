@@ -1,5 +1,5 @@
 -- What is no event of a plan, and no plan.
-use Rattle.std.proofs.Common.{◌≤◌, List, [], ◌∷◌, arith}
+use Rattle.std.proofs.Common.{ℕ, ◌≤◌, List, [], ◌∷◌, arith}
 use Rattle.std.proofs.lemmas.Bool.{false≢true}
 use Rattle.std.proofs.lemmas.List.Elements.{All-head}
 use Rattle.irq_plan.specs.declared.event.Event.{Event}
@@ -39,3 +39,7 @@ late_plan what later is = late what (All-head IsEvent (record { due = 4294967297
 falling : (one other : What) → IsPlan (record { due = 5; what = one } ∷ record { due = 4; what = other } ∷ []) → ⊥
 falling one other is =
     let rises : 5 ≤ 4 = is.order 0 1 (record { due = 0; what = one }) (omega arith) (omega arith) in omega (arith, rises)
+
+-- an event of a vector that has no gate
+event_without_a_gate : (due : ℕ) → IsEvent (record { due = due; what = Irq 48 }) → ⊥
+event_without_a_gate due is = too_high is.what

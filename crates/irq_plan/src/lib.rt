@@ -12,8 +12,6 @@ mod plan;
 
 // What follows from the definition.
 mod law;
-#[cfg(test)]
-mod tests;
 
 pub use event::{Event, What};
 pub use fault::PlanFault;

@@ -1,6 +1,6 @@
 -- Runs, joins and files that the top call's promises leave no room for, each named by the sentence that it guards.
-use Rattle.std.proofs.Common.{◌≡◌, ◌≢◌, ℕ, ◌+◌, ◌*◌, ◌/◌, ◌%◌, ◌<◌, false, List, length, None, Some, Option, Err, Result, inl, inr, sym, subst, ◌∙◌, arith}
-use Rattle.std.specs.Prelude.{IfSome, IsOk, IsSome, IsSomeAnd, slice_get, slice_index, ◌⊎◌}
+use Rattle.std.proofs.Common.{◌≡◌, ◌≢◌, ℕ, ◌+◌, ◌*◌, ◌/◌, ◌%◌, ◌<◌, ◌≤◌, false, List, length, None, Some, Option, Err, Result, inl, inr, sym, subst, ◌∙◌, arith}
+use Rattle.std.specs.Prelude.{All, IfSome, IsOk, IsSome, IsSomeAnd, slice_get, slice_index, ◌⊎◌}
 use Rattle.std.proofs.lemmas.Bool.{false≢true}
 use Rattle.nk_host.specs.Told.{IfTold}
 use Rattle.phys_mem.specs.Memory.{byte_at}
@@ -32,7 +32,8 @@ use Rattle.nk_run.specs.Clauses.{HasCodeAt, HasEnd, HasJournal, HasModules, HasS
 use Rattle.nk_run.specs.CommandLine.{Command, IsAsked, Run, command_of, name_in}
 use Rattle.nk_run.specs.JoinedRuns.{IsCodeByte}
 use Rattle.nk_run.specs.JournalLaw.{IsJournal, IsReplayedRun}
-use Rattle.nk_run.specs.Outcome.{checks_of, events_in, file_in, first_verdict, join_in, opened, opening_in, passes}
+use Rattle.nk_run.specs.Lines.{longest_module}
+use Rattle.nk_run.specs.Outcome.{checks_of, events_in, file_in, first_verdict, join_in, modules_named, opened, opening_in, passes, IsReached}
 use Rattle.nk_run.specs.RunStates.{EndsAfter, ending_at, run_length}
 use Rattle.nk_run.specs.Witness.{Change, Files, ShelfState, Witness}
 use Rattle.nk_run.proofs.Told.{told_at}
@@ -93,6 +94,13 @@ module _ (words : List (List ℕ)) (shelf : Change ShelfState) (role : Role) (it
   without_a_count : (NameRose words shelf role → ⊥) → ⊥
   without_a_count none = none it.rose
 
+  unreached : (files : Files) (command : Command) → shelf.before.files ≡ Some files → command_of words ≡ Some command
+      → (IsReached role (checks_of command files words) → ⊥) → ⊥
+  unreached files command told asked none =
+      none (subst (λ (c : Option Command). IsSomeAnd c (λ command. IsReached role (checks_of command files words))) asked
+      (told_at shelf.before.files (λ held. IsSomeAnd (command_of words) (λ command. IsReached role (checks_of command held words)))
+      files told it.reached))
+
 -- files that are longer than 64 MiB, or not in form
 long_image : (b : List ℕ) → length b ≡ 67108865 → IsGoodImage b → ⊥
 long_image b is it = let within = it.within in omega (arith, is, within)
@@ -137,6 +145,11 @@ modules_without_a_list words files none it =
 
 modules_that_do_not_fit : (words : List (List ℕ)) (files : Files) → (IsOk (join_in files words) → ⊥) → HasModules words files → ⊥
 modules_that_do_not_fit words files none it = none it.joined
+
+long_module : (words : List (List ℕ)) (files : Files)
+    → (All (λ it. IsSomeAnd (files it.name) (λ m. length m ≤ longest_module)) (modules_named files words) → ⊥)
+    → HasModules words files → ⊥
+long_module words files none it = none it.held
 
 -- a run's line that isn't right
 wrong_line : (o : Opening) (input : List ℕ) (plan : List Event) (steps number : ℕ)

@@ -6,8 +6,9 @@ use Rattle.nk_host.specs.FaultCounts.{RoseTo}
 use Rattle.byte_scanner.specs.declared.encoding.Found.{Found}
 use Rattle.byte_scanner.specs.FirstFound.{first_found}
 use Rattle.nk_run.specs.declared.command_line.Role.{Role}
-use Rattle.nk_run.specs.Clauses.{HasJoined, IsOutside, NameRose, Promises, SinkRose, TookAll}
+use Rattle.nk_run.specs.Clauses.{HasJoined, IsFaultless, IsOutside, IsUnread, MaySay, NameRose, Promises, SinkRose, TookAll, TookPrefix}
 use Rattle.nk_run.specs.CommandLine.{Command, Scan, Join, IsAsked, command_of}
+use Rattle.nk_run.specs.Lines.{no_memory_line, unread_line}
 use Rattle.nk_run.specs.Outcome.{Answer, checks_of, first_verdict, outcome, passes, text_of}
 use Rattle.nk_run.specs.Witness.{Files, Witness}
 use Rattle.nk_run.proofs.Told.{told_at}
@@ -56,6 +57,35 @@ module _ (seen : Witness) where
   want_without_a_count : command_of seen.words ≡ Some Scan
       → (RoseTo seen.shelf.before.wants seen.shelf.after.wants → ⊥) → Promises seen 5 → ⊥
   want_without_a_count asked quiet it = quiet (it.want_by_count asked refl)
+
+  -- status 3 doesn't come where no file is unread, nor with another line than that of an unread one
+  nothing_unread : ((role : Role) → IsUnread seen.words seen.shelf role → ⊥) → Promises seen 3 → ⊥
+  nothing_unread none it = let (role, unread, took) = it.unread_written refl in none role unread
+
+  another_unread_line : ((role : Role) → TookAll seen.sink (unread_line role) → ⊥) → Promises seen 3 → ⊥
+  another_unread_line none it = let (role, unread, took) = it.unread_written refl in none role took
+
+  -- status 5 doesn't come with another line than that there was no memory
+  another_want : (TookAll seen.sink no_memory_line → ⊥) → Promises seen 5 → ⊥
+  another_want none it = none (it.want_written refl)
+
+  -- status 4 doesn't come with what begins no text that may be said
+  another_beginning : (files : Files) → seen.shelf.before.files ≡ Some files
+      → ((text : List ℕ) → MaySay seen files text → TookPrefix seen.sink text → ⊥) → Promises seen 4 → ⊥
+  another_beginning files told none it =
+      let Q : Files → Type 0 = λ held. 4 ≡ 4 → (text : List ℕ) × MaySay seen held text × TookPrefix seen.sink text in
+      let (text, may, took) = told_at seen.shelf.before.files Q files told it.cut_written refl in none text may took
+
+  -- without a fault of the outside no other status than the outcome's comes but 5
+  other_than_done : (status : ℕ) (files : Files) (answer : Answer) → seen.shelf.before.files ≡ Some files
+      → outcome seen.words files ≡ Some answer → IsFaultless seen → status ≢ answer.status → status ≢ 5 → Promises seen status → ⊥
+  other_than_done status files answer told is faultless other given it =
+      let P : Option Answer → Type 0 = λ a. MatchOption a (status ≡ 5) (λ answer. (status ≡ answer.status) ⊎ (status ≡ 5)) in
+      elim (subst P is (told_at seen.shelf.before.files (λ held. IsFaultless seen → P (outcome seen.words held)) files told
+      it.complete faultless)) [
+        | inl same ↦ other same
+        | inr want ↦ given want
+      ]
 
   -- no file of the shelf changes
   changed_file : (status : ℕ) (before after : Files) (name : List ℕ) → seen.shelf.before.files ≡ Some before

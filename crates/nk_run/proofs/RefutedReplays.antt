@@ -4,6 +4,8 @@ use Rattle.irq_plan.specs.declared.event.Event.{Event}
 use Rattle.gate_state.specs.MachineStates.{Opening}
 use Rattle.report_text.specs.ClosingSection.{section}
 use Rattle.replay_core.specs.ReplayedCalls.{replay_of}
+use Rattle.nk_run.specs.declared.command_line.Role.TheVariants.{Image, Journal}
+use Rattle.nk_run.specs.CommandLine.{Command, Replay, command_of, name_in}
 use Rattle.nk_run.specs.JournalLaw.{IsJournal, IsReplayAsked, section_replayed, text_of_run}
 use Rattle.nk_run.specs.Lines.{longest_file}
 use Rattle.nk_run.specs.Outcome.{Answer, opened, outcome}
@@ -39,3 +41,15 @@ module _ (o : Opening) (input : List ℕ) (plan : List Event) (steps : ℕ) (it 
 
     other_section : answer.text ≢ section_replayed o input plan steps → ⊥
     other_section other = other (ap (λ (a : Answer). a.text) answer_is)
+
+-- words of another command, and files without the image or the journal, don't ask for that replay
+module _ (o : Opening) (journal : List ℕ) (words : List (List ℕ)) (files : Files) (it : IsReplayAsked o journal words files) where
+  other_command : (command : Command) → command ≢ Replay o.frames → command_of words ≡ Some command → ⊥
+  other_command command other asked =
+      let is = it.command in let same : command ≡ Replay o.frames = cc in other same
+
+  other_image : (b : List ℕ) → b ≢ o.image → files (name_in words Image) ≡ Some b → ⊥
+  other_image b other held = let is = it.image in let same : b ≡ o.image = cc in other same
+
+  other_journal : (b : List ℕ) → b ≢ journal → files (name_in words Journal) ≡ Some b → ⊥
+  other_journal b other held = let is = it.journal in let same : b ≡ journal = cc in other same

@@ -25,8 +25,6 @@ mod shown;
 mod opening;
 mod run;
 mod steps;
-#[cfg(test)]
-mod tests;
 
 use nk_host::{FileShelf, StdSink};
 use run::trace;

@@ -14,8 +14,6 @@ mod frames;
 // What follows from the definitions.
 mod laws;
 mod stored;
-#[cfg(test)]
-mod tests;
 
 pub use frames::Frames;
 pub use laws::{

@@ -11,8 +11,6 @@ mod plan;
 
 // What follows from the definitions.
 mod laws;
-#[cfg(test)]
-mod tests;
 
 pub use laws::places_law;
 pub use levels::{Missing, upper, walk, walk_below};

@@ -4,7 +4,5 @@
 #![tactic(auto)]
 
 mod ports;
-#[cfg(test)]
-mod tests;
 
 pub use ports::Ports;

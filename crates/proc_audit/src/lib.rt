@@ -16,8 +16,6 @@ mod audit;
 
 // What follows.
 mod laws;
-#[cfg(test)]
-mod tests;
 
 pub use audit::{Audit, NoMemory};
 pub use laws::process_law;

@@ -39,3 +39,21 @@ module _ (next : ℕ) (r : Region) where
 
 pub no_129_pages_are_declared : (book : Book) → sum_by pages_of_region book.regions ≡ 129 → IsBook book → ⊥
 no_129_pages_are_declared book pages is = omega (arith, pages, is.pages, is.most)
+
+pub two_regions_have_no_identifier_in_common : (one other : Region) (next declared : ℕ) → one.id ≡ other.id →
+    IsBook (record { regions = one ∷ other ∷ []; next = next; declared = declared }) → ⊥
+two_regions_have_no_identifier_in_common one other next declared same book =
+    let less : one.id < other.id = book.rising 0 1 one (omega arith) (omega arith) in omega (arith, same, less)
+
+module _ (next : ℕ) (r : Region) (is : IsRegion next r) where
+  pub identifier_to_come_is_no_region's : r.id ≡ next → ⊥
+  identifier_to_come_is_no_region's same = let below = is.below in omega (arith, same, below)
+
+  pub policy_5_is_no_region's : r.policy ≡ 5 → ⊥
+  policy_5_is_no_region's five = let most = is.policy.1 in omega (arith, five, most)
+
+  pub each_byte_has_its_mark : length r.written ≡ r.size + 1 → ⊥
+  each_byte_has_its_mark more = let marks = is.written in omega (arith, more, marks)
+
+  pub tail_passes_no_end : r.tail ≡ r.size + 1 → ⊥
+  tail_passes_no_end past = let most = is.tail in omega (arith, past, most)

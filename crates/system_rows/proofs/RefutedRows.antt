@@ -18,6 +18,12 @@ module _ (before : State) (after : After) (m wanted : List ℕ) (it : LeavesWant
   another_register : (n : ℕ) → n < 16 → slice_index after.state.regs.general n ≢ slice_index found.regs.general n → ⊥
   another_register n inside other = other (it.general n inside)
 
+  another_step : after.state.regs.rip ≢ found.regs.rip → ⊥
+  another_step other = other it.privilege.rip
+
+  another_fault : after.state.cr2 ≢ found.cr2 → ⊥
+  another_fault other = other it.control.cr2
+
   another_word : (word : ℕ) → word < 32768 → after.free ≢ Some (8 * word)
       → number_at wanted 8 (8 * word) ≢ number_at (turned (processor_of before) m).memory 8 (8 * word) → ⊥
   another_word word inside compared other = other (it.memory word inside compared)

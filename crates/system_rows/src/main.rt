@@ -11,8 +11,6 @@ mod row;
 mod difference;
 mod machine;
 mod memory;
-#[cfg(test)]
-mod tests;
 
 use anyhow::Result;
 use difference::{Difference, differences};

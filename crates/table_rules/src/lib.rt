@@ -8,8 +8,6 @@ mod judge;
 
 // What follows from the definitions.
 mod laws;
-#[cfg(test)]
-mod tests;
 
 pub use judge::judge_entry;
 pub use laws::value_law;

@@ -11,8 +11,6 @@ mod words;
 
 // Words that are numbers.
 mod number;
-#[cfg(test)]
-mod tests;
 
 pub use line::cut_line;
 pub use number::{decimal, hexadecimal};

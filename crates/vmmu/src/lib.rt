@@ -11,8 +11,6 @@ mod tables;
 
 // What follows from the definitions.
 mod laws;
-#[cfg(test)]
-mod tests;
 
 pub use laws::{accepted_law, table_calls_law};
 pub use tables::Tables4;

@@ -9,8 +9,6 @@ mod record;
 // The log, and what follows from its form.
 mod laws;
 mod log;
-#[cfg(test)]
-mod tests;
 
 pub use laws::held_log_law;
 pub use log::{Log, Noted, Spot};

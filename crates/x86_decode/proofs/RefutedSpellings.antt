@@ -1,5 +1,5 @@
 -- What spells no instruction, and what decodes no bytes, each named by the sentence that it guards.
-use Rattle.std.proofs.Common.{◌≡◌, ◌≢◌, ℕ, ◌<◌, false, List, ◌∷◌, length, sym, ◌∙◌, arith}
+use Rattle.std.proofs.Common.{◌≡◌, ◌≢◌, ℕ, ◌<◌, ◌++◌, false, List, [], ◌∷◌, length, sym, ◌∙◌, arith}
 use Rattle.std.specs.Prelude.{take}
 use Rattle.std.specs.List.{Contains, list_all}
 use Rattle.std.proofs.lemmas.Bool.{false≢true}
@@ -57,3 +57,11 @@ begun bytes cut it = it.no_cut cut
 no_byte : (instr : Instr) (rest : List ℕ) → Spells instr (256 ∷ rest) → ⊥
 no_byte instr rest it =
     let small : 256 < 256 = All-head (λ byte. byte < 256) 256 rest it.are_bytes in omega (arith, small)
+
+-- bytes that spell another instruction, and no more bytes than there are
+unspelled : (instr : Instr) (bytes : List ℕ) → (Spells instr bytes → ⊥) → IsLawful instr bytes → ⊥
+unspelled instr bytes none it = none it.spells
+
+nothing_more : (bytes : List ℕ) → ((more : List ℕ) → more ≢ [] → (instr : Instr) → Spells instr (bytes ++ more) → ⊥)
+    → IsCutOff bytes → ⊥
+nothing_more bytes none it = none it.more it.some it.instr it.spells

@@ -1,0 +1,16 @@
+//! Tests of the crates of the nested kernel, over what they publish; `region_book` and `nk_body` have crates of their
+//! own. Floor: tests.
+#![tactic(auto)]
+
+#[cfg(test)]
+mod descriptors;
+#[cfg(test)]
+mod logs;
+#[cfg(test)]
+mod openings;
+#[cfg(test)]
+mod policies;
+#[cfg(test)]
+mod rules;
+#[cfg(test)]
+mod tables;

@@ -1,0 +1,87 @@
+//! What a memory of eighty frames and its kinds have to be for the descriptors to start, and whether it is so.
+
+ghost use Rattle.std.specs.Prelude.{◌≡◌, ◌<◌, ◌≤◌, ℕ, ◌+◌, ◌*◌, ◌/◌, true, length};
+ghost use Rattle.nk_bits.specs.declared.kind.Kind.TheVariants.{Fixed, Hidden};
+ghost use Rattle.nk_bits.specs.Kinds.{kind_of};
+ghost use Rattle.page_desc.specs.FrameCounts.{IsSlotFixed};
+ghost use Rattle.phys_mem.specs.MaskedMemory.{is_book_frame};
+ghost use Rattle.phys_mem.specs.Memory.{byte_at, entry_in};
+
+use nk_bits::{Entry, Kind};
+use phys_mem::PhysMem;
+
+/// Stores eight bytes, where they lie below 10000 and in memory.
+pub fn store(memory: &mut PhysMem, at: u64, value: u64)
+    ensures { length memory.new ≡ length memory.old }
+{
+    if at < 0xFFFF && at + 8 <= 4096 * u64::from(memory.frames()) {
+        memory.store64(at, value);
+    }
+}
+
+/// The entry of the table in a frame of memory.
+#[tactic(auto, unfolding(phys_mem::specs::Memory::entry_in))]
+pub fn entry(memory: &PhysMem, frame: u64, index: u64) -> Entry
+    requires frame { 4096 * frame + 4096 ≤ length memory.now }
+    requires index { index < 512 }
+    ensures { result.0 ≡ entry_in memory.now frame index }
+{
+    let _frames = memory.frames();
+    Entry(memory.load64(4096 * frame + 8 * index))
+}
+
+/// Whether a frame of memory is fixed.
+pub fn is_fixed(kinds: &[Kind], frame: u64) -> bool
+    ensures { result ≡ true → kind_of kinds.now frame ≡ Fixed }
+{
+    frame < kinds.len() as u64 && matches!(kinds[frame as usize], Kind::Fixed)
+}
+
+/// Whether a frame of memory is hidden.
+fn is_hidden(kinds: &[Kind], frame: u64) -> bool
+    ensures { result ≡ true → kind_of kinds.now frame ≡ Hidden }
+{
+    frame < kinds.len() as u64 && matches!(kinds[frame as usize], Kind::Hidden)
+}
+
+/// Whether the kernel slot's tables are fixed.
+pub fn is_slot_fixed(memory: &PhysMem, kinds: &[Kind]) -> bool
+    requires { length memory.now ≡ 4096 * 80 }
+    ensures { result ≡ true → IsSlotFixed kinds.now (entry_in memory.now) }
+{
+    for index in 0..512 {
+        let entry = entry(memory, 9, index);
+        if entry.is_present() && !is_fixed(kinds, entry.frame()) {
+            return false;
+        }
+    }
+    is_fixed(kinds, 8) && is_fixed(kinds, 9)
+}
+
+/// Whether the books are hidden.
+#[tactic(auto, unfolding(phys_mem::specs::MaskedMemory::is_book_frame))]
+pub fn are_books_hidden(kinds: &[Kind]) -> bool
+    ensures { result ≡ true → (f : ℕ) → is_book_frame 80 f ≡ true → kind_of kinds.now f ≡ Hidden }
+{
+    for frame in 26..65 {
+        if !is_hidden(kinds, frame) {
+            return false;
+        }
+    }
+    true
+}
+
+/// Whether the frame of descriptors holds 0.
+#[tactic(auto, unfolding(phys_mem::specs::MaskedMemory::is_book_frame))]
+pub fn are_zero(memory: &PhysMem) -> bool
+    requires { length memory.now ≡ 4096 * 80 }
+    ensures { result ≡ true
+        → (p : ℕ) → 0x40000 ≤ p → is_book_frame 80 (p / 4096) ≡ true → byte_at memory.now p ≡ 0 }
+{
+    for at in 0x40000..0x41000 {
+        if memory.load8(at) != 0 {
+            return false;
+        }
+    }
+    true
+}

@@ -1,5 +1,0 @@
-//! Tests of `nk_bits` over what it publishes. Floor: tests.
-#![tactic(auto)]
-
-#[cfg(test)]
-mod tests;
