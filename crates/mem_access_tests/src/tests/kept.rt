@@ -1,62 +1,32 @@
 //! Walks that begin at a kept upper entry, over the tables of `tests`: after SDM volume 3, 4.10.3.
 
-ghost use Rattle.nk_bits.specs.Translations.{NamesFramesIn};
+use super::ALL;
+use super::changes::Change::{KeepTable, Put, Start};
+use super::steps::Step::{Load, Set, Store};
+use super::steps::Width::{Eight, One};
+use super::steps::first_wrong;
+use mem_access::AccessFault::Page;
 
-use super::{ALL, CONTROL, load, memory, store};
-use mem_access::AccessFault;
-use nk_bits::{Rights, Upper, named_law};
-use std::test::Fail;
-use tlb_model::Tlb;
-
-/// The entry of level 2 of the first pages names the table in frame 4.
-fn keep_second(tlb: &mut Tlb, can_write: bool)
-    requires frames { NamesFramesIn 65536 tlb.old }
-    ensures frames { NamesFramesIn 65536 tlb.new }
-{
-    named_law();
-    let rights = Rights {
-        can_write,
-        user: true,
-        exec: true,
-    };
-    tlb.keep(2, 0, Upper { frame: 4, rights });
-}
-
-fn fault<T>(code: u64, address: u64) -> Result<T, AccessFault> {
-    Err(AccessFault::Page { code, address })
-}
-
-/// The entry of level 2 in memory is cleared, and serves until page 2, which has no entry of level 1, faults.
+/// An entry of level 2 is kept, and the walks of pages 0 to 2 begin at it.
+#[rattlefmt::skip]
 #[test]
-fn kept_entry_serves_until_a_page_under_it_faults(rt: HostRuntime) -> Result<(), Fail> {
-    let mut mem = memory(rt.alloc(), ALL, ALL)?;
-    let mut tlb = Tlb::new(rt.alloc())?;
-    mem.store64(0x8010, 5);
-    mem.store64(0x3000, 0);
-    keep_second(&mut tlb, true);
-    assert_eq!(rt; load(&mem, &mut tlb, &CONTROL, 3, 0x10, 8), Ok(5));
-    assert_eq!(rt;
-        load(&mem, &mut tlb, &CONTROL, 3, 0x2000, 1),
-        fault(4, 0x2000)
-    );
-    assert_eq!(rt;
-        load(&mem, &mut tlb, &CONTROL, 3, 0x1000, 1),
-        fault(4, 0x1000)
-    );
-    assert_eq!(rt; load(&mem, &mut tlb, &CONTROL, 3, 0x10, 8), Ok(5));
-    Ok(())
-}
-
-/// The fault drops the entry, and the walk from the root grants the write.
-#[test]
-fn rights_of_a_kept_entry_count(rt: HostRuntime) -> Result<(), Fail> {
-    let mut mem = memory(rt.alloc(), ALL, ALL)?;
-    let mut tlb = Tlb::new(rt.alloc())?;
-    keep_second(&mut tlb, false);
-    assert_eq!(rt;
-        store(&mut mem, &mut tlb, &CONTROL, 3, 0x10, 8, 5),
-        fault(7, 0x10)
-    );
-    assert_eq!(rt; store(&mut mem, &mut tlb, &CONTROL, 3, 0x10, 8, 5), Ok(()));
-    Ok(())
+fn kept_entry_serves_until_a_fault(rt: HostRuntime) {
+    let steps = &[
+        // The entry of level 2 in memory is cleared, and serves until page 2, which has no entry of
+        // level 1, faults.
+        Set(Start(ALL, ALL)),
+        Set(Put(0x8010, 5)),
+        Set(Put(0x3000, 0)),
+        Set(KeepTable(true)),
+        Load(3, 0x10, Eight, Ok(5)),
+        Load(3, 0x2000, One, Err(Page { code: 4, address: 0x2000 })),
+        Load(3, 0x1000, One, Err(Page { code: 4, address: 0x1000 })),
+        Load(3, 0x10, Eight, Ok(5)),
+        // An entry without R/W: the fault drops it, and the walk from the root grants the write.
+        Set(Start(ALL, ALL)),
+        Set(KeepTable(false)),
+        Store(3, 0x10, Eight, 5, Err(Page { code: 7, address: 0x10 })),
+        Store(3, 0x10, Eight, 5, Ok(())),
+    ];
+    assert_eq!(rt; first_wrong(rt.alloc(), steps), None);
 }

@@ -1,280 +1,185 @@
-//! Plans over small memories, by the rules of SDM volume 3, 4.7: the first fault in the order of the accesses counts.
-//! Page 0 may be written and page 1 may be read alone; no other page has a translation.
+//! Plans over small memories, by the rules of SDM volume 3, 4.7: the first fault in the order of
+//! the accesses counts. Page 0 may be written and page 1 may be read alone; no other page has a
+//! translation.
 
-ghost use Rattle.std.specs.Prelude.{◌≡◌, IfSome};
-ghost use Rattle.nk_bits.specs.Accesses.{IsAccessSize};
+ghost use Rattle.std.specs.Prelude.{◌≡◌, length};
+ghost use Rattle.nk_bits.specs.Translations.{NamesFramesIn};
 ghost use Rattle.page_walk.specs.AccessPlans.{IsSource, IsSized, IsAccessPlan};
 
-use super::{ALL, CONTROL, READ_ONLY, memory};
-use mem_access::{
-    AccessFault, AccessPlan, Gathered, Origin, Span, SpanFault, Target, check_span, gather,
-};
-use std::test::Fail;
+use super::changes::Change::{Put, Start};
+use super::steps::Step::{CheckSpan, Gather, Keeps, Set};
+use super::steps::Width::{Eight, Four, One};
+use super::steps::{Width, first_wrong};
+use super::{ALL, CONTROL, READ_ONLY};
+use mem_access::AccessFault::{NonCanonical, Page};
+use mem_access::{AccessPlan, Gathered, Origin, Span, SpanFault, Target, check_span, gather};
+use phys_mem::PhysMem;
 use tlb_model::Tlb;
 
-/// Eight bytes that aren't addressed by the stack.
-fn at(va: u64) -> Span
-    ensures { result.width ≡ 8 }
+/// Where an operand stands.
+#[derive(Clone, Copy)]
+pub enum Operand {
+    /// There is none.
+    Nothing,
+    /// It is at hand, and is this number.
+    Is(u64),
+    /// So many bytes in memory that aren't addressed by the stack.
+    Data(u64, Width),
+    /// So many bytes of the stack.
+    Stack(u64, Width),
+}
+
+use Operand::{Data, Is, Nothing, Stack};
+
+/// The operands of a plan, in the order of its accesses: both read and written, the first and the
+/// second that are read, and the one that is written.
+pub type Plan = [Operand; 4];
+
+fn span(operand: Operand) -> Option<Span>
+    ensures { IsSized result }
 {
-    Span {
-        va,
-        width: 8,
-        stack: false,
+    match operand {
+        Data(va, width) => Some(Span {
+            va,
+            width: width.bytes(),
+            stack: false,
+        }),
+        Stack(va, width) => Some(Span {
+            va,
+            width: width.bytes(),
+            stack: true,
+        }),
+        Is(_) | Nothing => None,
     }
 }
 
-/// Eight bytes of the stack.
-fn on_stack(va: u64) -> Span
-    ensures { result.width ≡ 8 }
+fn origin(operand: Operand) -> Origin
+    ensures { IsSource result }
 {
-    Span {
-        va,
-        width: 8,
-        stack: true,
+    match span(operand) {
+        Some(span) => Origin::At(span),
+        None => match operand {
+            Is(value) => Origin::Is(value),
+            _ => Origin::Is(0),
+        },
     }
 }
 
-fn page_fault<T>(code: u64, address: u64, stack: bool) -> Result<T, SpanFault> {
-    Err(SpanFault {
-        fault: AccessFault::Page { code, address },
-        stack,
-    })
-}
-
-fn non_canonical<T>(stack: bool) -> Result<T, SpanFault> {
-    Err(SpanFault {
-        fault: AccessFault::NonCanonical,
-        stack,
-    })
-}
-
-/// A plan whose last check would fault.
-fn plan(both: Span, to: Span, from: Span) -> AccessPlan
-    requires both { both.width ≡ 8 }
-    requires to { to.width ≡ 8 }
-    requires from { from.width ≡ 8 }
+fn access_plan(plan: &Plan) -> AccessPlan
     ensures { IsAccessPlan result }
 {
     AccessPlan {
-        both: Some(both),
-        to: Origin::At(to),
-        from: Origin::At(from),
-        last: Some(Span {
-            va: 0x4000,
-            width: 1,
-            stack: false,
-        }),
+        both: span(plan[0]),
+        to: origin(plan[1]),
+        from: origin(plan[2]),
+        last: span(plan[3]),
     }
 }
 
-#[test]
-fn first_fault_in_order_counts(rt: HostRuntime) -> Result<(), Fail> {
-    let mut mem = memory(rt.alloc(), ALL, READ_ONLY)?;
-    let mut tlb = Tlb::new(rt.alloc())?;
-    mem.store64(0x8010, 0x8877_6655_4433_2211);
-    mem.store64(0x9018, 5);
-    assert_eq!(rt;
-        gather(
-            &mem,
-            &mut tlb,
-            &CONTROL,
-            3,
-            &plan(at(0x1008), on_stack(0x2010), at(0x3018))
-        ),
-        page_fault(7, 0x1008, false)
-    );
-    assert_eq!(rt;
-        gather(
-            &mem,
-            &mut tlb,
-            &CONTROL,
-            3,
-            &plan(at(8), on_stack(0x2010), at(0x3018))
-        ),
-        page_fault(4, 0x2010, true)
-    );
-    assert_eq!(rt;
-        gather(
-            &mem,
-            &mut tlb,
-            &CONTROL,
-            3,
-            &plan(at(8), on_stack(0x10), at(0x3018))
-        ),
-        page_fault(4, 0x3018, false)
-    );
-    let found = Gathered {
-        both: Some(Target {
-            first: 0x8008,
-            second: 0,
-        }),
-        to: 0x8877_6655_4433_2211,
-        from: 5,
-    };
-    let whole = plan(at(8), on_stack(0x10), at(0x1018));
-    assert_eq!(rt; gather(&mem, &mut tlb, &CONTROL, 3, &whole), Ok(found));
-    assert_eq!(rt;
-        check_span(&mem, &mut tlb, &CONTROL, 3, whole.last),
-        page_fault(6, 0x4000, false)
-    );
-    Ok(())
+/// Whether the accesses of a plan but the last check give this.
+pub fn is_gathered(
+    mem: &PhysMem,
+    tlb: &mut Tlb,
+    cpl: u8,
+    plan: &Plan,
+    found: Result<Gathered, SpanFault>,
+) -> bool
+    requires length { length mem.now ≡ 65536 }
+    requires frames { NamesFramesIn (length mem.now) tlb.old }
+    ensures frames { NamesFramesIn (length mem.now) tlb.new }
+{
+    gather(mem, tlb, &CONTROL, cpl, &access_plan(plan)) == found
 }
 
+/// Whether the last check of a plan gives this.
+pub fn is_checked(
+    mem: &PhysMem,
+    tlb: &mut Tlb,
+    cpl: u8,
+    operand: Operand,
+    found: Result<Option<Target>, SpanFault>,
+) -> bool
+    requires length { length mem.now ≡ 65536 }
+    requires frames { NamesFramesIn (length mem.now) tlb.old }
+    ensures frames { NamesFramesIn (length mem.now) tlb.new }
+{
+    check_span(mem, tlb, &CONTROL, cpl, span(operand)) == found
+}
+
+/// The last check of each plan would fault.
+#[rattlefmt::skip]
 #[test]
-fn mark_is_that_of_the_access(rt: HostRuntime) -> Result<(), Fail> {
-    let mem = memory(rt.alloc(), ALL, READ_ONLY)?;
-    let mut tlb = Tlb::new(rt.alloc())?;
+fn first_fault_in_order_counts(rt: HostRuntime) {
     let off = 0x8000_0000_0000;
-    assert_eq!(rt;
-        gather(
-            &mem,
-            &mut tlb,
-            &CONTROL,
-            0,
-            &plan(on_stack(off), at(off), at(off))
-        ),
-        non_canonical(true)
-    );
-    assert_eq!(rt;
-        gather(
-            &mem,
-            &mut tlb,
-            &CONTROL,
-            0,
-            &plan(at(8), on_stack(off), at(off))
-        ),
-        non_canonical(true)
-    );
-    assert_eq!(rt;
-        gather(
-            &mem,
-            &mut tlb,
-            &CONTROL,
-            0,
-            &plan(on_stack(8), on_stack(8), at(off))
-        ),
-        non_canonical(false)
-    );
-    assert_eq!(rt;
-        gather(
-            &mem,
-            &mut tlb,
-            &CONTROL,
-            0,
-            &plan(on_stack(0x1000), at(off), at(off))
-        ),
-        page_fault(3, 0x1000, true)
-    );
-    Ok(())
+    let last = Data(0x4000, One);
+    let steps = &[
+        Set(Start(ALL, READ_ONLY)),
+        Set(Put(0x8010, 0x8877_6655_4433_2211)),
+        Set(Put(0x9018, 5)),
+        Gather(3, [Data(0x1008, Eight), Stack(0x2010, Eight), Data(0x3018, Eight), last],
+            Err(SpanFault { fault: Page { code: 7, address: 0x1008 }, stack: false })),
+        Gather(3, [Data(8, Eight), Stack(0x2010, Eight), Data(0x3018, Eight), last],
+            Err(SpanFault { fault: Page { code: 4, address: 0x2010 }, stack: true })),
+        Gather(3, [Data(8, Eight), Stack(0x10, Eight), Data(0x3018, Eight), last],
+            Err(SpanFault { fault: Page { code: 4, address: 0x3018 }, stack: false })),
+        Gather(3, [Data(8, Eight), Stack(0x10, Eight), Data(0x1018, Eight), last],
+            Ok(Gathered { both: Some(Target { first: 0x8008, second: 0 }),
+                to: 0x8877_6655_4433_2211, from: 5 })),
+        CheckSpan(3, last,
+            Err(SpanFault { fault: Page { code: 6, address: 0x4000 }, stack: false })),
+        // A fault tells whether its access addressed the stack.
+        Set(Start(ALL, READ_ONLY)),
+        Gather(0, [Stack(off, Eight), Data(off, Eight), Data(off, Eight), last],
+            Err(SpanFault { fault: NonCanonical, stack: true })),
+        Gather(0, [Data(8, Eight), Stack(off, Eight), Data(off, Eight), last],
+            Err(SpanFault { fault: NonCanonical, stack: true })),
+        Gather(0, [Stack(8, Eight), Stack(8, Eight), Data(off, Eight), last],
+            Err(SpanFault { fault: NonCanonical, stack: false })),
+        Gather(0, [Stack(0x1000, Eight), Data(off, Eight), Data(off, Eight), last],
+            Err(SpanFault { fault: Page { code: 3, address: 0x1000 }, stack: true })),
+        // What isn't reached fills no translation, and the page that faults keeps none.
+        Set(Start(ALL, READ_ONLY)),
+        Gather(3, [Data(0x1000, Eight), Data(0, Eight), Data(0, Eight), last],
+            Err(SpanFault { fault: Page { code: 7, address: 0x1000 }, stack: false })),
+        Keeps(0, false),
+        Keeps(1, false),
+        Gather(3, [Data(0, Eight), Data(0x2000, Eight), Data(0x1000, Eight), last],
+            Err(SpanFault { fault: Page { code: 4, address: 0x2000 }, stack: false })),
+        Keeps(0, true),
+        Keeps(1, false),
+    ];
+    assert_eq!(rt; first_wrong(rt.alloc(), steps), None);
 }
 
-/// What isn't reached fills no translation, and the page that faults keeps none.
+/// Plans that ask little or nothing of memory, and checks of a write.
+#[rattlefmt::skip]
 #[test]
-fn nothing_is_done_after_a_fault(rt: HostRuntime) -> Result<(), Fail> {
-    let mem = memory(rt.alloc(), ALL, READ_ONLY)?;
-    let mut tlb = Tlb::new(rt.alloc())?;
-    assert!(rt; gather(&mem, &mut tlb, &CONTROL, 3, &plan(at(0x1000), at(0), at(0))).is_err());
-    assert!(rt; tlb.look(0).is_none());
-    assert!(rt; tlb.look(1).is_none());
-    assert!(rt;
-        gather(
-            &mem,
-            &mut tlb,
-            &CONTROL,
-            3,
-            &plan(at(0), at(0x2000), at(0x1000))
-        )
-        .is_err()
-    );
-    assert!(rt; tlb.look(0).is_some());
-    assert!(rt; tlb.look(1).is_none());
-    Ok(())
-}
-
-#[test]
-fn plan_may_ask_nothing_of_memory(rt: HostRuntime) -> Result<(), Fail> {
-    let mem = memory(rt.alloc(), ALL, READ_ONLY)?;
-    let mut tlb = Tlb::new(rt.alloc())?;
-    let plan = AccessPlan {
-        both: None,
-        to: Origin::Is(u64::MAX),
-        from: Origin::Is(7),
-        last: None,
-    };
-    let found = Gathered {
-        both: None,
-        to: u64::MAX,
-        from: 7,
-    };
-    assert_eq!(rt; gather(&mem, &mut tlb, &CONTROL, 3, &plan), Ok(found));
-    assert_eq!(rt;
-        check_span(&mem, &mut tlb, &CONTROL, 3, plan.last),
-        Ok(None)
-    );
-    Ok(())
-}
-
-#[test]
-fn check_of_a_write_is_a_writes(rt: HostRuntime) -> Result<(), Fail> {
-    let mem = memory(rt.alloc(), ALL, READ_ONLY)?;
-    let mut tlb = Tlb::new(rt.alloc())?;
-    let off = 0x7FFF_FFFF_FFFC;
-    assert_eq!(rt;
-        check_span(&mem, &mut tlb, &CONTROL, 3, Some(at(0xFFC))),
-        page_fault(7, 0x1000, false)
-    );
-    assert_eq!(rt;
-        check_span(&mem, &mut tlb, &CONTROL, 0, Some(on_stack(0x1000))),
-        page_fault(3, 0x1000, true)
-    );
-    assert_eq!(rt;
-        check_span(&mem, &mut tlb, &CONTROL, 3, Some(on_stack(0x2000))),
-        page_fault(6, 0x2000, true)
-    );
-    assert_eq!(rt;
-        check_span(&mem, &mut tlb, &CONTROL, 3, Some(on_stack(off))),
-        non_canonical(true)
-    );
-    assert_eq!(rt;
-        check_span(&mem, &mut tlb, &CONTROL, 3, Some(at(off))),
-        non_canonical(false)
-    );
-    let target = Target {
-        first: 0x8FF8,
-        second: 0,
-    };
-    assert_eq!(rt;
-        check_span(&mem, &mut tlb, &CONTROL, 3, Some(at(0xFF8))),
-        Ok(Some(target))
-    );
-    Ok(())
-}
-
-#[test]
-fn each_read_has_its_own_width(rt: HostRuntime) -> Result<(), Fail> {
-    let mut mem = memory(rt.alloc(), ALL, READ_ONLY)?;
-    let mut tlb = Tlb::new(rt.alloc())?;
-    mem.store64(0x8FF8, 0x8877_6655_4433_2211);
-    mem.store64(0x9000, 0xFFEE_DDCC_BBAA_9900);
-    let plan = AccessPlan {
-        both: None,
-        to: Origin::At(Span {
-            va: 0xFFE,
-            width: 4,
-            stack: true,
-        }),
-        from: Origin::At(Span {
-            va: 0xFF9,
-            width: 1,
-            stack: false,
-        }),
-        last: None,
-    };
-    let found = Gathered {
-        both: None,
-        to: 0x9900_8877,
-        from: 0x22,
-    };
-    assert_eq!(rt; gather(&mem, &mut tlb, &CONTROL, 3, &plan), Ok(found));
-    Ok(())
+fn each_access_is_its_own(rt: HostRuntime) {
+    let steps = &[
+        // A plan may ask nothing of memory.
+        Set(Start(ALL, READ_ONLY)),
+        Gather(3, [Nothing, Is(u64::MAX), Is(7), Nothing],
+            Ok(Gathered { both: None, to: u64::MAX, from: 7 })),
+        CheckSpan(3, Nothing, Ok(None)),
+        // Each read has its own width.
+        Set(Start(ALL, READ_ONLY)),
+        Set(Put(0x8FF8, 0x8877_6655_4433_2211)),
+        Set(Put(0x9000, 0xFFEE_DDCC_BBAA_9900)),
+        Gather(3, [Nothing, Stack(0xFFE, Four), Data(0xFF9, One), Nothing],
+            Ok(Gathered { both: None, to: 0x9900_8877, from: 0x22 })),
+        // The check of a write is a write's.
+        Set(Start(ALL, READ_ONLY)),
+        CheckSpan(3, Data(0xFFC, Eight),
+            Err(SpanFault { fault: Page { code: 7, address: 0x1000 }, stack: false })),
+        CheckSpan(0, Stack(0x1000, Eight),
+            Err(SpanFault { fault: Page { code: 3, address: 0x1000 }, stack: true })),
+        CheckSpan(3, Stack(0x2000, Eight),
+            Err(SpanFault { fault: Page { code: 6, address: 0x2000 }, stack: true })),
+        CheckSpan(3, Stack(0x7FFF_FFFF_FFFC, Eight),
+            Err(SpanFault { fault: NonCanonical, stack: true })),
+        CheckSpan(3, Data(0x7FFF_FFFF_FFFC, Eight),
+            Err(SpanFault { fault: NonCanonical, stack: false })),
+        CheckSpan(3, Data(0xFF8, Eight), Ok(Some(Target { first: 0x8FF8, second: 0 }))),
+    ];
+    assert_eq!(rt; first_wrong(rt.alloc(), steps), None);
 }

@@ -1,36 +1,34 @@
 //! Each combination of rights, access, CPL, WP and SMEP, by SDM volume 3, 4.6.1.
 
-ghost use Rattle.std.specs.Prelude.{◌≡◌, ◌*◌, ◌<◌, ◌⊎◌, length};
+ghost use Rattle.std.specs.Prelude.{◌≡◌, ◌*◌, ◌<◌, length};
 ghost use Rattle.nk_bits.specs.Translations.{NamesFramesIn};
 
-use super::{fetch_byte, load, memory, store};
+use super::{fetch_byte, load, memory, start, store};
 use mem_access::Control;
 use nk_bits::Access;
 use phys_mem::PhysMem;
 use std::alloc::Global;
 use tlb_model::Tlb;
 
-/// What is served with WP and SMEP clear, with WP alone, with SMEP alone, and with both; a row of page rights each: neither writable nor user nor executable; executable; user; user and
-/// executable; writable, and so on. The bits of a row: reads, writes and fetches, each at CPL 0 and then at CPL 3.
-#[rattlefmt::skip]
-const SERVED: [[u8; 8]; 4] = [
-    [0b101000, 0b101010, 0b111000, 0b111011, 0b101000, 0b101010, 0b111100, 0b111111],
-    [0b100000, 0b100010, 0b110000, 0b110011, 0b101000, 0b101010, 0b111100, 0b111111],
-    [0b101000, 0b101010, 0b111000, 0b111001, 0b101000, 0b101010, 0b111100, 0b111101],
-    [0b100000, 0b100010, 0b110000, 0b110001, 0b101000, 0b101010, 0b111100, 0b111101],
-];
+/// CR0 and CR4, and what is served with them: a row of page rights, each with reads, writes and
+/// fetches as bits, each at CPL 0 and then at CPL 3.
+type Served = (u64, u64, [u8; 8]);
 
-/// The leaf of page 0 with the rights of a row: bits 2, 1 and 0 of its number are R/W, U/S and "not XD".
-fn leaf(row: u8) -> u64 {
-    let writable = if row & 4 == 0 { 0 } else { 0x2 };
-    let user = if row & 2 == 0 { 0 } else { 0x4 };
-    let disabled = if row & 1 == 0 { 1 << 63 } else { 0 };
-    0x8001 | writable | user | disabled
-}
+/// The leaves of page 0: neither writable nor user nor executable; executable; user; user and
+/// executable; writable, and so on. Bit 63 is XD.
+const LEAVES: [u64; 8] = [
+    0x8000_0000_0000_8001,
+    0x8001,
+    0x8000_0000_0000_8005,
+    0x8005,
+    0x8000_0000_0000_8003,
+    0x8003,
+    0x8000_0000_0000_8007,
+    0x8007,
+];
 
 /// Whether an access at address 10 is served, by tables alone.
 fn is_served(mem: &mut PhysMem, tlb: &mut Tlb, control: &Control, access: Access, cpl: u8) -> bool
-    requires cpl { (cpl ≡ 0) ⊎ (cpl ≡ 3) }
     requires length { length mem.old ≡ 65536 }
     requires root { control.now.root ≡ 1 }
     ensures length { length mem.new ≡ 65536 }
@@ -55,45 +53,28 @@ fn bits(mem: &mut PhysMem, tlb: &mut Tlb, control: &Control, access: Access) -> 
     2 * u8::from(supervisor) + u8::from(user)
 }
 
-/// The row of these rights.
-fn row(mem: &mut PhysMem, tlb: &mut Tlb, control: &Control, rights: u8) -> u8
+/// What is served with this leaf.
+fn served(mem: &mut PhysMem, tlb: &mut Tlb, control: &Control, leaf: u64) -> u8
     requires length { length mem.old ≡ 65536 }
     requires root { control.now.root ≡ 1 }
     ensures length { length mem.new ≡ 65536 }
 {
-    mem.store64(0x4000, leaf(rights));
+    mem.store64(0x4000, leaf);
     let read = bits(mem, tlb, control, Access::Read);
     let write = bits(mem, tlb, control, Access::Write);
     let fetch = bits(mem, tlb, control, Access::Fetch);
     16 * read + 4 * write + fetch
 }
 
-/// The rows of all rights.
-fn rows(mem: &mut PhysMem, tlb: &mut Tlb, control: &Control) -> [u8; 8]
-    requires length { length mem.old ≡ 65536 }
-    requires root { control.now.root ≡ 1 }
-    ensures length { length mem.new ≡ 65536 }
-{
-    [
-        row(mem, tlb, control, 0),
-        row(mem, tlb, control, 1),
-        row(mem, tlb, control, 2),
-        row(mem, tlb, control, 3),
-        row(mem, tlb, control, 4),
-        row(mem, tlb, control, 5),
-        row(mem, tlb, control, 6),
-        row(mem, tlb, control, 7),
-    ]
-}
-
-/// What is served with these control registers; None for want of memory.
-fn served(alloc: Global, cr0: u64, cr4: u64) -> Option<[u8; 8]> {
-    let Ok(mut mem) = memory(alloc, 0, 0) else {
-        return None;
+/// Whether each leaf serves so with these control registers. Want of memory is no.
+fn is_right(alloc: Global, cr0: u64, cr4: u64, row: &[u8; 8]) -> bool {
+    let Ok(mut mem) = memory(alloc) else {
+        return false;
     };
     let Ok(mut tlb) = Tlb::new(alloc) else {
-        return None;
+        return false;
     };
+    start(&mut mem, 0, 0);
     let control = Control {
         cr0,
         cr2: 0,
@@ -101,15 +82,53 @@ fn served(alloc: Global, cr0: u64, cr4: u64) -> Option<[u8; 8]> {
         cr4,
         efer: 0xD00,
     };
-    Some(rows(&mut mem, &mut tlb, &control))
+    for (leaf, wanted) in LEAVES.iter().zip(row) {
+        if served(&mut mem, &mut tlb, &control, *leaf) != *wanted {
+            return false;
+        }
+    }
+    true
+}
+
+/// The index of the first row that isn't right.
+fn first_wrong(alloc: Global, rows: &[Served]) -> Option<usize> {
+    for (index, (cr0, cr4, row)) in rows.iter().enumerate() {
+        if !is_right(alloc, *cr0, *cr4, row) {
+            return Some(index);
+        }
+    }
+    None
 }
 
 /// CR0 has PG and PE, and WP or not; CR4 has PAE, and SMEP or not.
+#[rattlefmt::skip]
 #[test]
 fn rights_serve_as_the_manual_lists_them(rt: HostRuntime) {
-    let alloc = rt.alloc();
-    assert_eq!(rt; served(alloc, 0x8000_0001, 0x20), Some(SERVED[0]));
-    assert_eq!(rt; served(alloc, 0x8001_0001, 0x20), Some(SERVED[1]));
-    assert_eq!(rt; served(alloc, 0x8000_0001, 0x10_0020), Some(SERVED[2]));
-    assert_eq!(rt; served(alloc, 0x8001_0001, 0x10_0020), Some(SERVED[3]));
+    let rows = &[
+        (0x8000_0001, 0x20,
+            [0b101000, 0b101010, 0b111000, 0b111011, 0b101000, 0b101010, 0b111100, 0b111111]),
+        (0x8001_0001, 0x20,
+            [0b100000, 0b100010, 0b110000, 0b110011, 0b101000, 0b101010, 0b111100, 0b111111]),
+        (0x8000_0001, 0x10_0020,
+            [0b101000, 0b101010, 0b111000, 0b111001, 0b101000, 0b101010, 0b111100, 0b111101]),
+        (0x8001_0001, 0x10_0020,
+            [0b100000, 0b100010, 0b110000, 0b110001, 0b101000, 0b101010, 0b111100, 0b111101]),
+    ];
+    assert_eq!(rt; first_wrong(rt.alloc(), rows), None);
+}
+
+/// In the second row the supervisor writes, with WP set, to a page of the user's that isn't
+/// writable.
+#[rattlefmt::skip]
+#[test]
+fn wrong_row_is_found(rt: HostRuntime) {
+    let rows = &[
+        (0x8000_0001, 0x20,
+            [0b101000, 0b101010, 0b111000, 0b111011, 0b101000, 0b101010, 0b111100, 0b111111]),
+        (0x8001_0001, 0x20,
+            [0b100000, 0b100010, 0b111000, 0b110011, 0b101000, 0b101010, 0b111100, 0b111111]),
+        (0x8001_0001, 0x20,
+            [0b100000, 0b100010, 0b110000, 0b110011, 0b101000, 0b101010, 0b111100, 0b111111]),
+    ];
+    assert_eq!(rt; first_wrong(rt.alloc(), rows), Some(1));
 }

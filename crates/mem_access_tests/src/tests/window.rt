@@ -1,15 +1,30 @@
 //! Accesses that change nothing, over the tables of `tests`: SDM volume 3, 4.6 and 4.10.2.
 
-ghost use Rattle.std.specs.Prelude.{◌<◌, ◌≤◌, length};
+ghost use Rattle.std.specs.Prelude.{length};
 ghost use Rattle.nk_bits.specs.Translations.{NamesFramesIn};
 ghost use Rattle.mem_access.specs.Windows.{IsWindow};
 
-use super::{ALL, CONTROL, READ_ONLY, load, memory};
-use mem_access::{Window, kept_frame, kept_number, put_kept};
-use nk_bits::{Access, Control, Leaf, Rights, named_law};
+use super::changes::Change::{KeepPage, Put, PutKept, Start};
+use super::steps::Step::{Ask, Holds, HoldsKept, Load, Set};
+use super::steps::Width::{Eight, Four, One, Two};
+use super::steps::{Width, first_wrong};
+use super::{ALL, READ_ONLY};
+use mem_access::{Window, kept_frame};
+use nk_bits::{Access, Control};
 use phys_mem::PhysMem;
-use std::test::Fail;
 use tlb_model::Tlb;
+
+/// A question to a window of the user's, and its answer: the place of the access, if its page is
+/// kept and serves it.
+#[derive(Clone, Copy)]
+pub enum Question {
+    Readable(u64, Width, Option<u64>),
+    Writable(u64, Width, Option<u64>),
+    /// The frame for an access at this CPL, whatever the window is.
+    Frame(Access, u8, u64, Option<u64>),
+}
+
+use Question::{Frame, Readable, Writable};
 
 /// A window of the user's, without a page.
 fn empty(mem: &PhysMem, tlb: &Tlb, control: &Control) -> Window
@@ -18,165 +33,95 @@ fn empty(mem: &PhysMem, tlb: &Tlb, control: &Control) -> Window
     Window::new()
 }
 
-// Nothing is said of what these give, so that a test runs them and its proof stays short.
+/// Whether a new window answers each question so, in turn.
+pub fn are_answered(mem: &PhysMem, tlb: &Tlb, control: &Control, questions: &[Question]) -> bool
+    requires frames { NamesFramesIn (length mem.now) tlb.now }
+{
+    let mut window = empty(mem, tlb, control);
+    for question in questions {
+        if !is_answered(&mut window, mem, tlb, control, question) {
+            return false;
+        }
+    }
+    true
+}
 
-fn readable(
+fn is_answered(
     window: &mut Window,
     mem: &PhysMem,
     tlb: &Tlb,
     control: &Control,
-    va: u64,
-    width: u8,
-) -> Option<u64>
-    requires width { (1 ≤ width) × (width ≤ 8) }
+    question: &Question,
+) -> bool
     requires frames { NamesFramesIn (length mem.now) tlb.now }
     requires window { IsWindow (length mem.now) control.now 3 tlb.now window.old }
     ensures { IsWindow (length mem.now) control.now 3 tlb.now window.new }
 {
-    window.readable(mem, tlb, control, 3, va, width)
+    match *question {
+        Readable(va, width, place) => {
+            window.readable(mem, tlb, control, 3, va, width.bytes()) == place
+        }
+        Writable(va, width, place) => {
+            window.writable(mem, tlb, control, 3, va, width.bytes()) == place
+        }
+        Frame(access, cpl, va, frame) => { kept_frame(mem, tlb, access, control, cpl, va) == frame }
+    }
 }
 
-fn writable(
-    window: &mut Window,
-    mem: &PhysMem,
-    tlb: &Tlb,
-    control: &Control,
-    va: u64,
-    width: u8,
-) -> Option<u64>
-    requires width { (1 ≤ width) × (width ≤ 8) }
-    requires frames { NamesFramesIn (length mem.now) tlb.now }
-    requires window { IsWindow (length mem.now) control.now 3 tlb.now window.old }
-    ensures { IsWindow (length mem.now) control.now 3 tlb.now window.new }
-{
-    window.writable(mem, tlb, control, 3, va, width)
-}
-
-/// Page 0 is kept and may be read alone, page 1 is kept and may be written, page 2 isn't kept.
+/// Where a page is kept and serves, its place is found, and nothing is walked for.
 #[test]
-fn reads_on_pages_that_are_kept(rt: HostRuntime) -> Result<(), Fail> {
-    let mem = memory(rt.alloc(), READ_ONLY, ALL)?;
-    let mut tlb = Tlb::new(rt.alloc())?;
-    let _ = load(&mem, &mut tlb, &CONTROL, 3, 0, 1);
-    let _ = load(&mem, &mut tlb, &CONTROL, 3, 0x1000, 1);
-    let mut window = empty(&mem, &tlb, &CONTROL);
-    assert_eq!(rt;
-        readable(&mut window, &mem, &tlb, &CONTROL, 0x1002, 4),
-        Some(0x9002)
-    );
-    assert_eq!(rt;
-        readable(&mut window, &mem, &tlb, &CONTROL, 0xFF8, 8),
-        Some(0x8FF8)
-    );
-    assert_eq!(rt;
-        readable(&mut window, &mem, &tlb, &CONTROL, 0, 8),
-        Some(0x8000)
-    );
-    assert_eq!(rt;
-        readable(&mut window, &mem, &tlb, &CONTROL, 0xFFF, 1),
-        Some(0x8FFF)
-    );
-    assert_eq!(rt; readable(&mut window, &mem, &tlb, &CONTROL, 0xFF9, 8), None);
-    assert_eq!(rt;
-        readable(&mut window, &mem, &tlb, &CONTROL, 0x2000, 1),
-        None
-    );
-    Ok(())
-}
-
-#[test]
-fn writes_on_pages_that_are_kept(rt: HostRuntime) -> Result<(), Fail> {
-    let mem = memory(rt.alloc(), READ_ONLY, ALL)?;
-    let mut tlb = Tlb::new(rt.alloc())?;
-    let _ = load(&mem, &mut tlb, &CONTROL, 3, 0, 1);
-    let _ = load(&mem, &mut tlb, &CONTROL, 3, 0x1000, 1);
-    let mut window = empty(&mem, &tlb, &CONTROL);
-    assert_eq!(rt;
-        readable(&mut window, &mem, &tlb, &CONTROL, 0xFF8, 8),
-        Some(0x8FF8)
-    );
-    assert_eq!(rt; writable(&mut window, &mem, &tlb, &CONTROL, 0xFF8, 8), None);
-    assert_eq!(rt;
-        writable(&mut window, &mem, &tlb, &CONTROL, 0x1002, 4),
-        Some(0x9002)
-    );
-    assert_eq!(rt;
-        writable(&mut window, &mem, &tlb, &CONTROL, 0x1FF8, 8),
-        Some(0x9FF8)
-    );
-    assert_eq!(rt;
-        writable(&mut window, &mem, &tlb, &CONTROL, 0x1FFD, 4),
-        None
-    );
-    Ok(())
-}
-
-/// Page 1 is kept and may be written, and the supervisor may not execute it; page 2 isn't kept.
-#[test]
-fn frame_of_a_page_that_is_kept_and_serves(rt: HostRuntime) -> Result<(), Fail> {
-    let mem = memory(rt.alloc(), READ_ONLY, ALL)?;
-    let mut tlb = Tlb::new(rt.alloc())?;
-    let _ = load(&mem, &mut tlb, &CONTROL, 3, 0x1000, 1);
-    assert_eq!(rt;
-        kept_frame(&mem, &tlb, Access::Write, &CONTROL, 3, 0x1FFF),
-        Some(0x9000)
-    );
-    assert_eq!(rt;
-        kept_frame(&mem, &tlb, Access::Fetch, &CONTROL, 0, 0x1002),
-        None
-    );
-    assert_eq!(rt;
-        kept_frame(&mem, &tlb, Access::Read, &CONTROL, 3, 0x2000),
-        None
-    );
-    Ok(())
-}
-
-/// Keeps a page's translation, which serves each access of the user.
-fn keep_page(tlb: &mut Tlb, page: u64, frame: u32)
-    requires frame { frame < 16 }
-    requires frames { NamesFramesIn 65536 tlb.old }
-    ensures frames { NamesFramesIn 65536 tlb.new }
-{
-    named_law();
-    let rights = Rights {
-        can_write: true,
-        user: true,
-        exec: true,
-    };
-    tlb.fill(page, Leaf { frame, rights });
-}
-
-/// The last page of the lower half is kept and serves; the one behind it is kept and serves no access.
-#[test]
-fn no_place_between_the_canonical_halves(rt: HostRuntime) -> Result<(), Fail> {
-    let mem = memory(rt.alloc(), ALL, ALL)?;
-    let mut tlb = Tlb::new(rt.alloc())?;
-    keep_page(&mut tlb, 0x7_FFFF_FFFF, 9);
-    keep_page(&mut tlb, 0x8_0000_0000, 8);
-    let mut window = empty(&mem, &tlb, &CONTROL);
-    assert_eq!(rt;
-        readable(&mut window, &mem, &tlb, &CONTROL, 0x7FFF_FFFF_FFFF, 1),
-        Some(0x9FFF)
-    );
-    assert_eq!(rt;
-        readable(&mut window, &mem, &tlb, &CONTROL, 0x8000_0000_0000, 1),
-        None
-    );
-    assert_eq!(rt;
-        kept_frame(&mem, &tlb, Access::Read, &CONTROL, 3, 0x8000_0000_0000),
-        None
-    );
-    Ok(())
-}
-
-#[test]
-fn kept_bytes_are_those_of_the_width(rt: HostRuntime) -> Result<(), Fail> {
-    let mut mem = memory(rt.alloc(), ALL, ALL)?;
-    mem.store64(0x8010, u64::MAX);
-    put_kept(&mut mem, 0x8012, 4, 0x99_1234_5678);
-    assert_eq!(rt; mem.load64(0x8010), 0xFFFF_1234_5678_FFFF);
-    assert_eq!(rt; kept_number(&mem, 0x8013, 2), 0x3456);
-    assert_eq!(rt; kept_number(&mem, 0x8010, 8), 0xFFFF_1234_5678_FFFF);
-    Ok(())
+fn places_on_pages_that_are_kept(rt: HostRuntime) {
+    let steps = &[
+        // Page 0 is kept and may be read alone, page 1 is kept and may be written, page 2 isn't
+        // kept.
+        Set(Start(READ_ONLY, ALL)),
+        Load(3, 0, One, Ok(0)),
+        Load(3, 0x1000, One, Ok(0)),
+        Ask(&[
+            Readable(0x1002, Four, Some(0x9002)),
+            Readable(0xFF8, Eight, Some(0x8FF8)),
+            Readable(0, Eight, Some(0x8000)),
+            Readable(0xFFF, One, Some(0x8FFF)),
+            Readable(0xFF9, Eight, None),
+            Readable(0x2000, One, None),
+        ]),
+        // Writes on the same pages.
+        Set(Start(READ_ONLY, ALL)),
+        Load(3, 0, One, Ok(0)),
+        Load(3, 0x1000, One, Ok(0)),
+        Ask(&[
+            Readable(0xFF8, Eight, Some(0x8FF8)),
+            Writable(0xFF8, Eight, None),
+            Writable(0x1002, Four, Some(0x9002)),
+            Writable(0x1FF8, Eight, Some(0x9FF8)),
+            Writable(0x1FFD, Four, None),
+        ]),
+        // Page 1 is kept and may be written, and the supervisor may not execute it; page 2 isn't
+        // kept.
+        Set(Start(READ_ONLY, ALL)),
+        Load(3, 0x1000, One, Ok(0)),
+        Ask(&[
+            Frame(Access::Write, 3, 0x1FFF, Some(0x9000)),
+            Frame(Access::Fetch, 0, 0x1002, None),
+            Frame(Access::Read, 3, 0x2000, None),
+        ]),
+        // The last page of the lower half is kept and serves; the one behind it is kept and serves
+        // no access.
+        Set(Start(ALL, ALL)),
+        Set(KeepPage(0x7_FFFF_FFFF, 9)),
+        Set(KeepPage(0x8_0000_0000, 8)),
+        Ask(&[
+            Readable(0x7FFF_FFFF_FFFF, One, Some(0x9FFF)),
+            Readable(0x8000_0000_0000, One, None),
+            Frame(Access::Read, 3, 0x8000_0000_0000, None),
+        ]),
+        // Numbers at places that were found kept.
+        Set(Start(ALL, ALL)),
+        Set(Put(0x8010, u64::MAX)),
+        Set(PutKept(0x8012, Four, 0x99_1234_5678)),
+        Holds(0x8010, 0xFFFF_1234_5678_FFFF),
+        HoldsKept(0x8013, Two, 0x3456),
+        HoldsKept(0x8010, Eight, 0xFFFF_1234_5678_FFFF),
+    ];
+    assert_eq!(rt; first_wrong(rt.alloc(), steps), None);
 }

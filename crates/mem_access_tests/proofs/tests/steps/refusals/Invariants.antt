@@ -1,6 +1,6 @@
 use Rattle.std.proofs.Common.{◌≡◌, ◌≤◌, length}
 use Rattle.nk_bits.specs.Translations.{NamesFramesIn}
-use Rattle.mem_access_tests.proofs.tests.refusals.Given as goal
+use Rattle.mem_access_tests.proofs.tests.steps.refusals.Given as goal
 
 abbrev pub invariant-loop-part : goal.invariant-loop-part
 invariant-loop-part l = record {

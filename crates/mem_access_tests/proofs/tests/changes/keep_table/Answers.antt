@@ -1,7 +1,7 @@
 use Rattle.std.proofs.Common.{arith, subst, sym}
 use Rattle.std.specs.Prelude.{Some}
 use Rattle.nk_bits.specs.Translations.{NamesFramesIn}
-use Rattle.mem_access_tests.proofs.tests.kept.keep_second.Goals as goal
+use Rattle.mem_access_tests.proofs.tests.changes.keep_table.Goals as goal
 
 pub returns : goal.returns
 returns c = record {

@@ -1,6 +1,6 @@
 use Rattle.std.proofs.Common.{arith, subst, sym}
 use Rattle.nk_bits.specs.Translations.{NamesFramesIn}
-use Rattle.mem_access_tests.proofs.tests.window.keep_page.Goals as goal
+use Rattle.mem_access_tests.proofs.tests.changes.keep_page.Goals as goal
 
 pub returns : goal.returns
 returns c = record {
