@@ -24,10 +24,9 @@ fn first_of_another(rows: &[(&'static [u8], Kind)]) -> Option<usize> {
     None
 }
 
-/// Over registers and memory, with the most frequent operations at other widths too; over the
-/// stack; branches, strings, and what has no quick form; then what has no operand, high byte
-/// registers, products, quotients and scans.
+/// Bytes of an instruction, and the kind of its quick form.
 static KINDS: [(&[u8], Kind); 106] = [
+    // over registers and memory
     (b"\x48\x01\xC8", Kind::Add64),
     (b"\x48\x83\xC0\x01", Kind::Add64),
     (b"\x48\xFF\xC0", Kind::Inc64),
@@ -47,6 +46,7 @@ static KINDS: [(&[u8], Kind); 106] = [
     (b"\x48\x8B\x05\x10\x00\x00\x00", Kind::Load64),
     (b"\x48\x89\x03", Kind::Store64),
     (b"\x48\x8D\x44\x8B\x08", Kind::Address),
+    // the most frequent operations at other widths, and others at theirs
     (b"\x01\xC8", Kind::Add32),
     (b"\x66\x01\xC8", Kind::Combine),
     (b"\x00\xC8", Kind::Combine),
@@ -67,8 +67,7 @@ static KINDS: [(&[u8], Kind); 106] = [
     (b"\x7F\xFE", Kind::JumpGreater),
     (b"\x70\xFE", Kind::Branch),
     (b"\xE3\xFE", Kind::CountDown),
-    // over the stack; branches, strings; slow: a high byte register that is written, LOCK, flags on
-    // the stack, POP to memory, and what only a supervisor does
+    // over the stack, and branches
     (b"\x50", Kind::Push),
     (b"\x6A\x05", Kind::Push),
     (b"\x58", Kind::Pop),
@@ -87,12 +86,15 @@ static KINDS: [(&[u8], Kind); 106] = [
     (b"\xFF\x25\x10\x00\x00\x00", Kind::BranchLoad),
     (b"\xFF\x13", Kind::CallLoad),
     (b"\xC9", Kind::Leave),
+    // no quick form: a high byte register that is written, LOCK, flags on the stack, POP to memory,
+    // and what only a supervisor does
     (b"\x88\xC4", Kind::Slow),
     (b"\xF0\x48\x01\x03", Kind::Slow),
     (b"\x9C", Kind::Slow),
     (b"\x8F\x03", Kind::Slow),
     (b"\xF4", Kind::Slow),
     (b"\x0F\x20\xC0", Kind::Slow),
+    // strings
     (b"\xA4", Kind::MoveString),
     (b"\xF3\x48\xA5", Kind::MoveString),
     (b"\xF3\xAA", Kind::StoreString),
