@@ -1,21 +1,22 @@
-//! Instructions from their bytes, with values by the manual. Page 0 may be read and written, page 1 may be read alone,
-//! and page 2 has no translation; pages 0 and 1 stand in frames 8 and 9.
+//! Instructions from their bytes, with values by the manual. Page 0 may be read and written, page 1
+//! may be read alone, and page 2 has no translation; pages 0 and 1 stand in frames 8 and 9.
 
 mod arithmetic;
 mod moves;
 mod operands;
+mod rows;
 mod strings;
 
 ghost use Rattle.std.specs.Prelude.{◌≡◌, ◌<◌, IfOk, length};
 ghost use Rattle.nk_bits.specs.Translations.{NamesFramesIn};
 
 use exec_data::effect;
-use nk_bits::{Control, Target};
+use nk_bits::Control;
 use phys_mem::{NoMemory, PhysMem};
 use std::alloc::Global;
 use tlb_model::Tlb;
 use x86_decode::{Decoded, decode};
-use x86_regs::{Act, Effect, Fault, Form, RAX, Regs, Write, instr_form, with_register};
+use x86_regs::{Effect, Fault, Form, Regs, instr_form};
 
 const CONTROL: Control = Control {
     cr0: 0x8001_0011,
@@ -25,7 +26,8 @@ const CONTROL: Control = Control {
     efer: 0xD00,
 };
 
-/// RAX 1122334455667788, RCX 3, RDX 10, RBX 40, RSP 800, RBP 820, RSI 100, RDI 200, at address 1000 and CPL 3.
+/// RAX 1122334455667788, RCX 3, RDX 10, RBX 40, RSP 800, RBP 820, RSI 100, RDI 200, at address 1000
+/// and CPL 3.
 const REGS: Regs = Regs {
     general: [
         0x1122_3344_5566_7788,
@@ -70,19 +72,6 @@ fn memory(alloc: Global) -> Result<PhysMem, NoMemory>
     Ok(mem)
 }
 
-/// Bytes of an instruction, the registers before it, and its effect.
-type Row = (&'static [u8], Regs, Result<Effect, Fault>);
-
-/// The index of the first row whose instruction has another effect.
-fn first_wrong(alloc: Global, rows: &[Row]) -> Option<usize> {
-    for (index, (bytes, before, after)) in rows.iter().enumerate() {
-        if run(alloc, bytes, before) != Some(*after) {
-            return Some(index);
-        }
-    }
-    None
-}
-
 /// Want of memory is None, and bytes that the call doesn't take raise #GP(99) here.
 fn run(alloc: Global, bytes: &[u8], regs: &Regs) -> Option<Result<Effect, Fault>> {
     let Ok(mem) = memory(alloc) else {
@@ -107,84 +96,5 @@ fn run_over(mem: &PhysMem, tlb: &mut Tlb, bytes: &[u8], regs: &Regs) -> Result<E
             Form::Flow(_) => Err(Fault::General(99)),
         },
         _ => Err(Fault::General(99)),
-    }
-}
-
-fn with(regs: &Regs, number: u8, value: u64) -> Regs
-    requires { number < 16 }
-{
-    Regs {
-        general: with_register(&regs.general, number, value),
-        ..*regs
-    }
-}
-
-fn with_flags(regs: &Regs, flags: u64) -> Regs {
-    Regs { flags, ..*regs }
-}
-
-/// The registers and the flags change, and the next instruction stands at `rip`.
-fn going_on(regs: &Regs, flags: u64, rip: u64) -> Result<Effect, Fault> {
-    Ok(Effect {
-        regs: Regs {
-            flags,
-            rip,
-            ..*regs
-        },
-        write: None,
-        act: Act::Quiet,
-    })
-}
-
-/// RAX changes.
-fn rax(value: u64, flags: u64, rip: u64) -> Result<Effect, Fault> {
-    going_on(&with(&REGS, RAX, value), flags, rip)
-}
-
-fn fault(code: u64, address: u64) -> Result<Effect, Fault> {
-    Err(Fault::Page { code, address })
-}
-
-/// The registers and the flags change, and so many bytes are written on page 0.
-fn writing(
-    regs: &Regs,
-    flags: u64,
-    rip: u64,
-    va: u64,
-    width: u8,
-    value: u64,
-) -> Result<Effect, Fault>
-    requires { va < 4096 }
-{
-    Ok(Effect {
-        regs: Regs {
-            flags,
-            rip,
-            ..*regs
-        },
-        write: Some(Write {
-            va,
-            width,
-            value,
-            target: Target {
-                first: 0x8000 + va,
-                second: 0,
-            },
-        }),
-        act: Act::Quiet,
-    })
-}
-
-/// Rows with another number, another next instruction, another fault, or no instruction are found, at their place.
-#[test]
-fn wrong_rows_are_found(rt: HostRuntime) {
-    // mov eax, ecx
-    let right: Row = (b"\x89\xC8", REGS, rax(3, 2, 0x1002));
-    let number: Row = (b"\x89\xC8", REGS, rax(4, 2, 0x1002));
-    let next: Row = (b"\x89\xC8", REGS, rax(3, 2, 0x1003));
-    let faulting: Row = (b"\x89\xC8", REGS, fault(4, 0x2000));
-    let none: Row = (b"\x89", REGS, rax(3, 2, 0x1002));
-    for wrong in [number, next, faulting, none] {
-        assert_eq!(rt; first_wrong(rt.alloc(), &[right, wrong, right]), Some(1));
     }
 }

@@ -1,20 +1,22 @@
-//! Each instruction of flow and of the system from its bytes, with values by the manual. Page 0 may be read and
-//! written, page 1 may be read alone, and page 2 has no translation; pages 0 and 1 stand in frames 8 and 9.
+//! Each instruction of flow and of the system from its bytes, with values by the manual. Page 0 may
+//! be read and written, page 1 may be read alone, and page 2 has no translation; pages 0 and 1
+//! stand in frames 8 and 9.
 
 mod branches;
 mod faults;
+mod rows;
 mod system;
 
 ghost use Rattle.std.specs.Prelude.{◌≡◌, ◌⊎◌, ◌<◌, IfOk, length};
 ghost use Rattle.nk_bits.specs.Translations.{NamesFramesIn};
 
 use exec_flow::effect;
-use nk_bits::{Control, Target};
+use nk_bits::Control;
 use phys_mem::{NoMemory, PhysMem};
 use std::alloc::Global;
 use tlb_model::Tlb;
 use x86_decode::{Decoded, decode};
-use x86_regs::{Act, Effect, Fault, Form, Regs, Write, instr_form, with_register};
+use x86_regs::{Effect, Fault, Form, Regs, instr_form};
 
 const CONTROL: Control = Control {
     cr0: 0x8001_0011,
@@ -63,20 +65,8 @@ fn memory(alloc: Global) -> Result<PhysMem, NoMemory>
     Ok(mem)
 }
 
-/// Bytes of an instruction, the registers before it, and its effect.
-type Row = (&'static [u8], Regs, Result<Effect, Fault>);
-
-/// The index of the first row whose instruction has another effect.
-fn first_wrong(alloc: Global, rows: &[Row]) -> Option<usize> {
-    for (index, (bytes, before, after)) in rows.iter().enumerate() {
-        if run(alloc, bytes, before) != Some(*after) {
-            return Some(index);
-        }
-    }
-    None
-}
-
-/// Want of memory is None. No instruction of flow raises #DE, which stands for bytes that the call doesn't take.
+/// Want of memory is None. No instruction of flow raises #DE, which stands for bytes that the call
+/// doesn't take.
 fn run(alloc: Global, bytes: &[u8], regs: &Regs) -> Option<Result<Effect, Fault>> {
     let Ok(mem) = memory(alloc) else {
         return None;
@@ -111,72 +101,5 @@ fn with_cpl(regs: &Regs) -> Regs
         *regs
     } else {
         Regs { cpl: 3, ..*regs }
-    }
-}
-
-/// The registers at CPL 3.
-fn user(regs: &Regs) -> Regs {
-    Regs {
-        cpl: 3,
-        ss: 0x23,
-        ..*regs
-    }
-}
-
-fn with(regs: &Regs, number: u8, value: u64) -> Regs
-    requires { number < 16 }
-{
-    Regs {
-        general: with_register(&regs.general, number, value),
-        ..*regs
-    }
-}
-
-fn with_flags(regs: &Regs, flags: u64) -> Regs {
-    Regs { flags, ..*regs }
-}
-
-/// Nothing but the registers changes, and the next instruction stands at `rip`.
-fn going_on(regs: &Regs, rip: u64) -> Result<Effect, Fault> {
-    acting(regs, rip, Act::Quiet)
-}
-
-fn acting(regs: &Regs, rip: u64, act: Act) -> Result<Effect, Fault> {
-    Ok(Effect {
-        regs: Regs { rip, ..*regs },
-        write: None,
-        act,
-    })
-}
-
-/// Eight bytes are written below RSP, which falls.
-fn pushing(regs: &Regs, rip: u64, value: u64) -> Result<Effect, Fault> {
-    let regs = with(regs, RSP, 0x7F8);
-    Ok(Effect {
-        regs: Regs { rip, ..regs },
-        write: Some(Write {
-            va: 0x7F8,
-            width: 8,
-            value,
-            target: Target {
-                first: 0x87F8,
-                second: 0,
-            },
-        }),
-        act: Act::Quiet,
-    })
-}
-
-/// Rows with another target, another act, another fault, or no instruction are found, at their place.
-#[test]
-fn wrong_rows_are_found(rt: HostRuntime) {
-    // jmp to 12 bytes past the start
-    let right: Row = (b"\xEB\x10", REGS, going_on(&REGS, 0x1012));
-    let target: Row = (b"\xEB\x10", REGS, going_on(&REGS, 0x1010));
-    let act: Row = (b"\xEB\x10", REGS, acting(&REGS, 0x1012, Act::Halt));
-    let faulting: Row = (b"\xEB\x10", REGS, Err(Fault::General(0)));
-    let none: Row = (b"\xEB", REGS, going_on(&REGS, 0x1012));
-    for wrong in [target, act, faulting, none] {
-        assert_eq!(rt; first_wrong(rt.alloc(), &[right, wrong, right]), Some(1));
     }
 }

@@ -1,9 +1,11 @@
-//! Deliveries and returns with values by the manual, over a small memory: gate 0 is 40 10 08 00 01 8E 00 00 80 FF FF FF
-//! 00 00 00 00, and the pages of the kernel slot are those of the opening, as far as a delivery needs them.
+//! Deliveries and returns with values by the manual, over a small memory: gate 0 is 40 10 08 00 01
+//! 8E 00 00 80 FF FF FF 00 00 00 00, and the pages of the kernel slot are those of the opening, as
+//! far as a delivery needs them.
 
 mod deliveries;
 mod interrupts;
 mod returns;
+mod rows;
 mod shutdowns;
 
 ghost use Rattle.std.specs.Prelude.{◌≡◌, ◌⊎◌, ◌<◌, IfOk, length};
@@ -13,10 +15,7 @@ use phys_mem::{NoMemory, PhysMem};
 use std::alloc::Global;
 use tlb_model::Tlb;
 use trap_unit::{Shut, deliver};
-use x86_regs::{Regs, Tables, with_register};
-
-/// The number of RSP.
-const RSP: u8 = 4;
+use x86_regs::{Regs, Tables};
 
 /// WP is set, and the root is frame 1.
 const CONTROL: Control = Control {
@@ -93,38 +92,20 @@ const USER: Regs = Regs {
     ss: 0x23,
 };
 
-/// A machine before a delivery: two numbers of its memory, and six that are looked at afterwards, the lowest first.
+/// A machine before a delivery.
 #[derive(Clone, Copy)]
 struct Machine {
-    /// Places and numbers.
-    changes: [(u16, u64); 2],
     control: Control,
     tables: Tables,
     regs: Regs,
-    /// The place of the lowest number that is looked at.
-    window: u16,
 }
 
-/// Nothing is changed, and the six numbers are those at the top of the trap stack.
-const MACHINE: Machine = Machine {
-    changes: [(0, 0), (0, 0)],
-    control: CONTROL,
-    tables: TABLES,
-    regs: REGS,
-    window: 0x9FD0,
-};
+/// The answer of a delivery, the registers after it, and six numbers that memory then holds.
+type Outcome = (Result<(), Shut>, Regs, [u64; 6]);
 
-/// What a delivery leaves.
-#[derive(Clone, Copy, Debug, PartialEq, Eq)]
-struct After {
-    answer: Result<(), Shut>,
-    regs: Regs,
-    window: [u64; 6],
-}
-
-/// The tables stand in frames 1 to 4. Page 0 of the kernel slot is frame 8, which is read alone and has the gates of 0,
-/// 13 and 47 and the task-state segment; page 3 and the last page of all are frame 9, the trap stack; page 4 is frame
-/// 10, which is read alone; pages 1 and 2 are absent.
+/// The tables stand in frames 1 to 4. Page 0 of the kernel slot is frame 8, which is read alone and
+/// has the gates of 0, 13 and 47 and the task-state segment; page 3 and the last page of all are
+/// frame 9, the trap stack; page 4 is frame 10, which is read alone; pages 1 and 2 are absent.
 fn memory(alloc: Global) -> Result<PhysMem, NoMemory>
     ensures { IfOk result (λ mem. length mem ≡ 69632) }
 {
@@ -148,16 +129,23 @@ fn memory(alloc: Global) -> Result<PhysMem, NoMemory>
     Ok(mem)
 }
 
-/// What a delivery leaves of this machine. Want of memory is None.
-fn run(alloc: Global, before: &Machine, vector: u8, code: Option<u64>) -> Option<After> {
+/// What the delivery of a vector leaves of this machine, over memory with these numbers, two at
+/// most; the six that are looked at stand from `place` on. Want of memory is None.
+fn run(
+    alloc: Global,
+    before: &Machine,
+    numbers: &[(u16, u64)],
+    trap: (u8, Option<u64>),
+    place: u16,
+) -> Option<Outcome> {
     let Ok(mut mem) = memory(alloc) else {
         return None;
     };
     let Ok(mut tlb) = Tlb::new(alloc) else {
         return None;
     };
-    change(&mut mem, before.changes[0]);
-    change(&mut mem, before.changes[1]);
+    change(&mut mem, numbers.first());
+    change(&mut mem, numbers.get(1));
     let control = with_root(&before.control);
     let mut regs = with_cpl(&before.regs);
     let answer = deliver(
@@ -166,21 +154,19 @@ fn run(alloc: Global, before: &Machine, vector: u8, code: Option<u64>) -> Option
         &mut regs,
         &control,
         &before.tables,
-        vector,
-        code,
+        trap.0,
+        trap.1,
     );
-    Some(After {
-        answer,
-        regs,
-        window: window(&mem, before.window),
-    })
+    Some((answer, regs, window(&mem, place)))
 }
 
-fn change(mem: &mut PhysMem, change: (u16, u64))
+fn change(mem: &mut PhysMem, change: Option<&(u16, u64)>)
     requires { length mem.old ≡ 69632 }
     ensures { length mem.new ≡ 69632 }
 {
-    mem.store64(u64::from(change.0), change.1);
+    if let Some((place, number)) = change {
+        mem.store64(u64::from(*place), *number);
+    }
 }
 
 fn window(mem: &PhysMem, at: u16) -> [u64; 6]
@@ -215,16 +201,5 @@ fn with_cpl(regs: &Regs) -> Regs
         *regs
     } else {
         Regs { cpl: 3, ..*regs }
-    }
-}
-
-/// The registers at a handler: IF is clear, and all other flags are set.
-fn at_handler(rip: u64, rsp: u64, ss: u16) -> Regs {
-    Regs {
-        general: with_register(&REGS.general, RSP, rsp),
-        rip,
-        flags: 0xCD7,
-        cpl: 0,
-        ss,
     }
 }

@@ -1,19 +1,102 @@
 //! Tables of turns.
 
-use super::{After, turn};
+use super::{HELD, Outcome, REGS, turn};
 use std::alloc::Global;
-use std::test::Fail;
-use x86_regs::Regs;
+use x86_regs::{RDI, RSI, RSP, Regs, with_register};
 
-/// An instruction's bytes, the registers before it, and what its turn leaves, or None where none is made.
-pub(crate) type Row = (&'static [u8], Regs, Option<After>);
+/// The flags, among the numbers of registers.
+pub(crate) const FLAGS: u8 = 16;
+
+/// Numbers of registers, or `FLAGS`, and what they are set to. All others are those of `REGS`.
+pub(crate) type Settings = &'static [(u8, u64)];
+
+/// What a turn leaves.
+#[derive(Clone, Copy)]
+pub(crate) enum After {
+    /// No turn is made: registers and memory stay.
+    Left,
+    /// These registers are set, then come the flags and RIP; memory stays.
+    Goes(Settings, u64, u64),
+    /// The same, and addresses 40 and 48 hold these numbers.
+    Stores(Settings, u64, u64, [u64; 2]),
+}
+
+/// An instruction's bytes, what is set before it, and what its turn leaves.
+pub(crate) type Row = (&'static [u8], Settings, After);
 
 /// The index of the first row whose turn leaves something else.
-pub(crate) fn first_wrong(alloc: Global, rows: &[Row]) -> Result<Option<usize>, Fail> {
-    for (index, (bytes, before, after)) in rows.iter().enumerate() {
-        if turn(alloc, bytes, before)? != *after {
-            return Ok(Some(index));
+pub(crate) fn first_wrong(alloc: Global, rows: &[Row]) -> Option<usize> {
+    for (index, (bytes, settings, after)) in rows.iter().enumerate() {
+        let Some(before) = with_all(&REGS, settings) else {
+            return Some(index);
+        };
+        let expected = outcome(&before, after);
+        if expected.is_none() || turn(alloc, bytes, &before) != expected {
+            return Some(index);
         }
     }
-    Ok(None)
+    None
+}
+
+/// What is left of these registers and of memory; None where a setting has no register.
+fn outcome(before: &Regs, after: &After) -> Option<Outcome> {
+    match *after {
+        After::Left => Some((false, *before, HELD, 0)),
+        After::Goes(settings, flags, rip) => {
+            let regs = with_all(before, settings)?;
+            Some((true, Regs { flags, rip, ..regs }, HELD, 0))
+        }
+        After::Stores(settings, flags, rip, held) => {
+            let regs = with_all(before, settings)?;
+            Some((true, Regs { flags, rip, ..regs }, held[0], held[1]))
+        }
+    }
+}
+
+/// These registers with others set, or None where a setting has no register.
+fn with_all(regs: &Regs, settings: &[(u8, u64)]) -> Option<Regs> {
+    let mut after = *regs;
+    for (number, value) in settings {
+        if *number < FLAGS {
+            after.general = with_register(&after.general, *number, *value);
+        } else if *number == FLAGS {
+            after.flags = *value;
+        } else {
+            return None;
+        }
+    }
+    Some(after)
+}
+
+/// MOVSB from address 40 to 48.
+const RIGHT: Row = (
+    b"\xA4",
+    &[(RSI, 0x40), (RDI, 0x48)],
+    After::Stores(&[(RSI, 0x41), (RDI, 0x49)], 2, 0x1001, [HELD, 0x11]),
+);
+
+/// Rows with another RIP, flags or a number in memory, with a count that stays, without a turn, and
+/// with no register.
+static WRONG: [Row; 6] = [
+    (b"\x90", &[], After::Goes(&[], 2, 0x1002)),
+    (b"\x90", &[], After::Goes(&[], 3, 0x1001)),
+    (
+        b"\x50",
+        &[],
+        After::Stores(&[(RSP, 0x40)], 2, 0x1001, [HELD, 0]),
+    ),
+    (
+        b"\xF3\xA4",
+        &[(RSI, 0x40), (RDI, 0x48)],
+        After::Stores(&[(RSI, 0x41), (RDI, 0x49)], 2, 0x1000, [HELD, 0x11]),
+    ),
+    (b"\x90", &[], After::Left),
+    (b"\xF4", &[(17, 0)], After::Left),
+];
+
+#[test]
+fn wrong_rows_are_found(rt: HostRuntime) {
+    for wrong in &WRONG {
+        assert_eq!(rt; first_wrong(rt.alloc(), &[RIGHT, *wrong, RIGHT]), Some(1));
+    }
 }

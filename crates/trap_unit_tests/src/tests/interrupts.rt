@@ -6,62 +6,126 @@ use tlb_model::Tlb;
 use trap_unit::{Shut, interrupt_allowed};
 use x86_regs::Tables;
 
+/// The low half of gate 0, the base of IDTR, whether the CPL is 3, the vector, and whether its
+/// interrupt is allowed.
+type Row = (u64, u64, bool, u8, Result<bool, Shut>);
+
+/// The index of the first row whose question has another answer.
+fn first_wrong(alloc: Global, rows: &[Row]) -> Option<usize> {
+    for (index, (low, idt, user, vector, allowed)) in rows.iter().enumerate() {
+        if ask(alloc, *low, *idt, *user, *vector) != Some(*allowed) {
+            return Some(index);
+        }
+    }
+    None
+}
+
 /// Want of memory is None.
-fn ask(
-    alloc: Global,
-    low: u64,
-    tables: &Tables,
-    user: bool,
-    vector: u8,
-) -> Option<Result<bool, Shut>> {
+fn ask(alloc: Global, low: u64, idt: u64, user: bool, vector: u8) -> Option<Result<bool, Shut>> {
     let Ok(mut mem) = memory(alloc) else {
         return None;
     };
     let Ok(mut tlb) = Tlb::new(alloc) else {
         return None;
     };
-    change(&mut mem, (0x8000, low));
+    change(&mut mem, Some(&(0x8000, low)));
+    let tables = Tables { idt, ..TABLES };
     let cpl = if user { 3 } else { 0 };
-    Some(interrupt_allowed(&mem, &mut tlb, &CONTROL, tables, cpl, vector))
+    Some(interrupt_allowed(&mem, &mut tlb, &CONTROL, &tables, cpl, vector))
 }
 
-/// The low half of gate 0, whether the CPL is 3, the vector, and whether its interrupt is allowed: gate 47 has level 3,
-/// gate 13 level 0, gate 5 is all zeros, and vector 48 is past the limit.
-static ASKED: [(u64, bool, u8, bool); 16] = [
-    (0x0000_8E01_0008_1040, false, 0, true),
-    (0x0000_8E01_0008_1040, true, 0, false),
-    (0x0000_AE01_0008_1040, false, 0, true),
-    (0x0000_AE01_0008_1040, true, 0, false),
-    (0x0000_CE01_0008_1040, false, 0, true),
-    (0x0000_CE01_0008_1040, true, 0, false),
-    (0x0000_EE01_0008_1040, false, 0, true),
-    (0x0000_EE01_0008_1040, true, 0, true),
+/// A gate's level is not below the CPL: gate 47 has level 3, gate 13 level 0, gate 5 is all zeros,
+/// and vector 48 is past the limit.
+static ASKED: [Row; 18] = [
+    (
+        0x0000_8E01_0008_1040,
+        0xFFFF_FF80_0000_0000,
+        false,
+        0,
+        Ok(true),
+    ),
+    (
+        0x0000_8E01_0008_1040,
+        0xFFFF_FF80_0000_0000,
+        true,
+        0,
+        Ok(false),
+    ),
+    (
+        0x0000_AE01_0008_1040,
+        0xFFFF_FF80_0000_0000,
+        false,
+        0,
+        Ok(true),
+    ),
+    (
+        0x0000_AE01_0008_1040,
+        0xFFFF_FF80_0000_0000,
+        true,
+        0,
+        Ok(false),
+    ),
+    (
+        0x0000_CE01_0008_1040,
+        0xFFFF_FF80_0000_0000,
+        false,
+        0,
+        Ok(true),
+    ),
+    (
+        0x0000_CE01_0008_1040,
+        0xFFFF_FF80_0000_0000,
+        true,
+        0,
+        Ok(false),
+    ),
+    (
+        0x0000_EE01_0008_1040,
+        0xFFFF_FF80_0000_0000,
+        false,
+        0,
+        Ok(true),
+    ),
+    (
+        0x0000_EE01_0008_1040,
+        0xFFFF_FF80_0000_0000,
+        true,
+        0,
+        Ok(true),
+    ),
     // an absent gate is allowed by its level alone
-    (0x0000_6000_0000_0000, true, 0, true),
-    (0, false, 47, true),
-    (0, true, 47, true),
-    (0, true, 13, false),
-    (0, false, 5, true),
-    (0, true, 5, false),
-    (0, false, 48, false),
-    (0, true, 48, false),
+    (
+        0x0000_6000_0000_0000,
+        0xFFFF_FF80_0000_0000,
+        true,
+        0,
+        Ok(true),
+    ),
+    (0, 0xFFFF_FF80_0000_0000, false, 47, Ok(true)),
+    (0, 0xFFFF_FF80_0000_0000, true, 47, Ok(true)),
+    (0, 0xFFFF_FF80_0000_0000, true, 13, Ok(false)),
+    (0, 0xFFFF_FF80_0000_0000, false, 5, Ok(true)),
+    (0, 0xFFFF_FF80_0000_0000, true, 5, Ok(false)),
+    (0, 0xFFFF_FF80_0000_0000, false, 48, Ok(false)),
+    (0, 0xFFFF_FF80_0000_0000, true, 48, Ok(false)),
+    // the table's page is absent: vector 47 faults, and vector 48 isn't read
+    (0, 0xFFFF_FF80_0000_2000, true, 47, Err(Shut)),
+    (0, 0xFFFF_FF80_0000_2000, true, 48, Ok(false)),
 ];
 
 #[test]
-fn level_is_not_below_the_cpl(rt: HostRuntime) {
-    for (low, user, vector, allowed) in &ASKED {
-        let answer = ask(rt.alloc(), *low, &TABLES, *user, *vector);
-        assert_eq!(rt; answer, Some(Ok(*allowed)));
-    }
+fn interrupts(rt: HostRuntime) {
+    assert_eq!(rt; first_wrong(rt.alloc(), &ASKED), None);
 }
 
-/// The table's page is absent: vector 47 faults, and vector 48 isn't read.
+/// The second row says that the user may ask for vector 13.
+static WRONG: [Row; 3] = [
+    (0, 0xFFFF_FF80_0000_0000, true, 47, Ok(true)),
+    (0, 0xFFFF_FF80_0000_0000, true, 13, Ok(true)),
+    (0, 0xFFFF_FF80_0000_0000, true, 48, Ok(true)),
+];
+
 #[test]
-fn absent_table_shuts_down(rt: HostRuntime) {
-    let tables = Tables {
-        idt: 0xFFFF_FF80_0000_2000,
-        ..TABLES
-    };
-    assert_eq!(rt; ask(rt.alloc(), 0, &tables, true, 47), Some(Err(Shut)));
-    assert_eq!(rt; ask(rt.alloc(), 0, &tables, true, 48), Some(Ok(false)));
+fn wrong_row_is_found(rt: HostRuntime) {
+    assert_eq!(rt; first_wrong(rt.alloc(), &WRONG), Some(1));
 }

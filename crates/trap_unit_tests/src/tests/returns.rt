@@ -1,17 +1,45 @@
 //! Returns by IRETQ.
 
-use super::{REGS, RSP, USER};
+use super::REGS;
 use trap_unit::iretq;
-use x86_regs::{Fault, Frame, Regs, with_register};
+use x86_regs::{Fault, Frame, RSP, Regs, with_register};
 
-/// To CPL 3, with the flags IF, ZF and PF.
-const FRAME: Frame = Frame {
-    rip: 0x40_0000,
-    cs: 0x1B,
-    flags: 0x246,
-    rsp: 0x7FFF_FFFF_F000,
-    ss: 0x23,
-};
+/// RSP in each frame.
+const STACK: u64 = 0x7FFF_FFFF_F000;
+
+/// The CPL and the flags before a return; RIP, CS, the flags and SS in its frame; and the flags,
+/// CPL and SS after it, where None is #GP(0).
+type Row = (u8, u64, [u64; 4], Option<(u64, u8, u16)>);
+
+/// The index of the first row whose return leaves something else.
+fn first_wrong(rows: &[Row]) -> Option<usize> {
+    for (index, (cpl, flags, frame, after)) in rows.iter().enumerate() {
+        if run(&before(*cpl, *flags), &frame_of(frame)) != expected(frame, after) {
+            return Some(index);
+        }
+    }
+    None
+}
+
+fn before(cpl: u8, flags: u64) -> Regs {
+    let ss = if cpl == 0 { 0x10 } else { 0x23 };
+    Regs {
+        flags,
+        cpl,
+        ss,
+        ..REGS
+    }
+}
+
+fn frame_of(numbers: &[u64; 4]) -> Frame {
+    Frame {
+        rip: numbers[0],
+        cs: numbers[1],
+        flags: numbers[2],
+        rsp: STACK,
+        ss: numbers[3],
+    }
+}
 
 /// The registers after a return by this frame, or its fault.
 fn run(regs: &Regs, frame: &Frame) -> Result<Regs, Fault> {
@@ -22,123 +50,146 @@ fn run(regs: &Regs, frame: &Frame) -> Result<Regs, Fault> {
     }
 }
 
-fn at(frame: &Frame, flags: u64, cpl: u8, ss: u16) -> Result<Regs, Fault> {
-    Ok(Regs {
-        general: with_register(&REGS.general, RSP, frame.rsp),
-        rip: frame.rip,
-        flags,
-        cpl,
-        ss,
-    })
-}
-
-#[test]
-fn supervisor_returns_to_the_user(rt: HostRuntime) {
-    assert_eq!(rt; run(&REGS, &FRAME), at(&FRAME, 0x246, 3, 0x23));
-    let quiet = Regs { flags: 2, ..REGS };
-    assert_eq!(rt; run(&quiet, &FRAME), at(&FRAME, 0x246, 3, 0x23));
-    let masked = Frame {
-        flags: 0x46,
-        ..FRAME
-    };
-    assert_eq!(rt; run(&REGS, &masked), at(&masked, 0x46, 3, 0x23));
-}
-
-#[test]
-fn supervisor_returns_to_itself(rt: HostRuntime) {
-    let same = Frame {
-        cs: 8,
-        ss: 0x10,
-        ..FRAME
-    };
-    assert_eq!(rt; run(&REGS, &same), at(&same, 0x246, 0, 0x10));
-    let null = Frame {
-        cs: 8,
-        ss: 0,
-        ..FRAME
-    };
-    assert_eq!(rt; run(&REGS, &null), at(&null, 0x246, 0, 0));
-}
-
-/// IF stays at CPL 3, whether it is set or clear there.
-#[test]
-fn user_keeps_if(rt: HostRuntime) {
-    let masked = Frame {
-        flags: 0x46,
-        ..FRAME
-    };
-    assert_eq!(rt; run(&USER, &masked), at(&masked, 0x246, 3, 0x23));
-    let clear = Regs { flags: 2, ..USER };
-    assert_eq!(rt; run(&clear, &FRAME), at(&FRAME, 0x46, 3, 0x23));
-}
-
-/// Flags that aren't kept are lost, and so are the bits of the selectors above 15; bit 1 reads as 1.
-#[test]
-fn other_bits_are_lost(rt: HostRuntime) {
-    let all = Frame {
-        flags: u64::MAX,
-        cs: 0xFFFF_FFFF_FFFF_001B,
-        ss: 0x1_0023,
-        ..FRAME
-    };
-    assert_eq!(rt; run(&REGS, &all), at(&all, 0xED7, 3, 0x23));
-    let none = Frame { flags: 0, ..FRAME };
-    assert_eq!(rt; run(&REGS, &none), at(&none, 2, 3, 0x23));
-}
-
-/// CS, SS, and whether a return to them is made at CPL 0 and at CPL 3.
-static PAIRS: [(u64, u64, bool, bool); 16] = [
-    (0x1B, 0x23, true, true),
-    (0x08, 0x10, true, false),
-    (0x08, 0, true, false),
-    (0x08, 0x23, false, false),
-    (0x08, 0x08, false, false),
-    (0x08, 0x13, false, false),
-    (0x1B, 0x10, false, false),
-    (0x1B, 0, false, false),
-    (0x1B, 0x1B, false, false),
-    (0x1B, 0x20, false, false),
-    (0x18, 0x23, false, false),
-    (0x0B, 0x10, false, false),
-    (0x10, 0x10, false, false),
-    (0, 0, false, false),
-    (0, 0x23, false, false),
-    (0x1_0000, 0x10, false, false),
-];
-
-#[test]
-fn selectors_are_a_pair(rt: HostRuntime) {
-    for (cs, ss, supervisor, user) in &PAIRS {
-        let frame = Frame {
-            cs: *cs,
-            ss: *ss,
-            ..FRAME
-        };
-        let above = run(&REGS, &frame);
-        assert_eq!(rt; above.is_ok(), *supervisor);
-        assert!(rt; *supervisor || above == Err(Fault::General(0)));
-        let below = run(&USER, &frame);
-        assert_eq!(rt; below.is_ok(), *user);
-        assert!(rt; *user || below == Err(Fault::General(0)));
+fn expected(frame: &[u64; 4], after: &Option<(u64, u8, u16)>) -> Result<Regs, Fault> {
+    match *after {
+        Some((flags, cpl, ss)) => Ok(Regs {
+            general: with_register(&REGS.general, RSP, STACK),
+            rip: frame[0],
+            flags,
+            cpl,
+            ss,
+        }),
+        None => Err(Fault::General(0)),
     }
 }
 
-/// An address, and whether it is canonical.
-static ADDRESSES: [(u64, bool); 6] = [
-    (0, true),
-    (0x7FFF_FFFF_FFFF, true),
-    (0x8000_0000_0000, false),
-    (0xFFFF_7FFF_FFFF_FFFF, false),
-    (0xFFFF_8000_0000_0000, true),
-    (u64::MAX, true),
+/// Returns to either level, with the flags that they leave; the selectors of a frame are a pair,
+/// and its RIP is canonical.
+static RETURNS: [Row; 47] = [
+    // the supervisor returns to the user, and to itself
+    (
+        0,
+        0xED7,
+        [0x40_0000, 0x1B, 0x246, 0x23],
+        Some((0x246, 3, 0x23)),
+    ),
+    (0, 2, [0x40_0000, 0x1B, 0x246, 0x23], Some((0x246, 3, 0x23))),
+    (
+        0,
+        0xED7,
+        [0x40_0000, 0x1B, 0x46, 0x23],
+        Some((0x46, 3, 0x23)),
+    ),
+    (
+        0,
+        0xED7,
+        [0x40_0000, 8, 0x246, 0x10],
+        Some((0x246, 0, 0x10)),
+    ),
+    (0, 0xED7, [0x40_0000, 8, 0x246, 0], Some((0x246, 0, 0))),
+    // IF stays at CPL 3, whether it is set or clear there
+    (
+        3,
+        0xED7,
+        [0x40_0000, 0x1B, 0x46, 0x23],
+        Some((0x246, 3, 0x23)),
+    ),
+    (3, 2, [0x40_0000, 0x1B, 0x246, 0x23], Some((0x46, 3, 0x23))),
+    // flags that aren't kept are lost, and so are the bits of the selectors above 15; bit 1 reads
+    // as 1
+    (
+        0,
+        0xED7,
+        [0x40_0000, 0xFFFF_FFFF_FFFF_001B, u64::MAX, 0x1_0023],
+        Some((0xED7, 3, 0x23)),
+    ),
+    (0, 0xED7, [0x40_0000, 0x1B, 0, 0x23], Some((2, 3, 0x23))),
+    // pairs of selectors, and others, at CPL 0
+    (
+        0,
+        0xED7,
+        [0x40_0000, 0x1B, 0x246, 0x23],
+        Some((0x246, 3, 0x23)),
+    ),
+    (
+        0,
+        0xED7,
+        [0x40_0000, 0x08, 0x246, 0x10],
+        Some((0x246, 0, 0x10)),
+    ),
+    (0, 0xED7, [0x40_0000, 0x08, 0x246, 0], Some((0x246, 0, 0))),
+    (0, 0xED7, [0x40_0000, 0x08, 0x246, 0x23], None),
+    (0, 0xED7, [0x40_0000, 0x08, 0x246, 0x08], None),
+    (0, 0xED7, [0x40_0000, 0x08, 0x246, 0x13], None),
+    (0, 0xED7, [0x40_0000, 0x1B, 0x246, 0x10], None),
+    (0, 0xED7, [0x40_0000, 0x1B, 0x246, 0], None),
+    (0, 0xED7, [0x40_0000, 0x1B, 0x246, 0x1B], None),
+    (0, 0xED7, [0x40_0000, 0x1B, 0x246, 0x20], None),
+    (0, 0xED7, [0x40_0000, 0x18, 0x246, 0x23], None),
+    (0, 0xED7, [0x40_0000, 0x0B, 0x246, 0x10], None),
+    (0, 0xED7, [0x40_0000, 0x10, 0x246, 0x10], None),
+    (0, 0xED7, [0x40_0000, 0, 0x246, 0], None),
+    (0, 0xED7, [0x40_0000, 0, 0x246, 0x23], None),
+    (0, 0xED7, [0x40_0000, 0x1_0000, 0x246, 0x10], None),
+    // pairs of selectors, and others, at CPL 3
+    (
+        3,
+        0xED7,
+        [0x40_0000, 0x1B, 0x246, 0x23],
+        Some((0x246, 3, 0x23)),
+    ),
+    (3, 0xED7, [0x40_0000, 0x08, 0x246, 0x10], None),
+    (3, 0xED7, [0x40_0000, 0x08, 0x246, 0], None),
+    (3, 0xED7, [0x40_0000, 0x08, 0x246, 0x23], None),
+    (3, 0xED7, [0x40_0000, 0x08, 0x246, 0x08], None),
+    (3, 0xED7, [0x40_0000, 0x08, 0x246, 0x13], None),
+    (3, 0xED7, [0x40_0000, 0x1B, 0x246, 0x10], None),
+    (3, 0xED7, [0x40_0000, 0x1B, 0x246, 0], None),
+    (3, 0xED7, [0x40_0000, 0x1B, 0x246, 0x1B], None),
+    (3, 0xED7, [0x40_0000, 0x1B, 0x246, 0x20], None),
+    (3, 0xED7, [0x40_0000, 0x18, 0x246, 0x23], None),
+    (3, 0xED7, [0x40_0000, 0x0B, 0x246, 0x10], None),
+    (3, 0xED7, [0x40_0000, 0x10, 0x246, 0x10], None),
+    (3, 0xED7, [0x40_0000, 0, 0x246, 0], None),
+    (3, 0xED7, [0x40_0000, 0, 0x246, 0x23], None),
+    (3, 0xED7, [0x40_0000, 0x1_0000, 0x246, 0x10], None),
+    // RIP is canonical
+    (3, 0xED7, [0, 0x1B, 0x246, 0x23], Some((0x246, 3, 0x23))),
+    (
+        3,
+        0xED7,
+        [0x7FFF_FFFF_FFFF, 0x1B, 0x246, 0x23],
+        Some((0x246, 3, 0x23)),
+    ),
+    (3, 0xED7, [0x8000_0000_0000, 0x1B, 0x246, 0x23], None),
+    (3, 0xED7, [0xFFFF_7FFF_FFFF_FFFF, 0x1B, 0x246, 0x23], None),
+    (
+        3,
+        0xED7,
+        [0xFFFF_8000_0000_0000, 0x1B, 0x246, 0x23],
+        Some((0x246, 3, 0x23)),
+    ),
+    (
+        3,
+        0xED7,
+        [u64::MAX, 0x1B, 0x246, 0x23],
+        Some((0x246, 3, 0x23)),
+    ),
 ];
 
 #[test]
-fn rip_is_canonical(rt: HostRuntime) {
-    for (rip, made) in &ADDRESSES {
-        let frame = Frame { rip: *rip, ..FRAME };
-        let after = run(&USER, &frame);
-        assert_eq!(rt; after.is_ok(), *made);
-        assert!(rt; *made || after == Err(Fault::General(0)));
-    }
+fn returns(rt: HostRuntime) {
+    assert_eq!(rt; first_wrong(&RETURNS), None);
+}
+
+/// The second row leaves IF as the frame has it.
+static WRONG: [Row; 3] = [
+    (3, 2, [0x40_0000, 0x1B, 0x246, 0x23], Some((0x46, 3, 0x23))),
+    (3, 2, [0x40_0000, 0x1B, 0x246, 0x23], Some((0x246, 3, 0x23))),
+    (3, 2, [0x40_0000, 0x1B, 0x246, 0x10], Some((0x246, 3, 0x23))),
+];
+
+#[test]
+fn wrong_row_is_found(rt: HostRuntime) {
+    assert_eq!(rt; first_wrong(&WRONG), Some(1));
 }
