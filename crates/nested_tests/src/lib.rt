@@ -1,5 +1,5 @@
 //! Tests of the crates of the nested kernel, over what they publish; `region_book` and `nk_body` have crates of their
-//! own. Floor: tests.
+//! own, and `policy_book` has its tests itself. Floor: tests.
 #![tactic(auto)]
 
 #[cfg(test)]
@@ -8,8 +8,6 @@ mod descriptors;
 mod logs;
 #[cfg(test)]
 mod openings;
-#[cfg(test)]
-mod policies;
 #[cfg(test)]
 mod rules;
 #[cfg(test)]

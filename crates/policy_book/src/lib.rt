@@ -3,5 +3,7 @@
 #![tactic(auto)]
 
 mod policy;
+#[cfg(test)]
+mod tests;
 
 pub use policy::write;

@@ -16,6 +16,3 @@ mod table;
 mod translations;
 
 pub use translations::{CAPACITY, NoMemory, Tlb};
-
-#[cfg(test)]
-mod tests;

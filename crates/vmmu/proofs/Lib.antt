@@ -8,4 +8,3 @@ pub mod RemovedTables
 pub mod CarriedRules
 pub mod CarriedCounts
 pub mod HeldTables
-pub mod SmallOpening

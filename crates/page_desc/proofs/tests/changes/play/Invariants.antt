@@ -1,5 +1,0 @@
-use Rattle.page_desc.specs.DescriptorBytes.{HoldsDescriptors}
-use Rattle.page_desc.proofs.tests.changes.play.Given as goal
-
-abbrev pub invariant-loop-index : goal.invariant-loop-index
-invariant-loop-index l = HoldsDescriptors l.frames l.memory
