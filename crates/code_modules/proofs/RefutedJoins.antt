@@ -1,5 +1,5 @@
 -- What isn't an image that modules are joined with, and what isn't refused, each named by the sentence that it guards.
-use Rattle.std.proofs.Common.{◌≡◌, ◌≢◌, ◌+◌, ◌/◌, ◌<◌, ℕ, Bool, true, false, ◌||◌, List, [], ◌∷◌, None, Some, Err, refl, sym, ap, ◌∙◌}
+use Rattle.std.proofs.Common.{◌≡◌, ◌≢◌, ◌+◌, ◌/◌, ◌<◌, ℕ, Bool, true, false, ◌||◌, List, [], ◌∷◌, Some, Err, refl, ap, ◌∙◌}
 use Rattle.std.specs.Prelude.{slice_get, slice_index}
 use Rattle.decode_fields.specs.Protected.{is_protected_at}
 use Rattle.elf_image.specs.Pages.{byte_of, entry_of, is_executable, is_page, is_writable}
