@@ -1,8 +1,8 @@
 //! What instructions ask of the processor (SDM volume 2, each instruction's page; volume 3, 2.5 and 6.8.3).
 
 use super::after::Change::{Cr0, Cr2, Cr4, Flags, Gates, Halted, Register, Root, Shielded};
-use super::after::Leaves::{Console, Delivered, Ran};
-use super::after::Start::Supervisor;
+use super::after::Leaves::{Changed, Console, Delivered, Ran};
+use super::after::Start::{Supervisor, SupervisorBut};
 use super::cases::Step::{Begins, Kept, Looks, Takes, Turn};
 use super::cases::{Row, Step, first_failing, first_wrong};
 use super::events::CODE;
@@ -14,17 +14,16 @@ use x86_regs::RAX;
 #[test]
 fn ports(rt: HostRuntime) {
     let rows: &[Row] = &[
-        (Supervisor, &[], b"\xE6\xE9", Console(0x41, 2)),
-        (Supervisor, &[], b"\xE6\xE8", Ran(2, &[])),
-        (Supervisor, &[], b"\xEE", Ran(1, &[])),
+        (Supervisor, b"\xE6\xE9", Console(0x41, 2)),
+        (Supervisor, b"\xE6\xE8", Ran(2)),
+        (Supervisor, b"\xEE", Ran(1)),
         (
-            Supervisor,
-            &[Register(RAX, 0x1234)],
+            SupervisorBut(&[Register(RAX, 0x1234)]),
             b"\xE4\xEA",
-            Ran(2, &[Register(RAX, 0x1231)]),
+            Changed(2, &[Register(RAX, 0x1231)]),
         ),
-        (Supervisor, &[], b"\xE4\xEB", Ran(2, &[Register(RAX, 1)])),
-        (Supervisor, &[], b"\xE4\xE9", Ran(2, &[Register(RAX, 0xFF)])),
+        (Supervisor, b"\xE4\xEB", Changed(2, &[Register(RAX, 1)])),
+        (Supervisor, b"\xE4\xE9", Changed(2, &[Register(RAX, 0xFF)])),
     ];
     assert_eq!(rt; first_wrong(rt.alloc(), rows), None);
 }
@@ -33,10 +32,14 @@ fn ports(rt: HostRuntime) {
 #[test]
 fn halt_and_shield(rt: HostRuntime) {
     let rows: &[Row] = &[
-        (Supervisor, &[], b"\xF4", Ran(1, &[Halted])),
-        (Supervisor, &[], b"\xFB", Ran(1, &[Flags(0x202), Shielded])),
-        (Supervisor, &[Flags(0x202)], b"\xFB", Ran(1, &[])),
-        (Supervisor, &[Flags(0x202)], b"\xFA", Ran(1, &[Flags(2)])),
+        (Supervisor, b"\xF4", Changed(1, &[Halted])),
+        (Supervisor, b"\xFB", Changed(1, &[Flags(0x202), Shielded])),
+        (SupervisorBut(&[Flags(0x202)]), b"\xFB", Ran(1)),
+        (
+            SupervisorBut(&[Flags(0x202)]),
+            b"\xFA",
+            Changed(1, &[Flags(2)]),
+        ),
     ];
     assert_eq!(rt; first_wrong(rt.alloc(), rows), None);
 }
@@ -47,58 +50,49 @@ fn halt_and_shield(rt: HostRuntime) {
 fn control_registers_and_gates(rt: HostRuntime) {
     let rows: &[Row] = &[
         (
-            Supervisor,
-            &[Register(RAX, 0xFFFF_FFFF)],
+            SupervisorBut(&[Register(RAX, 0xFFFF_FFFF)]),
             b"\x0F\x22\xC0",
-            Ran(3, &[Cr0(0xE001_0001)]),
+            Changed(3, &[Cr0(0xE001_0001)]),
         ),
         (
-            Supervisor,
-            &[Register(RAX, 0x8000_0011)],
+            SupervisorBut(&[Register(RAX, 0x8000_0011)]),
             b"\x0F\x22\xC0",
-            Ran(3, &[Cr0(0x8000_0001)]),
+            Changed(3, &[Cr0(0x8000_0001)]),
         ),
         (
-            Supervisor,
-            &[Register(RAX, 0x1_0001)],
+            SupervisorBut(&[Register(RAX, 0x1_0001)]),
             b"\x0F\x22\xC0",
             Delivered(13, Some(0)),
         ),
         (
-            Supervisor,
-            &[Register(RAX, 0x8877_6655_4433_2211)],
+            SupervisorBut(&[Register(RAX, 0x8877_6655_4433_2211)]),
             b"\x0F\x22\xD0",
-            Ran(3, &[Cr2(0x8877_6655_4433_2211)]),
+            Changed(3, &[Cr2(0x8877_6655_4433_2211)]),
         ),
         (
-            Supervisor,
-            &[Register(RAX, 0x9FFF)],
+            SupervisorBut(&[Register(RAX, 0x9FFF)]),
             b"\x0F\x22\xD8",
-            Ran(3, &[Root(9)]),
+            Changed(3, &[Root(9)]),
         ),
         (
-            Supervisor,
-            &[Register(RAX, 0xA000)],
+            SupervisorBut(&[Register(RAX, 0xA000)]),
             b"\x0F\x22\xD8",
             Delivered(13, Some(0)),
         ),
         (
-            Supervisor,
-            &[Register(RAX, 0x20)],
+            SupervisorBut(&[Register(RAX, 0x20)]),
             b"\x0F\x22\xE0",
-            Ran(3, &[Cr4(0x20)]),
+            Changed(3, &[Cr4(0x20)]),
         ),
         (
             Supervisor,
-            &[],
             b"\x0F\x20\xD8",
-            Ran(3, &[Register(RAX, 0x1000)]),
+            Changed(3, &[Register(RAX, 0x1000)]),
         ),
         (
             Supervisor,
-            &[],
             b"\x0F\x01\x1B",
-            Ran(3, &[Gates(0x11_2233_4455, 0x6677)]),
+            Changed(3, &[Gates(0x11_2233_4455, 0x6677)]),
         ),
     ];
     assert_eq!(rt; first_wrong(rt.alloc(), rows), None);
@@ -108,11 +102,11 @@ fn control_registers_and_gates(rt: HostRuntime) {
 #[test]
 fn invalidated_page(rt: HostRuntime) {
     let steps: &[Step] = &[
-        Begins(Supervisor, &[], b"\x0F\x01\x3B"),
+        Begins(Supervisor, b"\x0F\x01\x3B"),
         Takes(What::Fill(0x1000)),
         Takes(What::Fill(0x3000)),
         Takes(What::Keep(2, 0xFFFF_FF80_0000_0000)),
-        Turn(Ran(3, &[])),
+        Turn(Ran(3)),
         Looks(1, None),
         Looks(
             3,

@@ -45,9 +45,14 @@ const USER: Regs = Regs {
 };
 
 /// Whose registers a case begins with.
+#[derive(Clone, Copy)]
 pub(super) enum Start {
     Supervisor,
     User,
+    /// The supervisor's but for these.
+    SupervisorBut(&'static [Change]),
+    /// The user's but for these.
+    UserBut(&'static [Change]),
 }
 
 /// What a turn leaves.
@@ -84,9 +89,12 @@ pub(super) enum Change {
 }
 
 /// What a turn shows and leaves.
+#[derive(Clone, Copy)]
 pub(super) enum Leaves {
-    /// The instruction ran: the next one stands at this address, and these changed.
-    Ran(u64, &'static [Change]),
+    /// The instruction ran, and the next one stands at this address.
+    Ran(u64),
+    /// The same, and these changed.
+    Changed(u64, &'static [Change]),
     /// It ran and wrote a byte to the console; the next one stands at this address.
     Console(u8, u64),
     /// A vector was delivered with its code, and returns to where the turn began.
@@ -101,14 +109,20 @@ pub(super) enum Leaves {
     Exactly(After),
 }
 
-/// What stands before the first turn, but for these changes.
-pub(super) fn begun(start: &Start, changes: &[Change]) -> After {
+/// What stands before the first turn.
+pub(super) fn begun(start: &Start) -> After {
+    match start {
+        Start::Supervisor => begun_with(&REGS, &[]),
+        Start::User => begun_with(&USER, &[]),
+        Start::SupervisorBut(changes) => begun_with(&REGS, changes),
+        Start::UserBut(changes) => begun_with(&USER, changes),
+    }
+}
+
+fn begun_with(regs: &Regs, changes: &[Change]) -> After {
     let after = After {
         stepped: Stepped::Ran,
-        regs: match start {
-            Start::Supervisor => REGS,
-            Start::User => USER,
-        },
+        regs: *regs,
         control: CONTROL,
         tables: TABLES,
         shielded: false,
@@ -155,7 +169,8 @@ pub(super) fn set(after: &mut After, change: &Change) {
 /// What a turn leaves that begins here.
 pub(super) fn left(before: &After, leaves: &Leaves) -> After {
     match leaves {
-        Leaves::Ran(rip, changes) => changed(&ran(before, *rip), changes),
+        Leaves::Ran(rip) => ran(before, *rip),
+        Leaves::Changed(rip, changes) => changed(&ran(before, *rip), changes),
         Leaves::Console(byte, rip) => After {
             stepped: Stepped::Console(*byte),
             ..ran(before, *rip)

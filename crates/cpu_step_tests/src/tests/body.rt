@@ -3,7 +3,7 @@
 
 use super::after::Change::{Cr0, Flags, Rip};
 use super::after::Leaves::{Delivered, PageFault};
-use super::after::Start::{Supervisor, User};
+use super::after::Start::{SupervisorBut, UserBut};
 use super::cases::Step::{Begins, Body, Due, Kept, Looks, Rests, Takes, Turn};
 use super::cases::{Step, first_failing};
 use super::events::CODE;
@@ -21,15 +21,14 @@ const PUSHED: u64 = 0xFFFF_FF80_0000_4;
 fn interrupt_at_the_body(rt: HostRuntime) {
     let steps: &[Step] = &[
         Begins(
-            Supervisor,
-            &[Rip(BODY), Flags(0x202), Cr0(0x8000_0001)],
+            SupervisorBut(&[Rip(BODY), Flags(0x202), Cr0(0x8000_0001)]),
             b"",
         ),
         Takes(What::Irq(32)),
         Body,
         Rests,
         Due(Some(32)),
-        Begins(Supervisor, &[Rip(BODY), Flags(0x202)], b""),
+        Begins(SupervisorBut(&[Rip(BODY), Flags(0x202)]), b""),
         Takes(What::Irq(32)),
         Turn(Delivered(32, None)),
     ];
@@ -41,7 +40,7 @@ fn interrupt_at_the_body(rt: HostRuntime) {
 #[test]
 fn page_faults(rt: HostRuntime) {
     let steps: &[Step] = &[
-        Begins(Supervisor, &[Rip(BODY), Flags(0x202)], b""),
+        Begins(SupervisorBut(&[Rip(BODY), Flags(0x202)]), b""),
         Takes(What::Fill(0xFFFF_FF80_0000_4000)),
         Takes(What::Fill(0xFFFF_FF80_0000_3000)),
         Takes(What::Keep(2, 0xFFFF_FF80_0000_0000)),
@@ -65,7 +64,7 @@ fn page_faults(rt: HostRuntime) {
         ),
         Kept(2, PUSHED, None),
         Kept(2, 1, Some(4)),
-        Begins(User, &[Rip(BODY)], b""),
+        Begins(UserBut(&[Rip(BODY)]), b""),
         Turn(PageFault(0x15, BODY)),
     ];
     assert_eq!(rt; first_failing(rt.alloc(), steps), None);

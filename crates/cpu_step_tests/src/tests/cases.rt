@@ -12,14 +12,13 @@ use nk_bits::{Leaf, Rights, Upper, canonical};
 use phys_mem::PhysMem;
 use std::alloc::Global;
 
-/// One turn: whose registers it begins with, what is otherwise there, the code from addresses 0 and 6000 on, and what the
-/// turn leaves.
-pub(super) type Row = (Start, &'static [Change], &'static [u8], Leaves);
+/// One turn: where it begins, the code from addresses 0 and 6000 on, and what the turn leaves.
+pub(super) type Row = (Start, &'static [u8], Leaves);
 
 /// What is done, or what must be found.
 pub(super) enum Step {
     /// A case begins, as a row does.
-    Begins(Start, &'static [Change], &'static [u8]),
+    Begins(Start, &'static [u8]),
     /// Up to sixteen bytes of code are put at a place in memory, and zeros behind them.
     Put(u64, &'static [u8]),
     /// One byte is stored.
@@ -52,18 +51,23 @@ pub(super) enum Step {
 
 /// The index of the first row whose turn leaves something else.
 pub(super) fn first_wrong(alloc: Global, rows: &[Row]) -> Option<usize> {
-    for (index, row) in rows.iter().enumerate() {
-        if !is_row_right(alloc, row) {
+    for (index, (start, code, leaves)) in rows.iter().enumerate() {
+        if !is_turn_right(alloc, start, code, leaves) {
             return Some(index);
         }
     }
     None
 }
 
-/// The index of the first row whose turn leaves this.
-pub(super) fn first_right(alloc: Global, rows: &[Row]) -> Option<usize> {
-    for (index, row) in rows.iter().enumerate() {
-        if is_row_right(alloc, row) {
+/// The index of the first code of which a turn from one place leaves something else.
+pub(super) fn first_other(
+    alloc: Global,
+    start: &Start,
+    leaves: &Leaves,
+    codes: &[&[u8]],
+) -> Option<usize> {
+    for (index, code) in codes.iter().enumerate() {
+        if !is_turn_right(alloc, start, code, leaves) {
             return Some(index);
         }
     }
@@ -71,9 +75,8 @@ pub(super) fn first_right(alloc: Global, rows: &[Row]) -> Option<usize> {
 }
 
 /// Whether a turn leaves this; not for want of memory.
-fn is_row_right(alloc: Global, row: &Row) -> bool {
-    let (start, changes, code, leaves) = row;
-    let mut now = begun(start, changes);
+fn is_turn_right(alloc: Global, start: &Start, code: &[u8], leaves: &Leaves) -> bool {
+    let mut now = begun(start);
     let Ok(mut mem) = memory(alloc) else {
         return false;
     };
@@ -90,9 +93,9 @@ pub(super) fn first_failing(alloc: Global, steps: &[Step]) -> Option<usize> {
         return Some(0);
     };
     for (index, step) in steps.iter().enumerate() {
-        if let Step::Begins(start, changes, code) = step {
+        if let Step::Begins(start, code) = step {
             let case = &steps[index + 1..];
-            if let Some(behind) = first_failing_behind(alloc, begun(start, changes), code, case) {
+            if let Some(behind) = first_failing_behind(alloc, begun(start), code, case) {
                 return Some(index.saturating_add(behind));
             }
         }

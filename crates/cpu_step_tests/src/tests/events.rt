@@ -31,7 +31,7 @@ const READ_ALONE: Rights = Rights {
 #[test]
 fn vectors(rt: HostRuntime) {
     let steps: &[Step] = &[
-        Begins(Supervisor, &[], b""),
+        Begins(Supervisor, b""),
         Takes(What::Irq(32)),
         Pending(1),
         Takes(What::Irq(47)),
@@ -47,7 +47,7 @@ fn vectors(rt: HostRuntime) {
 #[test]
 fn translations(rt: HostRuntime) {
     let steps: &[Step] = &[
-        Begins(Supervisor, &[], b""),
+        Begins(Supervisor, b""),
         Takes(What::Fill(0x1000)),
         Looks(
             1,
@@ -102,7 +102,7 @@ fn translations(rt: HostRuntime) {
 #[test]
 fn upper_entries(rt: HostRuntime) {
     let steps: &[Step] = &[
-        Begins(Supervisor, &[], b""),
+        Begins(Supervisor, b""),
         Takes(What::Keep(2, 0x1000)),
         Takes(What::Keep(2, 0x20_0000)),
         Takes(What::Keep(3, 0x20_0000)),
@@ -124,7 +124,7 @@ fn upper_entries(rt: HostRuntime) {
 #[test]
 fn fills_below_upper_entries(rt: HostRuntime) {
     let steps: &[Step] = &[
-        Begins(Supervisor, &[], b""),
+        Begins(Supervisor, b""),
         Takes(What::Keep(2, 0x3000)),
         Store(0x3000, &[0]),
         Takes(What::Drop(0x3000)),

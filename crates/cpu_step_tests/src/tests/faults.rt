@@ -2,7 +2,7 @@
 
 use super::after::Change::{Cr2, Register, Rip};
 use super::after::Leaves::{Delivered, Exactly, PageFault, Shutdown};
-use super::after::Start::{Supervisor, User};
+use super::after::Start::{Supervisor, SupervisorBut, User, UserBut};
 use super::after::{After, CONTROL, RBX, TABLES};
 use super::cases::Step::{Begins, Holds, Put, Store, Turn};
 use super::cases::{Row, Step, first_failing, first_wrong};
@@ -64,15 +64,9 @@ const PAGE_FAULT_OF_THE_SUPERVISOR: After = After {
 #[test]
 fn told_in_full(rt: HostRuntime) {
     let rows: &[Row] = &[
+        (User, b"\x0F\x0B", Exactly(UNDEFINED_OPCODE_OF_THE_USER)),
         (
-            User,
-            &[],
-            b"\x0F\x0B",
-            Exactly(UNDEFINED_OPCODE_OF_THE_USER),
-        ),
-        (
-            Supervisor,
-            &[Register(RBX, 0x2345)],
+            SupervisorBut(&[Register(RBX, 0x2345)]),
             b"\x8B\x03",
             Exactly(PAGE_FAULT_OF_THE_SUPERVISOR),
         ),
@@ -86,41 +80,35 @@ fn told_in_full(rt: HostRuntime) {
 fn faults(rt: HostRuntime) {
     let rows: &[Row] = &[
         (
-            Supervisor,
-            &[Register(RCX, 0)],
+            SupervisorBut(&[Register(RCX, 0)]),
             b"\xF7\xF1",
             Delivered(0, None),
         ),
-        (Supervisor, &[], b"\x0F\x0B", Delivered(6, None)),
-        (Supervisor, &[], b"\xF0\x90", Delivered(6, None)),
-        (Supervisor, &[], b"\x64\x90", Delivered(6, None)),
+        (Supervisor, b"\x0F\x0B", Delivered(6, None)),
+        (Supervisor, b"\xF0\x90", Delivered(6, None)),
+        (Supervisor, b"\x64\x90", Delivered(6, None)),
         (
-            Supervisor,
-            &[Register(RSP, 0x8000_0000_0001)],
+            SupervisorBut(&[Register(RSP, 0x8000_0000_0001)]),
             b"\x50",
             Delivered(12, Some(0)),
         ),
         (
-            Supervisor,
-            &[Register(RBX, 0x8000_0000_0000)],
+            SupervisorBut(&[Register(RBX, 0x8000_0000_0000)]),
             b"\x8B\x03",
             Delivered(13, Some(0)),
         ),
         (
-            Supervisor,
-            &[Register(RBX, 0x8000_0000_0000)],
+            SupervisorBut(&[Register(RBX, 0x8000_0000_0000)]),
             b"\xFF\xE3",
             Delivered(13, Some(0)),
         ),
         (
-            Supervisor,
-            &[Rip(0x8000_0000_0000)],
+            SupervisorBut(&[Rip(0x8000_0000_0000)]),
             b"\x90",
             Delivered(13, Some(0)),
         ),
         (
             Supervisor,
-            &[],
             b"\x66\x66\x66\x66\x66\x66\x66\x66\x66\x66\x66\x66\x66\x66\x66\x90",
             Delivered(13, Some(0)),
         ),
@@ -135,22 +123,32 @@ fn faults(rt: HostRuntime) {
 fn codes_of_page_faults(rt: HostRuntime) {
     let rows: &[Row] = &[
         (
-            Supervisor,
-            &[Register(RSP, 0x2004)],
+            SupervisorBut(&[Register(RSP, 0x2004)]),
             b"\x50",
             PageFault(2, 0x2000),
         ),
         (
-            Supervisor,
-            &[Register(RBX, 0x8000)],
+            SupervisorBut(&[Register(RBX, 0x8000)]),
             b"\x89\x03",
             PageFault(3, 0x8000),
         ),
-        (User, &[], b"\x8B\x03", PageFault(5, 0x1010)),
-        (Supervisor, &[Rip(0x2000)], b"\x90", PageFault(0x10, 0x2000)),
-        (Supervisor, &[Rip(0x1000)], b"\x90", PageFault(0x11, 0x1000)),
-        (User, &[Rip(0)], b"\x90", PageFault(0x15, 0)),
-        (Supervisor, &[Rip(0x6000)], b"\x90", PageFault(0x11, 0x6000)),
+        (User, b"\x8B\x03", PageFault(5, 0x1010)),
+        (
+            SupervisorBut(&[Rip(0x2000)]),
+            b"\x90",
+            PageFault(0x10, 0x2000),
+        ),
+        (
+            SupervisorBut(&[Rip(0x1000)]),
+            b"\x90",
+            PageFault(0x11, 0x1000),
+        ),
+        (UserBut(&[Rip(0)]), b"\x90", PageFault(0x15, 0)),
+        (
+            SupervisorBut(&[Rip(0x6000)]),
+            b"\x90",
+            PageFault(0x11, 0x6000),
+        ),
     ];
     assert_eq!(rt; first_wrong(rt.alloc(), rows), None);
 }
@@ -162,15 +160,15 @@ fn codes_of_page_faults(rt: HostRuntime) {
 #[test]
 fn faults_behind_others(rt: HostRuntime) {
     let steps: &[Step] = &[
-        Begins(Supervisor, &[Rip(0xFFC)], b""),
+        Begins(SupervisorBut(&[Rip(0xFFC)]), b""),
         Put(0x8FFC, b"\xB8\x11\x22\x33\x44"),
         Turn(PageFault(0x11, 0x1000)),
-        Begins(User, &[], b"\xF4"),
+        Begins(User, b"\xF4"),
         Put(0x70D0, b"\x0F\x0B"),
         Turn(Delivered(13, Some(0))),
         Turn(Delivered(6, None)),
         Holds(0xFF0, &[0x9FD0]),
-        Begins(Supervisor, &[Register(RBX, 0x2345)], b"\x8B\x03"),
+        Begins(SupervisorBut(&[Register(RBX, 0x2345)]), b"\x8B\x03"),
         Store(0x4048, &[0]),
         Turn(Shutdown(&[Cr2(0x2345)])),
     ];

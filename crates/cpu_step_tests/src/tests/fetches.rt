@@ -1,8 +1,8 @@
 //! The fetch of an instruction: its bytes, its faults and their order (SDM volume 2, 2.3.11; volume 3, 6.15).
 
 use super::after::Change::{Flags, Halted, Register, Rip};
-use super::after::Leaves::{Delivered, PageFault, Ran};
-use super::after::Start::Supervisor;
+use super::after::Leaves::{Changed, Delivered, PageFault, Ran};
+use super::after::Start::{Supervisor, SupervisorBut};
 use super::cases::Step::{Begins, Put, Turn};
 use super::cases::{Row, Step, first_failing, first_wrong};
 use x86_regs::RAX;
@@ -11,33 +11,29 @@ use x86_regs::RAX;
 #[test]
 fn lengths(rt: HostRuntime) {
     let rows: &[Row] = &[
-        (Supervisor, &[], b"\xF4", Ran(1, &[Halted])),
+        (Supervisor, b"\xF4", Changed(1, &[Halted])),
         (
             Supervisor,
-            &[],
             b"\x48\xC7\xC0\x0F\x22\xC0\x00",
-            Ran(7, &[Register(RAX, 0xC0_220F)]),
+            Changed(7, &[Register(RAX, 0xC0_220F)]),
         ),
         (
             Supervisor,
-            &[],
             b"\x48\xB8\x01\x02\x03\x04\x05\x06\x07\x08",
-            Ran(10, &[Register(RAX, 0x0807_0605_0403_0201)]),
+            Changed(10, &[Register(RAX, 0x0807_0605_0403_0201)]),
         ),
         (
             Supervisor,
-            &[],
             b"\x66\x66\x66\x66\x66\x66\x66\x66\x66\x66\x66\x66\x66\x66\x90",
-            Ran(15, &[]),
+            Ran(15),
         ),
         (
             Supervisor,
-            &[],
             b"\x66\x66\x66\x66\x66\x66\x66\x66\x66\x66\x66\x66\x66\x66\x66\x90",
             Delivered(13, Some(0)),
         ),
-        (Supervisor, &[], b"\x64", Delivered(6, None)),
-        (Supervisor, &[], b"\x0F\x01\xD8", Delivered(6, None)),
+        (Supervisor, b"\x64", Delivered(6, None)),
+        (Supervisor, b"\x0F\x01\xD8", Delivered(6, None)),
     ];
     assert_eq!(rt; first_wrong(rt.alloc(), rows), None);
 }
@@ -48,37 +44,37 @@ fn lengths(rt: HostRuntime) {
 #[test]
 fn page_ends(rt: HostRuntime) {
     let steps: &[Step] = &[
-        Begins(Supervisor, &[Rip(0xFFF)], b""),
+        Begins(SupervisorBut(&[Rip(0xFFF)]), b""),
         Put(0x8FFF, b"\xF4"),
-        Turn(Ran(0x1000, &[Halted])),
-        Begins(Supervisor, &[Rip(0xFFA)], b""),
+        Turn(Changed(0x1000, &[Halted])),
+        Begins(SupervisorBut(&[Rip(0xFFA)]), b""),
         Put(0x8FFA, b"\x05\x01\x02\x03\x04\xF4"),
-        Turn(Ran(0xFFF, &[Register(RAX, 0x0403_0242), Flags(6)])),
-        Begins(Supervisor, &[Rip(0xFFF)], b""),
+        Turn(Changed(0xFFF, &[Register(RAX, 0x0403_0242), Flags(6)])),
+        Begins(SupervisorBut(&[Rip(0xFFF)]), b""),
         Put(0x8FFF, b"\x48"),
         Turn(PageFault(0x11, 0x1000)),
-        Begins(Supervisor, &[Rip(0xFFC)], b""),
+        Begins(SupervisorBut(&[Rip(0xFFC)]), b""),
         Put(0x8FFC, b"\xB8\x01\x02\x03"),
         Turn(PageFault(0x11, 0x1000)),
-        Begins(Supervisor, &[Rip(0xFFF)], b""),
+        Begins(SupervisorBut(&[Rip(0xFFF)]), b""),
         Put(0x8FFF, b"\x64"),
         Turn(Delivered(6, None)),
-        Begins(Supervisor, &[Rip(0x4FFE)], b""),
+        Begins(SupervisorBut(&[Rip(0x4FFE)]), b""),
         Put(0x6FFE, b"\x0F\x22"),
         Turn(PageFault(0x10, 0x5000)),
-        Begins(Supervisor, &[Rip(0x3FFE)], b""),
+        Begins(SupervisorBut(&[Rip(0x3FFE)]), b""),
         Put(0x7FFE, b"\x0F\x01"),
         Turn(Delivered(6, None)),
-        Begins(Supervisor, &[Rip(0x3FFF)], b""),
+        Begins(SupervisorBut(&[Rip(0x3FFF)]), b""),
         Put(0x7FFF, b"\x04"),
-        Turn(Ran(0x4001, &[Flags(6)])),
-        Begins(Supervisor, &[Rip(0x4000)], b""),
+        Turn(Changed(0x4001, &[Flags(6)])),
+        Begins(SupervisorBut(&[Rip(0x4000)]), b""),
         Put(0x6000, b"\x0F\xAE\xE8"),
-        Turn(Ran(0x4003, &[])),
-        Begins(Supervisor, &[Rip(0x3FFD)], b""),
+        Turn(Ran(0x4003)),
+        Begins(SupervisorBut(&[Rip(0x3FFD)]), b""),
         Put(0x7FFD, b"\x48\xB8\x01"),
         Put(0x6000, b"\x02\x03\x04\x05\x06\x07\x08"),
-        Turn(Ran(0x4007, &[Register(RAX, 0x0807_0605_0403_0201)])),
+        Turn(Changed(0x4007, &[Register(RAX, 0x0807_0605_0403_0201)])),
     ];
     assert_eq!(rt; first_failing(rt.alloc(), steps), None);
 }
@@ -88,16 +84,16 @@ fn page_ends(rt: HostRuntime) {
 #[test]
 fn pages_that_are_not_executed(rt: HostRuntime) {
     let steps: &[Step] = &[
-        Begins(Supervisor, &[Rip(0x1000)], b""),
+        Begins(SupervisorBut(&[Rip(0x1000)]), b""),
         Put(0x9000, b"\x90"),
         Turn(PageFault(0x11, 0x1000)),
-        Begins(Supervisor, &[Rip(0x2345)], b""),
+        Begins(SupervisorBut(&[Rip(0x2345)]), b""),
         Put(0x9000, b"\x90"),
         Turn(PageFault(0x10, 0x2345)),
-        Begins(Supervisor, &[Rip(0x8000_0000_0000)], b""),
+        Begins(SupervisorBut(&[Rip(0x8000_0000_0000)]), b""),
         Put(0x9000, b"\x90"),
         Turn(Delivered(13, Some(0))),
-        Begins(Supervisor, &[Rip(0xFFFF_8000_0000_0000)], b""),
+        Begins(SupervisorBut(&[Rip(0xFFFF_8000_0000_0000)]), b""),
         Put(0x9000, b"\x90"),
         Turn(PageFault(0x10, 0xFFFF_8000_0000_0000)),
     ];

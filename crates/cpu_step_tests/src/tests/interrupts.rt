@@ -1,7 +1,7 @@
 //! INT3 and INT n (SDM volume 2, INT n/INTO/INT3/INT1; volume 3, 6.12.1.2). The code of #GP for the vector n is 8 n + 2.
 
-use super::after::Change::Cr2;
-use super::after::Leaves::{Delivered, Exactly, Ran, Shutdown, Trapped};
+use super::after::Change::{Cr2, Rip};
+use super::after::Leaves::{Changed, Delivered, Exactly, Shutdown, Trapped};
 use super::after::Start::{Supervisor, User};
 use super::after::{After, CONTROL, TABLES};
 use super::cases::Step::{Begins, Store, Turn};
@@ -14,10 +14,10 @@ use x86_regs::Regs;
 #[test]
 fn allowed(rt: HostRuntime) {
     let rows: &[Row] = &[
-        (Supervisor, &[], b"\xCC", Trapped(3, 1)),
-        (Supervisor, &[], b"\xCD\x20", Trapped(32, 2)),
-        (User, &[], b"\xCC", Trapped(3, 0x6001)),
-        (User, &[], b"\xCD\x2F", Trapped(47, 0x6002)),
+        (Supervisor, b"\xCC", Trapped(3, 1)),
+        (Supervisor, b"\xCD\x20", Trapped(32, 2)),
+        (User, b"\xCC", Trapped(3, 0x6001)),
+        (User, b"\xCD\x2F", Trapped(47, 0x6002)),
     ];
     assert_eq!(rt; first_wrong(rt.alloc(), rows), None);
 }
@@ -27,12 +27,12 @@ fn allowed(rt: HostRuntime) {
 #[test]
 fn refused(rt: HostRuntime) {
     let rows: &[Row] = &[
-        (User, &[], b"\xCD\x20", Delivered(13, Some(258))),
-        (User, &[], b"\xCD\x0D", Delivered(13, Some(106))),
-        (Supervisor, &[], b"\xCD\x30", Delivered(13, Some(386))),
-        (User, &[], b"\xCD\xFF", Delivered(13, Some(2042))),
-        (Supervisor, &[], b"\xCD\x2F", Trapped(47, 2)),
-        (Supervisor, &[], b"\xF0\xCC", Delivered(6, None)),
+        (User, b"\xCD\x20", Delivered(13, Some(258))),
+        (User, b"\xCD\x0D", Delivered(13, Some(106))),
+        (Supervisor, b"\xCD\x30", Delivered(13, Some(386))),
+        (User, b"\xCD\xFF", Delivered(13, Some(2042))),
+        (Supervisor, b"\xCD\x2F", Trapped(47, 2)),
+        (Supervisor, b"\xF0\xCC", Delivered(6, None)),
     ];
     assert_eq!(rt; first_wrong(rt.alloc(), rows), None);
 }
@@ -69,12 +69,12 @@ const PAGE_FAULT_VECTOR: After = After {
 #[test]
 fn page_fault_vector_and_absent_gates(rt: HostRuntime) {
     let steps: &[Step] = &[
-        Begins(Supervisor, &[], b"\x0F\x22\xD0\xCD\x0E"),
-        Turn(Ran(3, &[Cr2(0x41)])),
+        Begins(Supervisor, b"\x0F\x22\xD0\xCD\x0E"),
+        Turn(Changed(3, &[Cr2(0x41)])),
         Turn(Exactly(PAGE_FAULT_VECTOR)),
-        Begins(Supervisor, &[], b"\xCD\x22"),
-        Turn(Shutdown(&[])),
-        Begins(Supervisor, &[], b"\xCC"),
+        Begins(Supervisor, b"\xCD\x22"),
+        Turn(Shutdown(&[Rip(2)])),
+        Begins(Supervisor, b"\xCC"),
         Store(0x4040, &[0]),
         Turn(Shutdown(&[])),
     ];

@@ -1,8 +1,8 @@
 //! Vectors that wait, the shield of STI, and HLT (SDM volume 3, 6.8.1, 6.9 and 8.10.2; volume 2, STI and HLT).
 
 use super::after::Change::{Flags, Halted, Register, Shielded};
-use super::after::Leaves::{Delivered, Ran};
-use super::after::Start::{Supervisor, User};
+use super::after::Leaves::{Changed, Delivered, Ran};
+use super::after::Start::{Supervisor, SupervisorBut, User};
 use super::cases::Step::{Begins, Due, Put, Rests, Takes, Turn};
 use super::cases::{Step, first_failing};
 use irq_plan::What;
@@ -13,7 +13,7 @@ use x86_regs::RSP;
 #[test]
 fn highest_first_and_once(rt: HostRuntime) {
     let steps: &[Step] = &[
-        Begins(Supervisor, &[Flags(0x202)], b""),
+        Begins(SupervisorBut(&[Flags(0x202)]), b""),
         Put(0x72F0, b"\xFB\x90\x90"),
         Put(0x7280, b"\xFB\x90\x90"),
         Takes(What::Irq(40)),
@@ -21,22 +21,22 @@ fn highest_first_and_once(rt: HostRuntime) {
         Due(Some(47)),
         Turn(Delivered(47, None)),
         Due(None),
-        Turn(Ran(0x32F1, &[Flags(0x202), Shielded])),
-        Turn(Ran(0x32F2, &[])),
+        Turn(Changed(0x32F1, &[Flags(0x202), Shielded])),
+        Turn(Ran(0x32F2)),
         Turn(Delivered(40, None)),
-        Turn(Ran(0x3281, &[Flags(0x202), Shielded])),
-        Turn(Ran(0x3282, &[])),
+        Turn(Changed(0x3281, &[Flags(0x202), Shielded])),
+        Turn(Ran(0x3282)),
         Due(None),
-        Turn(Ran(0x3283, &[])),
-        Begins(Supervisor, &[Flags(0x202)], b""),
+        Turn(Ran(0x3283)),
+        Begins(SupervisorBut(&[Flags(0x202)]), b""),
         Put(0x7210, b"\xFB\x90\x90"),
         Takes(What::Irq(33)),
         Takes(What::Irq(33)),
         Turn(Delivered(33, None)),
-        Turn(Ran(0x3211, &[Flags(0x202), Shielded])),
-        Turn(Ran(0x3212, &[])),
+        Turn(Changed(0x3211, &[Flags(0x202), Shielded])),
+        Turn(Ran(0x3212)),
         Due(None),
-        Turn(Ran(0x3213, &[])),
+        Turn(Ran(0x3213)),
     ];
     assert_eq!(rt; first_failing(rt.alloc(), steps), None);
 }
@@ -46,15 +46,15 @@ fn highest_first_and_once(rt: HostRuntime) {
 #[test]
 fn user_and_clear_if(rt: HostRuntime) {
     let steps: &[Step] = &[
-        Begins(User, &[], b""),
+        Begins(User, b""),
         Takes(What::Irq(32)),
         Turn(Delivered(32, None)),
-        Begins(Supervisor, &[], b"\x90\xFB\x90"),
+        Begins(Supervisor, b"\x90\xFB\x90"),
         Takes(What::Irq(32)),
         Due(None),
-        Turn(Ran(1, &[])),
-        Turn(Ran(2, &[Flags(0x202), Shielded])),
-        Turn(Ran(3, &[])),
+        Turn(Ran(1)),
+        Turn(Changed(2, &[Flags(0x202), Shielded])),
+        Turn(Ran(3)),
         Turn(Delivered(32, None)),
     ];
     assert_eq!(rt; first_failing(rt.alloc(), steps), None);
@@ -65,18 +65,18 @@ fn user_and_clear_if(rt: HostRuntime) {
 #[test]
 fn halted_until_an_interrupt(rt: HostRuntime) {
     let steps: &[Step] = &[
-        Begins(Supervisor, &[], b"\xFB\xF4"),
+        Begins(Supervisor, b"\xFB\xF4"),
         Takes(What::Irq(32)),
-        Turn(Ran(1, &[Flags(0x202), Shielded])),
-        Turn(Ran(2, &[Halted])),
+        Turn(Changed(1, &[Flags(0x202), Shielded])),
+        Turn(Changed(2, &[Halted])),
         Turn(Delivered(32, None)),
-        Begins(Supervisor, &[Flags(0x202)], b"\xF4\xFA\xF4"),
+        Begins(SupervisorBut(&[Flags(0x202)]), b"\xF4\xFA\xF4"),
         Put(0x7280, b"\xF4"),
-        Turn(Ran(1, &[Halted])),
+        Turn(Changed(1, &[Halted])),
         Rests,
         Takes(What::Irq(40)),
         Turn(Delivered(40, None)),
-        Turn(Ran(0x3281, &[Halted])),
+        Turn(Changed(0x3281, &[Halted])),
         Takes(What::Irq(47)),
         Rests,
     ];
@@ -87,12 +87,12 @@ fn halted_until_an_interrupt(rt: HostRuntime) {
 #[test]
 fn shield_ends_with_a_fault(rt: HostRuntime) {
     let steps: &[Step] = &[
-        Begins(Supervisor, &[], b"\xFB\x0F\x0B"),
+        Begins(Supervisor, b"\xFB\x0F\x0B"),
         Put(0x7060, b"\x48\xCF"),
         Takes(What::Irq(32)),
-        Turn(Ran(1, &[Flags(0x202), Shielded])),
+        Turn(Changed(1, &[Flags(0x202), Shielded])),
         Turn(Delivered(6, None)),
-        Turn(Ran(1, &[Register(RSP, 0x1800), Flags(0x202)])),
+        Turn(Changed(1, &[Register(RSP, 0x1800), Flags(0x202)])),
         Turn(Delivered(32, None)),
     ];
     assert_eq!(rt; first_failing(rt.alloc(), steps), None);
@@ -102,11 +102,11 @@ fn shield_ends_with_a_fault(rt: HostRuntime) {
 #[test]
 fn due_vector(rt: HostRuntime) {
     let steps: &[Step] = &[
-        Begins(Supervisor, &[], b""),
+        Begins(Supervisor, b""),
         Takes(What::Irq(32)),
         Takes(What::Irq(47)),
         Due(None),
-        Begins(Supervisor, &[Flags(0x202)], b""),
+        Begins(SupervisorBut(&[Flags(0x202)]), b""),
         Due(None),
         Takes(What::Irq(32)),
         Due(Some(32)),

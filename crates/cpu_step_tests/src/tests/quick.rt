@@ -1,7 +1,7 @@
 //! Quick turns: how many are made, and what they leave. The code is mov [rsi], eax; add [rsi], ecx; sub ecx, 1; jnz 0; hlt.
 
 use super::after::Change::{Flags, Register, Rip};
-use super::after::Leaves::Ran;
+use super::after::Leaves::{Changed, Ran};
 use super::after::Start::Supervisor;
 use super::cases::Step::{Begins, Byte, Holds, Put, Quick, Sets, Takes, Turn};
 use super::cases::{Step, first_failing};
@@ -14,13 +14,13 @@ const LOOP: &[u8] = b"\x89\x06\x01\x0E\x83\xE9\x01\x75\xF7\xF4";
 #[test]
 fn rounds_of_a_loop(rt: HostRuntime) {
     let steps: &[Step] = &[
-        Begins(Supervisor, &[], LOOP),
+        Begins(Supervisor, LOOP),
         Quick(100, 0, &[]),
         Holds(0x9100, &[0x5A]),
-        Turn(Ran(2, &[])),
-        Turn(Ran(4, &[Flags(6)])),
-        Turn(Ran(7, &[Register(RCX, 2), Flags(2)])),
-        Turn(Ran(0, &[])),
+        Turn(Ran(2)),
+        Turn(Changed(4, &[Flags(6)])),
+        Turn(Changed(7, &[Register(RCX, 2), Flags(2)])),
+        Turn(Ran(0)),
         Quick(3, 3, &[Rip(7), Register(RCX, 1), Flags(2)]),
         Holds(0x9100, &[0x43]),
         Quick(100, 5, &[Rip(9), Register(RCX, 0), Flags(0x46)]),
@@ -34,8 +34,8 @@ fn rounds_of_a_loop(rt: HostRuntime) {
 #[test]
 fn where_none_is_made(rt: HostRuntime) {
     let steps: &[Step] = &[
-        Begins(Supervisor, &[], LOOP),
-        Turn(Ran(2, &[])),
+        Begins(Supervisor, LOOP),
+        Turn(Ran(2)),
         Sets(Rip(0)),
         Byte(0x8001, 0x07),
         Quick(1, 0, &[]),
@@ -44,7 +44,7 @@ fn where_none_is_made(rt: HostRuntime) {
         Sets(Rip(0)),
         Takes(What::Drop(0x1000)),
         Quick(1, 0, &[]),
-        Turn(Ran(2, &[])),
+        Turn(Ran(2)),
         Sets(Rip(0)),
         Takes(What::Irq(40)),
         Quick(1, 0, &[]),
@@ -57,18 +57,18 @@ fn where_none_is_made(rt: HostRuntime) {
 #[test]
 fn ends_of_pages(rt: HostRuntime) {
     let steps: &[Step] = &[
-        Begins(Supervisor, &[], b"\xE9\xFB\x2F\x00\x00"),
+        Begins(Supervisor, b"\xE9\xFB\x2F\x00\x00"),
         Put(0x7000, b"\x83\xE9\x01\x0F\x85\xF7\xCF\xFF\xFF\xF4"),
-        Turn(Ran(0x3000, &[])),
-        Turn(Ran(0x3003, &[Register(RCX, 2)])),
-        Turn(Ran(0, &[])),
+        Turn(Ran(0x3000)),
+        Turn(Changed(0x3003, &[Register(RCX, 2)])),
+        Turn(Ran(0)),
         Quick(100, 6, &[Rip(0x3009), Register(RCX, 0), Flags(0x46)]),
         Holds(0x9100, &[0x5A]),
-        Begins(Supervisor, &[], b""),
+        Begins(Supervisor, b""),
         Put(0x8FF0, b"\x89\x06\x89\x06"),
         Sets(Rip(0xFF0)),
-        Turn(Ran(0xFF2, &[])),
-        Turn(Ran(0xFF4, &[])),
+        Turn(Ran(0xFF2)),
+        Turn(Ran(0xFF4)),
         Sets(Rip(0xFF0)),
         Quick(100, 1, &[Rip(0xFF2)]),
         Holds(0x9100, &[0x41]),

@@ -1,8 +1,8 @@
 //! Turns one after another.
 
 use super::after::Change::{Flags, Halted, Register, Shielded};
-use super::after::Leaves::{Console, PageFault, Ran};
-use super::after::Start::Supervisor;
+use super::after::Leaves::{Changed, Console, PageFault, Ran};
+use super::after::Start::{Supervisor, SupervisorBut};
 use super::cases::Step::{Begins, Due, Holds, Looks, Rests, Store, Turn};
 use super::cases::{Step, first_failing};
 use x86_regs::{RAX, RCX, RDI, RDX};
@@ -11,13 +11,13 @@ use x86_regs::{RAX, RCX, RDI, RDX};
 #[test]
 fn console_halt_and_writes(rt: HostRuntime) {
     let steps: &[Step] = &[
-        Begins(Supervisor, &[], b"\xB0\x41\xE6\xE9\xF4"),
-        Turn(Ran(2, &[])),
+        Begins(Supervisor, b"\xB0\x41\xE6\xE9\xF4"),
+        Turn(Ran(2)),
         Turn(Console(0x41, 4)),
-        Turn(Ran(5, &[Halted])),
+        Turn(Changed(5, &[Halted])),
         Rests,
-        Begins(Supervisor, &[], b"\x89\x06\x89\x86\x00\x10\x00\x00"),
-        Turn(Ran(2, &[])),
+        Begins(Supervisor, b"\x89\x06\x89\x86\x00\x10\x00\x00"),
+        Turn(Ran(2)),
         Holds(0x9100, &[0x41]),
         Turn(PageFault(2, 0x2100)),
         Holds(0x9100, &[0x41]),
@@ -29,12 +29,12 @@ fn console_halt_and_writes(rt: HostRuntime) {
 #[test]
 fn repeated_string(rt: HostRuntime) {
     let steps: &[Step] = &[
-        Begins(Supervisor, &[], b"\xFB\xF3\xAA\xF4"),
-        Turn(Ran(1, &[Flags(0x202), Shielded])),
+        Begins(Supervisor, b"\xFB\xF3\xAA\xF4"),
+        Turn(Changed(1, &[Flags(0x202), Shielded])),
         Due(None),
-        Turn(Ran(1, &[Register(RCX, 2), Register(RDI, 0x1201)])),
-        Turn(Ran(1, &[Register(RCX, 1), Register(RDI, 0x1202)])),
-        Turn(Ran(3, &[Register(RCX, 0), Register(RDI, 0x1203)])),
+        Turn(Changed(1, &[Register(RCX, 2), Register(RDI, 0x1201)])),
+        Turn(Changed(1, &[Register(RCX, 1), Register(RDI, 0x1202)])),
+        Turn(Changed(3, &[Register(RCX, 0), Register(RDI, 0x1203)])),
         Holds(0x9200, &[0x41_4141]),
     ];
     assert_eq!(rt; first_failing(rt.alloc(), steps), None);
@@ -46,14 +46,13 @@ fn repeated_string(rt: HostRuntime) {
 fn translations_are_kept(rt: HostRuntime) {
     let steps: &[Step] = &[
         Begins(
-            Supervisor,
-            &[Register(RDX, 0x1000)],
+            SupervisorBut(&[Register(RDX, 0x1000)]),
             b"\x8B\x06\x8B\x06\x0F\x22\xDA\x8B\x06",
         ),
-        Turn(Ran(2, &[Register(RAX, 0x5A)])),
+        Turn(Changed(2, &[Register(RAX, 0x5A)])),
         Store(0x4008, &[0]),
-        Turn(Ran(4, &[])),
-        Turn(Ran(7, &[])),
+        Turn(Ran(4)),
+        Turn(Ran(7)),
         Looks(0, None),
         Turn(PageFault(0, 0x1100)),
     ];

@@ -19,11 +19,11 @@ use std::test::Fail;
 #[test]
 fn registers_and_root(rt: HostRuntime) {
     let steps: &[Step] = &[
-        Begins(Supervisor, &[], b""),
+        Begins(Supervisor, b""),
         Sets(Register(9, u64::MAX)),
         Sets(Register(2, 7)),
         Sets(Rip(0xFFFF_FF80_0000_101D)),
-        Begins(Supervisor, &[], b""),
+        Begins(Supervisor, b""),
         Takes(What::Fill(0x1000)),
         Sets(Root(2)),
         Looks(
@@ -48,7 +48,7 @@ fn flush(cpu: &mut Cpu)
 #[test]
 fn translations(rt: HostRuntime) -> Result<(), Fail> {
     let mem = memory(rt.alloc())?;
-    let mut cpu = cpu(rt.alloc(), &begun(&Supervisor, &[]))?;
+    let mut cpu = cpu(rt.alloc(), &begun(&Supervisor))?;
     cpu.take_event(&mem, What::Fill(0x1000));
     cpu.take_event(&mem, What::Fill(0x3000));
     cpu.tlb_mut().drop_page(1);
