@@ -61,6 +61,7 @@ const PAGE_FAULT_OF_THE_SUPERVISOR: After = After {
     frame: [0, 0, 8, 2, 0x1800, 0x10],
 };
 
+/// UD2, and mov eax, [rbx].
 #[test]
 fn told_in_full(rt: HostRuntime) {
     let rows: &[Row] = &[
@@ -117,8 +118,8 @@ fn faults(rt: HostRuntime) {
 }
 
 /// The code of a page fault: present (bit 0), a write (1), at CPL 3 (2), of a fetch (4). A push that reaches page 2; mov
-/// [rbx], eax to the gates; mov eax, [rbx] from the supervisor's page. A fetch from page 2, from data, from the supervisor's
-/// page at CPL 3, from the user's at CPL 0 with SMEP.
+/// [rbx], eax to the gates; mov eax, [rbx] from the supervisor's page. A fetch from page 2, from data, from the
+/// supervisor's page at CPL 3, from the user's at CPL 0 with SMEP.
 #[test]
 fn codes_of_page_faults(rt: HostRuntime) {
     let rows: &[Row] = &[

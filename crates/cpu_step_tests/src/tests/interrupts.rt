@@ -64,8 +64,8 @@ const PAGE_FAULT_VECTOR: After = After {
     frame: [0, 5, 8, 2, 0x1800, 0x10],
 };
 
-/// mov cr2, rax; int 14: no code is pushed, and CR2 is shown as it stands. Then INT 34, whose gate isn't present, and INT3
-/// where the gates' page is absent.
+/// mov cr2, rax; int 14: no code is pushed, and CR2 is shown as it stands. Then INT 34, whose gate isn't present, with RIP
+/// at the next instruction already; and INT3 where the gates' page is absent, with RIP its own.
 #[test]
 fn page_fault_vector_and_absent_gates(rt: HostRuntime) {
     let steps: &[Step] = &[
