@@ -1,145 +1,121 @@
 //! What instructions ask of the processor (SDM volume 2, each instruction's page; volume 3, 2.5 and 6.8.3).
 
-use super::{
-    After, CONTROL, REGS, Row, TABLES, cpu, delivered, first_wrong, memory, put, ran, turn, turned,
-    with,
-};
-use cpu_step::Stepped;
+use super::after::Change::{Cr0, Cr2, Cr4, Flags, Gates, Halted, Register, Root, Shielded};
+use super::after::Leaves::{Changed, Console, Delivered, Ran};
+use super::after::Start::{Supervisor, SupervisorBut};
+use super::cases::Step::{Begins, Kept, Looks, Takes, Turn};
+use super::cases::{Row, Step, first_failing, first_wrong};
+use super::events::CODE;
 use irq_plan::What;
-use nk_bits::Control;
-use std::test::Fail;
-use x86_regs::{RAX, Regs, Tables};
+use nk_bits::Leaf;
+use x86_regs::RAX;
 
-/// The instruction ran, and left these control registers.
-fn loaded(regs: &Regs, rip: u64, control: Control) -> After {
-    After {
-        control,
-        ..ran(regs, rip)
-    }
-}
-
+/// out dx, al, where DX is 10, is the third.
 #[test]
 fn ports(rt: HostRuntime) {
-    let console = After {
-        stepped: Stepped::Console(0x41),
-        ..ran(&REGS, 2)
-    };
-    // out dx, al, where DX is 10
     let rows: &[Row] = &[
-        (b"\xE6\xE9", REGS, console),
-        (b"\xE6\xE8", REGS, ran(&REGS, 2)),
-        (b"\xEE", REGS, ran(&REGS, 1)),
+        (Supervisor, b"\xE6\xE9", Console(0x41, 2)),
+        (Supervisor, b"\xE6\xE8", Ran(2)),
+        (Supervisor, b"\xEE", Ran(1)),
         (
+            SupervisorBut(&[Register(RAX, 0x1234)]),
             b"\xE4\xEA",
-            with(&REGS, RAX, 0x1234),
-            ran(&with(&REGS, RAX, 0x1231), 2),
+            Changed(2, &[Register(RAX, 0x1231)]),
         ),
-        (b"\xE4\xEB", REGS, ran(&with(&REGS, RAX, 1), 2)),
-        (b"\xE4\xE9", REGS, ran(&with(&REGS, RAX, 0xFF), 2)),
+        (Supervisor, b"\xE4\xEB", Changed(2, &[Register(RAX, 1)])),
+        (Supervisor, b"\xE4\xE9", Changed(2, &[Register(RAX, 0xFF)])),
     ];
     assert_eq!(rt; first_wrong(rt.alloc(), rows), None);
 }
 
+/// HLT; STI where IF is clear and where it is set; CLI.
 #[test]
 fn halt_and_shield(rt: HostRuntime) {
-    let halted = After {
-        halted: true,
-        ..ran(&REGS, 1)
-    };
-    let enabled = Regs {
-        flags: 0x202,
-        ..REGS
-    };
-    let shielded = After {
-        shielded: true,
-        ..ran(&enabled, 1)
-    };
     let rows: &[Row] = &[
-        (b"\xF4", REGS, halted),
-        (b"\xFB", REGS, shielded),
-        (b"\xFB", enabled, ran(&enabled, 1)),
-        (b"\xFA", enabled, ran(&REGS, 1)),
+        (Supervisor, b"\xF4", Changed(1, &[Halted])),
+        (Supervisor, b"\xFB", Changed(1, &[Flags(0x202), Shielded])),
+        (SupervisorBut(&[Flags(0x202)]), b"\xFB", Ran(1)),
+        (
+            SupervisorBut(&[Flags(0x202)]),
+            b"\xFA",
+            Changed(1, &[Flags(2)]),
+        ),
     ];
     assert_eq!(rt; first_wrong(rt.alloc(), rows), None);
 }
 
-/// MOV to CR0, CR2, CR3 and CR4 from RAX; CR0 keeps PE, WP, NW, CD and PG.
+/// MOV to CR0, CR2, CR3 and CR4 from RAX, where CR0 keeps PE, WP, NW, CD and PG; MOV of CR3 to RAX; and LIDT from RBX,
+/// which reads two bytes of limit and eight of base.
 #[test]
-fn control_registers(rt: HostRuntime) {
-    let wide = with(&REGS, RAX, 0xFFFF_FFFF);
-    let kept = Control {
-        cr0: 0xE001_0001,
-        ..CONTROL
-    };
-    let open = with(&REGS, RAX, 0x8000_0011);
-    let without_wp = Control {
-        cr0: 0x8000_0001,
-        ..CONTROL
-    };
-    let unpaged = with(&REGS, RAX, 0x1_0001);
-    let address = with(&REGS, RAX, 0x8877_6655_4433_2211);
-    let faulted = Control {
-        cr2: 0x8877_6655_4433_2211,
-        ..CONTROL
-    };
-    let third = with(&REGS, RAX, 0x9FFF);
-    let tenth = with(&REGS, RAX, 0xA000);
-    let plain = with(&REGS, RAX, 0x20);
+fn control_registers_and_gates(rt: HostRuntime) {
     let rows: &[Row] = &[
-        (b"\x0F\x22\xC0", wide, loaded(&wide, 3, kept)),
-        (b"\x0F\x22\xC0", open, loaded(&open, 3, without_wp)),
-        (b"\x0F\x22\xC0", unpaged, delivered(&unpaged, 13, Some(0))),
-        (b"\x0F\x22\xD0", address, loaded(&address, 3, faulted)),
         (
+            SupervisorBut(&[Register(RAX, 0xFFFF_FFFF)]),
+            b"\x0F\x22\xC0",
+            Changed(3, &[Cr0(0xE001_0001)]),
+        ),
+        (
+            SupervisorBut(&[Register(RAX, 0x8000_0011)]),
+            b"\x0F\x22\xC0",
+            Changed(3, &[Cr0(0x8000_0001)]),
+        ),
+        (
+            SupervisorBut(&[Register(RAX, 0x1_0001)]),
+            b"\x0F\x22\xC0",
+            Delivered(13, Some(0)),
+        ),
+        (
+            SupervisorBut(&[Register(RAX, 0x8877_6655_4433_2211)]),
+            b"\x0F\x22\xD0",
+            Changed(3, &[Cr2(0x8877_6655_4433_2211)]),
+        ),
+        (
+            SupervisorBut(&[Register(RAX, 0x9FFF)]),
             b"\x0F\x22\xD8",
-            third,
-            loaded(&third, 3, Control { root: 9, ..CONTROL }),
+            Changed(3, &[Root(9)]),
         ),
-        (b"\x0F\x22\xD8", tenth, delivered(&tenth, 13, Some(0))),
         (
-            b"\x0F\x22\xE0",
-            plain,
-            loaded(
-                &plain,
-                3,
-                Control {
-                    cr4: 0x20,
-                    ..CONTROL
-                },
-            ),
+            SupervisorBut(&[Register(RAX, 0xA000)]),
+            b"\x0F\x22\xD8",
+            Delivered(13, Some(0)),
         ),
-        (b"\x0F\x20\xD8", REGS, ran(&with(&REGS, RAX, 0x1000), 3)),
+        (
+            SupervisorBut(&[Register(RAX, 0x20)]),
+            b"\x0F\x22\xE0",
+            Changed(3, &[Cr4(0x20)]),
+        ),
+        (
+            Supervisor,
+            b"\x0F\x20\xD8",
+            Changed(3, &[Register(RAX, 0x1000)]),
+        ),
+        (
+            Supervisor,
+            b"\x0F\x01\x1B",
+            Changed(3, &[Gates(0x11_2233_4455, 0x6677)]),
+        ),
     ];
     assert_eq!(rt; first_wrong(rt.alloc(), rows), None);
-}
-
-/// LIDT from RBX reads two bytes of limit and eight of base.
-#[test]
-fn descriptor_table(rt: HostRuntime) {
-    let tables = Tables {
-        idt: 0x11_2233_4455,
-        limit: 0x6677,
-        ..TABLES
-    };
-    let loaded = After {
-        tables,
-        ..ran(&REGS, 3)
-    };
-    assert_eq!(rt; turn(rt.alloc(), b"\x0F\x01\x1B", &REGS), Some(loaded));
 }
 
 /// INVLPG at RBX drops the translation of page 1, and each upper entry, also one of the kernel slot's pages.
 #[test]
-fn invalidated_page(rt: HostRuntime) -> Result<(), Fail> {
-    let mut mem = memory(rt.alloc())?;
-    put(&mut mem, 0x8000, b"\x0F\x01\x3B");
-    let mut cpu = cpu(rt.alloc(), &REGS)?;
-    cpu.take_event(&mem, What::Fill(0x1000));
-    cpu.take_event(&mem, What::Fill(0x3000));
-    cpu.take_event(&mem, What::Keep(2, 0xFFFF_FF80_0000_0000));
-    assert_eq!(rt; turned(&mut cpu, &mut mem), Some(ran(&REGS, 3)));
-    assert!(rt; cpu.tlb().look(1).is_none());
-    assert!(rt; cpu.tlb().look(3).is_some());
-    assert!(rt; cpu.tlb().kept(2, 0xFFFF_FF80_0000_0).is_none());
-    Ok(())
+fn invalidated_page(rt: HostRuntime) {
+    let steps: &[Step] = &[
+        Begins(Supervisor, b"\x0F\x01\x3B"),
+        Takes(What::Fill(0x1000)),
+        Takes(What::Fill(0x3000)),
+        Takes(What::Keep(2, 0xFFFF_FF80_0000_0000)),
+        Turn(Ran(3)),
+        Looks(1, None),
+        Looks(
+            3,
+            Some(Leaf {
+                frame: 7,
+                rights: CODE,
+            }),
+        ),
+        Kept(2, 0xFFFF_FF80_0000_0, None),
+    ];
+    assert_eq!(rt; first_failing(rt.alloc(), steps), None);
 }

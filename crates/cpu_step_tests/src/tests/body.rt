@@ -1,104 +1,71 @@
 //! The body's place, FFFFFF800000101B, where no instruction is made: with WP clear the body is to run, and with WP set its
-//! first push would be to FFFFFF8000004FF8, which the supervisor may not write.
+//! first push would be to FFFFFF8000004FF8, which the supervisor may not write. IF is set there.
 
-ghost use Rattle.std.specs.Prelude.{◌≡◌, ◌⊎◌, IfOk, length};
-ghost use Rattle.cpu_step.specs.Processor.{IsSound};
-
-use super::{After, CONTROL, REGS, TABLES, USER, cpu, delivered, memory, page_fault, ran, turned};
-use cpu_step::{Cpu, NoMemory, Stepped};
+use super::after::Change::{Cr0, Flags, Rip};
+use super::after::Leaves::{Delivered, PageFault};
+use super::after::Start::{SupervisorBut, UserBut};
+use super::cases::Step::{Begins, Body, Due, Kept, Looks, Rests, Takes, Turn};
+use super::cases::{Step, first_failing};
+use super::events::CODE;
 use irq_plan::What;
-use nk_bits::{Control, Delivery};
-use std::alloc::Global;
-use std::test::Fail;
-use x86_regs::Regs;
+use nk_bits::Leaf;
 
-/// At the body's place, with IF set.
-const BODY: Regs = Regs {
-    general: [
-        0x41, 3, 0x10, 0x1010, 0x1800, 0, 0x1100, 0x1200, 0, 0, 0, 0, 0, 0, 0, 0,
-    ],
-    rip: 0xFFFF_FF80_0000_101B,
-    flags: 0x202,
-    cpl: 0,
-    ss: 0x10,
-};
+/// The body's place.
+const BODY: u64 = 0xFFFF_FF80_0000_101B;
 
 /// The page of the body's first push.
 const PUSHED: u64 = 0xFFFF_FF80_0000_4;
 
-const WITHOUT_WP: Control = Control {
-    cr0: 0x8000_0001,
-    cr2: 0,
-    root: 1,
-    cr4: 0x10_0020,
-    efer: 0xD00,
-};
-
-/// A processor at the body's place with WP clear.
-fn cpu_without_wp(alloc: Global) -> Result<Cpu, NoMemory>
-    ensures { IfOk result (λ cpu. IsSound 40960 cpu) }
-{
-    match b"".to_vec(alloc) {
-        Ok(input) => Cpu::new(alloc, BODY, WITHOUT_WP, TABLES, input),
-        Err(_) => Err(NoMemory),
-    }
+/// A vector is pending too: with WP clear the body comes first. With WP set the vector comes before the page fault.
+#[test]
+fn interrupt_at_the_body(rt: HostRuntime) {
+    let steps: &[Step] = &[
+        Begins(
+            SupervisorBut(&[Rip(BODY), Flags(0x202), Cr0(0x8000_0001)]),
+            b"",
+        ),
+        Takes(What::Irq(32)),
+        Body,
+        Rests,
+        Due(Some(32)),
+        Begins(SupervisorBut(&[Rip(BODY), Flags(0x202)]), b""),
+        Takes(What::Irq(32)),
+        Turn(Delivered(32, None)),
+    ];
+    assert_eq!(rt; first_failing(rt.alloc(), steps), None);
 }
 
-/// A vector is pending too: the body comes first.
+/// The page's translation is kept before, and goes with the upper entries that serve the page. The user has no body there:
+/// the fetch is a page fault at CPL 3.
 #[test]
-fn wp_is_clear(rt: HostRuntime) -> Result<(), Fail> {
-    let mut mem = memory(rt.alloc())?;
-    let mut cpu = cpu_without_wp(rt.alloc())?;
-    cpu.take_event(&mem, What::Irq(32));
-    assert!(rt; cpu.enters_body());
-    assert_eq!(rt; turned(&mut cpu, &mut mem), None);
-    assert_eq!(rt; cpu.deliverable(), Some(32));
-    Ok(())
-}
-
-/// The page's translation is kept before, and goes with the upper entries that serve the page.
-#[test]
-fn wp_is_set(rt: HostRuntime) -> Result<(), Fail> {
-    let mut mem = memory(rt.alloc())?;
-    let mut cpu = cpu(rt.alloc(), &BODY)?;
-    cpu.take_event(&mem, What::Fill(0xFFFF_FF80_0000_4000));
-    cpu.take_event(&mem, What::Fill(0xFFFF_FF80_0000_3000));
-    cpu.take_event(&mem, What::Keep(2, 0xFFFF_FF80_0000_0000));
-    cpu.take_event(&mem, What::Keep(2, 0x1000));
-    assert!(rt; cpu.tlb().look(PUSHED).is_some());
-    assert!(rt; cpu.tlb().kept(2, PUSHED).is_some());
-    let fault = page_fault(&BODY, 3, 0xFFFF_FF80_0000_4FF8);
-    assert_eq!(rt; turned(&mut cpu, &mut mem), Some(fault));
-    assert!(rt; cpu.tlb().look(PUSHED).is_none());
-    assert!(rt; cpu.tlb().look(PUSHED - 1).is_some());
-    assert!(rt; cpu.tlb().kept(2, PUSHED).is_none());
-    assert!(rt; cpu.tlb().kept(2, 1).is_some());
-    Ok(())
-}
-
-/// With WP set a pending vector comes before that fault.
-#[test]
-fn interrupt_comes_first(rt: HostRuntime) -> Result<(), Fail> {
-    let mut mem = memory(rt.alloc())?;
-    let mut cpu = cpu(rt.alloc(), &BODY)?;
-    cpu.take_event(&mem, What::Irq(32));
-    assert_eq!(rt;
-        turned(&mut cpu, &mut mem),
-        Some(delivered(&BODY, 32, None))
-    );
-    Ok(())
-}
-
-/// The user has no body there: the fetch is a page fault at CPL 3.
-#[test]
-fn user_is_elsewhere(rt: HostRuntime) -> Result<(), Fail> {
-    let user = Regs {
-        rip: BODY.rip,
-        ..USER
-    };
-    let mut mem = memory(rt.alloc())?;
-    let mut cpu = cpu(rt.alloc(), &user)?;
-    let fault = page_fault(&user, 0x15, BODY.rip);
-    assert_eq!(rt; turned(&mut cpu, &mut mem), Some(fault));
-    Ok(())
+fn page_faults(rt: HostRuntime) {
+    let steps: &[Step] = &[
+        Begins(SupervisorBut(&[Rip(BODY), Flags(0x202)]), b""),
+        Takes(What::Fill(0xFFFF_FF80_0000_4000)),
+        Takes(What::Fill(0xFFFF_FF80_0000_3000)),
+        Takes(What::Keep(2, 0xFFFF_FF80_0000_0000)),
+        Takes(What::Keep(2, 0x1000)),
+        Looks(
+            PUSHED,
+            Some(Leaf {
+                frame: 6,
+                rights: CODE,
+            }),
+        ),
+        Kept(2, PUSHED, Some(4)),
+        Turn(PageFault(3, 0xFFFF_FF80_0000_4FF8)),
+        Looks(PUSHED, None),
+        Looks(
+            0xFFFF_FF80_0000_3,
+            Some(Leaf {
+                frame: 7,
+                rights: CODE,
+            }),
+        ),
+        Kept(2, PUSHED, None),
+        Kept(2, 1, Some(4)),
+        Begins(UserBut(&[Rip(BODY)]), b""),
+        Turn(PageFault(0x15, BODY)),
+    ];
+    assert_eq!(rt; first_failing(rt.alloc(), steps), None);
 }

@@ -1,106 +1,82 @@
 //! INT3 and INT n (SDM volume 2, INT n/INTO/INT3/INT1; volume 3, 6.12.1.2). The code of #GP for the vector n is 8 n + 2.
 
-use super::{After, REGS, Row, USER, cpu, delivered, first_wrong, memory, put, turn, turned};
+use super::after::Change::{Cr2, Rip};
+use super::after::Leaves::{Changed, Delivered, Exactly, Shutdown, Trapped};
+use super::after::Start::{Supervisor, User};
+use super::after::{After, CONTROL, TABLES};
+use super::cases::Step::{Begins, Store, Turn};
+use super::cases::{Row, Step, first_failing, first_wrong};
 use cpu_step::Stepped;
-use nk_bits::Delivery;
-use std::test::Fail;
+use nk_bits::{Control, Delivery};
 use x86_regs::Regs;
-
-/// The same registers at another address.
-fn at(regs: &Regs, rip: u64) -> Regs {
-    Regs { rip, ..*regs }
-}
 
 /// The gates of 3 and 47 are the user's too; the return is to the next instruction.
 #[test]
 fn allowed(rt: HostRuntime) {
     let rows: &[Row] = &[
-        (b"\xCC", REGS, delivered(&at(&REGS, 1), 3, None)),
-        (b"\xCD\x20", REGS, delivered(&at(&REGS, 2), 32, None)),
-        (b"\xCC", USER, delivered(&at(&USER, 0x6001), 3, None)),
-        (b"\xCD\x2F", USER, delivered(&at(&USER, 0x6002), 47, None)),
+        (Supervisor, b"\xCC", Trapped(3, 1)),
+        (Supervisor, b"\xCD\x20", Trapped(32, 2)),
+        (User, b"\xCC", Trapped(3, 0x6001)),
+        (User, b"\xCD\x2F", Trapped(47, 0x6002)),
     ];
     assert_eq!(rt; first_wrong(rt.alloc(), rows), None);
 }
 
-/// INT 32 and INT 13 at CPL 3: #GP is delivered in their place, and RIP is theirs.
+/// INT 32 and INT 13 at CPL 3: #GP is delivered in their place, and RIP is theirs. INT 48 and INT 255, at either CPL; INT
+/// 47 is the last within the limit. LOCK before INT3 raises #UD.
 #[test]
-fn refused_by_level(rt: HostRuntime) {
+fn refused(rt: HostRuntime) {
     let rows: &[Row] = &[
-        (b"\xCD\x20", USER, delivered(&USER, 13, Some(258))),
-        (b"\xCD\x0D", USER, delivered(&USER, 13, Some(106))),
+        (User, b"\xCD\x20", Delivered(13, Some(258))),
+        (User, b"\xCD\x0D", Delivered(13, Some(106))),
+        (Supervisor, b"\xCD\x30", Delivered(13, Some(386))),
+        (User, b"\xCD\xFF", Delivered(13, Some(2042))),
+        (Supervisor, b"\xCD\x2F", Trapped(47, 2)),
+        (Supervisor, b"\xF0\xCC", Delivered(6, None)),
     ];
     assert_eq!(rt; first_wrong(rt.alloc(), rows), None);
 }
 
-/// INT 48 and INT 255, at either CPL; INT 47 is the last within the limit.
-#[test]
-fn refused_by_limit(rt: HostRuntime) {
-    let behind = Regs { rip: 2, ..REGS };
-    let rows: &[Row] = &[
-        (b"\xCD\x30", REGS, delivered(&REGS, 13, Some(386))),
-        (b"\xCD\xFF", USER, delivered(&USER, 13, Some(2042))),
-        (b"\xCD\x2F", REGS, delivered(&behind, 47, None)),
-    ];
-    assert_eq!(rt; first_wrong(rt.alloc(), rows), None);
-}
-
-/// LOCK before INT3 raises #UD.
-#[test]
-fn locked(rt: HostRuntime) {
-    assert_eq!(rt;
-        turn(rt.alloc(), b"\xF0\xCC", &REGS),
-        Some(delivered(&REGS, 6, None))
-    );
-}
-
-/// mov cr2, rax; int 14: no code is pushed, and CR2 is shown as it stands.
-#[test]
-fn page_fault_vector(rt: HostRuntime) -> Result<(), Fail> {
-    let mut mem = memory(rt.alloc())?;
-    put(&mut mem, 0x8000, b"\x0F\x22\xD0\xCD\x0E");
-    let mut cpu = cpu(rt.alloc(), &REGS)?;
-    assert!(rt; turned(&mut cpu, &mut mem).is_some());
-    let behind = Regs { rip: 5, ..REGS };
-    let shown = Delivery {
+/// What INT 14 leaves at address 3, where CR2 is 41.
+const PAGE_FAULT_VECTOR: After = After {
+    stepped: Stepped::Delivered(Delivery {
         vector: 14,
         code: None,
         rip: 5,
         cr2: Some(0x41),
-    };
-    let after = After {
-        stepped: Stepped::Delivered(shown),
-        control: *cpu.control(),
-        ..delivered(&behind, 14, None)
-    };
-    assert_eq!(rt; turned(&mut cpu, &mut mem), Some(after));
-    assert_eq!(rt; cpu.control().cr2, 0x41);
-    Ok(())
-}
+    }),
+    regs: Regs {
+        general: [
+            0x41, 3, 0x10, 0x1010, 0x9FD8, 0, 0x1100, 0x1200, 0, 0, 0, 0, 0, 0, 0, 0,
+        ],
+        rip: 0x30E0,
+        flags: 2,
+        cpl: 0,
+        ss: 0x10,
+    },
+    control: Control {
+        cr2: 0x41,
+        ..CONTROL
+    },
+    tables: TABLES,
+    shielded: false,
+    halted: false,
+    frame: [0, 5, 8, 2, 0x1800, 0x10],
+};
 
-/// INT 34, whose gate isn't present, and INT3 where the gates' page is absent.
+/// mov cr2, rax; int 14: no code is pushed, and CR2 is shown as it stands. Then INT 34, whose gate isn't present, with RIP
+/// at the next instruction already; and INT3 where the gates' page is absent, with RIP its own.
 #[test]
-fn shut_down(rt: HostRuntime) -> Result<(), Fail> {
-    let mut mem = memory(rt.alloc())?;
-    put(&mut mem, 0x8000, b"\xCD\x22");
-    let mut cpu = cpu(rt.alloc(), &REGS)?;
-    let shown = turned(&mut cpu, &mut mem).map(|after| after.stepped);
-    assert_eq!(rt; shown, Some(Stepped::Shutdown));
-    Ok(())
-}
-
-#[test]
-fn gates_are_absent(rt: HostRuntime) -> Result<(), Fail> {
-    let mut mem = memory(rt.alloc())?;
-    put(&mut mem, 0x8000, b"\xCC");
-    mem.store64(0x4040, 0);
-    let mut cpu = cpu(rt.alloc(), &REGS)?;
-    let shut = After {
-        stepped: Stepped::Shutdown,
-        regs: REGS,
-        frame: [0; 6],
-        ..delivered(&REGS, 3, None)
-    };
-    assert_eq!(rt; turned(&mut cpu, &mut mem), Some(shut));
-    Ok(())
+fn page_fault_vector_and_absent_gates(rt: HostRuntime) {
+    let steps: &[Step] = &[
+        Begins(Supervisor, b"\x0F\x22\xD0\xCD\x0E"),
+        Turn(Changed(3, &[Cr2(0x41)])),
+        Turn(Exactly(PAGE_FAULT_VECTOR)),
+        Begins(Supervisor, b"\xCD\x22"),
+        Turn(Shutdown(&[Rip(2)])),
+        Begins(Supervisor, b"\xCC"),
+        Store(0x4040, &[0]),
+        Turn(Shutdown(&[])),
+    ];
+    assert_eq!(rt; first_failing(rt.alloc(), steps), None);
 }

@@ -3,38 +3,38 @@
 ghost use Rattle.std.specs.Prelude.{◌≡◌};
 ghost use Rattle.nk_bits.specs.Translations.{flushed};
 
-use super::{CONTROL, REGS, cpu, memory, with};
+use super::after::Change::{Register, Rip, Root};
+use super::after::Start::Supervisor;
+use super::after::begun;
+use super::cases::Step::{Begins, Looks, Sets, Takes};
+use super::cases::{Step, first_failing};
+use super::events::DATA;
+use super::machine::{cpu, memory};
 use cpu_step::Cpu;
 use irq_plan::What;
-use nk_bits::Control;
+use nk_bits::Leaf;
 use std::test::Fail;
-use x86_regs::Regs;
 
-/// A number in R9 and in RDX, and another RIP.
+/// A number in R9 and in RDX, and another RIP; then another root, where the translations stay.
 #[test]
-fn registers(rt: HostRuntime) -> Result<(), Fail> {
-    let mut cpu = cpu(rt.alloc(), &REGS)?;
-    cpu.set_reg(9, u64::MAX);
-    cpu.set_reg(2, 7);
-    cpu.set_rip(0xFFFF_FF80_0000_101D);
-    let expected = Regs {
-        rip: 0xFFFF_FF80_0000_101D,
-        ..with(&with(&REGS, 9, u64::MAX), 2, 7)
-    };
-    assert_eq!(rt; *cpu.regs(), expected);
-    Ok(())
-}
-
-/// Another root: the translations stay.
-#[test]
-fn root(rt: HostRuntime) -> Result<(), Fail> {
-    let mem = memory(rt.alloc())?;
-    let mut cpu = cpu(rt.alloc(), &REGS)?;
-    cpu.take_event(&mem, What::Fill(0x1000));
-    cpu.set_root(2);
-    assert_eq!(rt; *cpu.control(), Control { root: 2, ..CONTROL });
-    assert!(rt; cpu.tlb().look(1).is_some());
-    Ok(())
+fn registers_and_root(rt: HostRuntime) {
+    let steps: &[Step] = &[
+        Begins(Supervisor, b""),
+        Sets(Register(9, u64::MAX)),
+        Sets(Register(2, 7)),
+        Sets(Rip(0xFFFF_FF80_0000_101D)),
+        Begins(Supervisor, b""),
+        Takes(What::Fill(0x1000)),
+        Sets(Root(2)),
+        Looks(
+            1,
+            Some(Leaf {
+                frame: 9,
+                rights: DATA,
+            }),
+        ),
+    ];
+    assert_eq!(rt; first_failing(rt.alloc(), steps), None);
 }
 
 /// No translation is kept, and all else stays.
@@ -48,7 +48,7 @@ fn flush(cpu: &mut Cpu)
 #[test]
 fn translations(rt: HostRuntime) -> Result<(), Fail> {
     let mem = memory(rt.alloc())?;
-    let mut cpu = cpu(rt.alloc(), &REGS)?;
+    let mut cpu = cpu(rt.alloc(), &begun(&Supervisor))?;
     cpu.take_event(&mem, What::Fill(0x1000));
     cpu.take_event(&mem, What::Fill(0x3000));
     cpu.tlb_mut().drop_page(1);
