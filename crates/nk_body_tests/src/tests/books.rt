@@ -27,6 +27,21 @@ const NOTED: [(Row, u64); 3] = [
     ((9, 256, 0, 5), 0),
 ];
 
+/// Their records: number, identifier, offset and count, and the bytes.
+const RECORDS: [u64; 8] = [
+    0,
+    256,
+    0x8_0000_0003,
+    0xC020_0FE2_8949_FA9C,
+    1,
+    256,
+    0x5_0000_0000,
+    0xE2_8949_FA9C,
+];
+
+/// The bits of the last bytes of a page, of which the last four were written.
+const LAST_FOUR: [u64; 8] = [0, 0, 0, 0, 0, 0, 0, 0xF000_0000_0000_0000];
+
 /// The regions of `TAIL`.
 const FIRST: ShownRegion = ShownRegion {
     id: 256,
@@ -47,8 +62,7 @@ const SECOND: ShownRegion = ShownRegion {
 };
 
 /// A slot: identifier, first address, size and tail, policy and whether it lies in the pool, and frames. The pool has the
-/// first 65,536 bits, and the first page that was declared the next ones, of which the last four are set. A record: number,
-/// identifier, offset and count, and the bytes.
+/// first 65,536 bits, and the first page that was declared the next ones.
 #[test]
 fn numbers_after_calls(rt: HostRuntime) {
     let cases = [
@@ -81,27 +95,12 @@ fn numbers_after_calls(rt: HostRuntime) {
             calls: &DECLARED,
             found: &[
                 Found::Numbers(SLOTS, [256, PAGE, 4096, 1, 71, 0, 0, 0]),
-                Found::Numbers(
-                    BITS + 0x2000 + 448,
-                    [0, 0, 0, 0, 0, 0, 0, 0xF000_0000_0000_0000],
-                ),
+                Found::Numbers(BITS + 0x2000 + 448, LAST_FOUR),
             ],
         },
         Case {
             calls: &NOTED,
-            found: &[Found::Numbers(
-                LOG,
-                [
-                    0,
-                    256,
-                    0x8_0000_0003,
-                    0xC020_0FE2_8949_FA9C,
-                    1,
-                    256,
-                    0x5_0000_0000,
-                    0xE2_8949_FA9C,
-                ],
-            )],
+            found: &[Found::Numbers(LOG, RECORDS)],
         },
     ];
     assert_eq!(rt; first_wrong(rt.alloc(), Start::Opening(512), &cases), None);
