@@ -3,8 +3,10 @@
 
 mod attacks;
 mod calls;
+mod cases;
 mod jumps;
 mod opening;
+mod programs;
 mod regions;
 mod stretches;
 mod windows;
@@ -29,7 +31,6 @@ use nk_bits::{BODY, Delivery, GATE};
 use nk_body::Kernel;
 use phys_mem::PhysMem;
 use std::alloc::{AllocError, Global};
-use std::test::Fail;
 use x86_regs::Regs;
 
 /// A file's one header loads 256 bytes at offset 4,096 to FFFFFFFF80000000, the entry, readable and executable.
@@ -58,7 +59,7 @@ fn file(alloc: Global, text: &[u8]) -> Result<Vec<u8>, AllocError> {
 }
 
 /// What the steps of a run showed.
-#[derive(Clone, Copy, Debug, PartialEq, Eq)]
+#[derive(Clone, Copy)]
 struct Log {
     /// The first delivery, and the last one.
     delivered: [Option<Delivery>; 2],
@@ -71,6 +72,12 @@ struct Log {
     events: u32,
     /// With WP clear the machine always stood at a gate point.
     stood: bool,
+    /// How many turns are left in the first states with WP clear, as many as there are places; zeros behind.
+    lefts: [u8; 12],
+    states: usize,
+    /// The turns in a row that began with WP clear: the latest ones, and the most. An event is no turn.
+    row: u32,
+    longest: u32,
 }
 
 const NOTHING: Log = Log {
@@ -80,16 +87,24 @@ const NOTHING: Log = Log {
     console: None,
     events: 0,
     stood: true,
+    lefts: [0; 12],
+    states: 0,
+    row: 0,
+    longest: 0,
 };
 
 /// What a run showed, and what it left.
-#[derive(Clone, Copy, Debug, PartialEq, Eq)]
+#[derive(Clone, Copy)]
 struct Ran {
     log: Log,
     turns: u64,
     regs: Regs,
+    /// Whether the machine rests for good.
+    rests: bool,
     /// The handler of traps, by the books and in memory.
     trap: [u64; 2],
+    /// The five numbers at the top of the trap stack: RIP, CS, RFLAGS, RSP and SS (SDM volume 3, figure 6-9).
+    frame: [u64; 5],
 }
 
 /// Notes what a step shows.
@@ -103,6 +118,31 @@ fn note(log: &mut Log, seen: &Seen) {
             log.delivered = [first.or(Some(*it)), Some(*it)];
         }
     }
+}
+
+/// How many turns are left, where WP is clear.
+fn left(machine: &Machine) -> Option<u8> {
+    match machine {
+        Machine::Outer(_) => None,
+        Machine::Gate(gate) => Some(gate.left()),
+        Machine::Nested(nested) => Some(nested.left()),
+    }
+}
+
+/// Notes how many turns are left.
+fn note_left(log: &mut Log, left: Option<u8>) {
+    if let Some(left) = left
+        && log.states < 12
+    {
+        log.lefts[log.states] = left;
+        log.states += 1;
+    }
+}
+
+/// Notes a turn that began with WP clear or set.
+fn note_turn(log: &mut Log, clear: bool) {
+    log.row = if clear { log.row.saturating_add(1) } else { 0 };
+    log.longest = log.longest.max(log.row);
 }
 
 /// Whether the machine stands where it may with WP clear.
@@ -180,24 +220,47 @@ fn handlers(end: &Finished) -> [u64; 2]
     [end.kernel.trap(), end.mem.load64(0x2000)]
 }
 
+/// The numbers at the top of the trap stack.
+fn frame(end: &Finished) -> [u64; 5]
+    requires { HoldsBooks end.now.kernel end.now.mem }
+{
+    [
+        end.mem.load64(0x3FD8),
+        end.mem.load64(0x3FE0),
+        end.mem.load64(0x3FE8),
+        end.mem.load64(0x3FF0),
+        end.mem.load64(0x3FF8),
+    ]
+}
+
 /// So many steps of a machine, or fewer where it rests.
 fn driven(start: OuterMachine, plan: &Plan, steps: u32) -> Ran {
     let mut log = NOTHING;
     let mut machine = Machine::Outer(start);
     for _ in 0..steps {
+        let left = left(&machine);
+        let before = machine.turns();
+        note_left(&mut log, left);
         machine = advanced(machine, plan, &mut log);
+        if machine.turns() != before {
+            note_turn(&mut log, left.is_some());
+        }
     }
-    ended(machine, log)
+    ended(machine, plan, log)
 }
 
-/// What a run showed, and what it left.
-fn ended(machine: Machine, log: Log) -> Ran {
+/// What a run under a plan showed, and what it left.
+fn ended(machine: Machine, plan: &Plan, log: Log) -> Ran {
     let (regs, turns) = seen_in(&machine);
+    let rests = machine.done(plan);
+    let end = finished(machine);
     Ran {
         log,
         turns,
         regs,
-        trap: handlers(&finished(machine)),
+        rests,
+        trap: handlers(&end),
+        frame: frame(&end),
     }
 }
 
@@ -259,33 +322,41 @@ fn begun<'i>(
     OuterMachine::start(alloc, mem, kernel, image, layout, input).ok()
 }
 
-/// So many steps of a program under a plan, or fewer where it rests; None for want of memory.
-fn run(alloc: Global, text: &[u8], plan: &Plan, steps: u32) -> Option<Ran> {
+/// So many steps of a program under the plan that these bytes are, or fewer where it rests; None for want of memory.
+fn run(alloc: Global, text: &[u8], plan: &[u8], steps: u32) -> Option<Ran> {
     let Some(image) = admitted(alloc, text) else {
+        return None;
+    };
+    let Ok(plan) = Plan::read(alloc, plan) else {
         return None;
     };
     let Ok(layout) = Layout::of(&image, 512) else {
         return None;
     };
     match begun(alloc, &image, &layout, Vec::new(alloc)) {
-        Some(machine) => Some(driven(machine, plan, steps)),
+        Some(machine) => Some(driven(machine, &plan, steps)),
         None => None,
     }
 }
 
-/// The plan of one interrupt, 33, that is due after so many turns.
-fn interrupt(alloc: Global, due: u64) -> Result<Plan, Fail> {
-    let text = format!(in alloc; "{due} irq 33")?;
-    let plan = Plan::read(alloc, text.as_bytes())?;
-    Ok(plan)
+/// A decimal digit of a number, the last one.
+fn digit(number: u32) -> u8 {
+    b'0' + (number % 10) as u8
 }
 
-/// That interrupt's delivery at this address.
-fn interrupted_at(rip: u64) -> Delivery {
-    Delivery {
-        vector: 33,
-        code: None,
-        rip,
-        cr2: None,
-    }
+/// The plan of one interrupt, 32 or 33 by its last digit, that is due after so many turns.
+fn interrupt(due: u32, last: u8) -> [u8; 11] {
+    [
+        digit(due / 1000),
+        digit(due / 100),
+        digit(due / 10),
+        digit(due),
+        b' ',
+        b'i',
+        b'r',
+        b'q',
+        b' ',
+        b'3',
+        last,
+    ]
 }

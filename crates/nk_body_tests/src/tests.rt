@@ -3,23 +3,24 @@
 //! from 2000 on, the pool from A000 on.
 
 mod books;
+mod calls;
+mod cases;
+mod counts;
 mod descriptors;
 mod rule_order;
 
-ghost use Rattle.std.specs.Prelude.{◌≡◌, ◌≤◌, IfSome};
+ghost use Rattle.std.specs.Prelude.{◌≡◌, IfSome};
 ghost use Rattle.nk_body.specs.CallRules.{IsSourceOf};
 ghost use Rattle.nk_body.specs.NestedRecord.{HoldsBooks};
 ghost use Rattle.nk_body.specs.SourceWords.{sourced_of};
 
 use boot_map::{Layout, prepare};
 use elf_image::Image;
-use nk_bits::{Answer, CallWords, Control, Kind};
+use nk_bits::{Answer, CallWords, Control};
 use nk_body::{Kernel, Source};
 use phys_mem::PhysMem;
-use region_book::ShownRegion;
 use std::alloc::{AllocError, Global};
 use tlb_model::Tlb;
-use write_log::Noted;
 
 /// A file's one header loads the byte at offset 4,096 to FFFFFFFF80000000, the entry, readable and executable.
 #[rattlefmt::skip]
@@ -33,6 +34,18 @@ const HEADERS: [u8; 120] = [
 
 /// The handler at the opening: the halt loop of the gates' text.
 const HALTS: u64 = 0xFFFF_FF80_0000_11DA;
+
+/// The opening's leaf of frame 71: P, R/W, A, D and XD.
+const WRITABLE: u64 = 0x8000_0000_0004_7063;
+
+/// The leaf of frame 71 that can only be read.
+const READABLE: u64 = 0x8000_0000_0004_7021;
+
+/// The page of frame 71 in the direct map.
+const PAGE: u64 = 0xFFFF_8000_0004_7000;
+
+/// The pool's first linear address.
+const POOL: u64 = 0xFFFF_FF80_0001_0000;
 
 /// Books, and the memory that they are of.
 #[derive(Drop)]
@@ -55,11 +68,13 @@ fn image(alloc: Global) -> Option<Image> {
     }
 }
 
-/// Memory and books of the opening in so many frames; None for want of memory.
+/// Memory and books of the opening in so many frames; None for another number than a machine has, and for want of memory.
 fn open(alloc: Global, frames: u32) -> Option<Opened>
-    requires { (512 ≤ frames) × (frames ≤ 65536) }
     ensures { IfSome result (λ it. HoldsBooks it.kernel it.mem) }
 {
+    if frames < 512 || frames > 65_536 {
+        return None;
+    }
     let Some(image) = image(alloc) else {
         return None;
     };
@@ -224,306 +239,10 @@ fn load(mem: &PhysMem, at: u64) -> u64 {
     }
 }
 
-/// What the calls leave: how many were answered as they should be, root, handler, the numbers in memory from 1FF8, 2000
-/// and 2008 on, entry 71 of frame 70, the kind of frame 71, the next identifier, how many regions live and how many writes
-/// are logged, and the first eight bytes of the pool.
-#[derive(Clone, Copy, Debug, PartialEq, Eq)]
-struct State {
-    answered: usize,
-    root: u32,
-    trap: u64,
-    slot: [u64; 3],
-    leaf: u64,
-    kind: Kind,
-    next: u64,
-    regions: usize,
-    records: u64,
-    pool: u64,
-}
-
-/// What books and memory are.
-fn seen(kernel: &Kernel, mem: &PhysMem, answered: usize) -> State
-    requires { HoldsBooks kernel.now mem.now }
+/// Regions of a byte each, 256 of them, and some more that are refused; None where fewer are made.
+fn filled(alloc: Global) -> Option<Opened>
+    ensures { IfSome result (λ it. HoldsBooks it.kernel it.mem) }
 {
-    State {
-        answered,
-        root: kernel.root(),
-        trap: kernel.trap(),
-        slot: [load(mem, 0x1FF8), load(mem, 0x2000), load(mem, 0x2008)],
-        leaf: load(mem, 0x46238),
-        kind: kernel.tables().frames.kind(mem, 71),
-        next: kernel.regions().next(),
-        regions: kernel.regions().count(),
-        records: kernel.log().len(),
-        pool: load(mem, 0xA000),
-    }
-}
-
-fn played(alloc: Global, rows: &[(Row, u64)]) -> Option<State> {
-    let Some(mut it) = open(alloc, 512) else {
-        return None;
-    };
-    let answered = play(alloc, &mut it.kernel, &mut it.mem, rows);
-    Some(seen(&it.kernel, &it.mem, answered))
-}
-
-/// The opening's leaf of frame 71: P, R/W, A, D and XD.
-const WRITABLE: u64 = 0x8000_0000_0004_7063;
-
-/// The leaf of frame 71 that can only be read.
-const READABLE: u64 = 0x8000_0000_0004_7021;
-
-/// All calls were answered so, and this is the handler; beside its slot are the last bytes of the gates' text, and zeros.
-fn expected(answered: usize, trap: u64, leaf: u64, kind: Kind) -> State {
-    State {
-        answered,
-        root: 5,
-        trap,
-        slot: [0xCCCC_CCCC_CCCC_CCCC, trap, 0],
-        leaf,
-        kind,
-        next: 256,
-        regions: 0,
-        records: 0,
-        pool: 0,
-    }
-}
-
-/// Canonical addresses are those whose bits 63 to 47 are equal (SDM volume 1, 3.3.7.1).
-const HANDLERS: [(u64, u64, u64); 7] = [
-    (0x8000_0000_0000, 27, HALTS),
-    (0xFFFF_7FFF_FFFF_FFFF, 27, HALTS),
-    (0x8000_0000_0000_0000, 27, HALTS),
-    (0x7FFF_FFFF_FFFF, 0, 0x7FFF_FFFF_FFFF),
-    (0xFFFF_8000_0000_0000, 0, 0xFFFF_8000_0000_0000),
-    (0xFFFF_FFFF_8000_0123, 0, 0xFFFF_FFFF_8000_0123),
-    (0, 0, 0),
-];
-
-#[test]
-fn a_handler_of_the_opening(rt: HostRuntime) {
-    for (a, value, trap) in HANDLERS {
-        assert_eq!(rt;
-            played(rt.alloc(), &[((1, a, 2, 3), value)]),
-            Some(expected(1, trap, WRITABLE, Kind::Data)),
-            "{a:x}"
-        );
-    }
-}
-
-#[test]
-fn a_refused_call_keeps_the_handler_that_was_set(rt: HostRuntime) {
-    let rows = [
-        ((1, 0x40_1000, 2, 3), 0),
-        ((1, 0x8000_0000_0000_0000, 2, 3), 27),
-        ((10, 0x1000, 2, 3), 1),
-    ];
-    assert_eq!(rt;
-        played(rt.alloc(), &rows),
-        Some(expected(3, 0x40_1000, WRITABLE, Kind::Data))
-    );
-}
-
-/// The page of frame 71 in the direct map.
-const PAGE: u64 = 0xFFFF_8000_0004_7000;
-
-/// Each rule broken on the opening, in which nothing changes; where a call breaks two, the first is the answer.
-const REFUSED: [(Row, u64); 42] = [
-    ((0, 0x1000, 0, 0), 1),
-    ((10, 0x1000, 0, 0), 1),
-    ((0x8000_0000_0000_0001, 0x1000, 0, 0), 1),
-    ((1, 0x8000_0000_0000, 0, 0), 27),
-    ((2, 9, 600, 0), 2),
-    ((2, 1, 0x1_0000_0047, 0), 2),
-    ((2, 5, 71, 0), 3),
-    ((2, 0, 71, 0), 3),
-    ((2, 1, 0, 0), 4),
-    ((2, 1, 67, 0), 4),
-    ((2, 1, 71, 0), 5),
-    ((3, 600, 0, 0), 2),
-    ((3, 6, 0, 0), 6),
-    ((3, 70, 512, 0), 7),
-    ((3, 5, 511, 0), 8),
-    ((3, 70, 71, 0x4_7003), 9),
-    ((3, 70, 71, 0x8000_0000_0020_0021), 10),
-    ((3, 70, 71, 0x8000_0000_0001_A021), 10),
-    ((3, 5, 0, 0x5027), 10),
-    ((3, 70, 71, 0x8000_0000_0000_5025), 11),
-    ((3, 70, 71, 0x4_7021), 11),
-    ((4, 5, 0, 0), 12),
-    ((4, 70, 0, 0), 12),
-    ((5, 71, 0, 0), 14),
-    ((6, 0x8000_0000_0000, 4096, 1), 15),
-    ((6, PAGE + 1, 4096, 1), 15),
-    ((6, PAGE, 0, 1), 15),
-    ((6, PAGE, 4095, 5), 15),
-    ((6, PAGE, 0x1_1000, 1), 15),
-    ((6, 0x1000, 4096, 5), 15),
-    ((6, PAGE, 4096, 0), 16),
-    ((6, PAGE, 4096, 5), 16),
-    ((6, PAGE - 4096, 4096, 1), 4),
-    ((6, PAGE - 4096, 8192, 1), 4),
-    ((6, PAGE, 4096, 1), 5),
-    ((7, 0, 5, 0), 15),
-    ((7, 0x1_0001, 1, 0), 15),
-    ((7, 16, 0, 0), 16),
-    ((7, 16, 5, 0), 16),
-    ((8, 256, 0, 0), 19),
-    ((9, 256, 0, 4), 19),
-    ((9, 0, 0, 0), 19),
-];
-
-#[test]
-fn refused_calls_change_nothing(rt: HostRuntime) {
-    assert_eq!(rt;
-        played(rt.alloc(), &REFUSED),
-        Some(expected(REFUSED.len(), HALTS, WRITABLE, Kind::Data))
-    );
-}
-
-/// A frame becomes a page table once no leaf of it is loose, and data again once it is empty and nothing names it.
-const TABLE: [(Row, u64); 11] = [
-    ((3, 70, 71, WRITABLE), 0),
-    ((4, 5, 0, 0), 12),
-    ((3, 70, 71, READABLE), 0),
-    ((2, 1, 71, 0), 0),
-    ((3, 70, 71, WRITABLE), 11),
-    ((3, 71, 0, READABLE), 0),
-    ((4, 71, 0, 0), 13),
-    ((3, 71, 0, 0), 0),
-    ((4, 71, 0, 0), 0),
-    ((4, 71, 0, 0), 6),
-    ((5, 71, 0, 0), 14),
-];
-
-#[test]
-fn a_table_is_declared_and_removed(rt: HostRuntime) {
-    assert_eq!(rt;
-        played(rt.alloc(), &TABLE),
-        Some(expected(TABLE.len(), HALTS, READABLE, Kind::Data))
-    );
-    assert_eq!(rt;
-        played(rt.alloc(), &TABLE[..7]),
-        Some(expected(7, HALTS, READABLE, Kind::Table(1)))
-    );
-}
-
-/// A new root, which lends the opening's tables, after which the opening's own can go.
-const ROOTS: [(Row, u64); 13] = [
-    ((3, 70, 71, READABLE), 0),
-    ((2, 4, 71, 0), 0),
-    ((3, 71, 511, 0), 8),
-    ((3, 71, 256, 0x4_4027), 0),
-    ((4, 5, 0, 0), 12),
-    ((5, 71, 0, 0), 0),
-    ((4, 71, 0, 0), 12),
-    ((4, 5, 0, 0), 13),
-    ((3, 5, 256, 0), 0),
-    ((4, 68, 0, 0), 12),
-    ((4, 5, 0, 0), 0),
-    ((5, 5, 0, 0), 14),
-    ((2, 4, 5, 0), 0),
-];
-
-#[test]
-fn another_root_is_loaded(rt: HostRuntime) {
-    let left = State {
-        root: 71,
-        ..expected(ROOTS.len(), HALTS, READABLE, Kind::Table(4))
-    };
-    assert_eq!(rt; played(rt.alloc(), &ROOTS), Some(left));
-}
-
-/// The pool's first linear address.
-const POOL: u64 = 0xFFFF_FF80_0001_0000;
-
-/// A write-once region, of which a byte is written once.
-const ONCE: [(Row, u64); 9] = [
-    ((7, 16, 1, POOL), 256),
-    ((9, 256, 0, 4), 0),
-    ((9, 256, 3, 2), 24),
-    ((9, 256, 4, 2), 0),
-    ((9, 256, 6, NOWHERE + 1), 22),
-    ((9, 256, 6, 0), 21),
-    ((9, 300, 0, 1), 19),
-    ((7, 16, 5, 0), 16),
-    ((7, 0, 1, 0), 15),
-];
-
-/// An append-only region, which is written at its tail, and one that is never written.
-const TAIL: [(Row, u64); 9] = [
-    ((7, 8, 2, POOL), 256),
-    ((9, 256, 0, 5), 0),
-    ((9, 256, 5, 3), 0),
-    ((9, 256, 8, 1), 21),
-    ((9, 256, 5, 1), 25),
-    ((9, 256, 5, NOWHERE + 1), 22),
-    ((7, 8, 3, POOL + 16), 257),
-    ((9, 257, 0, 1), 23),
-    ((9, 257, 0, NOWHERE + 1), 22),
-];
-
-/// The pool is full, and a region is let go.
-const FULL: [(Row, u64); 5] = [
-    ((7, 0x1_0000, 4, POOL), 256),
-    ((7, 1, 1, 0), 18),
-    ((8, 256, 0, 0), 0),
-    ((7, 1, 1, POOL), 257),
-    ((8, 256, 0, 0), 19),
-];
-
-/// A page that only reading reaches becomes a region.
-const DECLARED: [(Row, u64); 12] = [
-    ((6, PAGE, 4095, 1), 15),
-    ((6, PAGE, 4096, 5), 16),
-    ((6, PAGE, 4096, 1), 5),
-    ((3, 70, 71, READABLE), 0),
-    ((3, 70, 72, READABLE), 0),
-    ((6, PAGE, 8192, 1), 15),
-    ((6, PAGE, 4096, 1), 256),
-    ((6, PAGE, 4096, 1), 4),
-    ((8, 256, 0, 0), 20),
-    ((8, 999, 0, 0), 19),
-    ((9, 256, 4092, 4), 0),
-    ((9, 256, 4095, 1), 24),
-];
-
-#[test]
-fn regions_of_the_pool(rt: HostRuntime) {
-    let once = State {
-        next: 257,
-        regions: 1,
-        pool: 0xFA9C_8949_FA9C,
-        ..expected(ONCE.len(), HALTS, WRITABLE, Kind::Data)
-    };
-    assert_eq!(rt; played(rt.alloc(), &ONCE), Some(once));
-    let tail = State {
-        next: 258,
-        regions: 2,
-        pool: 0x49FA_9CE2_8949_FA9C,
-        ..expected(TAIL.len(), HALTS, WRITABLE, Kind::Data)
-    };
-    assert_eq!(rt; played(rt.alloc(), &TAIL), Some(tail));
-    let full = State {
-        next: 258,
-        regions: 1,
-        ..expected(FULL.len(), HALTS, WRITABLE, Kind::Data)
-    };
-    assert_eq!(rt; played(rt.alloc(), &FULL), Some(full));
-}
-
-#[test]
-fn a_page_is_declared(rt: HostRuntime) {
-    let left = State {
-        next: 257,
-        regions: 1,
-        ..expected(DECLARED.len(), HALTS, READABLE, Kind::Guarded)
-    };
-    assert_eq!(rt; played(rt.alloc(), &DECLARED), Some(left));
-}
-
-/// Regions of a byte each, to the first call that isn't answered by the next identifier, and then these calls.
-fn filled(alloc: Global, rows: &[(Row, u64)]) -> Option<(u64, State)> {
     let Some(mut it) = open(alloc, 512) else {
         return None;
     };
@@ -534,31 +253,13 @@ fn filled(alloc: Global, rows: &[(Row, u64)]) -> Option<(u64, State)> {
             made = k + 1;
         }
     }
-    let answered = play(alloc, &mut it.kernel, &mut it.mem, rows);
-    Some((made, seen(&it.kernel, &it.mem, answered)))
+    if made == 256 { Some(it) } else { None }
 }
 
-#[test]
-fn at_most_256_regions_live(rt: HostRuntime) {
-    let rows = [
-        ((7, 1, 1, 0), 17),
-        ((7, 1, 5, 0), 16),
-        ((6, PAGE, 4096, 1), 17),
-        ((6, PAGE, 4096, 5), 16),
-        ((8, 300, 0, 0), 0),
-        ((7, 17, 1, POOL + 4096), 512),
-        ((7, 1, 1, 0), 17),
-    ];
-    let left = State {
-        next: 513,
-        regions: 256,
-        ..expected(rows.len(), HALTS, WRITABLE, Kind::Data)
-    };
-    assert_eq!(rt; filled(rt.alloc(), &rows), Some((256, left)));
-}
-
-/// Frames 71 to 206 are mapped for reading, and declared by 16 pages; then these calls.
-fn pages_declared(alloc: Global, rows: &[(Row, u64)]) -> Option<(u64, State)> {
+/// Frames 71 to 206 are mapped for reading, and declared by 16 pages, of which 8 are taken; None where it isn't so.
+fn pages_declared(alloc: Global) -> Option<Opened>
+    ensures { IfSome result (λ it. HoldsBooks it.kernel it.mem) }
+{
     let Some(mut it) = open(alloc, 512) else {
         return None;
     };
@@ -573,28 +274,7 @@ fn pages_declared(alloc: Global, rows: &[(Row, u64)]) -> Option<(u64, State)> {
             made = k + 1;
         }
     }
-    let answered = play(alloc, &mut it.kernel, &mut it.mem, rows);
-    Some((made, seen(&it.kernel, &it.mem, answered)))
-}
-
-#[test]
-fn at_most_128_pages_are_declared(rt: HostRuntime) {
-    let rows = [
-        ((6, PAGE + 0x8_0000, 4096, 1), 18),
-        ((6, PAGE, 4096, 1), 18),
-        ((6, PAGE, 4096, 0), 16),
-        ((7, 8, 4, POOL), 264),
-        ((9, 264, 0, 8), 0),
-        ((3, 70, 71, WRITABLE), 11),
-    ];
-    let left = State {
-        next: 265,
-        regions: 9,
-        records: 1,
-        pool: 0xC020_0FE2_8949_FA9C,
-        ..expected(rows.len(), HALTS, READABLE, Kind::Guarded)
-    };
-    assert_eq!(rt; pages_declared(rt.alloc(), &rows), Some((8, left)));
+    if made == 8 { Some(it) } else { None }
 }
 
 /// A logged region fills the log.
@@ -605,75 +285,16 @@ const LOGGED: [(Row, u64); 4] = [
     ((9, 256, 0, 1), 26),
 ];
 
-/// What is told of the log: how many bytes are left, the records, and the region.
-type Told = (
-    usize,
-    u64,
-    Option<Noted>,
-    Option<Noted>,
-    Option<ShownRegion>,
-);
-
-fn record(kernel: &Kernel, mem: &PhysMem, i: u64) -> Option<Noted>
-    requires { HoldsBooks kernel.now mem.now }
+/// The log is full; None where a call isn't answered so.
+fn logged(alloc: Global) -> Option<Opened>
+    ensures { IfSome result (λ it. HoldsBooks it.kernel it.mem) }
 {
-    if i < kernel.log().len() {
-        Some(kernel.log().entry(mem, i))
-    } else {
-        None
-    }
-}
-
-fn log_filled(alloc: Global) -> Option<Told> {
     let Some(mut it) = open(alloc, 512) else {
         return None;
     };
-    let answered = play(alloc, &mut it.kernel, &mut it.mem, &LOGGED);
-    Some((
-        answered,
-        it.kernel.log().room(),
-        record(&it.kernel, &it.mem, 0),
-        record(&it.kernel, &it.mem, 1),
-        it.kernel.regions().find(&it.mem, 256),
-    ))
-}
-
-#[test]
-fn the_log_is_full(rt: HostRuntime) {
-    let noted = |length| {
-        Some(Noted {
-            region: 256,
-            offset: 0,
-            length,
-        })
-    };
-    let region = ShownRegion {
-        id: 256,
-        policy: 4,
-        place: POOL,
-        size: 32_745,
-        tail: 0,
-        pooled: true,
-    };
-    assert_eq!(rt;
-        log_filled(rt.alloc()),
-        Some((LOGGED.len(), 0, noted(32_743), noted(32_745), Some(region)))
-    );
-}
-
-/// Root and handler of the opening, and what call 9 takes from memory where no region lives.
-fn begun(alloc: Global) -> Option<(u32, u64, Option<u64>)> {
-    match open(alloc, 512) {
-        Some(it) => Some((
-            it.kernel.root(),
-            it.kernel.trap(),
-            it.kernel.wants(&it.mem, &words(&(9, 256, 0, 1))),
-        )),
-        None => None,
+    if play(alloc, &mut it.kernel, &mut it.mem, &LOGGED) == LOGGED.len() {
+        Some(it)
+    } else {
+        None
     }
-}
-
-#[test]
-fn books_of_the_opening(rt: HostRuntime) {
-    assert_eq!(rt; begun(rt.alloc()), Some((5, HALTS, None)));
 }

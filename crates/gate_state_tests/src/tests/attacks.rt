@@ -5,7 +5,6 @@ use boot_map::Layout;
 use gate_state::{Machine, OuterMachine};
 use irq_plan::Plan;
 use std::alloc::{AllocError, Global};
-use std::test::Fail;
 
 /// The program names 22 its handler, by call 1, and goes on there. From 22 on it lets an interrupt come that waits, reads a
 /// jump and makes it, with R10 and RSP at a frame by which POPFQ and RET lead back to 22; it halts at 61 where no jump is
@@ -101,7 +100,7 @@ fn attacked(start: OuterMachine, quiet: &Plan, irqs: &Plan, after: Option<u32>) 
         let plan = if after == Some(since) { irqs } else { quiet };
         machine = advanced(machine, plan, &mut log);
     }
-    (ended(machine, log), jumps)
+    (ended(machine, quiet, log), jumps)
 }
 
 /// As above, from the opening of the program on; None for want of memory.
@@ -127,12 +126,12 @@ fn attack(
     }
 }
 
-/// Whether with WP clear the machine always stood at a gate point, and the program came to its end by all its jumps.
-fn came_through(ended: &Option<(Ran, u32)>) -> bool {
+/// Whether with WP clear the machine always stood at a gate point, and the program came to its end by so many jumps.
+fn came_through(ended: &Option<(Ran, u32)>, wanted: u32) -> bool {
     match ended {
         Some((ran, jumps)) => {
             ran.log.stood
-                && *jumps == JUMPS
+                && *jumps == wanted
                 && ran.regs.rip == REST
                 && ran.trap == [HANDLER, HANDLER]
         }
@@ -140,27 +139,59 @@ fn came_through(ended: &Option<(Ran, u32)>) -> bool {
     }
 }
 
-#[test]
-fn each_byte_of_the_gates(rt: HostRuntime) -> Result<(), Fail> {
-    let alloc = rt.alloc();
-    let plans = [Plan::read(alloc, b"")?, Plan::read(alloc, b"")?];
-    assert!(rt; came_through(&attack(alloc, false, &plans, None)));
-    assert!(rt; came_through(&attack(alloc, true, &plans, None)));
-    Ok(())
+/// A plan in which no interrupt comes, and one of those at hand; None for want of memory.
+fn plans(alloc: Global) -> Option<[Plan; 2]> {
+    let Ok(text) = interrupts(alloc) else {
+        return None;
+    };
+    let Ok(quiet) = Plan::read(alloc, b"") else {
+        return None;
+    };
+    match Plan::read(alloc, &text) {
+        Ok(irqs) => Some([quiet, irqs]),
+        Err(_) => None,
+    }
+}
+
+/// The place of the first run that doesn't come through: whether IF is set at the jumps, how many turns behind the beginning
+/// of each an interrupt comes, and how many jumps there are.
+fn first_wrong(alloc: Global, runs: &[(bool, Option<u32>, u32)]) -> Option<usize> {
+    let Some(plans) = plans(alloc) else {
+        return Some(runs.len());
+    };
+    for (index, (sets_if, after, jumps)) in runs.iter().enumerate() {
+        if !came_through(&attack(alloc, *sets_if, &plans, *after), *jumps) {
+            return Some(index);
+        }
+    }
+    None
 }
 
 /// With IF set an interrupt comes at the first byte, and behind up to six instructions; with IF clear it waits.
 #[test]
-fn each_byte_with_an_interrupt(rt: HostRuntime) -> Result<(), Fail> {
-    let alloc = rt.alloc();
-    let plans = [
-        Plan::read(alloc, b"")?,
-        Plan::read(alloc, &interrupts(alloc)?)?,
+fn each_byte_of_the_gates(rt: HostRuntime) {
+    let runs = [
+        (false, None, JUMPS),
+        (true, None, JUMPS),
+        (false, Some(1), JUMPS),
+        (true, Some(1), JUMPS),
+        (true, Some(2), JUMPS),
+        (true, Some(3), JUMPS),
+        (true, Some(4), JUMPS),
+        (true, Some(5), JUMPS),
+        (true, Some(6), JUMPS),
+        (true, Some(7), JUMPS),
     ];
-    assert!(rt; came_through(&attack(alloc, false, &plans, Some(1))));
-    for after in 1..8 {
-        let ended = attack(alloc, true, &plans, Some(after));
-        assert!(rt; came_through(&ended), "{after}: {ended:?}");
-    }
-    Ok(())
+    assert_eq!(rt; first_wrong(rt.alloc(), &runs), None);
+}
+
+/// In the second run there is a jump more than is said of it.
+#[test]
+fn wrong_run_is_found(rt: HostRuntime) {
+    let runs = [
+        (false, None, JUMPS),
+        (false, None, 1015),
+        (true, None, JUMPS),
+    ];
+    assert_eq!(rt; first_wrong(rt.alloc(), &runs), Some(1));
 }

@@ -1,114 +1,45 @@
 //! Jumps to each byte of the gates that carry a RAX with WP clear, under an interrupt that is due after so many turns:
 //! while WP is clear the machine stands at gate points, and it never takes more than eleven turns so.
 
-ghost use Rattle.std.specs.Prelude.{◌≡◌, None};
-ghost use Rattle.boot_map.specs.Division.{IsLayout};
-ghost use Rattle.byte_scanner.specs.FirstFound.{first_found};
-
-use super::jumps::{WITHOUT_WP, program};
-use super::{NOTHING, admitted, advanced, begun, ended};
-use boot_map::Layout;
-use elf_image::Image;
-use gate_state::{Machine, OuterMachine};
-use irq_plan::Plan;
+use super::jumps::WITHOUT_WP;
+use super::programs::jump;
+use super::{Ran, interrupt, run};
 use nk_bits::GATE;
 use std::alloc::Global;
-use std::test::Fail;
-
-/// What is seen of a run.
-#[derive(Clone, Copy, Debug, PartialEq, Eq)]
-struct Stretch {
-    /// The most turns in a row that began with WP clear.
-    turns: u32,
-    /// With WP clear the machine always stood at a gate point, and at last it rests in the halt loop.
-    stood: bool,
-}
 
 /// What is seen of many runs.
-#[derive(Clone, Copy, Debug, PartialEq, Eq)]
+#[derive(Clone, Copy)]
 struct Longest {
     runs: u32,
-    /// The longest stretch of them all.
+    /// The most turns in a row that began with WP clear, in any of them.
     turns: u32,
     /// How many runs have a stretch as long, and the first of them: the offset, and when its interrupt is due.
     reached: u32,
-    first: Option<(u16, u64)>,
-    /// Whether it was so in each.
+    first: (u16, u32),
+    /// Whether in each with WP clear the machine always stood at a gate point, and at last rests in the halt loop.
     stood: bool,
 }
 
 /// The steps of a run: 60 turns, and the event.
 const STEPS: u32 = 61;
 
-/// Whether the machine's next turn begins with WP clear.
-fn is_clear(machine: &Machine) -> bool {
-    match machine {
-        Machine::Outer(_) => false,
-        Machine::Gate(_) | Machine::Nested(_) => true,
-    }
-}
-
-/// The longest stretch of a run. An event is no turn.
-fn followed(start: OuterMachine, plan: &Plan) -> Stretch {
-    let mut log = NOTHING;
-    let mut turns = 0u32;
-    let mut row = 0u32;
-    let mut machine = Machine::Outer(start);
-    for _ in 0..STEPS {
-        let clear = is_clear(&machine);
-        let before = machine.turns();
-        machine = advanced(machine, plan, &mut log);
-        if machine.turns() != before {
-            row = if clear { row.saturating_add(1) } else { 0 };
-            turns = turns.max(row);
-        }
-    }
-    let rests = machine.done(plan);
-    let ran = ended(machine, log);
-    Stretch {
-        turns,
-        stood: ran.log.stood && rests && ran.regs.rip == GATE + 475,
-    }
-}
-
-/// The plan of one interrupt, 32, that is due after so many turns; None for want of memory.
-fn interrupt(alloc: Global, due: u64) -> Option<Plan> {
-    let Ok(text) = format!(in alloc; "{due} irq 32") else {
-        return None;
-    };
-    Plan::read(alloc, text.as_bytes()).ok()
-}
-
-/// The run of an image under that plan; None for want of memory.
-fn observed(alloc: Global, image: &Image, layout: &Layout, due: u64) -> Option<Stretch>
-    requires layout { IsLayout image.now layout.now }
-    requires clean { first_found image.now ≡ None }
-{
-    let Some(plan) = interrupt(alloc, due) else {
-        return None;
-    };
-    match begun(alloc, image, layout, Vec::new(alloc)) {
-        Some(machine) => Some(followed(machine, &plan)),
-        None => None,
-    }
-}
-
 /// What is seen of one more run.
-fn with(runs: Longest, stretch: Stretch, offset: u16, due: u64) -> Longest {
+fn with(runs: Longest, ran: &Ran, offset: u16, due: u32) -> Longest {
+    let turns = ran.log.longest;
     let all = Longest {
         runs: runs.runs.saturating_add(1),
-        stood: runs.stood && stretch.stood,
+        stood: runs.stood && ran.log.stood && ran.rests && ran.regs.rip == GATE + 475,
         ..runs
     };
-    if runs.reached == 0 || stretch.turns > runs.turns {
+    if runs.reached == 0 || turns > runs.turns {
         return Longest {
-            turns: stretch.turns,
+            turns,
             reached: 1,
-            first: Some((offset, due)),
+            first: (offset, due),
             ..all
         };
     }
-    if stretch.turns < runs.turns {
+    if turns < runs.turns {
         return all;
     }
     Longest {
@@ -119,16 +50,11 @@ fn with(runs: Longest, stretch: Stretch, offset: u16, due: u64) -> Longest {
 
 /// What is seen of one more offset, under ten plans; None for want of memory.
 fn with_offset(alloc: Global, runs: Longest, offset: u16) -> Option<Longest> {
-    let Some(image) = admitted(alloc, &program(true, offset, WITHOUT_WP)) else {
-        return None;
-    };
-    let Ok(layout) = Layout::of(&image, 512) else {
-        return None;
-    };
+    let text = jump(true, offset, WITHOUT_WP);
     let mut runs = runs;
-    for due in 5..15u64 {
-        match observed(alloc, &image, &layout, due) {
-            Some(stretch) => runs = with(runs, stretch, offset, due),
+    for due in 5..15u32 {
+        match run(alloc, &text, &interrupt(due, b'2'), STEPS) {
+            Some(ran) => runs = with(runs, &ran, offset, due),
             None => return None,
         }
     }
@@ -141,7 +67,7 @@ fn over(alloc: Global, from: u16, to: u16) -> Option<Longest> {
         runs: 0,
         turns: 0,
         reached: 0,
-        first: None,
+        first: (0, 0),
         stood: true,
     };
     for offset in from..to {
@@ -153,150 +79,102 @@ fn over(alloc: Global, from: u16, to: u16) -> Option<Longest> {
     Some(runs)
 }
 
-/// So many runs, the longest stretch of them, how many of them reach it, and the offset and the due turn of the first.
-fn at_most(runs: u32, turns: u32, reached: u32, first: (u16, u64)) -> Option<Longest> {
-    Some(Longest {
-        runs,
-        turns,
-        reached,
-        first: Some(first),
-        stood: true,
-    })
+/// The first offset, and the one behind the last; how many runs there are to these, the longest stretch of them, how many
+/// of them reach it, and the offset and the due turn of the first.
+type Part = (u16, u16, u32, u32, u32, (u16, u32));
+
+/// Whether it is so.
+fn is_so(alloc: Global, part: &Part) -> bool {
+    match over(alloc, part.0, part.1) {
+        Some(found) => {
+            found.runs == part.2
+                && found.turns == part.3
+                && found.reached == part.4
+                && found.first == part.5
+                && found.stood
+        }
+        None => false,
+    }
 }
 
-/// So many runs, the first of them to this offset, in which WP is never clear.
-fn none_clear(runs: u32, from: u16) -> Option<Longest> {
-    at_most(runs, 0, runs, (from, 5))
+/// The place of the first part of which it isn't so.
+fn first_wrong(alloc: Global, parts: &[Part]) -> Option<usize> {
+    for (index, part) in parts.iter().enumerate() {
+        if !is_so(alloc, part) {
+            return Some(index);
+        }
+    }
+    None
 }
 
 /// Both gates load CR0 there, and go round once more where WP was cleared: 40, 45, 29 and 32, or 460, 465, 449 and 452.
 /// An interrupt that comes behind these adds the most: its delivery, two instructions of its stub, and four of the trap
-/// gate.
-#[test]
-fn loads_that_set_wp(rt: HostRuntime) -> Result<(), Fail> {
-    assert_eq!(rt; over(rt.alloc(), 37, 38), at_most(10, 11, 1, (37, 9)));
-    assert_eq!(rt; over(rt.alloc(), 457, 458), at_most(10, 11, 1, (457, 9)));
-    Ok(())
-}
-
-/// The offsets beside them lead to no load that clears WP.
-#[test]
-fn beside_these_loads(rt: HostRuntime) -> Result<(), Fail> {
-    assert_eq!(rt; over(rt.alloc(), 36, 37), none_clear(10, 36));
-    assert_eq!(rt; over(rt.alloc(), 38, 39), none_clear(10, 38));
-    assert_eq!(rt; over(rt.alloc(), 456, 457), none_clear(10, 456));
-    Ok(())
-}
+/// gate. The offsets beside them lead to no load that clears WP.
+const LOADS: [Part; 5] = [
+    (37, 38, 10, 11, 1, (37, 9)),
+    (457, 458, 10, 11, 1, (457, 9)),
+    (36, 37, 10, 0, 10, (36, 5)),
+    (38, 39, 10, 0, 10, (38, 5)),
+    (456, 457, 10, 0, 10, (456, 5)),
+];
 
 /// From 2, 3, 5 and 6 the load at 13 is reached with IF set. An interrupt comes at 16: seven turns, where the way to
-/// the load at 37 takes six.
+/// the load at 37 takes six. So it is from 8, and from 13 itself.
+const CALL_GATE: [Part; 2] = [(0, 8, 80, 7, 4, (2, 8)), (8, 37, 290, 7, 2, (8, 6))];
+
 #[test]
-fn from_0(rt: HostRuntime) -> Result<(), Fail> {
-    assert_eq!(rt; over(rt.alloc(), 0, 8), at_most(80, 7, 4, (2, 8)));
-    Ok(())
+fn loads_that_set_wp(rt: HostRuntime) {
+    assert_eq!(rt; first_wrong(rt.alloc(), &LOADS), None);
+    assert_eq!(rt; first_wrong(rt.alloc(), &CALL_GATE), None);
 }
 
-/// So it is from 8, and from 13 itself.
-#[test]
-fn from_8(rt: HostRuntime) -> Result<(), Fail> {
-    assert_eq!(rt; over(rt.alloc(), 8, 37), at_most(290, 7, 2, (8, 6)));
-    Ok(())
-}
-
-// The other offsets stand in parts, so that each part ends in time where tests run with checks.
-
-#[test]
-fn from_38(rt: HostRuntime) -> Result<(), Fail> {
-    assert_eq!(rt; over(rt.alloc(), 38, 66), none_clear(280, 38));
-    Ok(())
-}
-
-#[test]
-fn from_66(rt: HostRuntime) -> Result<(), Fail> {
-    assert_eq!(rt; over(rt.alloc(), 66, 94), none_clear(280, 66));
-    Ok(())
-}
-
-#[test]
-fn from_94(rt: HostRuntime) -> Result<(), Fail> {
-    assert_eq!(rt; over(rt.alloc(), 94, 122), none_clear(280, 94));
-    Ok(())
-}
+/// The other offsets. They stand in parts, which are tested apart so that each test ends in time.
+const OTHERS: [Part; 16] = [
+    (38, 66, 280, 0, 280, (38, 5)),
+    (66, 94, 280, 0, 280, (66, 5)),
+    (94, 122, 280, 0, 280, (94, 5)),
+    (122, 150, 280, 0, 280, (122, 5)),
+    (150, 178, 280, 0, 280, (150, 5)),
+    (178, 206, 280, 0, 280, (178, 5)),
+    (206, 234, 280, 0, 280, (206, 5)),
+    (234, 262, 280, 0, 280, (234, 5)),
+    (262, 290, 280, 0, 280, (262, 5)),
+    (290, 318, 280, 0, 280, (290, 5)),
+    (318, 346, 280, 0, 280, (318, 5)),
+    (346, 374, 280, 0, 280, (346, 5)),
+    (374, 402, 280, 0, 280, (374, 5)),
+    (402, 430, 280, 0, 280, (402, 5)),
+    (430, 457, 270, 0, 270, (430, 5)),
+    (458, 476, 180, 0, 180, (458, 5)),
+];
 
 #[test]
-fn from_122(rt: HostRuntime) -> Result<(), Fail> {
-    assert_eq!(rt; over(rt.alloc(), 122, 150), none_clear(280, 122));
-    Ok(())
+fn from_38(rt: HostRuntime) {
+    assert_eq!(rt; first_wrong(rt.alloc(), &OTHERS[..4]), None);
 }
 
 #[test]
-fn from_150(rt: HostRuntime) -> Result<(), Fail> {
-    assert_eq!(rt; over(rt.alloc(), 150, 178), none_clear(280, 150));
-    Ok(())
+fn from_150(rt: HostRuntime) {
+    assert_eq!(rt; first_wrong(rt.alloc(), &OTHERS[4..8]), None);
 }
 
 #[test]
-fn from_178(rt: HostRuntime) -> Result<(), Fail> {
-    assert_eq!(rt; over(rt.alloc(), 178, 206), none_clear(280, 178));
-    Ok(())
+fn from_262(rt: HostRuntime) {
+    assert_eq!(rt; first_wrong(rt.alloc(), &OTHERS[8..12]), None);
 }
 
 #[test]
-fn from_206(rt: HostRuntime) -> Result<(), Fail> {
-    assert_eq!(rt; over(rt.alloc(), 206, 234), none_clear(280, 206));
-    Ok(())
+fn from_374(rt: HostRuntime) {
+    assert_eq!(rt; first_wrong(rt.alloc(), &OTHERS[12..]), None);
 }
 
+/// The longest stretch of the second part is one turn longer than is said of it.
 #[test]
-fn from_234(rt: HostRuntime) -> Result<(), Fail> {
-    assert_eq!(rt; over(rt.alloc(), 234, 262), none_clear(280, 234));
-    Ok(())
-}
-
-#[test]
-fn from_262(rt: HostRuntime) -> Result<(), Fail> {
-    assert_eq!(rt; over(rt.alloc(), 262, 290), none_clear(280, 262));
-    Ok(())
-}
-
-#[test]
-fn from_290(rt: HostRuntime) -> Result<(), Fail> {
-    assert_eq!(rt; over(rt.alloc(), 290, 318), none_clear(280, 290));
-    Ok(())
-}
-
-#[test]
-fn from_318(rt: HostRuntime) -> Result<(), Fail> {
-    assert_eq!(rt; over(rt.alloc(), 318, 346), none_clear(280, 318));
-    Ok(())
-}
-
-#[test]
-fn from_346(rt: HostRuntime) -> Result<(), Fail> {
-    assert_eq!(rt; over(rt.alloc(), 346, 374), none_clear(280, 346));
-    Ok(())
-}
-
-#[test]
-fn from_374(rt: HostRuntime) -> Result<(), Fail> {
-    assert_eq!(rt; over(rt.alloc(), 374, 402), none_clear(280, 374));
-    Ok(())
-}
-
-#[test]
-fn from_402(rt: HostRuntime) -> Result<(), Fail> {
-    assert_eq!(rt; over(rt.alloc(), 402, 430), none_clear(280, 402));
-    Ok(())
-}
-
-#[test]
-fn from_430(rt: HostRuntime) -> Result<(), Fail> {
-    assert_eq!(rt; over(rt.alloc(), 430, 457), none_clear(270, 430));
-    Ok(())
-}
-
-#[test]
-fn from_458(rt: HostRuntime) -> Result<(), Fail> {
-    assert_eq!(rt; over(rt.alloc(), 458, 476), none_clear(180, 458));
-    Ok(())
+fn wrong_part_is_found(rt: HostRuntime) {
+    let wrong = [
+        (36, 37, 10, 0, 10, (36, 5)),
+        (37, 38, 10, 10, 1, (37, 9)),
+        (38, 39, 10, 0, 10, (38, 5)),
+    ];
+    assert_eq!(rt; first_wrong(rt.alloc(), &wrong), Some(1));
 }

@@ -1,13 +1,9 @@
 //! Calls that break two rules at once: the answer is the first of them in the call's order. Each pair of rules that one call
 //! can break is a row, of which the later rule stands behind it.
 
-ghost use Rattle.std.specs.Prelude.{◌≡◌};
-
-use super::{
-    LOGGED, NOWHERE, PAGE, POOL, READABLE, Row, WRITABLE, filled, open, pages_declared, play,
-};
-use std::alloc::{AllocError, Global};
-use std::test::Fail;
+use super::cases::{Case, Start, first_wrong};
+use super::{NOWHERE, PAGE, POOL, READABLE, Row, WRITABLE, pages_declared, play};
+use std::alloc::Global;
 
 /// On the opening: levels and frames of a new table, entries, tables that go, ranges and sizes of regions.
 const OPENING: [(Row, u64); 30] = [
@@ -104,60 +100,35 @@ const LOG: [(Row, u64); 2] = [
     ((9, 256, 0, NOWHERE + 1), 22), // 26
 ];
 
-/// How many of the calls are answered as they should be, to the first that isn't.
-fn answered(alloc: Global, rows: &[(Row, u64)]) -> Option<usize> {
-    let Some(mut it) = open(alloc, 512) else {
-        return None;
-    };
-    Some(play(alloc, &mut it.kernel, &mut it.mem, rows))
-}
-
-/// How many are once the log is full.
-fn answered_with_full_log(alloc: Global, rows: &[(Row, u64)]) -> Option<usize> {
-    let Some(mut it) = open(alloc, 512) else {
-        return None;
-    };
-    if play(alloc, &mut it.kernel, &mut it.mem, &LOGGED) != LOGGED.len() {
-        return None;
-    }
-    Some(play(alloc, &mut it.kernel, &mut it.mem, rows))
+/// Whether the calls are answered so behind what stands before them.
+fn are_answered(alloc: Global, start: Start, calls: &[(Row, u64)]) -> bool {
+    first_wrong(alloc, start, &[Case { calls, found: &[] }]).is_none()
 }
 
 /// So many regions of a byte each behind eight that were declared, and then a declaration where neither a region nor a
 /// page may be added.
-fn most_of_both(alloc: Global) -> Result<Vec<(Row, u64)>, AllocError> {
-    let mut rows = Vec::new(alloc);
+fn is_answered_at_both_limits(alloc: Global) -> bool {
+    let Some(mut it) = pages_declared(alloc) else {
+        return false;
+    };
     for k in 0..248u64 {
-        rows.push(((7, 1, 1, POOL + 16 * k), 264 + k))?;
+        let row = ((7, 1, 1, POOL + 16 * k), 264 + k);
+        if play(alloc, &mut it.kernel, &mut it.mem, &[row]) != 1 {
+            return false;
+        }
     }
-    rows.push(((6, PAGE + 136 * 4096, 4096, 1), 17))?; // 18
-    Ok(rows)
+    let row = ((6, PAGE + 136 * 4096, 4096, 1), 17); // 18
+    play(alloc, &mut it.kernel, &mut it.mem, &[row]) == 1
 }
 
 #[test]
 fn first_of_two_broken_rules_answers(rt: HostRuntime) {
-    assert_eq!(rt; answered(rt.alloc(), &OPENING), Some(30));
-    assert_eq!(rt; answered(rt.alloc(), &RANGES), Some(6));
-    assert_eq!(rt; answered(rt.alloc(), &FULL), Some(4));
-    assert_eq!(rt; answered(rt.alloc(), &WRITES), Some(13));
-}
-
-#[test]
-fn first_of_two_broken_rules_answers_at_the_limits(rt: HostRuntime) -> Result<(), Fail> {
-    let many = filled(rt.alloc(), &MANY);
-    assert!(rt; many.is_some_and(|(made, left)| made == 256 && left.answered == 7));
-    let pages = pages_declared(rt.alloc(), &PAGES);
-    assert!(rt; pages.is_some_and(|(made, left)| made == 8 && left.answered == 5));
-    assert_eq!(rt; answered_with_full_log(rt.alloc(), &LOG), Some(2));
-    let rows = most_of_both(rt.alloc())?;
-    let both = pages_declared(rt.alloc(), &rows);
-    assert!(rt; both.is_some_and(|(made, left)| made == 8 && left.answered == 249));
-    Ok(())
-}
-
-/// A row with a later rule as its answer is found to be wrong, at its place.
-#[test]
-fn wrong_answer_is_found(rt: HostRuntime) {
-    let wrong = [((2, 5, 0, 0), 3), ((2, 5, 71, 0), 5), ((2, 1, 3, 0), 4)];
-    assert_eq!(rt; answered(rt.alloc(), &wrong), Some(1));
+    let opening = Start::Opening(512);
+    for calls in [&OPENING[..], &RANGES[..], &FULL[..], &WRITES[..]] {
+        assert!(rt; are_answered(rt.alloc(), opening, calls));
+    }
+    assert!(rt; are_answered(rt.alloc(), Start::Regions, &MANY));
+    assert!(rt; are_answered(rt.alloc(), Start::Pages, &PAGES));
+    assert!(rt; are_answered(rt.alloc(), Start::FullLog, &LOG));
+    assert!(rt; is_answered_at_both_limits(rt.alloc()));
 }
