@@ -2,7 +2,7 @@
 #![tactic(auto)]
 
 #[cfg(test)]
-mod asked;
+mod content;
 #[cfg(test)]
 mod disk;
 #[cfg(test)]

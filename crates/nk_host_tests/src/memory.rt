@@ -1,93 +1,101 @@
 //! Files and output in memory.
 
-use crate::asked::{Fetch, wrong_fetch};
-use nk_host::{FetchFault, MemShelf, MemSink, PIECE, Pieces, Sink, SinkFault, put_all};
+use crate::content::Content::{Text, Zeros};
+use crate::content::{Content, bytes_of, is_file, repeated};
+use Out::{All, Line};
+use nk_host::FetchFault::{Failed, Longer};
+use nk_host::{FetchFault, MemShelf, MemSink, PIECE, Pieces, Shelf, Sink, SinkFault, put_all};
 use std::alloc::Global;
-use std::test::Fail;
 
-fn named(alloc: Global, name: &str, bytes: &[u8]) -> Result<(String, Vec<u8>), Fail> {
-    Ok((String::from_str(alloc, name)?, bytes.to_vec(alloc)?))
+/// A file's name, the most bytes that it may have, and the file.
+type Fetch = (&'static str, u64, Result<Content, FetchFault>);
+
+fn named(alloc: Global, name: &str, content: Content) -> Option<(String, Vec<u8>)> {
+    String::from_str(alloc, name)
+        .ok()
+        .zip(bytes_of(alloc, content))
 }
 
-fn two_files(alloc: Global, failing: &[u64]) -> Result<MemShelf, Fail> {
-    let mut files = Vec::new(alloc);
-    files.push(named(alloc, "one", b"first")?)?;
-    files.push(named(alloc, "two", b"")?)?;
-    files.push(named(alloc, "one", b"second")?)?;
-    Ok(MemShelf::new(alloc, files, failing.to_vec(alloc)?)?)
+fn four_files(alloc: Global, failing: &[u64]) -> Option<MemShelf> {
+    let files = vec![in alloc;
+        named(alloc, "one", Text(b"first"))?,
+        named(alloc, "two", Text(b""))?,
+        named(alloc, "one", Text(b"second"))?,
+        named(alloc, "long", Zeros(1_000_000))?,
+    ];
+    MemShelf::new(alloc, files.ok()?, failing.to_vec(alloc).ok()?).ok()
 }
 
-static NONE_FAILS: [Fetch<'static>; 4] = [
-    ("one", 5, Ok(b"first")),
-    ("two", 0, Ok(b"")),
-    ("one", 4, Err(FetchFault::Longer)),
-    ("three", 9, Err(FetchFault::Failed)),
-];
-
-#[test]
-fn the_first_file_of_a_name_counts(rt: HostRuntime) -> Result<(), Fail> {
-    let mut shelf = two_files(rt.alloc(), &[])?;
-    assert_eq!(rt; wrong_fetch(&mut shelf, rt.alloc(), &NONE_FAILS), None);
-    Ok(())
-}
-
-/// The second of each two is wrong.
-static WRONG: [[Fetch<'static>; 2]; 3] = [
-    [("one", 5, Ok(b"first")), ("one", 5, Ok(b"second"))],
-    [
-        ("one", 5, Ok(b"first")),
-        ("one", 4, Err(FetchFault::Failed)),
-    ],
-    [
-        ("one", 5, Ok(b"first")),
-        ("two", 0, Err(FetchFault::Failed)),
-    ],
-];
-
-#[test]
-fn a_wrong_row_is_found(rt: HostRuntime) -> Result<(), Fail> {
-    for rows in &WRONG {
-        let mut shelf = two_files(rt.alloc(), &[])?;
-        assert_eq!(rt; wrong_fetch(&mut shelf, rt.alloc(), rows), Some(1));
+// Over any shelf, which hides the exact contract of one: the tests run the code, and their proofs
+// stay short.
+fn wrong_of<S: Shelf>(shelf: &mut S, alloc: Global, rows: &[Fetch]) -> Option<usize> {
+    for (index, row) in rows.iter().enumerate() {
+        if !is_file(shelf.fetch(alloc, row.0, row.1), row.2) {
+            return Some(index);
+        }
     }
-    Ok(())
+    None
+}
+
+/// The index of the first fetch that is answered otherwise, where those of some numbers fail. Want
+/// of memory fails at 0.
+fn wrong_fetch(alloc: Global, failing: &[u64], rows: &[Fetch]) -> Option<usize> {
+    match four_files(alloc, failing) {
+        Some(mut shelf) => wrong_of(&mut shelf, alloc, rows),
+        None => Some(0),
+    }
+}
+
+static NONE_FAILS: [Fetch; 5] = [
+    ("one", 5, Ok(Text(b"first"))),
+    ("two", 0, Ok(Text(b""))),
+    ("one", 4, Err(Longer)),
+    ("three", 9, Err(Failed)),
+    ("long", 1_000_000, Ok(Zeros(1_000_000))),
+];
+
+#[test]
+fn the_first_file_of_a_name_counts(rt: HostRuntime) {
+    assert_eq!(rt; wrong_fetch(rt.alloc(), &[], &NONE_FAILS), None);
 }
 
 /// The fetches 2 and 3 fail.
-static TWO_FAIL: [Fetch<'static>; 4] = [
-    ("one", 5, Ok(b"first")),
-    ("one", 5, Err(FetchFault::Failed)),
-    ("one", 4, Err(FetchFault::Failed)),
-    ("one", 5, Ok(b"first")),
+static TWO_FAIL: [Fetch; 4] = [
+    ("one", 5, Ok(Text(b"first"))),
+    ("one", 5, Err(Failed)),
+    ("one", 4, Err(Failed)),
+    ("one", 5, Ok(Text(b"first"))),
 ];
 
 #[test]
-fn a_fetch_fails_at_its_number(rt: HostRuntime) -> Result<(), Fail> {
-    let mut shelf = two_files(rt.alloc(), &[2, 3])?;
-    assert_eq!(rt; wrong_fetch(&mut shelf, rt.alloc(), &TWO_FAIL), None);
-    Ok(())
+fn a_fetch_fails_at_its_number(rt: HostRuntime) {
+    assert_eq!(rt; wrong_fetch(rt.alloc(), &[2, 3], &TWO_FAIL), None);
 }
+
+/// The second of each two is wrong.
+#[rattlefmt::skip]
+static WRONG: [[Fetch; 2]; 3] = [
+    [("one", 5, Ok(Text(b"first"))), ("one", 5, Ok(Text(b"second")))],
+    [("one", 5, Ok(Text(b"first"))), ("one", 4, Err(Failed))],
+    [("one", 5, Ok(Text(b"first"))), ("two", 0, Err(Failed))],
+];
 
 #[test]
-fn a_long_file_is_fetched(rt: HostRuntime) -> Result<(), Fail> {
-    let alloc = rt.alloc();
-    let zeros = vec![in alloc; 0; 1_000_000]?;
-    let mut files = Vec::new(alloc);
-    files.push(named(alloc, "long", &zeros)?)?;
-    let mut shelf = MemShelf::new(alloc, files, Vec::new(alloc))?;
-    let row = ("long", 1_000_000, Ok(zeros.as_slice()));
-    assert_eq!(rt; wrong_fetch(&mut shelf, alloc, &[row]), None);
-    Ok(())
+fn a_wrong_row_is_found(rt: HostRuntime) {
+    for rows in &WRONG {
+        assert_eq!(rt; wrong_fetch(rt.alloc(), &[], rows), Some(1));
+    }
 }
 
-fn sink(alloc: Global, room: usize, failing: &[u64], cut: usize) -> Result<MemSink, Fail> {
-    Ok(MemSink::new(alloc, room, failing.to_vec(alloc)?, cut)?)
+fn sink(alloc: Global, room: usize, failing: &[u64], cut: usize) -> Option<MemSink> {
+    MemSink::new(alloc, room, failing.to_vec(alloc).ok()?, cut).ok()
 }
 
 /// Bytes that are put, whether all are taken, and what was taken by then.
 type Put = (&'static [u8], Result<(), SinkFault>, &'static [u8]);
 
-/// A sink with room for ten bytes, of which the puts 2 and 4 of some bytes fail and take at most three bytes.
+/// A sink with room for ten bytes, of which the puts 2 and 4 of some bytes fail and take at most
+/// three bytes.
 static PUTS: [Put; 6] = [
     (b"abcd", Ok(()), b"abcd"),
     (b"", Ok(()), b"abcd"),
@@ -105,10 +113,14 @@ fn is_taken(out: &MemSink, bytes: &[u8]) -> bool {
     out.taken() == bytes
 }
 
-/// The index of the first put that is answered otherwise, or leaves other bytes.
-fn wrong_put(out: &mut MemSink, rows: &[Put]) -> Option<usize> {
+/// The index of the first put that is answered otherwise, or leaves other bytes. Want of memory
+/// fails at 0.
+fn wrong_put(alloc: Global, rows: &[Put]) -> Option<usize> {
+    let Some(mut out) = sink(alloc, 10, &[2, 4], 3) else {
+        return Some(0);
+    };
     for (index, row) in rows.iter().enumerate() {
-        if put(out, row.0) != row.1 || !is_taken(out, row.2) {
+        if put(&mut out, row.0) != row.1 || !is_taken(&out, row.2) {
             return Some(index);
         }
     }
@@ -116,106 +128,111 @@ fn wrong_put(out: &mut MemSink, rows: &[Put]) -> Option<usize> {
 }
 
 #[test]
-fn a_put_is_cut_at_its_number_and_at_the_room(rt: HostRuntime) -> Result<(), Fail> {
-    let mut out = sink(rt.alloc(), 10, &[2, 4], 3)?;
-    assert_eq!(rt; wrong_put(&mut out, &PUTS), None);
-    Ok(())
+fn a_put_is_cut_at_its_number_and_at_the_room(rt: HostRuntime) {
+    assert_eq!(rt; wrong_put(rt.alloc(), &PUTS), None);
 }
 
-/// So many zeros, and the number of the put that fails; whether all went out, and how many did.
-type Text = (usize, u64, bool, usize);
-
-static TEXTS: [Text; 7] = [
-    (0, 1, true, 0),
-    (4096, 1, false, 0),
-    (4096, 2, true, 4096),
-    (4097, 2, false, 4096),
-    (4097, 3, true, 4097),
-    (8192, 2, false, 4096),
-    (8192, 3, true, 8192),
-];
-
-/// Whether a sink, whose put of the row's number takes none, takes so many.
-fn goes_out(alloc: Global, row: &Text) -> Result<bool, Fail> {
-    let mut out = sink(alloc, 3 * PIECE, &[row.1], 0)?;
-    let zeros = vec![in alloc; 0; row.0]?;
-    let all = put_all(&mut out, &zeros).is_ok();
-    Ok(all == row.2 && out.taken().len() == row.3)
+/// What goes out in pieces.
+#[derive(Clone, Copy)]
+enum Out {
+    /// So many zeros.
+    All(usize),
+    /// So many bytes `a`, the two digits of a byte, and a line's end.
+    Line(usize, u8),
 }
 
-#[test]
-fn texts_go_out_in_pieces(rt: HostRuntime) -> Result<(), Fail> {
-    for row in &TEXTS {
-        assert!(rt; goes_out(rt.alloc(), row)?, "{row:?}");
-    }
-    Ok(())
-}
+/// What goes out, the number of the put that fails, and how many bytes that put takes at most;
+/// whether all went out, how many bytes did, and the last of them.
+type Going = (Out, u64, usize, bool, usize, &'static [u8]);
 
-/// So many bytes `a` and a byte, the number of the put that fails, and how many bytes that put takes at most; whether
-/// all went out, how many bytes did, and the last of them.
-type Line = (usize, u8, u64, usize, bool, usize, &'static [u8]);
-
-static LINES: [Line; 6] = [
-    (4093, 0, 1, 0, false, 0, b""),
-    (4093, 0, 2, 0, true, 4096, b"a00\n"),
-    (4094, 0, 2, 0, false, 4096, b"a00"),
-    (4094, 0, 3, 0, true, 4097, b"a00\n"),
-    (8189, 0, 2, 0, false, 4096, b"aaaa"),
-    (8189, 0, 3, 0, true, 8192, b"a00\n"),
+static TEXTS: [Going; 19] = [
+    (All(0), 1, 0, true, 0, b""),
+    (All(4096), 1, 0, false, 0, b""),
+    (All(4096), 2, 0, true, 4096, b""),
+    (All(4097), 2, 0, false, 4096, b""),
+    (All(4097), 3, 0, true, 4097, b""),
+    (All(8192), 2, 0, false, 4096, b""),
+    (All(8192), 3, 0, true, 8192, b""),
+    // lines whose ends meet the end of a piece
+    (Line(4093, 0), 1, 0, false, 0, b""),
+    (Line(4093, 0), 2, 0, true, 4096, b"a00\n"),
+    (Line(4094, 0), 2, 0, false, 4096, b"a00"),
+    (Line(4094, 0), 3, 0, true, 4097, b"a00\n"),
+    (Line(8189, 0), 2, 0, false, 4096, b"aaaa"),
+    (Line(8189, 0), 3, 0, true, 8192, b"a00\n"),
+    // digits of each kind
+    (Line(1, 0x00), 2, 0, true, 4, b"a00\n"),
+    (Line(1, 0x09), 2, 0, true, 4, b"a09\n"),
+    (Line(1, 0xA0), 2, 0, true, 4, b"aa0\n"),
+    (Line(1, 0xFF), 2, 0, true, 4, b"aff\n"),
+    // a cut line leaves a prefix
+    (Line(2, 0x1E), 1, 3, false, 3, b"aa1"),
+    (Line(4095, 0x1E), 2, 1, false, 4097, b"a1e"),
 ];
 
-static DIGITS: [Line; 4] = [
-    (1, 0x00, 2, 0, true, 4, b"a00\n"),
-    (1, 0x09, 2, 0, true, 4, b"a09\n"),
-    (1, 0xA0, 2, 0, true, 4, b"aa0\n"),
-    (1, 0xFF, 2, 0, true, 4, b"aff\n"),
-];
-
-static CUT: [Line; 2] = [
-    (2, 0x1E, 1, 3, false, 3, b"aa1"),
-    (4095, 0x1E, 2, 1, false, 4097, b"a1e"),
-];
-
-/// Takes up the bytes, the two digits of the byte, and a line's end.
-fn push_line<O: Sink>(out: &mut O, text: &[u8], byte: u8) -> Result<(), SinkFault> {
-    let mut pieces = Pieces::new();
+fn push_line<O: Sink>(
+    pieces: &mut Pieces,
+    out: &mut O,
+    text: &[u8],
+    byte: u8,
+) -> Result<(), SinkFault> {
     pieces.push_all(out, text)?;
     pieces.push_hex(out, byte)?;
     pieces.push(out, b'\n')?;
     pieces.finish(out)
 }
 
-fn is_line(alloc: Global, row: &Line) -> Result<bool, Fail> {
-    let mut out = sink(alloc, 3 * PIECE, &[row.2], row.3)?;
-    let text = vec![in alloc; b'a'; row.0]?;
-    let all = push_line(&mut out, &text, row.1).is_ok();
-    Ok(all == row.4 && out.taken().len() == row.5 && out.taken().ends_with(row.6))
-}
-
-/// The index of the first line that goes out otherwise.
-fn wrong_line(alloc: Global, rows: &[Line]) -> Result<Option<usize>, Fail> {
-    for (index, row) in rows.iter().enumerate() {
-        if !is_line(alloc, row)? {
-            return Ok(Some(index));
+/// Whether all went out, where there is memory for it.
+fn goes_out<O: Sink>(alloc: Global, out: &mut O, text: Out) -> Option<bool> {
+    match text {
+        All(len) => Some(put_all(out, &repeated(alloc, 0, len)?).is_ok()),
+        Line(len, byte) => {
+            let text = repeated(alloc, b'a', len)?;
+            Some(push_line(&mut Pieces::new(), out, &text, byte).is_ok())
         }
     }
-    Ok(None)
+}
+
+fn is_met(alloc: Global, row: &Going) -> bool {
+    let Some(mut out) = sink(alloc, 3 * PIECE, &[row.1], row.2) else {
+        return false;
+    };
+    goes_out(alloc, &mut out, row.0) == Some(row.3)
+        && out.taken().len() == row.4
+        && out.taken().ends_with(row.5)
+}
+
+/// The index of the first row that goes out otherwise.
+fn first_wrong(alloc: Global, rows: &[Going]) -> Option<usize> {
+    for (index, row) in rows.iter().enumerate() {
+        if !is_met(alloc, row) {
+            return Some(index);
+        }
+    }
+    None
 }
 
 #[test]
-fn lines_go_out_in_pieces(rt: HostRuntime) -> Result<(), Fail> {
-    assert_eq!(rt; wrong_line(rt.alloc(), &LINES)?, None);
-    Ok(())
+fn texts_go_out_in_pieces(rt: HostRuntime) {
+    assert_eq!(rt; first_wrong(rt.alloc(), &TEXTS), None);
 }
 
-#[test]
-fn a_byte_is_two_digits(rt: HostRuntime) -> Result<(), Fail> {
-    assert_eq!(rt; wrong_line(rt.alloc(), &DIGITS)?, None);
-    Ok(())
-}
+/// The second put is answered otherwise, and the third leaves other bytes.
+static WRONG_PUTS: [Put; 3] = [
+    (b"abcd", Ok(()), b"abcd"),
+    (b"efgh", Ok(()), b"abcdefg"),
+    (b"ij", Ok(()), b"abcdefg"),
+];
+
+/// The second row is of too many bytes, and the third of another end.
+static WRONG_TEXTS: [Going; 3] = [
+    (Line(1, 0x1E), 2, 0, true, 4, b"a1e\n"),
+    (Line(1, 0x1E), 2, 0, true, 5, b"a1e\n"),
+    (Line(1, 0x1E), 2, 0, true, 4, b"ae1\n"),
+];
 
 #[test]
-fn a_cut_line_leaves_a_prefix(rt: HostRuntime) -> Result<(), Fail> {
-    assert_eq!(rt; wrong_line(rt.alloc(), &CUT)?, None);
-    Ok(())
+fn a_wrong_row_of_output_is_found(rt: HostRuntime) {
+    assert_eq!(rt; wrong_put(rt.alloc(), &WRONG_PUTS), Some(1));
+    assert_eq!(rt; first_wrong(rt.alloc(), &WRONG_TEXTS), Some(1));
 }

@@ -1,14 +1,13 @@
 //! Standard output.
 
-use nk_host::{Sink, SinkFault, StdSink, put_all};
+use nk_host::{Sink, StdSink, put_all};
 
-fn put<O: Sink>(out: &mut O, bytes: &[u8]) -> Result<(), SinkFault> {
-    out.put(bytes)
+/// Whether no byte and a line are taken.
+fn takes_bytes<O: Sink>(out: &mut O) -> bool {
+    out.put(b"").is_ok() && put_all(out, b"a line\n").is_ok()
 }
 
 #[test]
 fn standard_output_takes_bytes(rt: HostRuntime) {
-    let mut out = StdSink::new(&rt);
-    assert_eq!(rt; put(&mut out, b""), Ok(()));
-    assert_eq!(rt; put_all(&mut out, b"a line\n"), Ok(()));
+    assert!(rt; takes_bytes(&mut StdSink::new(&rt)));
 }
