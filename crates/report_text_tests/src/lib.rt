@@ -2,6 +2,10 @@
 #![tactic(auto)]
 
 #[cfg(test)]
-mod audit_tests;
+mod audits;
+#[cfg(test)]
+mod lines;
+#[cfg(test)]
+mod sections;
 #[cfg(test)]
 mod tests;

@@ -1,7 +1,7 @@
 use Rattle.std.proofs.Common.{◌≡◌, [], ap, arith, subst}
 use Rattle.std.specs.List.{Contains}
 use Rattle.write_log.specs.LogBytes.{LogCounts, log_in, records_from}
-use Rattle.report_text_tests.proofs.audit_tests.audited.Goals as goal
+use Rattle.report_text_tests.proofs.audits.audited.Goals as goal
 
 pub loop-it-init : goal.loop-it-init
 unfolding records_from

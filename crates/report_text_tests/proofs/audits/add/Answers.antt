@@ -3,7 +3,7 @@ use Rattle.std.specs.List.{Contains}
 use Rattle.std.proofs.lemmas.List.Elements.{Contains-append_cases}
 use Rattle.write_log.specs.LogBytes.{log_in}
 use Rattle.write_log.specs.LogRecords.{LogRecord}
-use Rattle.report_text_tests.proofs.audit_tests.add.Goals as goal
+use Rattle.report_text_tests.proofs.audits.add.Goals as goal
 
 only : (one it : LogRecord) → Contains (one ∷ []) it → one ≡ it
 only one it (zero, low, e) = e

@@ -2,7 +2,7 @@ use Rattle.std.proofs.Common.{◌+◌, ◌≤◌, length}
 use Rattle.std.specs.List.{Contains}
 use Rattle.write_log.specs.LogBytes.{HoldsLog, log_in}
 use Rattle.write_log.specs.LogRecords.{LogRecord}
-use Rattle.report_text_tests.proofs.audit_tests.audited.Given as goal
+use Rattle.report_text_tests.proofs.audits.audited.Given as goal
 
 abbrev pub invariant-loop-it : goal.invariant-loop-it
 invariant-loop-it l =
