@@ -2,6 +2,7 @@
 mod audits;
 mod books;
 mod calls;
+mod cases;
 mod compiled;
 mod deliveries;
 mod descriptors;
@@ -11,6 +12,7 @@ mod joins;
 mod journals;
 mod long_files;
 mod made;
+mod maps;
 mod regions;
 mod run;
 mod scans;
@@ -18,6 +20,10 @@ mod sources;
 mod tables;
 mod texts;
 
+use cases::Failing::{No, Put};
+use cases::File::{Filled, Holds, Nops, Placed, Segments};
+use cases::Wanted::{Bytes, Ending, Front, Long, Padded, Text};
+use cases::{Case, File, HALTING, first_other, shelf_of};
 use nk_host::{MemShelf, MemSink};
 use nk_run::nk_main;
 use std::alloc::{AllocError, Global};
@@ -56,65 +62,77 @@ struct Segment<'a> {
     offset: u64,
     address: u64,
     memory: u64,
+    /// How many NOPs stand before its bytes.
+    nops: usize,
     bytes: &'a [u8],
+}
+
+/// A page of code: NOP; HLT.
+const CODE: Segment = Segment {
+    flags: READ_EXECUTE,
+    offset: 4096,
+    address: HOME,
+    memory: 2,
+    nops: 0,
+    bytes: &[0x90, 0xf4],
+};
+
+/// Adds the numbers, eight bytes each.
+fn push_numbers(file: &mut Vec<u8>, numbers: &[u64]) -> Result<(), AllocError> {
+    for number in numbers {
+        file.extend_from_slice(&u64::to_le_bytes(*number))?;
+    }
+    Ok(())
+}
+
+/// Adds a segment's program header.
+fn push_header(file: &mut Vec<u8>, segment: &Segment) -> Result<(), AllocError> {
+    push_numbers(
+        file,
+        &[
+            1 | u64::from(segment.flags) << 32,
+            segment.offset,
+            segment.address,
+            segment.address,
+            segment.nops.saturating_add(segment.bytes.len()) as u64,
+            segment.memory,
+            4096,
+        ],
+    )
+}
+
+/// Adds a segment's bytes, at their place in the file.
+fn push_bytes(file: &mut Vec<u8>, segment: &Segment) -> Result<(), AllocError> {
+    file.resize(segment.offset as usize, 0)?;
+    file.resize(file.len().saturating_add(segment.nops), 0x90)?;
+    file.extend_from_slice(segment.bytes)
 }
 
 /// An ELF file with these segments, in table order, whose bytes stand in the file in that order too. The entry is
 /// FFFFFFFF80000000.
 fn image_of(alloc: Global, segments: &[Segment]) -> Result<Vec<u8>, AllocError> {
     let mut file = Vec::new(alloc);
-    file.extend_from_slice(b"\x7fELF\x02\x01\x01\0\0\0\0\0\0\0\0\0")?;
-    file.extend_from_slice(&[2, 0, 62, 0, 1, 0, 0, 0])?;
-    for number in [HOME, 64, 0] {
-        file.extend_from_slice(&u64::to_le_bytes(number))?;
-    }
-    file.extend_from_slice(&[0, 0, 0, 0, 64, 0, 56, 0])?;
-    file.extend_from_slice(&u64::to_le_bytes(segments.len() as u64))?;
+    file.extend_from_slice(b"\x7fELF\x02\x01\x01\0\0\0\0\0\0\0\0\0\x02\0\x3e\0\x01\0\0\0")?;
+    let sizes = 64 << 32 | 56 << 48;
+    push_numbers(&mut file, &[HOME, 64, 0, sizes, segments.len() as u64])?;
     for segment in segments {
-        file.extend_from_slice(&u32::to_le_bytes(1))?;
-        file.extend_from_slice(&u32::to_le_bytes(segment.flags))?;
-        let size = segment.bytes.len() as u64;
-        for number in [
-            segment.offset,
-            segment.address,
-            segment.address,
-            size,
-            segment.memory,
-            4096,
-        ] {
-            file.extend_from_slice(&u64::to_le_bytes(number))?;
-        }
+        push_header(&mut file, segment)?;
     }
     for segment in segments {
-        file.resize(segment.offset as usize, 0)?;
-        file.extend_from_slice(segment.bytes)?;
+        push_bytes(&mut file, segment)?;
     }
     Ok(file)
 }
 
 /// An ELF file with one program header, which loads the text from file offset 4,096 to FFFFFFFF80000000, the entry
 /// there.
-fn image_with_flags(alloc: Global, flags: u32, text: &[u8]) -> Result<Vec<u8>, AllocError> {
-    let memory = text.len() as u64;
+fn image(alloc: Global, text: &[u8]) -> Result<Vec<u8>, AllocError> {
     let segment = Segment {
-        flags,
-        offset: 4096,
-        address: HOME,
-        memory,
+        memory: text.len() as u64,
         bytes: text,
+        ..CODE
     };
     image_of(alloc, &[segment])
-}
-
-fn image(alloc: Global, text: &[u8]) -> Result<Vec<u8>, AllocError> {
-    image_with_flags(alloc, READ_EXECUTE, text)
-}
-
-/// A text of so many NOPs and then these bytes.
-fn nops_with(alloc: Global, before: usize, bytes: &[u8]) -> Result<Vec<u8>, AllocError> {
-    let mut text = vec![in alloc; 0x90; before]?;
-    text.extend_from_slice(bytes)?;
-    Ok(text)
 }
 
 fn owned(alloc: Global, words: &[&str]) -> Result<Vec<String>, AllocError> {
@@ -125,21 +143,7 @@ fn owned(alloc: Global, words: &[&str]) -> Result<Vec<String>, AllocError> {
     Ok(list)
 }
 
-/// Runs the words over one held file; `failing` are the numbers of failing fetches and puts, and a failing put takes
-/// `cut` bytes.
-fn run_with(
-    alloc: Global,
-    words: &[&str],
-    file: Vec<u8>,
-    failing_fetches: &[u64],
-    failing_puts: &[u64],
-    cut: usize,
-) -> Result<Ran, Fail> {
-    let files = vec![in alloc; (String::from_str(alloc, NAME)?, file)]?;
-    run_over(alloc, words, files, failing_fetches, failing_puts, cut)
-}
-
-/// As above, over any files.
+/// Runs the words over a shelf; `failing` are the numbers of failing fetches and puts, and a failing put takes `cut` bytes.
 fn run_over(
     alloc: Global,
     words: &[&str],
@@ -158,94 +162,167 @@ fn run_over(
     })
 }
 
-fn scan(alloc: Global, file: Vec<u8>) -> Result<Ran, Fail> {
-    run_with(alloc, &["scan", NAME], file, &[], &[], 0)
-}
-
 /// The status, and whether this is what was written.
 fn gives(ran: &Ran, status: u8, text: &str) -> bool {
     ran.status == status && ran.text.as_slice() == text.as_bytes()
 }
 
-#[test]
-fn an_empty_file_is_short(rt: HostRuntime) -> Result<(), Fail> {
-    let alloc = rt.alloc();
-    assert!(rt; gives(&scan(alloc, Vec::new(alloc))?, 1, "image 1 Short 0\n"));
-    Ok(())
-}
+const SCAN: [&str; 2] = ["scan", NAME];
+
+/// What `scan` writes of an image with one page of code.
+const ADMITTED: &str = "admitted entry ffffffff80000000 pages 1\n";
+
+/// One byte more than a file may have.
+const PAST_THE_LIMIT: usize = 67_108_865;
+
+static SEARCHED: [Case; 8] = [
+    (&SCAN, &[(NAME, Nops(0, &[0xf4]))], No, 0, Text(ADMITTED)),
+    // Inside an immediate.
+    (
+        &SCAN,
+        &[(NAME, Nops(0, &[0x48, 0xc7, 0xc0, 0x0f, 0x22, 0xc0, 0x00]))],
+        No,
+        1,
+        Text("protected ffffffff80000003 0f22c0\n"),
+    ),
+    // Across a page border.
+    (
+        &SCAN,
+        &[(NAME, Nops(4095, &[0x0f, 0x22, 0xc0]))],
+        No,
+        1,
+        Text("protected ffffffff80000fff 0f22c0\n"),
+    ),
+    // The run of pages ends before the encoding does.
+    (
+        &SCAN,
+        &[(NAME, Nops(4094, &[0x0f, 0x22]))],
+        No,
+        0,
+        Text(ADMITTED),
+    ),
+    (
+        &SCAN,
+        &[(NAME, Nops(4094, &[0x0f, 0x30]))],
+        No,
+        1,
+        Text("protected ffffffff80000ffe 0f30\n"),
+    ),
+    // Padding completes it.
+    (
+        &SCAN,
+        &[(NAME, Nops(1, &[0x0f, 0x23]))],
+        No,
+        1,
+        Text("protected ffffffff80000001 0f2300\n"),
+    ),
+    // The operand byte decides after 0F 01: LIDT from memory, and a register form.
+    (
+        &SCAN,
+        &[(NAME, Nops(0, &[0x0f, 0x01, 0x18]))],
+        No,
+        1,
+        Text("protected ffffffff80000000 0f0118\n"),
+    ),
+    (
+        &SCAN,
+        &[(NAME, Nops(0, &[0x0f, 0x01, 0xd8]))],
+        No,
+        0,
+        Text(ADMITTED),
+    ),
+];
 
 #[test]
 fn code_is_searched_at_every_address(rt: HostRuntime) -> Result<(), Fail> {
-    let alloc = rt.alloc();
     // The text is so many NOPs and then these bytes; a page that it doesn't fill is padded with zeros.
-    let texts: [(usize, &[u8], u8, &str); 8] = [
-        (0, &[0xf4], 0, "admitted entry ffffffff80000000 pages 1\n"),
-        // Inside an immediate.
-        (
-            0,
-            &[0x48, 0xc7, 0xc0, 0x0f, 0x22, 0xc0, 0x00],
-            1,
-            "protected ffffffff80000003 0f22c0\n",
-        ),
-        // Across a page border.
-        (
-            4095,
-            &[0x0f, 0x22, 0xc0],
-            1,
-            "protected ffffffff80000fff 0f22c0\n",
-        ),
-        // The run of pages ends before the encoding does.
-        (
-            4094,
-            &[0x0f, 0x22],
-            0,
-            "admitted entry ffffffff80000000 pages 1\n",
-        ),
-        (4094, &[0x0f, 0x30], 1, "protected ffffffff80000ffe 0f30\n"),
-        // Padding completes it.
-        (1, &[0x0f, 0x23], 1, "protected ffffffff80000001 0f2300\n"),
-        // The operand byte decides after 0F 01: LIDT from memory, and a register form.
-        (
-            0,
-            &[0x0f, 0x01, 0x18],
-            1,
-            "protected ffffffff80000000 0f0118\n",
-        ),
-        (
-            0,
-            &[0x0f, 0x01, 0xd8],
-            0,
-            "admitted entry ffffffff80000000 pages 1\n",
-        ),
-    ];
-    for (before, bytes, status, line) in texts {
-        let text = nops_with(alloc, before, bytes)?;
-        let ran = scan(alloc, image(alloc, &text)?)?;
-        assert!(rt; gives(&ran, status, line), "{line}");
+    assert_eq!(rt; first_other(rt.alloc(), &SEARCHED)?, None);
+    Ok(())
+}
+
+/// The second case has another status.
+static OTHERS: [Case; 3] = [
+    (&SCAN, &[HALTING], No, 0, Text(ADMITTED)),
+    (&SCAN, &[HALTING], No, 1, Text(ADMITTED)),
+    (&SCAN, &[HALTING], No, 0, Text(ADMITTED)),
+];
+
+/// Nothing of this is written.
+static UNWRITTEN: [Case; 7] = [
+    (
+        &SCAN,
+        &[HALTING],
+        No,
+        0,
+        Text("admitted entry ffffffff80000000 pages 2\n"),
+    ),
+    (&SCAN, &[HALTING], No, 0, Bytes(b"admitted")),
+    (&SCAN, &[HALTING], No, 0, Padded(&[(ADMITTED, 1)])),
+    (&SCAN, &[HALTING], No, 0, Ending(&[("pages 1\n", 1)])),
+    (&SCAN, &[HALTING], No, 0, Long(39, b"pages 1\n")),
+    (&SCAN, &[HALTING], No, 0, Long(40, b"pages 2\n")),
+    (&SCAN, &[HALTING], No, 0, Front(40)),
+];
+
+/// A case that doesn't give what it should is found at its place.
+#[test]
+fn other_cases_are_found(rt: HostRuntime) -> Result<(), Fail> {
+    assert_eq!(rt; first_other(rt.alloc(), &OTHERS)?, Some(1));
+    for case in &UNWRITTEN {
+        assert_eq!(rt; first_other(rt.alloc(), &[*case])?, Some(0));
     }
     Ok(())
 }
 
+static UNFORMED: [Case; 3] = [
+    (
+        &SCAN,
+        &[(NAME, Holds(&[]))],
+        No,
+        1,
+        Text("image 1 Short 0\n"),
+    ),
+    (
+        &SCAN,
+        &[(NAME, Segments(&[WRITABLE]))],
+        No,
+        1,
+        Text("image 11 WritableCode 0\n"),
+    ),
+    (
+        &SCAN,
+        &[(NAME, Filled(0, PAST_THE_LIMIT, &[]))],
+        No,
+        7,
+        Text("longer image 67108864\n"),
+    ),
+];
+
 #[test]
 fn the_form_is_judged_before_the_code(rt: HostRuntime) -> Result<(), Fail> {
-    let alloc = rt.alloc();
-    let ran = scan(alloc, image_with_flags(alloc, 7, &[0x0f, 0x30])?)?;
-    assert!(rt; gives(&ran, 1, "image 11 WritableCode 0\n"));
+    assert_eq!(rt; first_other(rt.alloc(), &UNFORMED)?, None);
     Ok(())
 }
 
-#[test]
-fn a_file_past_the_limit_is_longer(rt: HostRuntime) -> Result<(), Fail> {
-    let alloc = rt.alloc();
-    let ran = scan(alloc, vec![in alloc; 0; 67_108_865]?)?;
-    assert!(rt; gives(&ran, 7, "longer image 67108864\n"));
-    Ok(())
+/// The place of the first words that have a form, over a shelf of which the first call fails.
+fn first_with_form(
+    alloc: Global,
+    files: &[(&str, File)],
+    forms: &[&[&str]],
+) -> Result<Option<usize>, Fail> {
+    for (at, words) in forms.iter().enumerate() {
+        let files = shelf_of(alloc, files, &[])?;
+        let ran = run_over(alloc, words, files, &[1], &[], 0)?;
+        if ran.status != 2 || ran.text.as_slice() != USAGE.as_bytes() {
+            return Ok(Some(at));
+        }
+    }
+    Ok(None)
 }
 
 #[test]
 fn other_words_have_no_form(rt: HostRuntime) -> Result<(), Fail> {
-    let alloc = rt.alloc();
-    let forms: [&[&str]; 18] = [
+    let forms: &[&[&str]] = &[
         &[],
         &["scan"],
         &["scan", NAME, NAME],
@@ -265,249 +342,102 @@ fn other_words_have_no_form(rt: HostRuntime) -> Result<(), Fail> {
         &["map", NAME, "512", "0000800000000000"],
         &["map", NAME, "512", "00000000000000000"],
     ];
-    for words in forms {
-        let ran = run_with(alloc, words, Vec::new(alloc), &[1], &[], 0)?;
-        assert!(rt; gives(&ran, 2, USAGE));
-    }
+    let files = [(NAME, Holds(&[]))];
+    assert_eq!(rt; first_with_form(rt.alloc(), &files, forms)?, None);
+    let others: &[&[&str]] = &[&["scan"], &SCAN, &["scan"]];
+    assert_eq!(rt; first_with_form(rt.alloc(), &files, others)?, Some(1));
     Ok(())
 }
+
+static FRONTS: [Case; 2] = [
+    (&SCAN, &[HALTING], Put(1, 3), 4, Text("adm")),
+    (
+        &["scan"],
+        &[(NAME, Holds(&[]))],
+        Put(1, 9),
+        4,
+        Text("usage: nk"),
+    ),
+];
 
 #[test]
 fn a_failing_put_leaves_a_prefix(rt: HostRuntime) -> Result<(), Fail> {
-    let alloc = rt.alloc();
-    let words = ["scan", NAME];
-    let ran = run_with(alloc, &words, image(alloc, &[0xf4])?, &[], &[1], 3)?;
-    assert!(rt; gives(&ran, 4, "adm"));
-    let refused = run_with(alloc, &["scan"], Vec::new(alloc), &[], &[1], 9)?;
-    assert!(rt; gives(&refused, 4, "usage: nk"));
+    assert_eq!(rt; first_other(rt.alloc(), &FRONTS)?, None);
     Ok(())
 }
 
-/// What `map` writes for an address, over the halting kernel in 512 frames.
-fn map(alloc: Global, va: &str) -> Result<Ran, Fail> {
-    let words = ["map", NAME, "512", va];
-    run_with(alloc, &words, image(alloc, &[0xf4])?, &[], &[], 0)
-}
-
-#[test]
-fn the_image_s_page_may_be_executed(rt: HostRuntime) -> Result<(), Fail> {
-    let alloc = rt.alloc();
-    assert!(rt; gives(&map(alloc, "ffffffff80000000")?, 0, "frame 67 r-xs\n"));
-    assert!(rt; gives(&map(alloc, "FFFFFFFF80000FFF")?, 0, "frame 67 r-xs\n"));
-    assert!(rt; gives(&map(alloc, "ffffffff80001000")?, 0, "missing 1\n"));
-    assert!(rt; gives(&map(alloc, "ffffffff80200000")?, 0, "missing 2\n"));
-    Ok(())
-}
-
-#[test]
-fn the_nested_area_is_mapped_page_by_page(rt: HostRuntime) -> Result<(), Fail> {
-    let alloc = rt.alloc();
-    let pages = [
-        ("ffffff8000000000", "frame 0 r--s\n"),
-        ("ffffff8000001000", "frame 1 r-xs\n"),
-        ("ffffff8000002000", "frame 2 r--s\n"),
-        ("ffffff8000003000", "frame 3 rw-s\n"),
-        ("ffffff8000004000", "frame 4 r--s\n"),
-        ("ffffff8000005000", "missing 1\n"),
-        ("ffffff800000f000", "missing 1\n"),
-        ("ffffff8000010000", "frame 10 r--s\n"),
-        ("ffffff800001f000", "frame 25 r--s\n"),
-        ("ffffff8000020000", "missing 1\n"),
-        ("ffffff8000200000", "missing 2\n"),
-        ("ffffff8040000000", "missing 3\n"),
-    ];
-    for (va, line) in pages {
-        assert!(rt; gives(&map(alloc, va)?, 0, line), "{va}");
-    }
-    Ok(())
-}
-
-#[test]
-fn the_direct_map_shows_each_frame_but_the_hidden_ones(rt: HostRuntime) -> Result<(), Fail> {
-    let alloc = rt.alloc();
-    let pages = [
-        ("ffff800000000000", "frame 0 r--s\n"),
-        ("ffff800000003000", "frame 3 r--s\n"),
-        ("ffff800000005000", "frame 5 r--s\n"),
-        ("ffff800000019000", "frame 25 r--s\n"),
-        ("ffff80000001a000", "missing 1\n"),
-        ("ffff80000003f000", "missing 1\n"),
-        ("ffff800000041000", "missing 1\n"),
-        ("ffff800000042000", "frame 66 r--s\n"),
-        ("ffff800000043000", "frame 67 r--s\n"),
-        ("ffff800000046000", "frame 70 r--s\n"),
-        ("ffff800000047000", "frame 71 rw-s\n"),
-        ("ffff8000001ff000", "frame 511 rw-s\n"),
-        ("ffff800000200000", "missing 2\n"),
-        ("ffff800040000000", "missing 3\n"),
-        ("0", "missing 4\n"),
-        ("7fffffffffff", "missing 4\n"),
-        ("ffff808000000000", "missing 4\n"),
-    ];
-    for (va, line) in pages {
-        assert!(rt; gives(&map(alloc, va)?, 0, line), "{va}");
-    }
-    Ok(())
-}
-
-#[test]
-fn the_largest_memory_is_mapped_to_its_end(rt: HostRuntime) -> Result<(), Fail> {
-    let alloc = rt.alloc();
-    let pages = [
-        ("ffffffff80000000", "frame 321 r-xs\n"),
-        ("ffff80000ffff000", "frame 65535 rw-s\n"),
-        ("ffff800010000000", "missing 2\n"),
-    ];
-    for (va, line) in pages {
-        let words = ["map", NAME, "65536", va];
-        let ran = run_with(alloc, &words, image(alloc, &[0xf4])?, &[], &[], 0)?;
-        assert!(rt; gives(&ran, 0, line), "{va}");
-    }
-    Ok(())
-}
-
-#[test]
-fn an_image_needs_room_for_its_opening(rt: HostRuntime) -> Result<(), Fail> {
-    let alloc = rt.alloc();
-    let words = ["map", NAME, "512", "0"];
-    let large = image(alloc, &vec![in alloc; 0x90; 2_000_000]?)?;
-    assert!(rt;
-        gives(
-            &run_with(alloc, &words, large, &[], &[], 0)?,
-            1,
-            "noroom 559 512\n"
-        )
-    );
-    let roomy = ["map", NAME, "1024", "ffffffff801e8fff"];
-    let large = image(alloc, &vec![in alloc; 0x90; 2_000_000]?)?;
-    assert!(rt;
-        gives(
-            &run_with(alloc, &roomy, large, &[], &[], 0)?,
-            0,
-            "frame 557 r-xs\n"
-        )
-    );
-    Ok(())
-}
-
-#[test]
-fn map_refuses_what_scan_refuses(rt: HostRuntime) -> Result<(), Fail> {
-    let alloc = rt.alloc();
-    let words = ["map", NAME, "512", "0"];
-    let short = run_with(alloc, &words, Vec::new(alloc), &[], &[], 0)?;
-    assert!(rt; gives(&short, 1, "image 1 Short 0\n"));
-    let refused = run_with(alloc, &words, image(alloc, &[0x0f, 0x30])?, &[], &[], 0)?;
-    assert!(rt; gives(&refused, 1, "protected ffffffff80000000 0f30\n"));
-    let unread = run_with(alloc, &words, Vec::new(alloc), &[1], &[], 0)?;
-    assert!(rt; gives(&unread, 3, "unread image\n"));
-    Ok(())
-}
-
-const CODE: Segment = Segment {
-    flags: READ_EXECUTE,
-    offset: 4096,
-    address: HOME,
-    memory: 2,
-    bytes: &[0x90, 0xf4],
+/// Code that may be written: WRMSR.
+const WRITABLE: Segment = Segment {
+    flags: 7,
+    bytes: &[0x0f, 0x30],
+    ..CODE
 };
 
-#[test]
-fn segments_become_pages_by_address(rt: HostRuntime) -> Result<(), Fail> {
-    let alloc = rt.alloc();
-    // Data first in the table, with a page that the file doesn't fill; constants; code.
-    let data = Segment {
-        flags: READ_WRITE,
-        offset: 4096,
-        address: HOME + 0x2000,
-        memory: 0x1001,
-        bytes: &[1],
-    };
-    let constants = Segment {
-        flags: READ,
-        offset: 8192,
-        address: HOME + 0x1000,
-        memory: 3,
-        bytes: &[0x0f, 0x30, 0],
-    };
-    let code = Segment {
-        offset: 12_288,
-        ..CODE
-    };
-    let segments = [data, constants, code];
-    let admitted = scan(alloc, image_of(alloc, &segments)?)?;
-    assert!(rt; gives(&admitted, 0, "admitted entry ffffffff80000000 pages 1\n"));
-    let pages = [
-        ("ffffffff80000000", "frame 67 r-xs\n"),
-        ("ffffffff80001000", "frame 68 r--s\n"),
-        ("ffffffff80002000", "frame 69 rw-s\n"),
-        ("ffffffff80003000", "frame 70 rw-s\n"),
-        ("ffffffff80004000", "missing 1\n"),
-        ("ffff800000043000", "frame 67 r--s\n"),
-        ("ffff800000044000", "frame 68 r--s\n"),
-        ("ffff800000045000", "frame 69 rw-s\n"),
-        ("ffff800000047000", "frame 71 r--s\n"),
-        ("ffff80000004a000", "frame 74 rw-s\n"),
-    ];
-    for (va, line) in pages {
-        let ran = run_with(
-            alloc,
-            &["map", NAME, "512", va],
-            image_of(alloc, &segments)?,
-            &[],
-            &[],
-            0,
-        )?;
-        assert!(rt; gives(&ran, 0, line), "{va}");
-    }
-    Ok(())
-}
+/// A page of code that ends with 0F.
+const FIRST: Segment = Segment {
+    memory: 4096,
+    nops: 4095,
+    bytes: &[0x0f],
+    ..CODE
+};
+
+/// The page behind it.
+const SECOND: Segment = Segment {
+    offset: 8192,
+    address: 0xffff_ffff_8000_1000,
+    bytes: &[0x22, 0xf4],
+    ..CODE
+};
+
+/// As data.
+const DATA: Segment = Segment {
+    flags: READ,
+    ..SECOND
+};
+
+static ADJACENT: [Case; 3] = [
+    (
+        &SCAN,
+        &[(NAME, Segments(&[FIRST, SECOND]))],
+        No,
+        1,
+        Text("protected ffffffff80000fff 0f22f4\n"),
+    ),
+    (
+        &SCAN,
+        &[(NAME, Segments(&[FIRST, DATA]))],
+        No,
+        0,
+        Text(ADMITTED),
+    ),
+    (
+        &SCAN,
+        &[(NAME, Segments(&[FIRST, FIRST]))],
+        No,
+        1,
+        Text("image 10 SharedPage 1\n"),
+    ),
+];
 
 #[test]
 fn adjacent_code_pages_of_two_segments_are_one_run(rt: HostRuntime) -> Result<(), Fail> {
-    let alloc = rt.alloc();
-    let end = nops_with(alloc, 4095, &[0x0f])?;
-    let first = Segment {
-        memory: 4096,
-        bytes: &end,
-        ..CODE
-    };
-    let second = Segment {
-        offset: 8192,
-        address: HOME + 0x1000,
-        bytes: &[0x22, 0xf4],
-        ..CODE
-    };
-    let joined = scan(alloc, image_of(alloc, &[first, second])?)?;
-    assert!(rt; gives(&joined, 1, "protected ffffffff80000fff 0f22f4\n"));
-    let data = Segment {
-        flags: READ,
-        ..second
-    };
-    let apart = scan(alloc, image_of(alloc, &[first, data])?)?;
-    assert!(rt; gives(&apart, 0, "admitted entry ffffffff80000000 pages 1\n"));
-    let shared = scan(alloc, image_of(alloc, &[first, first])?)?;
-    assert!(rt; gives(&shared, 1, "image 10 SharedPage 1\n"));
+    assert_eq!(rt; first_other(rt.alloc(), &ADJACENT)?, None);
     Ok(())
 }
+
+/// What is loaded of the compiled kernel's file.
+const COMPILED: [(usize, &[u8]); 4] = [
+    (0, &compiled::HEADERS),
+    (0x1000, &compiled::CODE),
+    (0x2000, &compiled::CONSTANTS),
+    (0x3000, &compiled::DATA),
+];
+
+static BUILT: [Case; 1] = [(&SCAN, &[(NAME, Placed(&COMPILED))], No, 0, Text(ADMITTED))];
 
 /// What gcc and ld built from examples/outer: admitted, with code, constants and data on pages of their own.
 #[test]
 fn a_compiled_kernel_is_admitted(rt: HostRuntime) -> Result<(), Fail> {
-    let alloc = rt.alloc();
-    let mut file = Vec::new(alloc);
-    file.extend_from_slice(&compiled::HEADERS)?;
-    file.resize(0x1000, 0)?;
-    file.extend_from_slice(&compiled::CODE)?;
-    file.resize(0x2000, 0)?;
-    file.extend_from_slice(&compiled::CONSTANTS)?;
-    file.resize(0x3000, 0)?;
-    file.extend_from_slice(&compiled::DATA)?;
-    assert!(rt;
-        gives(
-            &scan(alloc, file)?,
-            0,
-            "admitted entry ffffffff80000000 pages 1\n"
-        )
-    );
+    assert_eq!(rt; first_other(rt.alloc(), &BUILT)?, None);
     Ok(())
 }

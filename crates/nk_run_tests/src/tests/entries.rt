@@ -1,8 +1,6 @@
 //! Worked cases of `run` with upper entries that the processor keeps: a page that the tables no longer map is stored to
 //! through an entry that a plan's event kept, until the entry goes.
-use super::gives;
-use super::run::run_planned;
-use std::alloc::Global;
+use super::cases::{Run, first_other_run};
 use std::test::Fail;
 
 /// MOV RBX, the direct map's address of frame 71; MOV EDI, 3; MOV ESI, 69; MOV RAX, the gates; CALL RAX. RDX and RCX are
@@ -18,63 +16,72 @@ const STORES: [u8; 3] = [0x88, 0x03, 0xf4];
 /// INVLPG [RBX].
 const INVALIDATES: [u8; 3] = [0x0f, 0x01, 0x3b];
 
-/// What a run of these texts, one behind the other, writes under this plan begins with the call's line, and goes on with
-/// these lines and a closing section that tells the entry.
-fn goes_on(alloc: Global, texts: &[&[u8]], plan: &str, lines: &str) -> Result<bool, Fail> {
-    let mut text = Vec::new(alloc);
-    for piece in texts {
-        text.extend_from_slice(piece)?;
-    }
-    let ran = run_planned(alloc, &text, plan, "100")?;
-    let whole = format!(in alloc;
-        "k 3 45 0 0 0 - 0 -\n{lines}\nroot 5\ntrap ffffff80000011da\nt 69 0 0000000000000000\n"
-    )?;
-    Ok(gives(&ran, 0, &whole))
-}
+/// The section behind the lines, which tells the entry.
+const UNLINKED: &str = "\nroot 5\ntrap ffffff80000011da\nt 69 0 0000000000000000\n";
+
+/// The call, and a store that faults; the call, and a store that doesn't.
+const FAULTED: &str =
+    "k 3 45 0 0 0 - 0 -\ni 14 2 ffffffff80000020 ffff800000047000\nend halted\nturns 35";
+
+const STORED: &str = "k 3 45 0 0 0 - 0 -\nend halted\nturns 25";
 
 #[test]
 fn a_kept_entry_serves_a_page_that_is_unlinked(rt: HostRuntime) -> Result<(), Fail> {
-    let alloc = rt.alloc();
-    let faults = "i 14 2 ffffffff80000020 ffff800000047000\nend halted\nturns 35";
-    let stores = "end halted\nturns 25";
-    let cases = [
-        ("", faults),
-        ("0 keep 2 ffff800000000000", stores),
+    let runs: &[Run] = &[
+        (&[&UNLINKS, &STORES], "", "100", FAULTED),
+        (
+            &[&UNLINKS, &STORES],
+            "0 keep 2 ffff800000000000",
+            "100",
+            STORED,
+        ),
         // The page's translation alone goes.
         (
+            &[&UNLINKS, &STORES],
             "0 keep 2 ffff800000000000\n14 drop ffff800000047000",
-            stores,
+            "100",
+            STORED,
         ),
         (
+            &[&UNLINKS, &STORES],
             "0 keep 2 ffff800000000000\n14 forget 2 ffff8000001ff000",
-            faults,
+            "100",
+            FAULTED,
         ),
         // The entry of the next 2 MiB is missing, and those of levels 3 and 4 lead to the entry that is 0.
-        ("0 keep 2 ffff800000200000", faults),
         (
+            &[&UNLINKS, &STORES],
+            "0 keep 2 ffff800000200000",
+            "100",
+            FAULTED,
+        ),
+        (
+            &[&UNLINKS, &STORES],
             "0 keep 3 ffff800000000000\n0 keep 4 ffff800000000000",
-            faults,
+            "100",
+            FAULTED,
         ),
         // Once the entry is unlinked none is kept, and an older one goes on being kept.
-        ("20 keep 2 ffff800000000000", faults),
         (
+            &[&UNLINKS, &STORES],
+            "20 keep 2 ffff800000000000",
+            "100",
+            FAULTED,
+        ),
+        (
+            &[&UNLINKS, &STORES],
             "0 keep 2 ffff800000000000\n20 keep 2 ffff800000000000",
-            stores,
+            "100",
+            STORED,
+        ),
+        // The entry goes with INVLPG.
+        (
+            &[&UNLINKS, &INVALIDATES, &STORES],
+            "0 keep 2 ffff800000000000",
+            "100",
+            "k 3 45 0 0 0 - 0 -\ni 14 2 ffffffff80000023 ffff800000047000\nend halted\nturns 36",
         ),
     ];
-    for (plan, lines) in cases {
-        assert!(rt;
-            goes_on(alloc, &[&UNLINKS, &STORES], plan, lines)?,
-            "{plan}"
-        );
-    }
-    Ok(())
-}
-
-#[test]
-fn a_kept_entry_goes_with_invlpg(rt: HostRuntime) -> Result<(), Fail> {
-    let plan = "0 keep 2 ffff800000000000";
-    let lines = "i 14 2 ffffffff80000023 ffff800000047000\nend halted\nturns 36";
-    assert!(rt; goes_on(rt.alloc(), &[&UNLINKS, &INVALIDATES, &STORES], plan, lines)?);
+    assert_eq!(rt; first_other_run(rt.alloc(), 0, UNLINKED, runs)?, None);
     Ok(())
 }

@@ -1,251 +1,372 @@
 //! Worked cases of `join`: a module behind a guard page and packed, each of its statuses, and the order of its checks.
-use super::{
-    HOME, NAME, READ, READ_EXECUTE, Ran, Segment, gives, image, image_of, nops_with, run_over,
-};
-use std::alloc::{AllocError, Global};
+use super::cases::Failing::{Fetch, No, Put};
+use super::cases::File::{Code, Filled, Holds, Lines, Nops, Segments, Written};
+use super::cases::Wanted::{Any, Front, Long, Text};
+use super::cases::{Case, File, HALTING, HALTS, LIST, first_other};
+use super::{CODE, DATA, NAME, SCAN, Segment};
 use std::test::Fail;
 
-const LIST: &str = "list";
+const JOIN: [&str; 3] = ["join", NAME, LIST];
 
-/// HLT.
-const HALTS: [u8; 1] = [0xf4];
+/// A module of one RET.
+const RETURNS: (&str, File) = ("a", Holds(&[&[0xc3]]));
 
-/// A shelf of an image and other files.
-fn shelf_of(
-    alloc: Global,
-    image: Vec<u8>,
-    files: &[(&str, &[u8])],
-) -> Result<Vec<(String, Vec<u8>)>, AllocError> {
-    let mut held = vec![in alloc; (String::from_str(alloc, NAME)?, image)]?;
-    for (name, bytes) in files {
-        held.push((String::from_str(alloc, name)?, bytes.to_vec(alloc)?))?;
-    }
-    Ok(held)
-}
+/// The directory: one module, at FFFFFFFF80002000, of one byte.
+const DIRECTORY: [u8; 24] = [
+    1, 0, 0, 0, 0, 0, 0, 0, 0, 0x20, 0, 0x80, 0xff, 0xff, 0xff, 0xff, 1, 0, 0, 0, 0, 0, 0, 0,
+];
 
-/// What the join of an image with the modules of a list gives, where these fetches fail.
-fn join(
-    alloc: Global,
-    image: Vec<u8>,
-    files: &[(&str, &[u8])],
-    failing: &[u64],
-) -> Result<Ran, Fail> {
-    let held = shelf_of(alloc, image, files)?;
-    run_over(alloc, &["join", NAME, LIST], held, failing, &[], 0)
-}
-
-/// What `scan` says of a file.
-fn scanned(alloc: Global, file: Vec<u8>) -> Result<Ran, Fail> {
-    let held = shelf_of(alloc, file, &[])?;
-    run_over(alloc, &["scan", NAME], held, &[], &[], 0)
-}
+static GUARDED: [Case; 2] = [
+    (
+        &JOIN,
+        &[HALTING, (LIST, Holds(&[b"guard a"])), RETURNS],
+        No,
+        0,
+        Long(12_312, &DIRECTORY),
+    ),
+    (
+        &SCAN,
+        &[(NAME, Written)],
+        No,
+        0,
+        Text("admitted entry ffffffff80000000 pages 2\n"),
+    ),
+];
 
 #[test]
 fn a_module_stands_behind_a_guard_page(rt: HostRuntime) -> Result<(), Fail> {
-    let alloc = rt.alloc();
-    let file = image(alloc, &HALTS)?;
-    let Ran { status, text } = join(alloc, file, &[(LIST, b"guard a"), ("a", &[0xc3])], &[])?;
-    assert_eq!(rt; status, 0);
-    assert_eq!(rt; text.len(), 12_312);
-    // The directory: one module, at FFFFFFFF80002000, of one byte.
-    let directory = [
-        1, 0, 0, 0, 0, 0, 0, 0, 0, 0x20, 0, 0x80, 0xff, 0xff, 0xff, 0xff, 1, 0, 0, 0, 0, 0, 0, 0,
-    ];
-    assert!(rt; text.ends_with(&directory));
-    assert!(rt;
-        gives(
-            &scanned(alloc, text)?,
-            0,
-            "admitted entry ffffffff80000000 pages 2\n"
-        )
-    );
+    assert_eq!(rt; first_other(rt.alloc(), &GUARDED)?, None);
     Ok(())
 }
+
+static PACKED: [Case; 2] = [
+    (
+        &JOIN,
+        &[
+            (NAME, Nops(4094, &[0x0f, 0x22])),
+            (LIST, Holds(&[b"pack a\n"])),
+            ("a", Holds(&[&[0xc0]])),
+        ],
+        No,
+        1,
+        Text("protected ffffffff80000ffe 0f22c0\n"),
+    ),
+    (
+        &JOIN,
+        &[
+            (NAME, Nops(4094, &[0x0f, 0x22])),
+            (LIST, Holds(&[b"guard a\n"])),
+            ("a", Holds(&[&[0xc0]])),
+        ],
+        No,
+        0,
+        Any,
+    ),
+];
 
 #[test]
 fn a_packed_module_is_scanned_with_its_neighbours(rt: HostRuntime) -> Result<(), Fail> {
-    let alloc = rt.alloc();
-    let text = nops_with(alloc, 4094, &[0x0f, 0x22])?;
-    let lists: [(&[u8], u8); 2] = [(b"pack a\n", 1), (b"guard a\n", 0)];
-    for (list, status) in lists {
-        let ran = join(
-            alloc,
-            image(alloc, &text)?,
-            &[(LIST, list), ("a", &[0xc0])],
-            &[],
-        )?;
-        assert_eq!(rt; ran.status, status);
-        assert!(rt; status == 0 || gives(&ran, 1, "protected ffffffff80000ffe 0f22c0\n"));
-    }
+    assert_eq!(rt; first_other(rt.alloc(), &PACKED)?, None);
     Ok(())
 }
+
+static CHECKS: [Case; 12] = [
+    (&JOIN, &[HALTING], No, 3, Text("unread list\n")),
+    (
+        &JOIN,
+        &[HALTING, (LIST, Holds(&[]))],
+        No,
+        6,
+        Text("list line 1\n"),
+    ),
+    (
+        &JOIN,
+        &[
+            HALTING,
+            (LIST, Holds(&[b"pack a\npack A\n"])),
+            ("a", Holds(&[])),
+        ],
+        No,
+        6,
+        Text("list line 2\n"),
+    ),
+    (
+        &JOIN,
+        &[HALTING, (LIST, Holds(&[b"pack a"]))],
+        No,
+        3,
+        Text("unread module\n"),
+    ),
+    (
+        &JOIN,
+        &[HALTING, (LIST, Holds(&[b"pack a"])), ("a", Holds(&[]))],
+        No,
+        8,
+        Text("module 0 empty\n"),
+    ),
+    (
+        &JOIN,
+        &[
+            HALTING,
+            (LIST, Holds(&[b"pack a\nguard b\n"])),
+            RETURNS,
+            ("b", Holds(&[])),
+        ],
+        No,
+        8,
+        Text("module 1 empty\n"),
+    ),
+    // A later file that isn't read comes before an earlier one that is empty.
+    (
+        &JOIN,
+        &[
+            HALTING,
+            (LIST, Holds(&[b"pack a\npack b"])),
+            ("a", Holds(&[])),
+        ],
+        No,
+        3,
+        Text("unread module\n"),
+    ),
+    // One file may be named twice, with a line's guard each.
+    (
+        &JOIN,
+        &[
+            HALTING,
+            (LIST, Holds(&[b"pack a\nguard a\npack a"])),
+            ("a", Holds(&[b"\x0f\x30"])),
+        ],
+        No,
+        1,
+        Text("protected ffffffff80001000 0f30\n"),
+    ),
+    (
+        &JOIN,
+        &[HALTING, (LIST, Holds(&[b"pack a"])), RETURNS],
+        Fetch(1),
+        3,
+        Text("unread image\n"),
+    ),
+    (
+        &JOIN,
+        &[HALTING, (LIST, Holds(&[b"pack a"])), RETURNS],
+        Fetch(2),
+        3,
+        Text("unread list\n"),
+    ),
+    (
+        &JOIN,
+        &[HALTING, (LIST, Holds(&[b"pack a"])), RETURNS],
+        Fetch(3),
+        3,
+        Text("unread module\n"),
+    ),
+    (
+        &JOIN,
+        &[HALTING, (LIST, Holds(&[b"pack a\npack a"])), RETURNS],
+        Fetch(4),
+        3,
+        Text("unread module\n"),
+    ),
+];
 
 #[test]
 fn each_check_has_its_line(rt: HostRuntime) -> Result<(), Fail> {
-    let alloc = rt.alloc();
-    let cases: [(&[(&str, &[u8])], &[u64], u8, &str); 12] = [
-        (&[], &[], 3, "unread list\n"),
-        (&[(LIST, b"")], &[], 6, "list line 1\n"),
-        (
-            &[(LIST, b"pack a\npack A\n"), ("a", b"")],
-            &[],
-            6,
-            "list line 2\n",
-        ),
-        (&[(LIST, b"pack a")], &[], 3, "unread module\n"),
-        (&[(LIST, b"pack a"), ("a", b"")], &[], 8, "module 0 empty\n"),
-        (
-            &[(LIST, b"pack a\nguard b\n"), ("a", b"\xc3"), ("b", b"")],
-            &[],
-            8,
-            "module 1 empty\n",
-        ),
-        // A later file that isn't read comes before an earlier one that is empty.
-        (
-            &[(LIST, b"pack a\npack b"), ("a", b"")],
-            &[],
-            3,
-            "unread module\n",
-        ),
-        // One file may be named twice, with a line's guard each.
-        (
-            &[(LIST, b"pack a\nguard a\npack a"), ("a", b"\x0f\x30")],
-            &[],
-            1,
-            "protected ffffffff80001000 0f30\n",
-        ),
-        (
-            &[(LIST, b"pack a"), ("a", b"\xc3")],
-            &[1],
-            3,
-            "unread image\n",
-        ),
-        (
-            &[(LIST, b"pack a"), ("a", b"\xc3")],
-            &[2],
-            3,
-            "unread list\n",
-        ),
-        (
-            &[(LIST, b"pack a"), ("a", b"\xc3")],
-            &[3],
-            3,
-            "unread module\n",
-        ),
-        (
-            &[(LIST, b"pack a\npack a"), ("a", b"\xc3")],
-            &[4],
-            3,
-            "unread module\n",
-        ),
-    ];
-    for (files, failing, status, line) in cases {
-        let ran = join(alloc, image(alloc, &HALTS)?, files, failing)?;
-        assert!(rt; gives(&ran, status, line), "{line}");
-    }
+    assert_eq!(rt; first_other(rt.alloc(), &CHECKS)?, None);
     Ok(())
 }
 
-#[test]
-fn the_image_is_judged_before_the_list(rt: HostRuntime) -> Result<(), Fail> {
-    let alloc = rt.alloc();
-    let ran = join(alloc, Vec::new(alloc), &[], &[])?;
-    assert!(rt; gives(&ran, 1, "image 1 Short 0\n"));
-    let ran = join(alloc, image(alloc, &[0x0f, 0x30])?, &[], &[])?;
-    assert!(rt; gives(&ran, 1, "protected ffffffff80000000 0f30\n"));
-    Ok(())
-}
-
-#[test]
-fn a_module_has_at_most_a_mebibyte(rt: HostRuntime) -> Result<(), Fail> {
-    let alloc = rt.alloc();
-    // Behind it stands one that is refused, so that no long file is written.
-    let cases = [
-        (1_048_576, 8, "module 1 empty\n"),
-        (1_048_577, 7, "longer module 1048576\n"),
-    ];
-    for (size, status, line) in cases {
-        let module = vec![in alloc; 0x90; size]?;
-        let files: [(&str, &[u8]); 3] = [(LIST, b"pack a\npack b"), ("a", &module), ("b", b"")];
-        let ran = join(alloc, image(alloc, &HALTS)?, &files, &[])?;
-        assert!(rt; gives(&ran, status, line), "{line}");
-    }
-    Ok(())
-}
-
-#[test]
-fn a_list_has_32_lines(rt: HostRuntime) -> Result<(), Fail> {
-    let alloc = rt.alloc();
-    for (count, status) in [(32, 0), (33, 6)] {
-        let mut list = Vec::new(alloc);
-        for _ in 0..count {
-            list.extend_from_slice(b"pack a\n")?;
-        }
-        let files: [(&str, &[u8]); 2] = [(LIST, &list), ("a", &[0xc3])];
-        let ran = join(alloc, image(alloc, &HALTS)?, &files, &[])?;
-        assert_eq!(rt; ran.status, status);
-        assert!(rt; status == 0 || gives(&ran, 6, "list line 33\n"));
-    }
-    Ok(())
-}
-
-/// An image with code at the first page of the home, and a page of data at the last one or before it.
-fn tall(alloc: Global, last: u64) -> Result<Vec<u8>, AllocError> {
-    image_of(
-        alloc,
+static BOUNDS: [Case; 6] = [
+    (
+        &JOIN,
+        &[(NAME, Holds(&[]))],
+        No,
+        1,
+        Text("image 1 Short 0\n"),
+    ),
+    (
+        &JOIN,
+        &[(NAME, Code(&[&[0x0f, 0x30]]))],
+        No,
+        1,
+        Text("protected ffffffff80000000 0f30\n"),
+    ),
+    // A module has at most a mebibyte. Behind it stands one that is refused, so that no long file is written.
+    (
+        &JOIN,
         &[
-            Segment {
-                flags: READ_EXECUTE,
-                offset: 4096,
-                address: HOME,
-                memory: 1,
-                bytes: &HALTS,
-            },
-            Segment {
-                flags: READ,
-                offset: 8192,
-                address: last,
-                memory: 1,
-                bytes: &HALTS,
-            },
+            HALTING,
+            (LIST, Holds(&[b"pack a\npack b"])),
+            ("a", Filled(0x90, 1_048_576, &[])),
+            ("b", Holds(&[])),
         ],
-    )
+        No,
+        8,
+        Text("module 1 empty\n"),
+    ),
+    (
+        &JOIN,
+        &[
+            HALTING,
+            (LIST, Holds(&[b"pack a\npack b"])),
+            ("a", Filled(0x90, 1_048_577, &[])),
+            ("b", Holds(&[])),
+        ],
+        No,
+        7,
+        Text("longer module 1048576\n"),
+    ),
+    // A list has 32 lines.
+    (
+        &JOIN,
+        &[HALTING, (LIST, Lines(32, b"pack a\n", &[])), RETURNS],
+        No,
+        0,
+        Any,
+    ),
+    (
+        &JOIN,
+        &[HALTING, (LIST, Lines(33, b"pack a\n", &[])), RETURNS],
+        No,
+        6,
+        Text("list line 33\n"),
+    ),
+];
+
+/// The image is judged before the list.
+#[test]
+fn images_lists_and_modules_have_bounds(rt: HostRuntime) -> Result<(), Fail> {
+    assert_eq!(rt; first_other(rt.alloc(), &BOUNDS)?, None);
+    Ok(())
 }
+
+/// Code at the first page of the home.
+const FIRST: Segment = Segment {
+    memory: 1,
+    bytes: &HALTS,
+    ..CODE
+};
+
+/// A page of data at the last page of the home, and those before it.
+const AT_LAST: Segment = Segment {
+    address: 0xffff_ffff_bfff_f000,
+    memory: 1,
+    bytes: &HALTS,
+    ..DATA
+};
+
+const ONE_BEFORE: Segment = Segment {
+    address: 0xffff_ffff_bfff_e000,
+    ..AT_LAST
+};
+
+const TWO_BEFORE: Segment = Segment {
+    address: 0xffff_ffff_bfff_d000,
+    ..AT_LAST
+};
+
+const THREE_BEFORE: Segment = Segment {
+    address: 0xffff_ffff_bfff_c000,
+    ..AT_LAST
+};
+
+static TALL: [Case; 5] = [
+    (
+        &JOIN,
+        &[
+            (NAME, Segments(&[FIRST, TWO_BEFORE])),
+            (LIST, Holds(&[b"pack a"])),
+            RETURNS,
+        ],
+        No,
+        0,
+        Any,
+    ),
+    (
+        &JOIN,
+        &[
+            (NAME, Segments(&[FIRST, TWO_BEFORE])),
+            (LIST, Holds(&[b"guard a"])),
+            RETURNS,
+        ],
+        No,
+        8,
+        Text("nofit\n"),
+    ),
+    (
+        &JOIN,
+        &[
+            (NAME, Segments(&[FIRST, ONE_BEFORE])),
+            (LIST, Holds(&[b"pack a"])),
+            RETURNS,
+        ],
+        No,
+        8,
+        Text("nofit\n"),
+    ),
+    (
+        &JOIN,
+        &[
+            (NAME, Segments(&[FIRST, AT_LAST])),
+            (LIST, Holds(&[b"pack a"])),
+            RETURNS,
+        ],
+        No,
+        8,
+        Text("nofit\n"),
+    ),
+    (
+        &JOIN,
+        &[
+            (NAME, Segments(&[FIRST, THREE_BEFORE])),
+            (LIST, Holds(&[b"pack a\npack a"])),
+            RETURNS,
+        ],
+        No,
+        0,
+        Any,
+    ),
+];
 
 #[test]
 fn modules_end_before_the_directory(rt: HostRuntime) -> Result<(), Fail> {
-    let alloc = rt.alloc();
-    let cases: [(u64, &[u8], u8); 5] = [
-        (0xffff_ffff_bfff_d000, b"pack a", 0),
-        (0xffff_ffff_bfff_d000, b"guard a", 8),
-        (0xffff_ffff_bfff_e000, b"pack a", 8),
-        (0xffff_ffff_bfff_f000, b"pack a", 8),
-        (0xffff_ffff_bfff_c000, b"pack a\npack a", 0),
-    ];
-    for (last, list, status) in cases {
-        let ran = join(
-            alloc,
-            tall(alloc, last)?,
-            &[(LIST, list), ("a", &[0xc3])],
-            &[],
-        )?;
-        assert_eq!(rt; ran.status, status);
-        assert!(rt; status == 0 || gives(&ran, 8, "nofit\n"));
-    }
+    assert_eq!(rt; first_other(rt.alloc(), &TALL)?, None);
     Ok(())
 }
 
+static PIECES: [Case; 4] = [
+    (
+        &JOIN,
+        &[HALTING, (LIST, Holds(&[b"guard a"])), RETURNS],
+        No,
+        0,
+        Any,
+    ),
+    (
+        &JOIN,
+        &[HALTING, (LIST, Holds(&[b"guard a"])), RETURNS],
+        Put(1, 7),
+        4,
+        Front(7),
+    ),
+    (
+        &JOIN,
+        &[HALTING, (LIST, Holds(&[b"guard a"])), RETURNS],
+        Put(2, 3),
+        4,
+        Front(4099),
+    ),
+    (
+        &JOIN,
+        &[HALTING, (LIST, Holds(&[b"guard a"])), RETURNS],
+        Put(4, 2),
+        4,
+        Front(12_290),
+    ),
+];
+
 #[test]
 fn a_joined_image_goes_out_in_pieces(rt: HostRuntime) -> Result<(), Fail> {
-    let alloc = rt.alloc();
-    let files: [(&str, &[u8]); 2] = [(LIST, b"guard a"), ("a", &[0xc3])];
-    let whole = join(alloc, image(alloc, &HALTS)?, &files, &[])?;
-    let cuts: [(u64, usize, usize); 3] = [(1, 7, 7), (2, 3, 4099), (4, 2, 12_290)];
-    for (failing, cut, taken) in cuts {
-        let held = shelf_of(alloc, image(alloc, &HALTS)?, &files)?;
-        let ran = run_over(alloc, &["join", NAME, LIST], held, &[], &[failing], cut)?;
-        assert!(rt; ran.status == 4 && ran.text.len() == taken);
-        assert!(rt; whole.text.starts_with(&ran.text));
-    }
+    assert_eq!(rt; first_other(rt.alloc(), &PIECES)?, None);
     Ok(())
 }

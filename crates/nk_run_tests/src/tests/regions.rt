@@ -1,8 +1,11 @@
 //! Worked cases of `run` with protected regions: calls with their sources and places, and the closing section, which no
 //! attack from outer code changes.
-use super::gives;
-use super::run::run_planned;
-use std::alloc::{AllocError, Global};
+use super::NAME;
+use super::cases::Failing::No;
+use super::cases::File::Code;
+use super::cases::Wanted::Padded;
+use super::cases::{Case, HALTS, Run, first_other, first_other_run};
+use super::run::{NO_INPUT, NO_PLAN, RUN};
 use std::test::Fail;
 
 /// MOV RBX, the direct map's address of frame 71, which is the first free one; MOV DWORD [RBX], 64636261.
@@ -31,104 +34,130 @@ pub(super) const WRITES: [u8; 31] = [
     0xb9, 0x00, 0x70, 0x04, 0x00, 0x00, 0x80, 0xff, 0xff, 0x41, 0xb8, 0x04, 0x00, 0x00, 0x00,
 ];
 
-/// HLT.
-pub(super) const HALTS: [u8; 1] = [0xf4];
+/// MOV EDX, 5: another offset.
+const AGAIN: [u8; 5] = [0xba, 0x05, 0x00, 0x00, 0x00];
 
-/// The pieces, one after another.
-pub(super) fn text_of(alloc: Global, pieces: &[&[u8]]) -> Result<Vec<u8>, AllocError> {
-    let mut text = Vec::new(alloc);
-    for piece in pieces {
-        text.extend_from_slice(piece)?;
-    }
-    Ok(text)
-}
+/// MOV ECX, 1000, which has no translation. Then MOV ESI, 257: no such region. MOV ESI, 256; MOV R8D, 7: too long.
+const UNREAD: [u8; 5] = [0xb9, 0x00, 0x10, 0x00, 0x00];
+
+const UNKNOWN: [u8; 5] = [0xbe, 0x01, 0x01, 0x00, 0x00];
+
+const LONG: [u8; 11] = [
+    0xbe, 0x00, 0x01, 0x00, 0x00, 0x41, 0xb8, 0x07, 0x00, 0x00, 0x00,
+];
 
 #[test]
-fn a_byte_is_written_once(rt: HostRuntime) -> Result<(), Fail> {
-    // The second write is at offset 5: MOV EDX, 5.
-    let again = [0xba, 0x05, 0x00, 0x00, 0x00];
-    let pieces: [&[u8]; 8] = [
-        &STORES,
-        &ALLOCATES_ONCE,
-        &CALLS,
-        &WRITES,
-        &CALLS,
-        &again,
-        &CALLS,
-        &HALTS,
-    ];
-    let ran = run_planned(rt.alloc(), &text_of(rt.alloc(), &pieces)?, "", "100")?;
-    let text = "k 7 10 1 0 0 - 256 ffffff8000010000\n\
+fn a_write_is_taken_or_changes_nothing(rt: HostRuntime) -> Result<(), Fail> {
+    let once = "k 7 10 1 0 0 - 256 ffffff8000010000\n\
         k 9 100 2 ffff800000047000 4 61626364 0 -\n\
         k 9 100 5 ffff800000047000 4 61626364 24 -\nend halted\nturns 72\nroot 5\n\
         trap ffffff80000011da\nr 256 1 ffffff8000010000 16 00006162636400000000000000000000\n";
-    assert!(rt; gives(&ran, 0, text));
+    let untaken = "k 7 8 4 0 0 - 256 ffffff8000010000\nk 9 100 2 1000 4 ! 22 -\n\
+        k 9 101 2 1000 4 - 19 -\nk 9 100 2 1000 7 - 21 -\nend halted\nturns 95\nroot 5\n\
+        trap ffffff80000011da\nr 256 4 ffffff8000010000 8 0000000000000000\n";
+    let runs: &[Run] = &[
+        // A byte is written once.
+        (
+            &[
+                &STORES,
+                &ALLOCATES_ONCE,
+                &CALLS,
+                &WRITES,
+                &CALLS,
+                &AGAIN,
+                &CALLS,
+                &HALTS,
+            ],
+            "",
+            "100",
+            once,
+        ),
+        // What is not taken and what cannot be read.
+        (
+            &[
+                &STORES,
+                &ALLOCATES_LOGGED,
+                &CALLS,
+                &WRITES,
+                &UNREAD,
+                &CALLS,
+                &UNKNOWN,
+                &CALLS,
+                &LONG,
+                &CALLS,
+                &HALTS,
+            ],
+            "",
+            "200",
+            untaken,
+        ),
+    ];
+    assert_eq!(rt; first_other_run(rt.alloc(), 0, "", runs)?, None);
     Ok(())
 }
 
-#[test]
-fn what_is_not_taken_and_what_cannot_be_read(rt: HostRuntime) -> Result<(), Fail> {
-    // MOV ECX, 1000, which has no translation. Then MOV ESI, 257: no such region. MOV ESI, 256; MOV R8D, 7: too long.
-    let unread = [0xb9, 0x00, 0x10, 0x00, 0x00];
-    let unknown = [0xbe, 0x01, 0x01, 0x00, 0x00];
-    let long = [
-        0xbe, 0x00, 0x01, 0x00, 0x00, 0x41, 0xb8, 0x07, 0x00, 0x00, 0x00,
-    ];
-    let pieces: [&[u8]; 11] = [
-        &STORES,
-        &ALLOCATES_LOGGED,
-        &CALLS,
-        &WRITES,
-        &unread,
-        &CALLS,
-        &unknown,
-        &CALLS,
-        &long,
-        &CALLS,
-        &HALTS,
-    ];
-    let ran = run_planned(rt.alloc(), &text_of(rt.alloc(), &pieces)?, "", "200")?;
-    let text = "k 7 8 4 0 0 - 256 ffffff8000010000\nk 9 100 2 1000 4 ! 22 -\n\
-        k 9 101 2 1000 4 - 19 -\nk 9 100 2 1000 7 - 21 -\nend halted\nturns 95\nroot 5\n\
-        trap ffffff80000011da\nr 256 4 ffffff8000010000 8 0000000000000000\n";
-    assert!(rt; gives(&ran, 0, text));
-    Ok(())
-}
+/// MOV RBX, an address: the region's own, its frame's in the direct map, the log's frame's; MOV [RBX], AL.
+const ATTACKS_REGION: [u8; 12] = [
+    0x48, 0xbb, 0x02, 0x00, 0x01, 0x00, 0x80, 0xff, 0xff, 0xff, 0x88, 0x03,
+];
+
+const ATTACKS_FRAME: [u8; 12] = [
+    0x48, 0xbb, 0x02, 0xa0, 0x00, 0x00, 0x00, 0x80, 0xff, 0xff, 0x88, 0x03,
+];
+
+const ATTACKS_LOG: [u8; 12] = [
+    0x48, 0xbb, 0x00, 0xa0, 0x01, 0x00, 0x00, 0x80, 0xff, 0xff, 0x88, 0x03,
+];
 
 #[test]
 fn an_attack_leaves_region_and_log(rt: HostRuntime) -> Result<(), Fail> {
-    // MOV RBX, an address: the region's own, its frame's in the direct map, the log's frame's; MOV [RBX], AL.
-    let attacks: [([u8; 12], &str); 3] = [
+    let section = "\nend halted\nturns 63\nroot 5\ntrap ffffff80000011da\n\
+        r 256 4 ffffff8000010000 8 0000616263640000\nl 0 256 2 61626364\n";
+    let runs: &[Run] = &[
         (
-            [
-                0x48, 0xbb, 0x02, 0x00, 0x01, 0x00, 0x80, 0xff, 0xff, 0xff, 0x88, 0x03,
+            &[
+                &STORES,
+                &ALLOCATES_LOGGED,
+                &CALLS,
+                &WRITES,
+                &CALLS,
+                &ATTACKS_REGION,
             ],
-            "3 ffffffff80000060 ffffff8000010002",
+            "",
+            "100",
+            "k 7 8 4 0 0 - 256 ffffff8000010000\nk 9 100 2 ffff800000047000 4 61626364 0 -\n\
+            i 14 3 ffffffff80000060 ffffff8000010002",
         ),
         (
-            [
-                0x48, 0xbb, 0x02, 0xa0, 0x00, 0x00, 0x00, 0x80, 0xff, 0xff, 0x88, 0x03,
+            &[
+                &STORES,
+                &ALLOCATES_LOGGED,
+                &CALLS,
+                &WRITES,
+                &CALLS,
+                &ATTACKS_FRAME,
             ],
-            "3 ffffffff80000060 ffff80000000a002",
+            "",
+            "100",
+            "k 7 8 4 0 0 - 256 ffffff8000010000\nk 9 100 2 ffff800000047000 4 61626364 0 -\n\
+            i 14 3 ffffffff80000060 ffff80000000a002",
         ),
         (
-            [
-                0x48, 0xbb, 0x00, 0xa0, 0x01, 0x00, 0x00, 0x80, 0xff, 0xff, 0x88, 0x03,
+            &[
+                &STORES,
+                &ALLOCATES_LOGGED,
+                &CALLS,
+                &WRITES,
+                &CALLS,
+                &ATTACKS_LOG,
             ],
-            "2 ffffffff80000060 ffff80000001a000",
+            "",
+            "100",
+            "k 7 8 4 0 0 - 256 ffffff8000010000\nk 9 100 2 ffff800000047000 4 61626364 0 -\n\
+            i 14 2 ffffffff80000060 ffff80000001a000",
         ),
     ];
-    for (attack, fault) in &attacks {
-        let pieces: [&[u8]; 6] = [&STORES, &ALLOCATES_LOGGED, &CALLS, &WRITES, &CALLS, attack];
-        let ran = run_planned(rt.alloc(), &text_of(rt.alloc(), &pieces)?, "", "100")?;
-        let text = format!(in rt.alloc();
-            "k 7 8 4 0 0 - 256 ffffff8000010000\n\
-            k 9 100 2 ffff800000047000 4 61626364 0 -\ni 14 {fault}\nend halted\nturns 63\n\
-            root 5\ntrap ffffff80000011da\nr 256 4 ffffff8000010000 8 0000616263640000\n\
-            l 0 256 2 61626364\n"
-        )?;
-        assert!(rt; gives(&ran, 0, &text), "{fault}");
-    }
+    assert_eq!(rt; first_other_run(rt.alloc(), 0, section, runs)?, None);
     Ok(())
 }
 
@@ -144,19 +173,32 @@ pub(super) const DECLARES_71: [u8; 25] = [
     0x00, 0x10, 0x00, 0x00, 0xb9, 0x03, 0x00, 0x00, 0x00,
 ];
 
+/// MOV [RBX], AL.
+const ATTACKS: [u8; 2] = [0x88, 0x03];
+
+/// What is written up to the page's zeros.
+const GUARDED: &str = "k 3 46 47 8000000000047021 0 - 0 -\nk 6 ffff800000047000 1000 3 0 - 256 -\n\
+    i 14 3 ffffffff8000005a ffff800000047000\nend halted\nturns 62\nroot 5\n\
+    trap ffffff80000011da\nf 71 guarded\nt 70 71 8000000000047021\n\
+    r 256 3 ffff800000047000 4096 61626364";
+
+static ATTACKED: [Case; 1] = [(
+    &RUN,
+    &[
+        (
+            NAME,
+            Code(&[&STORES, &READS_71, &CALLS, &DECLARES_71, &CALLS, &ATTACKS]),
+        ),
+        NO_INPUT,
+        NO_PLAN,
+    ],
+    No,
+    0,
+    Padded(&[(GUARDED, 8184), ("\n", 0)]),
+)];
+
 #[test]
 fn an_attack_leaves_a_declared_page(rt: HostRuntime) -> Result<(), Fail> {
-    // MOV [RBX], AL.
-    let attack = [0x88, 0x03];
-    let pieces: [&[u8]; 6] = [&STORES, &READS_71, &CALLS, &DECLARES_71, &CALLS, &attack];
-    let ran = run_planned(rt.alloc(), &text_of(rt.alloc(), &pieces)?, "", "100")?;
-    let head = "k 3 46 47 8000000000047021 0 - 0 -\nk 6 ffff800000047000 1000 3 0 - 256 -\n\
-        i 14 3 ffffffff8000005a ffff800000047000\nend halted\nturns 62\nroot 5\n\
-        trap ffffff80000011da\nf 71 guarded\nt 70 71 8000000000047021\n\
-        r 256 3 ffff800000047000 4096 61626364";
-    let mut text = head.as_bytes().to_vec(rt.alloc())?;
-    text.resize(text.len() + 8184, b'0')?;
-    text.push(b'\n')?;
-    assert!(rt; ran.status == 0 && ran.text.as_slice() == text.as_slice());
+    assert_eq!(rt; first_other(rt.alloc(), &ATTACKED)?, None);
     Ok(())
 }

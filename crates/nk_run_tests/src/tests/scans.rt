@@ -3,76 +3,89 @@ ghost use Rattle.std.specs.Prelude.{◌≡◌, ◌≢◌, map, Some};
 ghost use Rattle.std.specs.String.{string_bytes};
 ghost use Rattle.nk_run.specs.CommandLine.{command_of, Scan};
 
-use super::hostile::changed;
-use super::{CODE, HOME, NAME, READ, Segment, gives, image, image_of, nops_with, owned, run_with};
+use super::cases::Failing::{Fetch, No};
+use super::cases::File::{Changed, Filled, Holds, Nops, Segments};
+use super::cases::Wanted::Text;
+use super::cases::{Case, HALTING, HALTS, first_other};
+use super::{ADMITTED, CODE, DATA, NAME, PAST_THE_LIMIT, SCAN, Segment, image, owned};
 use nk_host::{FetchFault, MemShelf, MemSink, PieceFault, Shelf};
 use nk_run::nk_main;
 use std::alloc::Global;
 use std::test::Fail;
 
-/// What is written of the halting kernel.
-const ADMITTED: &str = "admitted entry ffffffff80000000 pages 1\n";
+static READS: [Case; 7] = [
+    // The size, the head, the table and the page.
+    (&SCAN, &[HALTING], Fetch(1), 3, Text("unread image\n")),
+    (&SCAN, &[HALTING], Fetch(2), 3, Text("unread image\n")),
+    (&SCAN, &[HALTING], Fetch(3), 3, Text("unread image\n")),
+    (&SCAN, &[HALTING], Fetch(4), 3, Text("unread image\n")),
+    (&SCAN, &[HALTING], Fetch(5), 0, Text(ADMITTED)),
+    // A page that isn't executable is not read.
+    (
+        &SCAN,
+        &[(NAME, Segments(&[CODE, CONSTANTS]))],
+        Fetch(5),
+        0,
+        Text(ADMITTED),
+    ),
+    // A name without a file.
+    (
+        &["scan", "missing"],
+        &[(NAME, Holds(&[]))],
+        No,
+        3,
+        Text("unread image\n"),
+    ),
+];
 
 #[test]
 fn four_reads_are_made_of_a_page_and_each_may_fail(rt: HostRuntime) -> Result<(), Fail> {
-    let alloc = rt.alloc();
-    let words = ["scan", NAME];
-    // The size, the head, the table and the page.
-    for number in 1..5 {
-        let ran = run_with(alloc, &words, image(alloc, &[0xf4])?, &[number], &[], 0)?;
-        assert!(rt; gives(&ran, 3, "unread image\n"), "{number}");
-    }
-    let ran = run_with(alloc, &words, image(alloc, &[0xf4])?, &[5], &[], 0)?;
-    assert!(rt; gives(&ran, 0, ADMITTED));
+    assert_eq!(rt; first_other(rt.alloc(), &READS)?, None);
     Ok(())
 }
 
-#[test]
-fn pages_that_are_not_executable_are_not_read(rt: HostRuntime) -> Result<(), Fail> {
-    let alloc = rt.alloc();
-    let constants = Segment {
-        flags: READ,
-        offset: 8192,
-        address: HOME + 0x1000,
-        ..CODE
-    };
-    let file = image_of(alloc, &[CODE, constants])?;
-    let ran = run_with(alloc, &["scan", NAME], file, &[5], &[], 0)?;
-    assert!(rt; gives(&ran, 0, ADMITTED));
-    Ok(())
-}
+/// A page of constants behind the code.
+const CONSTANTS: Segment = Segment {
+    bytes: &[0x90, 0xf4],
+    ..DATA
+};
 
+static FAULTS: [Case; 4] = [
+    (
+        &SCAN,
+        &[(NAME, Filled(0, PAST_THE_LIMIT, &[]))],
+        Fetch(2),
+        7,
+        Text("longer image 67108864\n"),
+    ),
+    (
+        &SCAN,
+        &[(NAME, Changed(&[(3, &[0x47])]))],
+        Fetch(3),
+        1,
+        Text("image 2 Magic 0\n"),
+    ),
+    (
+        &SCAN,
+        &[(NAME, Changed(&[(96, &[2])]))],
+        Fetch(4),
+        1,
+        Text("image 7 SegmentRange 0\n"),
+    ),
+    (
+        &SCAN,
+        &[(NAME, Nops(4094, &[0x0f, 0x30, 0xf4]))],
+        Fetch(5),
+        1,
+        Text("protected ffffffff80000ffe 0f30\n"),
+    ),
+];
+
+/// A file that is too long, one without the magic number, one with a segment out of its range, and one with a protected
+/// encoding in the first of two pages.
 #[test]
 fn nothing_is_read_behind_a_fault(rt: HostRuntime) -> Result<(), Fail> {
-    let alloc = rt.alloc();
-    // A file that is too long, one without the magic number, one with a segment out of its range, and one with a
-    // protected encoding in the first of two pages.
-    let longer = run_with(
-        alloc,
-        &["scan", NAME],
-        vec![in alloc; 0; 67_108_865]?,
-        &[2],
-        &[],
-        0,
-    )?;
-    assert!(rt; gives(&longer, 7, "longer image 67108864\n"));
-    let magic = changed(alloc, &[(3, 0x47)])?;
-    let ran = run_with(alloc, &["scan", NAME], magic, &[3], &[], 0)?;
-    assert!(rt; gives(&ran, 1, "image 2 Magic 0\n"));
-    let range = changed(alloc, &[(96, 2)])?;
-    let ran = run_with(alloc, &["scan", NAME], range, &[4], &[], 0)?;
-    assert!(rt; gives(&ran, 1, "image 7 SegmentRange 0\n"));
-    let text = nops_with(alloc, 4094, &[0x0f, 0x30, 0xf4])?;
-    let ran = run_with(alloc, &["scan", NAME], image(alloc, &text)?, &[5], &[], 0)?;
-    assert!(rt; gives(&ran, 1, "protected ffffffff80000ffe 0f30\n"));
-    Ok(())
-}
-
-#[test]
-fn a_name_without_a_file_is_unread(rt: HostRuntime) -> Result<(), Fail> {
-    let alloc = rt.alloc();
-    let missing = run_with(alloc, &["scan", "missing"], Vec::new(alloc), &[], &[], 0)?;
-    assert!(rt; gives(&missing, 3, "unread image\n"));
+    assert_eq!(rt; first_other(rt.alloc(), &FAULTS)?, None);
     Ok(())
 }
 
@@ -86,15 +99,10 @@ fn status_in_memory(alloc: Global, words: &[String], shelf: &mut MemShelf, sink:
 #[test]
 fn a_shelf_in_memory_never_wants_memory(rt: HostRuntime) -> Result<(), Fail> {
     let alloc = rt.alloc();
-    let files = vec![in alloc; (String::from_str(alloc, NAME)?, image(alloc, &[0xf4])?)]?;
+    let files = vec![in alloc; (String::from_str(alloc, NAME)?, image(alloc, &HALTS)?)]?;
     let mut shelf = MemShelf::new(alloc, files, Vec::new(alloc))?;
     let mut sink = MemSink::new(alloc, 100, Vec::new(alloc), 0)?;
-    let status = status_in_memory(
-        alloc,
-        &owned(alloc, &["scan", NAME])?,
-        &mut shelf,
-        &mut sink,
-    );
+    let status = status_in_memory(alloc, &owned(alloc, &SCAN)?, &mut shelf, &mut sink);
     assert_eq!(rt; status, 0);
     Ok(())
 }
@@ -147,8 +155,8 @@ impl Shelf for Wanting {
 fn a_file_of_64_mib_is_not_longer(rt: HostRuntime) -> Result<(), Fail> {
     let alloc = rt.alloc();
     let cases: [(&[&str], bool); 3] = [
-        (&["scan", NAME], false),
-        (&["scan", NAME], true),
+        (&SCAN, false),
+        (&SCAN, true),
         (&["map", NAME, "512", "0"], false),
     ];
     for (words, sized) in cases {

@@ -1,6 +1,10 @@
 //! Worked cases of `run` with calls on page tables: the closing section shows what differs from the opening's.
-use super::gives;
-use super::run::{run_failing, run_planned};
+use super::NAME;
+use super::cases::Failing::Put;
+use super::cases::File::Code;
+use super::cases::Wanted::Text;
+use super::cases::{Case, Run, UNCHANGED, first_other, first_other_run};
+use super::run::{NO_INPUT, NO_PLAN, RUN};
 use std::test::Fail;
 
 /// MOV RBX, the direct map's address of frame 71, which is the first free one; MOV [RBX], AL. MOV EDI, 3; MOV ESI, 70;
@@ -23,25 +27,28 @@ pub(super) const DECLARED: &str =
 
 #[test]
 fn kinds_and_entries_that_changed_are_told(rt: HostRuntime) -> Result<(), Fail> {
-    let ran = run_planned(rt.alloc(), &DECLARES, "", "100")?;
-    assert!(rt; gives(&ran, 0, DECLARED));
+    let changed: &[Run] = &[(&[&DECLARES], "", "100", DECLARED)];
+    assert_eq!(rt; first_other_run(rt.alloc(), 0, "", changed)?, None);
+    let unchanged: &[Run] = &[(&[&DECLARES], "", "0", "end steps\nturns 0")];
+    assert_eq!(rt; first_other_run(rt.alloc(), 0, UNCHANGED, unchanged)?, None);
     Ok(())
 }
 
-#[test]
-fn what_did_not_change_is_not_told(rt: HostRuntime) -> Result<(), Fail> {
-    let text = "end steps\nturns 0\nroot 5\ntrap ffffff80000011da\n";
-    let ran = run_planned(rt.alloc(), &DECLARES, "", "0")?;
-    assert!(rt; gives(&ran, 0, text));
-    Ok(())
-}
+/// What is written of it up to the middle of the first line of the closing section that tells a change.
+const CUT: &str = "k 3 46 47 8000000000047021 0 - 0 -\nk 2 1 47 8000000000047021 0 - 0 -\n\
+    i 14 3 ffffffff8000004e ffff800000047000\nend halted\nturns 62\nroot 5\n\
+    trap ffffff80000011da\nf 71";
+
+static CUTS: [Case; 1] = [(
+    &RUN,
+    &[(NAME, Code(&[&DECLARES])), NO_INPUT, NO_PLAN],
+    Put(8, 4),
+    4,
+    Text(CUT),
+)];
 
 #[test]
 fn a_line_of_the_closing_section_may_be_cut(rt: HostRuntime) -> Result<(), Fail> {
-    let text = "k 3 46 47 8000000000047021 0 - 0 -\nk 2 1 47 8000000000047021 0 - 0 -\n\
-        i 14 3 ffffffff8000004e ffff800000047000\nend halted\nturns 62\nroot 5\n\
-        trap ffffff80000011da\nf 71";
-    let ran = run_failing(rt.alloc(), &DECLARES, 8, 4)?;
-    assert!(rt; gives(&ran, 4, text));
+    assert_eq!(rt; first_other(rt.alloc(), &CUTS)?, None);
     Ok(())
 }
