@@ -59,16 +59,33 @@ fn give(scanner: &mut Scanner, at: u64, piece: &[u8]) -> Option<Option<Found>> {
     Some(scanner.feed(at, piece))
 }
 
-/// What a scanner says of a run that is cut behind place k where bit k of `cuts` is set.
-fn scan_cut(run: &[u8], at: u64, cuts: u32) -> Option<Option<Found>> {
+/// Where a run is cut into pieces.
+#[derive(Clone, Copy)]
+enum Cuts {
+    /// Behind place k where bit k is set.
+    Bits(u32),
+    /// Behind each so many bytes.
+    Every(usize),
+}
+
+/// Whether a run is cut behind place k.
+fn is_cut(cuts: Cuts, k: usize) -> bool {
+    match cuts {
+        Cuts::Bits(bits) => k < 32 && (bits >> k) & 1 == 1,
+        Cuts::Every(size) => size > 0 && k % size == size - 1,
+    }
+}
+
+/// What a scanner says of a run that is cut so. The last piece may be shorter.
+fn scan_cut(run: &[u8], at: u64, cuts: Cuts) -> Option<Option<Found>> {
     let mut scanner = Scanner::new();
     let mut next = at;
     let mut from = 0;
     for k in 0..run.len() {
-        if from > k || k >= 32 {
+        if from > k {
             return None;
         }
-        if k + 1 == run.len() || (cuts >> k) & 1 == 1 {
+        if k + 1 == run.len() || is_cut(cuts, k) {
             let answer = give(&mut scanner, next, &run[from..k + 1])?;
             if answer.is_some() {
                 return Some(answer);
@@ -86,7 +103,7 @@ type Run = ([u8; 6], Option<Found>);
 /// Whether it says so, whichever way the run is cut.
 fn is_found_in_every_cut(run: &Run) -> bool {
     for cuts in 0..32 {
-        if scan_cut(&run.0, 0x1000, cuts) != Some(run.1) {
+        if scan_cut(&run.0, 0x1000, Cuts::Bits(cuts)) != Some(run.1) {
             return false;
         }
     }
@@ -208,27 +225,10 @@ fn a_gap_ends_the_run_and_an_empty_piece_goes_on_with_it(rt: HostRuntime) {
     assert_eq!(rt; first_other_pieces(&PIECES), None);
 }
 
-/// What a scanner says of a run in pieces of so many bytes, of which the last may be shorter.
-fn scan_by(run: &[u8], at: u64, size: usize) -> Option<Option<Found>> {
-    if size == 0 {
-        return None;
-    }
-    let mut scanner = Scanner::new();
-    let mut next = at;
-    for piece in run.chunks(size) {
-        let answer = give(&mut scanner, next, piece)?;
-        if answer.is_some() {
-            return Some(answer);
-        }
-        next = scanner.end();
-    }
-    Some(None)
-}
-
 /// Whether a scanner says so of a run at the home's start, in pieces of each of four sizes.
 fn is_found_by_each_size(run: &[u8], found: Option<Found>) -> bool {
     for size in [1, 2, 3, 4096] {
-        if scan_by(run, HOME, size) != Some(found) {
+        if scan_cut(run, HOME, Cuts::Every(size)) != Some(found) {
             return false;
         }
     }
@@ -298,21 +298,35 @@ fn encodings_at_the_edges_of_pages(rt: HostRuntime) {
     assert_eq!(rt; first_other_edge(rt.alloc(), &EDGES), None);
 }
 
-/// A run without what is found in it, pieces with an earlier find, and others with another place.
+/// A right row, and one with another place.
+static OTHER_PLACE: [Place; 2] = [
+    (&[0x90, 0x0F, 0x30], Some(1)),
+    (&[0x90, 0x0F, 0x30], Some(0)),
+];
+
+/// WRMSR, and as if it weren't found.
+#[rattlefmt::skip]
+static MISSED: [Run; 2] = [
+    (
+        [0x90, 0x90, 0x90, 0x90, 0x0F, 0x30],
+        Some(Found { at: 0x1004, bytes: [0x0F, 0x30, 0], count: 2 }),
+    ),
+    ([0x90, 0x90, 0x90, 0x90, 0x0F, 0x30], None),
+];
+
+/// Nothing found, and what is found before the last piece.
+static EARLIER: [Pieces; 2] = [
+    (&[(0x1000, &[0x0F]), (0x1001, &[0x90])], None),
+    (&[(0x1000, &[0x0F, 0x30]), (0x1002, &[0x90])], None),
+];
+
+/// Nothing found, and as if WRMSR weren't.
+static MISSED_IN_IMAGE: [Edge; 2] = [((8191, 1, 0x0F), None), ((8190, 2, 0x30_0F), None)];
+
 #[test]
 fn wrong_rows_are_found(rt: HostRuntime) {
-    let place: Place = (&[0x90, 0x0F, 0x30], Some(0));
-    let run: Run = ([0x90, 0x90, 0x90, 0x90, 0x0F, 0x30], None);
-    let pieces: Pieces = (&[(0x1000, &[0x0F, 0x30]), (0x1002, &[0x90])], None);
-    let edge: Edge = ((8190, 2, 0x30_0F), None);
-    assert_eq!(rt; first_other_place(&[PLACES[0], place, PLACES[0]]), Some(1));
-    assert_eq!(rt; first_other_run(&[RUNS[0], run, RUNS[0]]), Some(1));
-    assert_eq!(rt;
-        first_other_pieces(&[PIECES[0], pieces, PIECES[0]]),
-        Some(1)
-    );
-    assert_eq!(rt;
-        first_other_edge(rt.alloc(), &[EDGES[0], edge, EDGES[0]]),
-        Some(1)
-    );
+    assert_eq!(rt; first_other_place(&OTHER_PLACE), Some(1));
+    assert_eq!(rt; first_other_run(&MISSED), Some(1));
+    assert_eq!(rt; first_other_pieces(&EARLIER), Some(1));
+    assert_eq!(rt; first_other_edge(rt.alloc(), &MISSED_IN_IMAGE), Some(1));
 }
