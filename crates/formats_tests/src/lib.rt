@@ -3,9 +3,13 @@
 #![tactic(auto)]
 
 #[cfg(test)]
+mod files;
+#[cfg(test)]
 mod gates;
 #[cfg(test)]
 mod images;
+#[cfg(test)]
+mod loads;
 #[cfg(test)]
 mod plans;
 #[cfg(test)]
