@@ -284,7 +284,7 @@ fn count_answered(regions: &mut Regions, mem: &mut PhysMem, steps: &[Step]) -> u
 }
 
 /// A step with another answer is found, at its place.
-const WRONG: [Step; 3] = [
+static WRONG: [Step; 3] = [
     Step::Alloc(65536, 1, Ok((256, 0))),
     Step::Alloc(1, 1, Err(Rule::BadRange)),
     Step::Free(256, Ok(())),
@@ -295,7 +295,7 @@ fn a_wrong_answer_is_found(rt: HostRuntime) {
     assert_eq!(rt; play(rt.alloc(), &WRONG), 1);
 }
 
-const WHOLE_POOL: [Step; 9] = [
+static WHOLE_POOL: [Step; 9] = [
     Step::Alloc(65536, 1, Ok((256, 0))),
     Step::Alloc(1, 1, Err(Rule::NoRoom)),
     Step::Free(255, Err(Rule::BadRegion)),
@@ -312,7 +312,7 @@ fn a_region_is_the_whole_pool(rt: HostRuntime) {
     assert_eq!(rt; play(rt.alloc(), &WHOLE_POOL), 9);
 }
 
-const REFUSED: [Step; 9] = [
+static REFUSED: [Step; 9] = [
     Step::Alloc(0, 0, Err(Rule::BadRange)),
     Step::Alloc(65537, 1, Err(Rule::BadRange)),
     Step::Alloc(0x1_0000_0001, 1, Err(Rule::BadRange)),
@@ -330,7 +330,7 @@ fn refused_calls_take_no_identifier(rt: HostRuntime) {
 }
 
 /// Offset 16 of region 257 begins frame 11; its bit 16 is bit 4096 of all, the first of byte 512.
-const BORDERS: [Step; 44] = [
+static BORDERS: [Step; 44] = [
     Step::Alloc(4080, 1, Ok((256, 0))),
     Step::Alloc(40, 2, Ok((257, 4080))),
     Step::Bits(0),
@@ -383,7 +383,7 @@ fn bytes_are_written_across_borders(rt: HostRuntime) {
 }
 
 /// A region in the place of one that was written and let go; its slot, the second, is the fourth one's then.
-const ANEW: [Step; 22] = [
+static ANEW: [Step; 22] = [
     Step::Alloc(64, 3, Ok((256, 0))),
     Step::Alloc(64, 2, Ok((257, 64))),
     Step::Write(257, 48, 16, true),
@@ -413,7 +413,7 @@ fn a_new_region_has_no_byte_written(rt: HostRuntime) {
     assert_eq!(rt; play(rt.alloc(), &ANEW), 22);
 }
 
-const RANGES: [Step; 8] = [
+static RANGES: [Step; 8] = [
     Step::Alloc(64, 1, Ok((256, 0))),
     Step::Fits(256, 0, 64, true),
     Step::Fits(256, 63, 1, true),
@@ -433,12 +433,12 @@ fn a_range_lies_in_its_region(rt: HostRuntime) {
 fn fill(regions: &mut Regions, mem: &mut PhysMem, count: u64, size: u64, space: u64) -> u64
     requires held { HoldsRegions regions.old mem.old }
     requires book { IsBook (book_in regions.old mem.old) }
-    requires small { (count ≤ 256) × (space ≤ 65536) }
     ensures held { HoldsRegions regions.new mem.new }
     ensures book { IsBook (book_in regions.new mem.new) }
 {
     for i in 0..count {
-        if allocate(regions, mem, size, 1) != Ok((256 + i, space * i)) {
+        let expected = (i.saturating_add(256), i.saturating_mul(space));
+        if allocate(regions, mem, size, 1) != Ok(expected) {
             return i;
         }
     }
@@ -478,11 +478,11 @@ fn at_most_256_regions_are_live(rt: HostRuntime) {
 /// The identifier of the region at an offset of the pool; 0 where there is none.
 fn id_at(regions: &Regions, mem: &PhysMem, start: u64) -> u64
     requires held { HoldsRegions regions.now mem.now }
-    requires start { start ≤ 65536 }
 {
+    let place = POOL.saturating_add(start);
     for i in 0..regions.count() {
         let region = regions.nth(mem, i);
-        if region.place == POOL + start {
+        if region.place == place {
             return region.id;
         }
     }

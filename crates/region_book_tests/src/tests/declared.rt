@@ -224,7 +224,7 @@ fn first_wrong(it: &mut Described, rows: &[Row]) -> usize
 }
 
 /// Page 4 is a table, and not loose.
-const WRONG: [Row; 3] = [
+static WRONG: [Row; 3] = [
     (0, 0, 1, Rule::BadRange),
     (4, 1, 1, Rule::StillLoose),
     (0, 17, 1, Rule::BadRange),
@@ -237,7 +237,7 @@ fn a_wrong_rule_is_found(rt: HostRuntime) -> Result<(), Fail> {
     Ok(())
 }
 
-const REFUSED: [Row; 8] = [
+static REFUSED: [Row; 8] = [
     (0, 0, 1, Rule::BadRange),
     (0, 17, 1, Rule::BadRange),
     (5, 1, 1, Rule::BadRange),
@@ -267,34 +267,50 @@ fn first_other(mem: &PhysMem, slot: u64, bytes: &[u8; 64]) -> u64
     64
 }
 
+/// The kinds of frames once pages 1 and 2 are declared.
+static GUARDED: [(u32, Kind); 5] = [
+    (1, Kind::Data),
+    (2, Kind::Guarded),
+    (3, Kind::Guarded),
+    (4, Kind::Table(4)),
+    (70, Kind::Data),
+];
+
+/// The first frame of another kind.
+fn other_kind(frames: &Frames, mem: &PhysMem, kinds: &[(u32, Kind)]) -> Option<u32>
+    requires { HoldsDescriptors frames.now mem.now }
+{
+    for row in kinds {
+        if frames.kind(mem, row.0) != row.1 {
+            return Some(row.0);
+        }
+    }
+    None
+}
+
+/// The region of pages 1 and 2.
+const DECLARED: ShownRegion = ShownRegion {
+    id: 256,
+    policy: 2,
+    place: 4096,
+    size: 8192,
+    tail: 0,
+    pooled: false,
+};
+
 #[test]
 fn declared_pages_are_guarded(rt: HostRuntime) -> Result<(), Fail> {
     let mut it = open(rt.alloc())?;
     let refused = first_wrong(&mut it, &REFUSED);
     assert_eq!(rt; refused, 8);
     assert_eq!(rt; first_other(&it.mem, 0, &SLOT), 1);
+    assert_eq!(rt; other_kind(&it.frames, &it.mem, &GUARDED), Some(2));
     let declared = declare(&mut it, 1, 2, 2);
     assert_eq!(rt; declared, Ok(256));
-    for (frame, kind) in [
-        (1, Kind::Data),
-        (2, Kind::Guarded),
-        (3, Kind::Guarded),
-        (4, Kind::Table(4)),
-        (70, Kind::Data),
-    ] {
-        assert_eq!(rt; it.frames.kind(&it.mem, frame), kind, "kind of {frame}");
-    }
+    assert_eq!(rt; other_kind(&it.frames, &it.mem, &GUARDED), None);
     assert_eq!(rt; it.frames.loose(&it.mem, 70), 1);
     let found = it.regions.find(&it.mem, 256);
-    let region = ShownRegion {
-        id: 256,
-        policy: 2,
-        place: 4096,
-        size: 8192,
-        tail: 0,
-        pooled: false,
-    };
-    assert_eq!(rt; found, Some(region));
+    assert_eq!(rt; found, Some(DECLARED));
     assert_eq!(rt; first_other(&it.mem, 0, &SLOT), 64);
     assert_eq!(rt; first_other(&it.mem, 1, &[0; 64]), 64);
     Ok(())
