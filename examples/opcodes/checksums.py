@@ -1,7 +1,7 @@
 """A checksum of whole answers for each opcode: FNV-1a of 64 bits over the answers to 4,096 inputs of 15 bytes.
 
 An input is prefix bytes, 0F or none, the opcode, each byte behind it, and a tail. The order of inputs and the bytes of
-an answer are those of src/tests/whole.rt in the crate x86_decode_tests."""
+an answer are those of src/decoder/whole.rt in the crate decoding_tests."""
 from reader import Memory, OPERATIONS, read
 
 PREFIX_SETS = [bytes.fromhex(text) for text in ("", "66", "48", "45", "66 4B", "F3 41", "F0 F2", "40 66")]

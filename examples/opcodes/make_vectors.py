@@ -1,4 +1,4 @@
-"""Writes the test vectors of the decoder: python3 make_vectors.py ../../crates/x86_decode_tests/src/tests
+"""Writes the test vectors of the decoder: python3 make_vectors.py ../../crates/decoding_tests/src/decoder
 
 Each row of the opcode maps is spelled at the operand sizes 16 (prefix 66), 32 and 64 (REX.W): in a register form
 without REX, in a memory form without, in one relative to RIP with REX.W, and in register and memory forms with REX.R,

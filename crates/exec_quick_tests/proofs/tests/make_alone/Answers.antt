@@ -1,5 +1,0 @@
-use Rattle.std.proofs.Common.{length}
-use Rattle.exec_quick_tests.proofs.tests.make_alone.Goals as goal
-
-pub make-requires-clause-window : goal.make-requires-clause-window
-make-requires-clause-window c = c.new-window.ensures (length c.args.mem.now) _ c.args.regs.now.cpl c.args.tlb.now

@@ -1,5 +1,0 @@
-use Rattle.std.proofs.Common.{length}
-use Rattle.mem_access_tests.proofs.tests.window.empty.Goals as goal
-
-pub returns : goal.returns
-returns c = c.new.ensures (length c.args.mem.now) c.args.control.now 3 c.args.tlb.now

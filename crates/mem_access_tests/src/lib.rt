@@ -1,5 +1,0 @@
-//! Tests of `mem_access` over what it publishes. Floor: tests.
-#![tactic(auto)]
-
-#[cfg(test)]
-mod tests;
