@@ -1,3 +1,2 @@
-pub mod NearerSteps
 pub mod Rises
 mod RefutedTraces

@@ -1,14 +1,8 @@
--- Counts of faults that rose, and what status they give.
-use Rattle.std.proofs.Common.{◌≡◌, ℕ, ◌≤◌, ◌⊎◌, inl, inr, Result, Ok, Err, OnErr, ◌∙◌, arith}
+-- What status a text gives that was put, or was cut.
+use Rattle.std.proofs.Common.{◌≡◌, ℕ, ◌⊎◌, inl, inr, Result, Ok, Err, OnErr, ◌∙◌}
 use Rattle.std.specs.Prelude.{MatchResult}
 use Rattle.nk_host.specs.FaultCounts.{RoseTo}
 use Rattle.nktrace.specs.TracedRuns.{IsTraceStatus}
-
--- a count that rose from a later moment on rose
-pub still_rose : {A E : Type 0} (put : Result A E) (before between after : ℕ) → before ≤ between
-    → OnErr put (RoseTo between after) → OnErr put (RoseTo before after)
-still_rose (Ok _) before between after low rose = tt
-still_rose (Err _) before between after low rose = omega (arith, low, rose)
 
 -- the status of a text that was put, or was cut
 pub status_of : {A E : Type 0} (put : Result A E) (before after own status : ℕ) → (own ≡ 0) ⊎ (own ≡ 5)

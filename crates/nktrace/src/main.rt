@@ -1,30 +1,12 @@
 //! `nktrace`: the steps of a run, a line each, with what they change. It begins a run as `nkrun run` does, with the
-//! same refusals, takes its steps by the machine's own calls, and looks at the machine between them. Its lines are in
-//! docs/FORMATS.md, and no clause speaks of them. Floor: program.
+//! same refusals, and `step_trace` takes its steps and tells them. Floor: program.
 #![tactic(auto)]
 
 // The words, and what they ask for.
-mod asked;
 mod words;
 
-// A line, and the words in it.
-mod line;
-mod names;
-
-// A state before a step: the instruction, the pages that the step may use, and the rest.
-mod before;
-mod code;
-mod pages;
-
-// What a step changes, and shows.
-mod changes;
-mod memory;
-mod shown;
-
 // The trace.
-mod opening;
 mod run;
-mod steps;
 
 use nk_host::{FileShelf, StdSink};
 use run::trace;

@@ -7,14 +7,13 @@ ghost use Rattle.boot_map.specs.Division.{IsLayout};
 ghost use Rattle.nk_run.specs.Witness.{shelf_change, sink_change};
 ghost use Rattle.nktrace.specs.TracedRuns.{IsTraced, IsTraceStatus};
 
-use crate::asked::Shown;
-use crate::steps::drive_shown;
 use gate_state::Machine;
 use irq_plan::Plan;
 use nk_host::{Shelf, Sink, SinkFault, put_all};
 use nk_run::{ReadyRun, begin, ready_run};
 use phys_mem::PhysMem;
 use std::alloc::Global;
+use step_trace::{Shown, drive_shown};
 
 /// The status where all was written.
 const DONE: u8 = 0;

@@ -1,10 +1,10 @@
 //! The words of the command line.
 
-use crate::asked::{Kind, Shown};
 use clap::builder::ValueParser;
 use clap::error::ErrorKind;
 use clap::{Arg, ArgAction, ArgMatches, Command, Error};
 use std::alloc::{AllocError, Global};
+use step_trace::{Kind, Shown};
 use text_lines::hexadecimal;
 
 /// The most turns of a run.

@@ -10,7 +10,7 @@ use Rattle.gate_state.specs.MachineSteps.{move_of, next, step_by}
 use Rattle.gate_state.specs.QuietSteps.{IsHurried}
 use Rattle.gate_state.specs.StepsTaken.{CountsSteps}
 use Rattle.gate_state.specs.WholeMachine.{WholeState, is_rest, stepped_whole}
-use Rattle.nktrace.specs.StepsLeft.{steps_left}
+use Rattle.step_trace.specs.StepsLeft.{steps_left}
 
 -- a step rests where its move does
 abbrev pub is_rested : Step → Bool

@@ -1,8 +1,8 @@
 use Rattle.std.proofs.Common.{arith, subst}
 use Rattle.gate_state.specs.MachineOf.{whole_of}
-use Rattle.nktrace.specs.StepsLeft.{LeavesFewer}
-use Rattle.nktrace.proofs.NearerSteps.{hurried_left}
-use Rattle.nktrace.proofs.steps.go_to.Goals as goal
+use Rattle.step_trace.specs.StepsLeft.{LeavesFewer}
+use Rattle.step_trace.proofs.NearerSteps.{hurried_left}
+use Rattle.step_trace.proofs.steps.go_to.Goals as goal
 
 pub loop-hurried-smaller : goal.loop-hurried-smaller
 loop-hurried-smaller c =

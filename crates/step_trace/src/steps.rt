@@ -3,7 +3,7 @@
 ghost use Rattle.std.specs.Prelude.{◌<◌, ◌≤◌, IfNone, OnErr};
 ghost use Rattle.nk_host.specs.FaultCounts.{RoseTo};
 ghost use Rattle.gate_state.specs.MachineOf.{whole_of};
-ghost use Rattle.nktrace.specs.StepsLeft.{LeavesFewer};
+ghost use Rattle.step_trace.specs.StepsLeft.{LeavesFewer};
 
 use crate::asked::Shown;
 use crate::before::Before;
@@ -181,8 +181,10 @@ fn follow<'i, O: Sink>(
     }
 }
 
-/// Takes the steps of a run, and writes those that are shown.
-pub(crate) fn drive_shown<'i, O: Sink>(
+/// Takes the steps of a run, and writes those that are shown, as docs/FORMATS.md has them. The copy, of as many frames
+/// as the machine's memory, is to hold what memory held at the step before. Err where the sink failed, and the text is
+/// cut.
+pub fn drive_shown<'i, O: Sink>(
     machine: Machine<'i>,
     plan: &Plan,
     steps: u64,

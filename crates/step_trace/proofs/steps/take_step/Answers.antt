@@ -1,8 +1,8 @@
 use Rattle.std.proofs.Common.{ap}
 use Rattle.gate_state.specs.MachineOf.{whole_of}
 use Rattle.gate_state.specs.WholeMachine.{WholeState}
-use Rattle.nktrace.proofs.NearerSteps.{goes_by, is_rested, nearer}
-use Rattle.nktrace.proofs.steps.take_step.Goals as goal
+use Rattle.step_trace.proofs.NearerSteps.{goes_by, is_rested, nearer}
+use Rattle.step_trace.proofs.steps.take_step.Goals as goal
 
 pub returns-in-Seen : goal.returns-in-Seen
 returns-in-Seen c =

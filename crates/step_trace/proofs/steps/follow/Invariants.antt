@@ -1,7 +1,7 @@
 use Rattle.std.proofs.Common.{◌≤◌}
 use Rattle.gate_state.specs.MachineOf.{whole_of}
-use Rattle.nktrace.specs.StepsLeft.{steps_left}
-use Rattle.nktrace.proofs.steps.follow.Given as goal
+use Rattle.step_trace.specs.StepsLeft.{steps_left}
+use Rattle.step_trace.proofs.steps.follow.Given as goal
 
 abbrev pub invariant-loop-why : goal.invariant-loop-why
 invariant-loop-why g l = g.O.Sink.faults l.initial.sink ≤ g.O.Sink.faults l.sink

@@ -3,8 +3,8 @@ use Rattle.std.specs.Prelude.{ℕ, ◌+◌, ◌-◌, ◌<◌, List, length, ⊤}
 use Rattle.irq_plan.specs.declared.event.Event.{Event}
 use Rattle.gate_state.specs.MachineOf.{whole_of}
 use Rattle.gate_state.specs.WholeMachine.{WholeState}
-use Rattle.nktrace.specs.declared.steps.Taken.{Taken}
-use Rattle.nktrace.specs.declared.steps.Taken.TheVariants as taken
+use Rattle.step_trace.specs.declared.steps.Taken.{Taken}
+use Rattle.step_trace.specs.declared.steps.Taken.TheVariants as taken
 
 -- the most steps from a state on, up to so many turns
 abbrev pub steps_left : ℕ → List Event → WholeState → ℕ

@@ -1,0 +1,2 @@
+-- Words of private clauses and proofs.
+pub mod StepsLeft
