@@ -1,190 +1,275 @@
 //! The tables of the machine's opening layout, and entries that are missing.
 
-ghost use Rattle.std.specs.Prelude.{◌≡◌, IfOk, length};
+ghost use Rattle.std.specs.Prelude.{◌≡◌, length};
 
-use nk_bits::{Leaf, Rights, Upper};
+use nk_bits::{Leaf, Rights, Upper, canonical};
 use page_walk::{Missing, upper, walk, walk_below};
 use phys_mem::PhysMem;
-use std::test::Fail;
+use std::alloc::Global;
+
+/// What is done with a memory of sixteen frames, and what it is to give.
+#[derive(Clone, Copy)]
+enum Step {
+    /// A place, and the number that is stored there.
+    Store(u64, u64),
+    /// The frame of the root, an address, and what its walk finds.
+    Walk(u32, u64, Result<Leaf, Missing>),
+    /// The frame of the root, and an address whose walk finds a leaf, whichever it is.
+    Leads(u32, u64),
+    /// An address, a level, and what the entry of that level names on the walk from frame 1.
+    Names(u64, u8, Option<Upper>),
+    /// A level, what its entry names, an address, and what the walk below the entry finds.
+    Below(u8, Upper, u64, Result<Leaf, Missing>),
+}
+
+/// Whether a step gives what it is to give.
+fn is_met(memory: &mut PhysMem, step: &Step) -> bool
+    requires { length memory.old ≡ 65536 }
+    ensures { length memory.new ≡ 65536 }
+{
+    match *step {
+        Step::Store(at, value) => is_stored(memory, at, value),
+        Step::Walk(root, va, found) => {
+            root < 16 && canonical(va) && walk(memory, root, va) == found
+        }
+        Step::Leads(root, va) => root < 16 && canonical(va) && walk(memory, root, va).is_ok(),
+        Step::Names(va, level, found) => {
+            2 <= level && level <= 4 && canonical(va) && upper(memory, 1, va, level) == found
+        }
+        Step::Below(level, from, va, found) => is_below(memory, level, &from, va, found),
+    }
+}
+
+/// Stores a number, where its place is in memory.
+fn is_stored(memory: &mut PhysMem, at: u64, value: u64) -> bool
+    requires { length memory.old ≡ 65536 }
+    ensures { length memory.new ≡ 65536 }
+{
+    if at <= 0xFFF8 {
+        memory.store64(at, value);
+    }
+    at <= 0xFFF8
+}
+
+/// Whether a walk below an entry finds this.
+fn is_below(
+    memory: &PhysMem,
+    level: u8,
+    from: &Upper,
+    va: u64,
+    found: Result<Leaf, Missing>,
+) -> bool
+    requires { length memory.now ≡ 65536 }
+{
+    2 <= level
+        && level <= 4
+        && from.frame < 16
+        && canonical(va)
+        && walk_below(memory, level, from, va) == found
+}
+
+/// The index of the first step that gives something else. Want of memory fails at 0.
+fn first_wrong(alloc: Global, steps: &[Step]) -> Option<usize> {
+    let Ok(mut memory) = PhysMem::new(alloc, 16) else {
+        return Some(0);
+    };
+    for (index, step) in steps.iter().enumerate() {
+        if !is_met(&mut memory, step) {
+            return Some(index);
+        }
+    }
+    None
+}
 
 /// The address of the gate's text.
 const GATE: u64 = 0xFFFF_FF80_0000_1000;
 
-#[test]
-fn leaf_of_the_gate_and_its_neighbours(rt: HostRuntime) -> Result<(), Fail> {
-    let mut memory = PhysMem::new(rt.alloc(), 16)?;
-    memory.store64(0x5FF8, 0x6027);
-    memory.store64(0x6000, 0x7027);
-    memory.store64(0x7000, 0x8027);
-    memory.store64(0x8008, 0x1021);
-    memory.store64(0x8018, 0x8000_0000_0000_3063);
-    let text = Leaf {
-        frame: 1,
-        rights: Rights {
-            can_write: false,
-            user: false,
-            exec: true,
-        },
-    };
-    let stack = Leaf {
-        frame: 3,
-        rights: Rights {
-            can_write: true,
-            user: false,
-            exec: false,
-        },
-    };
-    assert_eq!(rt; walk(&memory, 5, GATE), Ok(text));
-    assert_eq!(rt; walk(&memory, 5, GATE + 0xFFF), Ok(text));
-    assert_eq!(rt; walk(&memory, 5, GATE + 0x2000), Ok(stack));
-    assert_eq!(rt; walk(&memory, 5, GATE + 0x1000), Err(Missing { level: 1 }));
-    assert_eq!(rt;
-        walk(&memory, 5, GATE + 0x20_0000),
-        Err(Missing { level: 2 })
-    );
-    assert_eq!(rt;
-        walk(&memory, 5, GATE + 0x4000_0000),
-        Err(Missing { level: 3 })
-    );
-    assert_eq!(rt; walk(&memory, 5, 0), Err(Missing { level: 4 }));
-    Ok(())
-}
+const NONE: Rights = Rights {
+    can_write: false,
+    user: false,
+    exec: false,
+};
 
-#[test]
-fn rights_are_common_to_all_levels(rt: HostRuntime) -> Result<(), Fail> {
-    let mut memory = PhysMem::new(rt.alloc(), 16)?;
-    memory.store64(0x1000, 0x8000_0000_0000_2027);
-    memory.store64(0x2000, 0x3025);
-    memory.store64(0x3000, 0x4023);
-    memory.store64(0x4000, 0x9067);
-    let none = Rights {
+const ALL: Rights = Rights {
+    can_write: true,
+    user: true,
+    exec: true,
+};
+
+const TEXT: Leaf = Leaf {
+    frame: 1,
+    rights: Rights {
         can_write: false,
         user: false,
+        exec: true,
+    },
+};
+
+const STACK: Leaf = Leaf {
+    frame: 3,
+    rights: Rights {
+        can_write: true,
+        user: false,
         exec: false,
-    };
-    assert_eq!(rt;
-        walk(&memory, 1, 0),
-        Ok(Leaf {
-            frame: 9,
-            rights: none
-        })
-    );
-    memory.store64(0x1000, 0x2027);
-    memory.store64(0x2000, 0x3027);
-    memory.store64(0x3000, 0x4027);
-    let all = Rights {
+    },
+};
+
+/// What the entries of a chain of tables name: at level 4 one denies fetches, at level 3 writes, at level 2 the user.
+const FOURTH: Upper = Upper {
+    frame: 2,
+    rights: Rights {
         can_write: true,
         user: true,
+        exec: false,
+    },
+};
+
+const THIRD: Upper = Upper {
+    frame: 3,
+    rights: Rights {
+        can_write: false,
+        user: true,
+        exec: false,
+    },
+};
+
+const SECOND: Upper = Upper {
+    frame: 4,
+    rights: NONE,
+};
+
+/// Walks below entries of the chain, that keep the rights that they are given.
+const FREE_FOURTH: Upper = Upper {
+    frame: 2,
+    rights: ALL,
+};
+
+const FREE_THIRD: Upper = Upper {
+    frame: 3,
+    rights: ALL,
+};
+
+const GIVEN_SECOND: Upper = Upper {
+    frame: 4,
+    rights: Rights {
+        can_write: true,
+        user: false,
         exec: true,
-    };
-    assert_eq!(rt;
-        walk(&memory, 1, 0),
-        Ok(Leaf {
-            frame: 9,
-            rights: all
-        })
-    );
-    Ok(())
-}
+    },
+};
+
+const PAGE: Leaf = Leaf {
+    frame: 9,
+    rights: Rights {
+        can_write: true,
+        user: false,
+        exec: true,
+    },
+};
+
+const NARROWED: Leaf = Leaf {
+    frame: 9,
+    rights: Rights {
+        can_write: false,
+        user: false,
+        exec: true,
+    },
+};
+
+/// Steps over a memory of zeros, and the index of the first that is to give something else.
+type Case = (&'static [Step], Option<usize>);
+
+#[rattlefmt::skip]
+static CASES: [Case; 11] = [
+    // The leaf of the gate, and its neighbours.
+    (&[
+        Step::Store(0x5FF8, 0x6027),
+        Step::Store(0x6000, 0x7027),
+        Step::Store(0x7000, 0x8027),
+        Step::Store(0x8008, 0x1021),
+        Step::Store(0x8018, 0x8000_0000_0000_3063),
+        Step::Walk(5, GATE, Ok(TEXT)),
+        Step::Walk(5, GATE + 0xFFF, Ok(TEXT)),
+        Step::Walk(5, GATE + 0x2000, Ok(STACK)),
+        Step::Walk(5, GATE + 0x1000, Err(Missing { level: 1 })),
+        Step::Walk(5, GATE + 0x20_0000, Err(Missing { level: 2 })),
+        Step::Walk(5, GATE + 0x4000_0000, Err(Missing { level: 3 })),
+        Step::Walk(5, 0, Err(Missing { level: 4 })),
+    ], None),
+    // Rights are common to all levels.
+    (&[
+        Step::Store(0x1000, 0x8000_0000_0000_2027),
+        Step::Store(0x2000, 0x3025),
+        Step::Store(0x3000, 0x4023),
+        Step::Store(0x4000, 0x9067),
+        Step::Walk(1, 0, Ok(Leaf { frame: 9, rights: NONE })),
+        Step::Store(0x1000, 0x2027),
+        Step::Store(0x2000, 0x3027),
+        Step::Store(0x3000, 0x4027),
+        Step::Walk(1, 0, Ok(Leaf { frame: 9, rights: ALL })),
+    ], None),
+    // Large pages and frames outside memory are missing.
+    (&[
+        Step::Store(0x1000, 0x20A7),
+        Step::Store(0x2000, 0x30A7),
+        Step::Walk(1, 0, Err(Missing { level: 3 })),
+        Step::Store(0x2000, 0x3027),
+        Step::Store(0x3000, 0x40A7),
+        Step::Walk(1, 0, Err(Missing { level: 2 })),
+        Step::Store(0x3000, 0x4027),
+        Step::Store(0x4000, 0x10067),
+        Step::Walk(1, 0, Err(Missing { level: 1 })),
+        Step::Store(0x4000, 0xF0E7),
+        Step::Leads(1, 0),
+    ], None),
+    // Upper entries down to the first that is missing, in the chain.
+    (&[
+        Step::Store(0x1000, 0x8000_0000_0000_2027),
+        Step::Store(0x2000, 0x3025),
+        Step::Store(0x3000, 0x4023),
+        Step::Store(0x4000, 0x9067),
+        Step::Names(0, 4, Some(FOURTH)),
+        Step::Names(0, 3, Some(THIRD)),
+        Step::Names(0, 2, Some(SECOND)),
+        Step::Names(0x1000, 2, Some(SECOND)),
+        Step::Names(0x20_0000, 3, Some(THIRD)),
+        Step::Names(0x20_0000, 2, None),
+        Step::Names(0x4000_0000, 4, Some(FOURTH)),
+        Step::Names(0x4000_0000, 3, None),
+        Step::Names(0x4000_0000, 2, None),
+        Step::Names(0x80_0000_0000, 4, None),
+        Step::Store(0x3000, 0x40A3),
+        Step::Names(0, 3, Some(THIRD)),
+        Step::Names(0, 2, None),
+        Step::Store(0x2000, 0x1_0025),
+        Step::Names(0, 3, None),
+    ], None),
+    // Walks below upper entries keep their rights, in the chain.
+    (&[
+        Step::Store(0x1000, 0x8000_0000_0000_2027),
+        Step::Store(0x2000, 0x3025),
+        Step::Store(0x3000, 0x4023),
+        Step::Store(0x4000, 0x9067),
+        Step::Below(2, GIVEN_SECOND, 0, Ok(PAGE)),
+        Step::Below(2, GIVEN_SECOND, 0xFFFF_FFFF_8000_0FFF, Ok(PAGE)),
+        Step::Below(3, FREE_THIRD, 0, Ok(PAGE)),
+        Step::Below(4, FREE_FOURTH, 0, Ok(NARROWED)),
+        Step::Below(2, GIVEN_SECOND, 0x1000, Err(Missing { level: 1 })),
+        Step::Below(3, FREE_THIRD, 0x20_0000, Err(Missing { level: 2 })),
+        Step::Below(4, FREE_FOURTH, 0x4000_0000, Err(Missing { level: 3 })),
+    ], None),
+    // A step of each kind that gives something else is found: no table names anything.
+    (&[Step::Store(0xFFF8, 1), Step::Store(0x1_0000, 1)], Some(1)),
+    (&[Step::Walk(1, 0, Err(Missing { level: 4 })), Step::Walk(1, 0, Err(Missing { level: 3 }))], Some(1)),
+    (&[Step::Walk(1, 0, Err(Missing { level: 4 })), Step::Walk(1, 0, Ok(TEXT))], Some(1)),
+    (&[Step::Walk(1, 0, Err(Missing { level: 4 })), Step::Leads(1, 0)], Some(1)),
+    (&[Step::Names(0, 4, None), Step::Names(0, 4, Some(FOURTH))], Some(1)),
+    (&[Step::Below(4, FOURTH, 0, Err(Missing { level: 3 })), Step::Below(4, FOURTH, 0, Ok(PAGE))], Some(1)),
+];
 
 #[test]
-fn large_pages_and_frames_outside_memory_are_missing(rt: HostRuntime) -> Result<(), Fail> {
-    let mut memory = PhysMem::new(rt.alloc(), 16)?;
-    memory.store64(0x1000, 0x20A7);
-    memory.store64(0x2000, 0x30A7);
-    assert_eq!(rt; walk(&memory, 1, 0), Err(Missing { level: 3 }));
-    memory.store64(0x2000, 0x3027);
-    memory.store64(0x3000, 0x40A7);
-    assert_eq!(rt; walk(&memory, 1, 0), Err(Missing { level: 2 }));
-    memory.store64(0x3000, 0x4027);
-    memory.store64(0x4000, 0x10067);
-    assert_eq!(rt; walk(&memory, 1, 0), Err(Missing { level: 1 }));
-    memory.store64(0x4000, 0xF0E7);
-    assert!(rt; walk(&memory, 1, 0).is_ok());
-    Ok(())
-}
-
-/// Four tables, each with one entry: at level 4 it denies fetches, at level 3 writes, at level 2 the user.
-fn chain(rt: &HostRuntime) -> Result<PhysMem, Fail>
-    ensures { IfOk result (λ memory. length memory ≡ 65536) }
-{
-    let mut memory = PhysMem::new(rt.alloc(), 16)?;
-    memory.store64(0x1000, 0x8000_0000_0000_2027);
-    memory.store64(0x2000, 0x3025);
-    memory.store64(0x3000, 0x4023);
-    memory.store64(0x4000, 0x9067);
-    Ok(memory)
-}
-
-fn rights(can_write: bool, user: bool, exec: bool) -> Rights {
-    Rights {
-        can_write,
-        user,
-        exec,
+fn walks_over_small_memories(rt: HostRuntime) {
+    for (steps, wrong) in &CASES {
+        assert!(rt; first_wrong(rt.alloc(), steps) == *wrong);
     }
-}
-
-fn names(frame: u32, rights: Rights) -> Upper
-    ensures { result.frame ≡ frame }
-{
-    Upper { frame, rights }
-}
-
-#[test]
-fn upper_entries_down_to_the_first_that_is_missing(rt: HostRuntime) -> Result<(), Fail> {
-    let mut memory = chain(&rt)?;
-    let fourth = names(2, rights(true, true, false));
-    let third = names(3, rights(false, true, false));
-    let second = names(4, rights(false, false, false));
-    assert_eq!(rt; upper(&memory, 1, 0, 4), Some(fourth));
-    assert_eq!(rt; upper(&memory, 1, 0, 3), Some(third));
-    assert_eq!(rt; upper(&memory, 1, 0, 2), Some(second));
-    assert_eq!(rt; upper(&memory, 1, 0x1000, 2), Some(second));
-    assert_eq!(rt; upper(&memory, 1, 0x20_0000, 3), Some(third));
-    assert_eq!(rt; upper(&memory, 1, 0x20_0000, 2), None);
-    assert_eq!(rt; upper(&memory, 1, 0x4000_0000, 4), Some(fourth));
-    assert_eq!(rt; upper(&memory, 1, 0x4000_0000, 3), None);
-    assert_eq!(rt; upper(&memory, 1, 0x4000_0000, 2), None);
-    assert_eq!(rt; upper(&memory, 1, 0x80_0000_0000, 4), None);
-    memory.store64(0x3000, 0x40A3);
-    assert_eq!(rt; upper(&memory, 1, 0, 3), Some(third));
-    assert_eq!(rt; upper(&memory, 1, 0, 2), None);
-    memory.store64(0x2000, 0x1_0025);
-    assert_eq!(rt; upper(&memory, 1, 0, 3), None);
-    Ok(())
-}
-
-#[test]
-fn walks_below_upper_entries_keep_their_rights(rt: HostRuntime) -> Result<(), Fail> {
-    let memory = chain(&rt)?;
-    let all = rights(true, true, true);
-    let leaf = Leaf {
-        frame: 9,
-        rights: rights(true, false, true),
-    };
-    let narrowed = Leaf {
-        frame: 9,
-        rights: rights(false, false, true),
-    };
-    let second = names(4, rights(true, false, true));
-    assert_eq!(rt; walk_below(&memory, 2, &second, 0), Ok(leaf));
-    assert_eq!(rt;
-        walk_below(&memory, 2, &second, 0xFFFF_FFFF_8000_0FFF),
-        Ok(leaf)
-    );
-    assert_eq!(rt; walk_below(&memory, 3, &names(3, all), 0), Ok(leaf));
-    assert_eq!(rt; walk_below(&memory, 4, &names(2, all), 0), Ok(narrowed));
-    assert_eq!(rt;
-        walk_below(&memory, 2, &second, 0x1000),
-        Err(Missing { level: 1 })
-    );
-    assert_eq!(rt;
-        walk_below(&memory, 3, &names(3, all), 0x20_0000),
-        Err(Missing { level: 2 })
-    );
-    assert_eq!(rt;
-        walk_below(&memory, 4, &names(2, all), 0x4000_0000),
-        Err(Missing { level: 3 })
-    );
-    Ok(())
 }
