@@ -12,89 +12,93 @@ const GATE: u64 = 0xFFFF_FF80_0000_1000;
 /// An address of the direct map.
 const MAPPED: u64 = 0xFFFF_8000_0004_7000;
 
+/// A level, and the indices of the gate and of the address of the direct map there.
+static INDICES: [(u8, usize, usize); 4] = [(4, 511, 256), (3, 0, 0), (2, 0, 0), (1, 1, 71)];
+
 #[test]
 fn indices_of_two_addresses(rt: HostRuntime) {
-    for (level, gate, mapped) in [(4, 511, 256), (3, 0, 0), (2, 0, 0), (1, 1, 71)] {
-        assert_eq!(rt; index(GATE, level), gate, "the gate at level {level}");
-        assert_eq!(rt;
-            index(MAPPED, level),
-            mapped,
-            "the direct map at level {level}"
-        );
+    for (level, gate, mapped) in &INDICES {
+        assert!(rt; 1 <= *level && *level <= 4);
+        assert!(rt; index(GATE, *level) == *gate && index(MAPPED, *level) == *mapped);
     }
 }
 
+/// The ends of both halves, and whether they are canonical.
+static HALVES: [(u64, bool); 6] = [
+    (0, true),
+    (0x7FFF_FFFF_FFFF, true),
+    (0x8000_0000_0000, false),
+    (0xFFFF_7FFF_FFFF_FFFF, false),
+    (0xFFFF_8000_0000_0000, true),
+    (u64::MAX, true),
+];
+
 #[test]
 fn canonical_at_the_ends_of_both_halves(rt: HostRuntime) {
-    assert!(rt; canonical(0));
-    assert!(rt; canonical(0x7FFF_FFFF_FFFF));
-    assert!(rt; !canonical(0x8000_0000_0000));
-    assert!(rt; !canonical(0xFFFF_7FFF_FFFF_FFFF));
-    assert!(rt; canonical(0xFFFF_8000_0000_0000));
-    assert!(rt; canonical(u64::MAX));
+    for (va, is_canonical) in &HALVES {
+        assert!(rt; canonical(*va) == *is_canonical);
+    }
 }
 
-#[test]
-fn table_entry_grants_all(rt: HostRuntime) {
-    let entry = Entry(0x6027);
-    assert_eq!(rt; entry.frame(), 6);
-    assert_eq!(rt;
-        entry.rights(),
-        Rights {
-            can_write: true,
-            user: true,
-            exec: true
-        }
-    );
-    assert!(rt; entry.is_present());
-    assert!(rt; !entry.is_large());
-    let flags = entry.flags();
-    assert!(rt; flags.contains(EntryFlags::PRESENT));
-    assert!(rt; flags.contains(EntryFlags::ACCESSED));
-    assert!(rt; !flags.contains(EntryFlags::LARGE));
-    assert_eq!(rt; flags, EntryFlags(0x27));
-}
+/// An entry; whether it is present, and large; its frame; whether it may be written, is the user's and may be executed;
+/// and its bits that have a name.
+type Fields = (u64, bool, bool, u64, (bool, bool, bool), u64);
+
+/// An entry of a table, which grants all; the leaves of the stack and of the text; and an entry of all bits, of which
+/// each stands in one field.
+#[rattlefmt::skip]
+static ENTRIES: [Fields; 4] = [
+    (0x6027, true, false, 6, (true, true, true), 0x27),
+    (0x8000_0000_0000_3063, true, false, 3, (true, false, false), 0x8000_0000_0000_0063),
+    (0x1021, true, false, 1, (false, false, true), 0x21),
+    (u64::MAX, true, true, 0xFF_FFFF_FFFF, (true, true, false), 0x8000_0000_0000_01FF),
+];
 
 #[test]
-fn leaves_of_stack_and_text(rt: HostRuntime) {
-    let stack = Entry(0x8000_0000_0000_3063);
-    assert_eq!(rt; stack.frame(), 3);
-    assert_eq!(rt;
-        stack.rights(),
-        Rights {
-            can_write: true,
-            user: false,
-            exec: false
-        }
-    );
-    assert!(rt; stack.flags().contains(EntryFlags::DIRTY));
-    assert!(rt; stack.flags().contains(EntryFlags::NO_EXEC));
-    let text = Entry(0x1021);
-    assert_eq!(rt; text.frame(), 1);
-    assert_eq!(rt;
-        text.rights(),
-        Rights {
-            can_write: false,
-            user: false,
-            exec: true
-        }
-    );
+fn fields_of_entries(rt: HostRuntime) {
+    for (bits, present, large, frame, rights, flags) in &ENTRIES {
+        let entry = Entry(*bits);
+        let (can_write, user, exec) = *rights;
+        let rights = Rights {
+            can_write,
+            user,
+            exec,
+        };
+        assert!(rt; entry.is_present() == *present && entry.is_large() == *large);
+        assert!(rt; entry.frame() == *frame && entry.rights() == rights);
+        assert!(rt; entry.flags() == EntryFlags(*flags));
+    }
 }
 
+/// An entry, and whether it has a flag.
+static FLAGS: [(u64, EntryFlags, bool); 5] = [
+    (0x6027, EntryFlags::PRESENT, true),
+    (0x6027, EntryFlags::ACCESSED, true),
+    (0x6027, EntryFlags::LARGE, false),
+    (0x8000_0000_0000_3063, EntryFlags::DIRTY, true),
+    (0x8000_0000_0000_3063, EntryFlags::NO_EXEC, true),
+];
+
 #[test]
-fn every_bit_stands_in_one_field(rt: HostRuntime) {
-    let entry = Entry(u64::MAX);
-    assert_eq!(rt; entry.frame(), 0xFF_FFFF_FFFF);
-    assert_eq!(rt; entry.flags(), EntryFlags(0x8000_0000_0000_01FF));
+fn flags_of_entries(rt: HostRuntime) {
+    for (bits, flag, is_set) in &FLAGS {
+        assert!(rt; Entry(*bits).flags().contains(*flag) == *is_set);
+    }
 }
+
+static RULES: [(Rule, u64); 5] = [
+    (Rule::BadCall, 1),
+    (Rule::TooFree, 11),
+    (Rule::NoRoom, 18),
+    (Rule::BadSource, 22),
+    (Rule::NotCanonical, 27),
+];
 
 #[test]
 fn rules_count_from_1_to_27(rt: HostRuntime) {
-    assert_eq!(rt; Rule::BadCall.number(), 1);
-    assert_eq!(rt; Rule::TooFree.number(), 11);
-    assert_eq!(rt; Rule::NoRoom.number(), 18);
-    assert_eq!(rt; Rule::BadSource.number(), 22);
-    assert_eq!(rt; Rule::NotCanonical.number(), 27);
+    for (rule, number) in &RULES {
+        assert!(rt; rule.number() == *number);
+    }
 }
 
 #[test]

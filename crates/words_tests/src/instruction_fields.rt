@@ -60,14 +60,25 @@ fn base_index_scale_and_displacement(rt: HostRuntime) {
     assert_eq!(rt; first_wrong(&FORMS), None);
 }
 
-/// A form that names something else is found, at its place, and so is one whose cut is a form.
+/// A form that names something else, and one whose cut is a form, each between two that are right.
+static WRONG_FORMS: [[Form; 3]; 2] = [
+    [
+        (&[0x03], 0, 0, Some(3), None, 1, 0),
+        (&[0x03], 0, 0, Some(2), None, 1, 0),
+        (&[0x03], 0, 0, Some(3), None, 1, 0),
+    ],
+    [
+        (&[0x03], 0, 0, Some(3), None, 1, 0),
+        (&[0x03, 0], 0, 0, Some(3), None, 1, 0),
+        (&[0x03], 0, 0, Some(3), None, 1, 0),
+    ],
+];
+
 #[test]
 fn wrong_forms_are_found(rt: HostRuntime) {
-    let right: Form = (&[0x03], 0, 0, Some(3), None, 1, 0);
-    let other: Form = (&[0x03], 0, 0, Some(2), None, 1, 0);
-    let longer: Form = (&[0x03, 0], 0, 0, Some(3), None, 1, 0);
-    assert_eq!(rt; first_wrong(&[right, other, right]), Some(1));
-    assert_eq!(rt; first_wrong(&[right, longer, right]), Some(1));
+    for forms in &WRONG_FORMS {
+        assert!(rt; first_wrong(forms) == Some(1));
+    }
 }
 
 /// So far from the next instruction.
