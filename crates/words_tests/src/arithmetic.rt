@@ -1,4 +1,5 @@
-//! Worked values at the edges of each width, as a processor gives them.
+//! Worked values at the edges of each width, as a processor gives them. Flags that an operation leaves alone, and those
+//! that the manual leaves undefined, stay as they were before.
 
 mod products;
 mod shifts;
@@ -7,7 +8,7 @@ mod sums;
 ghost use Rattle.std.specs.Prelude.{IfSome};
 ghost use Rattle.decode_fields.specs.Widths.{IsWidth};
 
-use x86_alu::Out;
+use x86_alu::{Logic, Out, Shift, add, logic, rotate, scan_bit, shift, sub};
 
 /// All of 64 bits.
 const ONES: u64 = u64::MAX;
@@ -23,7 +24,7 @@ fn out(value: u64, flags: u64) -> Out {
 }
 
 /// A row's width, in bits, if it is one of the four.
-fn width_of(width: u8) -> Option<u8>
+pub(crate) fn width_of(width: u8) -> Option<u8>
     ensures { IfSome result IsWidth }
 {
     if width == 8 || width == 16 || width == 32 || width == 64 {
@@ -31,4 +32,54 @@ fn width_of(width: u8) -> Option<u8>
     } else {
         None
     }
+}
+
+/// What is done with operands.
+#[derive(Clone, Copy)]
+enum Operation {
+    /// Whether a carry comes in.
+    Add(bool),
+    /// Whether a borrow comes in.
+    Subtract(bool),
+    Combine(Logic),
+    Shift(Shift),
+    /// Whether to the left.
+    Rotate(bool),
+    /// Whether from the lowest bit up.
+    Scan(bool),
+}
+
+/// Width in bits, both operands, the flags before; the value, the flags. The second operand of a shift or a rotation is
+/// its count, and a scan has none.
+type Row = (u8, u64, u64, u64, u64, u64);
+
+/// An operation, rows of it, and the index of the first that is to be wrong.
+type Case = (Operation, &'static [Row], Option<usize>);
+
+fn answer(operation: Operation, width: u8, a: u64, b: u64, before: u64) -> Out
+    requires { IsWidth width }
+{
+    let count = (b % 256) as u8;
+    match operation {
+        Operation::Add(carry) => add(width, a, b, carry, before),
+        Operation::Subtract(borrow) => sub(width, a, b, borrow, before),
+        Operation::Combine(op) => logic(op, width, a, b, before),
+        Operation::Shift(op) => shift(op, width, a, count, before),
+        Operation::Rotate(left) => rotate(left, width, a, count, before),
+        Operation::Scan(up) => scan_bit(up, width, a, before),
+    }
+}
+
+/// The index of the first row that isn't so.
+fn first_wrong(operation: Operation, rows: &[Row]) -> Option<usize> {
+    for (index, row) in rows.iter().enumerate() {
+        let (width, a, b, before, value, flags) = *row;
+        let Some(width) = width_of(width) else {
+            return Some(index);
+        };
+        if answer(operation, width, a, b, before) != out(value, flags) {
+            return Some(index);
+        }
+    }
+    None
 }

@@ -101,6 +101,51 @@ fn rules_count_from_1_to_27(rt: HostRuntime) {
     }
 }
 
+// Pairs of values that differ in one field.
+static ANSWERS: [Answer; 2] = [
+    Answer {
+        value: 0,
+        place: None,
+        flush: true,
+    },
+    Answer {
+        value: 0,
+        place: None,
+        flush: false,
+    },
+];
+
+static DELIVERIES: [Delivery; 2] = [
+    Delivery {
+        vector: 14,
+        code: Some(2),
+        rip: GATE,
+        cr2: Some(MAPPED),
+    },
+    Delivery {
+        vector: 14,
+        code: Some(2),
+        rip: GATE,
+        cr2: None,
+    },
+];
+
+static TARGETS: [Target; 2] = [
+    Target {
+        first: 4096,
+        second: 0,
+    },
+    Target {
+        first: 4096,
+        second: 8192,
+    },
+];
+
+/// Whether two leaves with these rights are apart by their frames.
+fn are_apart(rights: Rights) -> bool {
+    Leaf { frame: 1, rights } != Leaf { frame: 2, rights }
+}
+
 #[test]
 fn plain_values_are_copied_and_compared(rt: HostRuntime) {
     let call = CallWords {
@@ -111,53 +156,7 @@ fn plain_values_are_copied_and_compared(rt: HostRuntime) {
         d: 0,
     };
     let copy = call;
-    assert_eq!(rt; copy, call);
-    let answer = Answer {
-        value: 0,
-        place: None,
-        flush: true,
-    };
-    assert!(rt;
-        answer
-            != Answer {
-                value: 0,
-                place: None,
-                flush: false
-            }
-    );
-    let delivery = Delivery {
-        vector: 14,
-        code: Some(2),
-        rip: GATE,
-        cr2: Some(MAPPED),
-    };
-    assert!(rt;
-        delivery
-            != Delivery {
-                vector: 14,
-                code: Some(2),
-                rip: GATE,
-                cr2: None
-            }
-    );
-    let leaf = Leaf {
-        frame: 1,
-        rights: Entry(0x1021).rights(),
-    };
-    assert!(rt;
-        leaf != Leaf {
-            frame: 2,
-            rights: leaf.rights
-        }
-    );
-    assert!(rt;
-        Target {
-            first: 4096,
-            second: 0
-        } != Target {
-            first: 4096,
-            second: 8192
-        }
-    );
-    assert!(rt; Kind::Table(1) != Kind::Table(2));
+    assert!(rt; copy == call && ANSWERS[0] != ANSWERS[1] && DELIVERIES[0] != DELIVERIES[1]);
+    assert!(rt; TARGETS[0] != TARGETS[1] && Kind::Table(1) != Kind::Table(2));
+    assert!(rt; are_apart(Entry(0x1021).rights()));
 }

@@ -1,5 +1,6 @@
 //! Prefixes, forms of ModRM and immediates. The bytes of a form are an assembler's, whose notation stands beside them.
 
+use crate::arithmetic::width_of;
 use decode_fields::{Address, ModRm, Place, Prefixes, Rep, immediate, modrm, prefixes};
 
 /// ModRM, SIB and displacement; REX; and what they name: reg, base, index, scale and displacement.
@@ -120,12 +121,29 @@ fn prefixes_before_an_opcode(rt: HostRuntime) {
     assert!(rt; prefixes(&[0x64, 0x90]).length == 0);
 }
 
+/// Bytes, a width in bits, and the number that they begin with.
+type Immediate = (&'static [u8], u8, Option<u64>);
+
+#[rattlefmt::skip]
+static IMMEDIATES: [Immediate; 6] = [
+    (&[0x80], 8, Some(0xFFFF_FFFF_FFFF_FF80)),
+    (&[0x34, 0x12, 0xFF], 16, Some(0x1234)),
+    (&[0x34, 0x92], 16, Some(0xFFFF_FFFF_FFFF_9234)),
+    (&[0, 0, 0, 0x80], 32, Some(0xFFFF_FFFF_8000_0000)),
+    (&[1, 2, 3, 4, 5, 6, 7, 0x88], 64, Some(0x8807_0605_0403_0201)),
+    (&[0, 0, 0], 32, None),
+];
+
+fn is_immediate(bytes: &[u8], width: u8, number: Option<u64>) -> bool {
+    match width_of(width) {
+        Some(width) => bytes.len() <= 15 && immediate(bytes, width) == number,
+        None => false,
+    }
+}
+
 #[test]
 fn immediates_keep_their_sign(rt: HostRuntime) {
-    assert!(rt; immediate(&[0x80], 8) == Some(0xFFFF_FFFF_FFFF_FF80));
-    assert!(rt; immediate(&[0x34, 0x12, 0xFF], 16) == Some(0x1234));
-    assert!(rt; immediate(&[0x34, 0x92], 16) == Some(0xFFFF_FFFF_FFFF_9234));
-    assert!(rt; immediate(&[0, 0, 0, 0x80], 32) == Some(0xFFFF_FFFF_8000_0000));
-    assert!(rt; immediate(&[1, 2, 3, 4, 5, 6, 7, 0x88], 64) == Some(0x8807_0605_0403_0201));
-    assert!(rt; immediate(&[0, 0, 0], 32) == None);
+    for (bytes, width, number) in &IMMEDIATES {
+        assert!(rt; is_immediate(bytes, *width, *number));
+    }
 }
