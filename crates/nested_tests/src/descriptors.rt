@@ -1,42 +1,23 @@
-//! Counts at worked values: a memory of 80 frames with the opening's tables in small.
+//! Counts and kinds at worked values, over a memory of eighty frames with the opening's tables in small: at the start, as
+//! they change, and the bytes that hold them.
 
-mod changes;
-
-ghost use Rattle.std.specs.Prelude.{◌≡◌, ◌<◌, ◌≤◌, ℕ, ◌*◌, ◌/◌, true, IfOk, IfSome, length};
-ghost use Rattle.phys_mem.specs.MaskedMemory.{is_book_frame};
-ghost use Rattle.phys_mem.specs.Memory.{byte_at, entry_in};
-ghost use Rattle.nk_bits.specs.declared.kind.Kind.TheVariants.{Fixed, Hidden};
-ghost use Rattle.nk_bits.specs.Kinds.{kind_of};
-ghost use Rattle.page_desc.specs.DescriptorBytes.{HoldsDescriptors};
-ghost use Rattle.page_desc.specs.FrameCounts.{IsSlotFixed};
-
-use crate::openings::{are_books_hidden, are_zero, is_slot_fixed, store};
+use crate::openings::Run;
+use crate::steps::Step::{Bytes, Frames, Is, Links, Loose, Replace, Set};
+use crate::steps::{Step, first_wrong};
 use nk_bits::Kind;
-use page_desc::Frames;
-use phys_mem::{NoMemory, PhysMem};
-use std::alloc::{AllocError, Global};
-use std::test::Fail;
 
-/// Data but for a root, the kernel slot's tables 6 to 10, a table of each level from 3 down, and the books.
-fn kinds(alloc: Global) -> Result<Vec<Kind>, AllocError>
-    ensures { IfOk result (λ kinds. length kinds.items ≡ 80) }
-{
-    let mut kinds = vec![in alloc; Kind::Data; 80]?;
-    kinds[5] = Kind::Table(4);
-    for frame in 6..11 {
-        kinds[frame] = Kind::Fixed;
-    }
-    kinds[11] = Kind::Table(3);
-    kinds[12] = Kind::Table(2);
-    kinds[13] = Kind::Table(1);
-    for frame in 26..65 {
-        kinds[frame] = Kind::Hidden;
-    }
-    Ok(kinds)
-}
+/// A root, the kernel slot's tables 6 to 10, a table of each level from 3 down, and the books.
+static RUNS: [Run; 6] = [
+    (5, 6, Kind::Table(4)),
+    (6, 11, Kind::Fixed),
+    (11, 12, Kind::Table(3)),
+    (12, 13, Kind::Table(2)),
+    (13, 14, Kind::Table(1)),
+    (26, 65, Kind::Hidden),
+];
 
 /// Frame 9 names 10, so that 8, 10 and 13 hold leaves; 5, 11 and 12 hold links, and 14 nothing that counts.
-const ENTRIES: [(u64, u64); 16] = [
+static ENTRIES: [(u64, u64); 16] = [
     (0x5800, 0xB027),
     (0x5FF8, 0x6027),
     (0x6000, 0x7027),
@@ -55,50 +36,92 @@ const ENTRIES: [(u64, u64); 16] = [
     (0xE000, 0x2067),
 ];
 
-/// Starts the descriptors, where memory and kinds admit it.
-fn begin(memory: &mut PhysMem, kinds: &[Kind]) -> Option<Frames>
-    requires memory { length memory.old ≡ 4096 * 80 }
-    requires kinds { length kinds.now ≡ 80 }
-    ensures { IfSome result (λ frames. HoldsDescriptors frames memory.new) }
-{
-    if is_slot_fixed(memory, kinds) & are_books_hidden(kinds) & are_zero(memory) {
-        Some(Frames::start(memory, kinds))
-    } else {
-        None
-    }
-}
+/// Steps, and the index of the one that gives something else.
+type Case = (Option<usize>, &'static [Step]);
 
-/// That memory and its descriptors.
-fn start(alloc: Global) -> Result<(PhysMem, Frames), Fail>
-    ensures { IfOk result (λ it. HoldsDescriptors it.1 it.0) }
-{
-    let mut memory = PhysMem::new(alloc, 80)?;
-    for (at, value) in ENTRIES {
-        store(&mut memory, at, value);
-    }
-    let kinds = kinds(alloc)?;
-    match begin(&mut memory, &kinds) {
-        Some(frames) => Ok((memory, frames)),
-        None => Err(NoMemory.into()),
-    }
-}
+static CASES: [Case; 5] = [
+    // At the start.
+    (
+        None,
+        &[
+            Loose(1, 0),
+            Loose(2, 3),
+            Loose(3, 1),
+            Loose(80, 0),
+            Links(6, 1),
+            Links(7, 0),
+            Links(8, 0),
+            Links(10, 0),
+            Links(11, 1),
+            Links(12, 1),
+            Links(13, 1),
+            Frames(80),
+            Is(12, Kind::Table(2)),
+            Is(64, Kind::Hidden),
+            Is(79, Kind::Data),
+        ],
+    ),
+    // Leaves of level 1 and links of levels 2 to 4 count; entries of levels 0 and 5 don't.
+    (
+        None,
+        &[
+            Replace(1, 0x2025, 0x3025, 2, 0),
+            Replace(1, 0x2021, 0x2023, 3, 0),
+            Replace(1, 0x2023, 0x2027, 3, 0),
+            Replace(1, 0x2027, 0x2026, 2, 0),
+            Replace(2, 0, 0x2027, 2, 1),
+            Replace(4, 0, 0x2027, 2, 2),
+            Replace(3, 0x2027, 0, 2, 1),
+            Replace(0, 0, 0x2027, 2, 1),
+            Replace(5, 0, 0x2027, 2, 1),
+            Loose(3, 2),
+        ],
+    ),
+    // Other counts are found, at their place.
+    (
+        Some(1),
+        &[
+            Replace(2, 0, 0x2027, 3, 1),
+            Replace(2, 0, 0x2027, 3, 1),
+            Replace(2, 0, 0, 3, 2),
+        ],
+    ),
+    // Kinds change alone.
+    (
+        None,
+        &[
+            Frames(80),
+            Set(15, Kind::Guarded),
+            Set(79, Kind::Table(4)),
+            Is(15, Kind::Guarded),
+            Is(14, Kind::Data),
+            Is(16, Kind::Data),
+            Is(79, Kind::Table(4)),
+            Is(80, Kind::Hidden),
+            Loose(2, 3),
+        ],
+    ),
+    // A descriptor from the last byte to the first: four that are 0, the links, the loose leaves, two that are 0, the level
+    // and the kind.
+    (
+        None,
+        &[
+            Frames(80),
+            Set(79, Kind::Guarded),
+            Bytes(2, 0x0000_0000_0000_0000_0000_0003_0000_0000),
+            Bytes(5, 0x0000_0000_0000_0000_0000_0000_0000_0402),
+            Bytes(6, 0x0000_0000_0000_0001_0000_0000_0000_0003),
+            Bytes(13, 0x0000_0000_0000_0001_0000_0000_0000_0102),
+            Bytes(64, 0x0000_0000_0000_0000_0000_0000_0000_0006),
+            Bytes(79, 0x0000_0000_0000_0000_0000_0000_0000_0005),
+            Bytes(80, 0),
+        ],
+    ),
+];
 
 #[test]
-fn counts_at_the_start(rt: HostRuntime) -> Result<(), Fail> {
-    let (memory, frames) = start(rt.alloc())?;
-    for (frame, loose) in [(1, 0), (2, 3), (3, 1), (80, 0)] {
-        assert_eq!(rt;
-            frames.loose(&memory, frame),
-            loose,
-            "loose leaves of {frame}"
-        );
+fn counts_and_kinds_are_kept(rt: HostRuntime) {
+    for (wrong, steps) in &CASES {
+        assert!(rt; first_wrong(rt.alloc(), &RUNS, &ENTRIES, steps) == *wrong);
     }
-    for (frame, links) in [(6, 1), (7, 0), (8, 0), (10, 0), (11, 1), (12, 1), (13, 1)] {
-        assert_eq!(rt; frames.links(&memory, frame), links, "links of {frame}");
-    }
-    assert_eq!(rt; frames.frames(), 80);
-    assert_eq!(rt; frames.kind(&memory, 12), Kind::Table(2));
-    assert_eq!(rt; frames.kind(&memory, 64), Kind::Hidden);
-    assert_eq!(rt; frames.kind(&memory, 79), Kind::Data);
-    Ok(())
 }

@@ -1,6 +1,6 @@
 //! What a memory of eighty frames and its kinds have to be for the descriptors to start, and whether it is so.
 
-ghost use Rattle.std.specs.Prelude.{◌≡◌, ◌<◌, ◌≤◌, ℕ, ◌+◌, ◌*◌, ◌/◌, true, length};
+ghost use Rattle.std.specs.Prelude.{◌≡◌, ◌<◌, ◌≤◌, ℕ, ◌+◌, ◌*◌, ◌/◌, true, IfOk, length};
 ghost use Rattle.nk_bits.specs.declared.kind.Kind.TheVariants.{Fixed, Hidden};
 ghost use Rattle.nk_bits.specs.Kinds.{kind_of};
 ghost use Rattle.page_desc.specs.FrameCounts.{IsSlotFixed};
@@ -8,10 +8,44 @@ ghost use Rattle.phys_mem.specs.MaskedMemory.{is_book_frame};
 ghost use Rattle.phys_mem.specs.Memory.{byte_at, entry_in};
 
 use nk_bits::{Entry, Kind};
-use phys_mem::PhysMem;
+use phys_mem::{NoMemory, PhysMem};
+use std::alloc::Global;
+
+/// Frames from the first to before the end, and what they are.
+pub type Run = (usize, usize, Kind);
+
+/// The kind that the first run says of a frame; data where none says any.
+fn kind_at(runs: &[Run], frame: usize) -> Kind {
+    for (first, end, kind) in runs {
+        if *first <= frame && frame < *end {
+            return *kind;
+        }
+    }
+    Kind::Data
+}
+
+/// The kinds of eighty frames: these, and data elsewhere.
+pub fn kinds(runs: &[Run]) -> [Kind; 80] {
+    let mut kinds = [Kind::Data; 80];
+    for frame in 0..80 {
+        kinds[frame] = kind_at(runs, frame);
+    }
+    kinds
+}
+
+/// A memory of eighty frames with these numbers of eight bytes, and 0 elsewhere.
+pub fn memory(alloc: Global, entries: &[(u64, u64)]) -> Result<PhysMem, NoMemory>
+    ensures { IfOk result (λ memory. length memory ≡ 4096 * 80) }
+{
+    let mut memory = PhysMem::new(alloc, 80)?;
+    for (at, value) in entries {
+        store(&mut memory, *at, *value);
+    }
+    Ok(memory)
+}
 
 /// Stores eight bytes, where they lie below 10000 and in memory.
-pub fn store(memory: &mut PhysMem, at: u64, value: u64)
+fn store(memory: &mut PhysMem, at: u64, value: u64)
     ensures { length memory.new ≡ length memory.old }
 {
     if at < 0xFFFF && at + 8 <= 4096 * u64::from(memory.frames()) {
