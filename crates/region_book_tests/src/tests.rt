@@ -19,29 +19,6 @@ const POOL: u64 = 0xFFFF_FF80_0001_0000;
 /// The bytes that are written, from the first on.
 const BYTES: [u8; 16] = *b"abcdefghijklmnop";
 
-/// A book, and the memory that it is of.
-#[derive(Drop)]
-struct Opened {
-    regions: Regions,
-    mem: PhysMem,
-}
-
-/// Memory in which something stands where slots and bits will; none for want of memory.
-fn open(alloc: Global) -> Option<Opened>
-    ensures held { IfSome result (λ it. HoldsRegions it.regions it.mem) }
-    ensures book { IfSome result (λ it. IsBook (book_in it.regions it.mem)) }
-{
-    let Ok(mut mem) = PhysMem::new(alloc, 80) else {
-        return None;
-    };
-    mem.store64(0x2A000, u64::MAX);
-    mem.store64(0x3BFF8, u64::MAX);
-    mem.store64(0x3C000, u64::MAX);
-    mem.store64(0x3FFF8, u64::MAX);
-    let regions = Regions::start(&mut mem);
-    Some(Opened { regions, mem })
-}
-
 /// A step with what it is to answer.
 #[derive(Clone, Copy)]
 enum Step {
@@ -62,7 +39,21 @@ enum Step {
     Stored(u64, u8),
     /// How many bits are set in all.
     Bits(u32),
+    /// So many regions of a size, one behind the other, each in a space of the pool, from identifier 256 on.
+    Fill(u64, u64, u64),
+    /// Each of 128 holes of 512 bytes is filled by two regions of this size.
+    Holes(u64),
+    /// How many regions are live.
+    Count(usize),
+    /// The identifiers of the live regions rise in order.
+    Rising,
+    /// The identifier of the next region.
+    Next(u64),
 }
+
+use Step::{
+    Alloc, Bits, Byte, Count, Fill, Fits, Found, Free, Holes, Next, Rising, Stored, Write, Written,
+};
 
 fn allocate(
     regions: &mut Regions,
@@ -236,201 +227,8 @@ fn are_slots_right(regions: &Regions, mem: &PhysMem) -> bool
     count == regions.count()
 }
 
-/// Whether a step is answered so.
-fn is_answered(regions: &mut Regions, mem: &mut PhysMem, step: &Step) -> bool
-    requires held { HoldsRegions regions.old mem.old }
-    requires book { IsBook (book_in regions.old mem.old) }
-    ensures held { HoldsRegions regions.new mem.new }
-    ensures book { IsBook (book_in regions.new mem.new) }
-{
-    match *step {
-        Step::Alloc(size, policy, answer) => allocate(regions, mem, size, policy) == answer,
-        Step::Free(id, answer) => regions.free(mem, id) == answer,
-        Step::Write(id, offset, count, answer) => {
-            write(regions, mem, id, offset, count.min(16)) == answer
-        }
-        Step::Fits(id, offset, length, answer) => regions.fits(mem, id, offset, length) == answer,
-        Step::Written(id, offset, length, answer) => {
-            written(regions, mem, id, offset, length) == answer
-        }
-        Step::Found(id, answer) => found(regions, mem, id) == answer,
-        Step::Byte(id, offset, answer) => byte(regions, mem, id, offset) == answer,
-        Step::Stored(at, answer) => load(mem, at) == answer,
-        Step::Bits(answer) => bits_set(mem) == answer,
-    }
-}
-
-/// How many steps are answered so, to the first that isn't, with slots that tell the live regions after each.
-fn play(alloc: Global, steps: &[Step]) -> usize {
-    let Some(mut it) = open(alloc) else {
-        return 0;
-    };
-    count_answered(&mut it.regions, &mut it.mem, steps)
-}
-
-fn count_answered(regions: &mut Regions, mem: &mut PhysMem, steps: &[Step]) -> usize
-    requires held { HoldsRegions regions.old mem.old }
-    requires book { IsBook (book_in regions.old mem.old) }
-{
-    for (index, each) in steps.iter().enumerate() {
-        if !is_answered(regions, mem, each) {
-            return index;
-        }
-        if !are_slots_right(regions, mem) {
-            return index;
-        }
-    }
-    steps.len()
-}
-
-/// A step with another answer is found, at its place.
-static WRONG: [Step; 3] = [
-    Step::Alloc(65536, 1, Ok((256, 0))),
-    Step::Alloc(1, 1, Err(Rule::BadRange)),
-    Step::Free(256, Ok(())),
-];
-
-#[test]
-fn a_wrong_answer_is_found(rt: HostRuntime) {
-    assert_eq!(rt; play(rt.alloc(), &WRONG), 1);
-}
-
-static WHOLE_POOL: [Step; 9] = [
-    Step::Alloc(65536, 1, Ok((256, 0))),
-    Step::Alloc(1, 1, Err(Rule::NoRoom)),
-    Step::Free(255, Err(Rule::BadRegion)),
-    Step::Free(256, Ok(())),
-    Step::Alloc(1, 1, Ok((257, 0))),
-    Step::Free(256, Err(Rule::BadRegion)),
-    Step::Alloc(65521, 2, Err(Rule::NoRoom)),
-    Step::Alloc(65520, 2, Ok((258, 16))),
-    Step::Found(258, Some((65520, 2, 0))),
-];
-
-#[test]
-fn a_region_is_the_whole_pool(rt: HostRuntime) {
-    assert_eq!(rt; play(rt.alloc(), &WHOLE_POOL), 9);
-}
-
-static REFUSED: [Step; 9] = [
-    Step::Alloc(0, 0, Err(Rule::BadRange)),
-    Step::Alloc(65537, 1, Err(Rule::BadRange)),
-    Step::Alloc(0x1_0000_0001, 1, Err(Rule::BadRange)),
-    Step::Alloc(1, 0, Err(Rule::BadPolicy)),
-    Step::Alloc(1, 5, Err(Rule::BadPolicy)),
-    Step::Alloc(1, 0x101, Err(Rule::BadPolicy)),
-    Step::Free(256, Err(Rule::BadRegion)),
-    Step::Found(256, None),
-    Step::Alloc(1, 4, Ok((256, 0))),
-];
-
-#[test]
-fn refused_calls_take_no_identifier(rt: HostRuntime) {
-    assert_eq!(rt; play(rt.alloc(), &REFUSED), 9);
-}
-
-/// Offset 16 of region 257 begins frame 11; its bit 16 is bit 4096 of all, the first of byte 512.
-static BORDERS: [Step; 44] = [
-    Step::Alloc(4080, 1, Ok((256, 0))),
-    Step::Alloc(40, 2, Ok((257, 4080))),
-    Step::Bits(0),
-    Step::Write(257, 15, 2, true),
-    Step::Bits(2),
-    Step::Stored(0xAFFF, 97),
-    Step::Stored(0xB000, 98),
-    Step::Stored(0xAFFE, 0),
-    Step::Stored(0xB001, 0),
-    Step::Stored(0x2A1FE, 0),
-    Step::Stored(0x2A1FF, 0x80),
-    Step::Stored(0x2A200, 1),
-    Step::Stored(0x2A201, 0),
-    Step::Stored(0x3C040, 1),
-    Step::Stored(0x3C048, 0xF0),
-    Step::Stored(0x3C049, 0x0F),
-    Step::Stored(0x3C050, 40),
-    Step::Stored(0x3C054, 17),
-    Step::Stored(0x3C058, 2),
-    Step::Stored(0x3C059, 1),
-    Step::Byte(257, 15, 97),
-    Step::Byte(257, 16, 98),
-    Step::Byte(257, 17, 0),
-    Step::Found(257, Some((40, 2, 17))),
-    Step::Written(257, 0, 15, false),
-    Step::Written(257, 0, 16, true),
-    Step::Written(257, 16, 1, true),
-    Step::Written(257, 16, 0, false),
-    Step::Written(257, 17, 23, false),
-    Step::Write(257, 24, 16, true),
-    Step::Written(257, 17, 7, false),
-    Step::Written(257, 39, 1, true),
-    Step::Found(257, Some((40, 2, 40))),
-    Step::Write(257, 25, 16, false),
-    Step::Write(257, 0, 0, false),
-    Step::Written(256, 0, 4080, false),
-    Step::Write(256, 4079, 1, true),
-    Step::Found(256, Some((4080, 1, 0))),
-    Step::Written(256, 0, 4079, false),
-    Step::Written(256, 4079, 1, true),
-    Step::Written(257, 0, 15, false),
-    Step::Stored(0xAFEF, 97),
-    Step::Bits(19),
-    Step::Stored(0x2A1FD, 0x80),
-];
-
-#[test]
-fn bytes_are_written_across_borders(rt: HostRuntime) {
-    assert_eq!(rt; play(rt.alloc(), &BORDERS), 44);
-}
-
-/// A region in the place of one that was written and let go; its slot, the second, is the fourth one's then.
-static ANEW: [Step; 22] = [
-    Step::Alloc(64, 3, Ok((256, 0))),
-    Step::Alloc(64, 2, Ok((257, 64))),
-    Step::Write(257, 48, 16, true),
-    Step::Alloc(64, 1, Ok((258, 128))),
-    Step::Write(258, 0, 1, true),
-    Step::Bits(17),
-    Step::Stored(0x2A00F, 0xFF),
-    Step::Free(257, Ok(())),
-    Step::Bits(1),
-    Step::Stored(0x2A00F, 0),
-    Step::Stored(0x2A010, 1),
-    Step::Stored(0x3C041, 0),
-    Step::Stored(0xA07F, 112),
-    Step::Found(257, None),
-    Step::Fits(257, 0, 1, false),
-    Step::Alloc(50, 4, Ok((259, 64))),
-    Step::Written(259, 0, 50, false),
-    Step::Found(259, Some((50, 4, 0))),
-    Step::Byte(259, 49, 0),
-    Step::Stored(0xA072, 99),
-    Step::Found(258, Some((64, 1, 0))),
-    Step::Bits(1),
-];
-
-#[test]
-fn a_new_region_has_no_byte_written(rt: HostRuntime) {
-    assert_eq!(rt; play(rt.alloc(), &ANEW), 22);
-}
-
-static RANGES: [Step; 8] = [
-    Step::Alloc(64, 1, Ok((256, 0))),
-    Step::Fits(256, 0, 64, true),
-    Step::Fits(256, 63, 1, true),
-    Step::Fits(256, 0, 0, false),
-    Step::Fits(256, 1, 64, false),
-    Step::Fits(256, 64, 1, false),
-    Step::Fits(256, u64::MAX, 2, false),
-    Step::Fits(257, 0, 1, false),
-];
-
-#[test]
-fn a_range_lies_in_its_region(rt: HostRuntime) {
-    assert_eq!(rt; play(rt.alloc(), &RANGES), 8);
-}
-
-/// Regions of this size one behind the other, from identifier 256 on; how many were allocated so.
-fn fill(regions: &mut Regions, mem: &mut PhysMem, count: u64, size: u64, space: u64) -> u64
+/// Whether so many regions of this size are allocated one behind the other, from identifier 256 on.
+fn is_filled(regions: &mut Regions, mem: &mut PhysMem, count: u64, size: u64, space: u64) -> bool
     requires held { HoldsRegions regions.old mem.old }
     requires book { IsBook (book_in regions.old mem.old) }
     ensures held { HoldsRegions regions.new mem.new }
@@ -439,10 +237,10 @@ fn fill(regions: &mut Regions, mem: &mut PhysMem, count: u64, size: u64, space: 
     for i in 0..count {
         let expected = (i.saturating_add(256), i.saturating_mul(space));
         if allocate(regions, mem, size, 1) != Ok(expected) {
-            return i;
+            return false;
         }
     }
-    count
+    true
 }
 
 /// Whether the identifiers rise in order.
@@ -458,21 +256,6 @@ fn are_rising(regions: &Regions, mem: &PhysMem) -> bool
         last = region.id;
     }
     true
-}
-
-#[test]
-fn at_most_256_regions_are_live(rt: HostRuntime) {
-    let Some(mut it) = open(rt.alloc()) else {
-        return;
-    };
-    let count = fill(&mut it.regions, &mut it.mem, 256, 1, 16);
-    assert_eq!(rt; count, 256);
-    assert_eq!(rt; it.regions.count(), 256);
-    let ruled = allocate(&mut it.regions, &mut it.mem, 1, 1);
-    assert_eq!(rt; ruled, Err(Rule::TooManyRegions));
-    let ruled = allocate(&mut it.regions, &mut it.mem, 1, 5);
-    assert_eq!(rt; ruled, Err(Rule::BadPolicy));
-    assert!(rt; are_rising(&it.regions, &it.mem));
 }
 
 /// The identifier of the region at an offset of the pool; 0 where there is none.
@@ -523,8 +306,8 @@ fn fills_a_hole(regions: &mut Regions, mem: &mut PhysMem, start: u64, size: u64)
     first_place == start && second_place == second && last_place == start
 }
 
-/// How many of the holes are filled so, in turn.
-fn holes(regions: &mut Regions, mem: &mut PhysMem, size: u64) -> u64
+/// Whether each of the holes is filled so, in turn.
+fn are_holes_filled(regions: &mut Regions, mem: &mut PhysMem, size: u64) -> bool
     requires held { HoldsRegions regions.old mem.old }
     requires book { IsBook (book_in regions.old mem.old) }
     requires small { size ≤ 256 }
@@ -533,27 +316,226 @@ fn holes(regions: &mut Regions, mem: &mut PhysMem, size: u64) -> u64
 {
     for i in 0..128_u64 {
         if !fills_a_hole(regions, mem, 512 * i, size) {
-            return i;
+            return false;
         }
     }
-    128
+    true
 }
 
-#[test]
-fn every_hole_of_the_pool_is_filled(rt: HostRuntime) {
-    let Some(mut it) = open(rt.alloc()) else {
-        return;
+/// Whether a step is answered so.
+fn is_answered(regions: &mut Regions, mem: &mut PhysMem, step: &Step) -> bool
+    requires held { HoldsRegions regions.old mem.old }
+    requires book { IsBook (book_in regions.old mem.old) }
+    ensures held { HoldsRegions regions.new mem.new }
+    ensures book { IsBook (book_in regions.new mem.new) }
+{
+    match *step {
+        Alloc(size, policy, answer) => allocate(regions, mem, size, policy) == answer,
+        Free(id, answer) => regions.free(mem, id) == answer,
+        Write(id, offset, count, answer) => {
+            write(regions, mem, id, offset, count.min(16)) == answer
+        }
+        Fits(id, offset, length, answer) => regions.fits(mem, id, offset, length) == answer,
+        Written(id, offset, length, answer) => {
+            written(regions, mem, id, offset, length) == answer
+        }
+        Found(id, answer) => found(regions, mem, id) == answer,
+        Byte(id, offset, answer) => byte(regions, mem, id, offset) == answer,
+        Stored(at, answer) => load(mem, at) == answer,
+        Bits(answer) => bits_set(mem) == answer,
+        Fill(count, size, space) => is_filled(regions, mem, count, size, space),
+        Holes(size) => are_holes_filled(regions, mem, size.min(256)),
+        Count(answer) => regions.count() == answer,
+        Rising => are_rising(regions, mem),
+        Next(answer) => regions.next() == answer,
+    }
+}
+
+/// The index of the first step that isn't answered so, with slots that tell the live regions after each. Before the book
+/// starts something stands where slots and bits will. Want of memory fails at 0.
+fn first_wrong(alloc: Global, steps: &[Step]) -> Option<usize> {
+    let Ok(mut mem) = PhysMem::new(alloc, 80) else {
+        return Some(0);
     };
-    let count = fill(&mut it.regions, &mut it.mem, 128, 512, 512);
-    assert_eq!(rt; count, 128);
-    let count = holes(&mut it.regions, &mut it.mem, 1);
-    assert_eq!(rt; count, 128);
-    let count = holes(&mut it.regions, &mut it.mem, 16);
-    assert_eq!(rt; count, 128);
-    let count = holes(&mut it.regions, &mut it.mem, 17);
-    assert_eq!(rt; count, 128);
-    assert!(rt; are_rising(&it.regions, &it.mem));
-    assert_eq!(rt; it.regions.next(), 256 + 128 + 9 * 128);
-    let ruled = allocate(&mut it.regions, &mut it.mem, 1, 1);
-    assert_eq!(rt; ruled, Err(Rule::NoRoom));
+    mem.store64(0x2A000, u64::MAX);
+    mem.store64(0x3BFF8, u64::MAX);
+    mem.store64(0x3C000, u64::MAX);
+    mem.store64(0x3FFF8, u64::MAX);
+    let mut regions = Regions::start(&mut mem);
+    for (index, step) in steps.iter().enumerate() {
+        if !is_answered(&mut regions, &mut mem, step) || !are_slots_right(&regions, &mem) {
+            return Some(index);
+        }
+    }
+    None
+}
+
+/// Steps, and the index of the first that is answered otherwise.
+type Case = (Option<usize>, &'static [Step]);
+
+static CASES: [Case; 8] = [
+    // A step with another answer is found, at its place.
+    (
+        Some(1),
+        &[
+            Alloc(65536, 1, Ok((256, 0))),
+            Alloc(1, 1, Err(Rule::BadRange)),
+            Free(256, Ok(())),
+        ],
+    ),
+    // A region is the whole pool.
+    (
+        None,
+        &[
+            Alloc(65536, 1, Ok((256, 0))),
+            Alloc(1, 1, Err(Rule::NoRoom)),
+            Free(255, Err(Rule::BadRegion)),
+            Free(256, Ok(())),
+            Alloc(1, 1, Ok((257, 0))),
+            Free(256, Err(Rule::BadRegion)),
+            Alloc(65521, 2, Err(Rule::NoRoom)),
+            Alloc(65520, 2, Ok((258, 16))),
+            Found(258, Some((65520, 2, 0))),
+        ],
+    ),
+    // Refused calls take no identifier.
+    (
+        None,
+        &[
+            Alloc(0, 0, Err(Rule::BadRange)),
+            Alloc(65537, 1, Err(Rule::BadRange)),
+            Alloc(0x1_0000_0001, 1, Err(Rule::BadRange)),
+            Alloc(1, 0, Err(Rule::BadPolicy)),
+            Alloc(1, 5, Err(Rule::BadPolicy)),
+            Alloc(1, 0x101, Err(Rule::BadPolicy)),
+            Free(256, Err(Rule::BadRegion)),
+            Found(256, None),
+            Alloc(1, 4, Ok((256, 0))),
+        ],
+    ),
+    // Bytes are written across borders: offset 16 of region 257 begins frame 11; its bit 16 is bit 4096 of all, the first of
+    // byte 512.
+    (
+        None,
+        &[
+            Alloc(4080, 1, Ok((256, 0))),
+            Alloc(40, 2, Ok((257, 4080))),
+            Bits(0),
+            Write(257, 15, 2, true),
+            Bits(2),
+            Stored(0xAFFF, 97),
+            Stored(0xB000, 98),
+            Stored(0xAFFE, 0),
+            Stored(0xB001, 0),
+            Stored(0x2A1FE, 0),
+            Stored(0x2A1FF, 0x80),
+            Stored(0x2A200, 1),
+            Stored(0x2A201, 0),
+            Stored(0x3C040, 1),
+            Stored(0x3C048, 0xF0),
+            Stored(0x3C049, 0x0F),
+            Stored(0x3C050, 40),
+            Stored(0x3C054, 17),
+            Stored(0x3C058, 2),
+            Stored(0x3C059, 1),
+            Byte(257, 15, 97),
+            Byte(257, 16, 98),
+            Byte(257, 17, 0),
+            Found(257, Some((40, 2, 17))),
+            Written(257, 0, 15, false),
+            Written(257, 0, 16, true),
+            Written(257, 16, 1, true),
+            Written(257, 16, 0, false),
+            Written(257, 17, 23, false),
+            Write(257, 24, 16, true),
+            Written(257, 17, 7, false),
+            Written(257, 39, 1, true),
+            Found(257, Some((40, 2, 40))),
+            Write(257, 25, 16, false),
+            Write(257, 0, 0, false),
+            Written(256, 0, 4080, false),
+            Write(256, 4079, 1, true),
+            Found(256, Some((4080, 1, 0))),
+            Written(256, 0, 4079, false),
+            Written(256, 4079, 1, true),
+            Written(257, 0, 15, false),
+            Stored(0xAFEF, 97),
+            Bits(19),
+            Stored(0x2A1FD, 0x80),
+        ],
+    ),
+    // A new region has no byte written, in the place of one that was written and let go; its slot, the second, is the fourth
+    // one's then.
+    (
+        None,
+        &[
+            Alloc(64, 3, Ok((256, 0))),
+            Alloc(64, 2, Ok((257, 64))),
+            Write(257, 48, 16, true),
+            Alloc(64, 1, Ok((258, 128))),
+            Write(258, 0, 1, true),
+            Bits(17),
+            Stored(0x2A00F, 0xFF),
+            Free(257, Ok(())),
+            Bits(1),
+            Stored(0x2A00F, 0),
+            Stored(0x2A010, 1),
+            Stored(0x3C041, 0),
+            Stored(0xA07F, 112),
+            Found(257, None),
+            Fits(257, 0, 1, false),
+            Alloc(50, 4, Ok((259, 64))),
+            Written(259, 0, 50, false),
+            Found(259, Some((50, 4, 0))),
+            Byte(259, 49, 0),
+            Stored(0xA072, 99),
+            Found(258, Some((64, 1, 0))),
+            Bits(1),
+        ],
+    ),
+    // A range lies in its region.
+    (
+        None,
+        &[
+            Alloc(64, 1, Ok((256, 0))),
+            Fits(256, 0, 64, true),
+            Fits(256, 63, 1, true),
+            Fits(256, 0, 0, false),
+            Fits(256, 1, 64, false),
+            Fits(256, 64, 1, false),
+            Fits(256, u64::MAX, 2, false),
+            Fits(257, 0, 1, false),
+        ],
+    ),
+    // At most 256 regions are live.
+    (
+        None,
+        &[
+            Fill(256, 1, 16),
+            Count(256),
+            Alloc(1, 1, Err(Rule::TooManyRegions)),
+            Alloc(1, 5, Err(Rule::BadPolicy)),
+            Rising,
+        ],
+    ),
+    // Every hole of the pool is filled.
+    (
+        None,
+        &[
+            Fill(128, 512, 512),
+            Holes(1),
+            Holes(16),
+            Holes(17),
+            Rising,
+            Next(256 + 128 + 9 * 128),
+            Alloc(1, 1, Err(Rule::NoRoom)),
+        ],
+    ),
+];
+
+#[test]
+fn steps_are_answered(rt: HostRuntime) {
+    for (wrong, steps) in &CASES {
+        assert!(rt; first_wrong(rt.alloc(), steps) == *wrong);
+    }
 }

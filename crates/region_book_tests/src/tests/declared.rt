@@ -1,7 +1,7 @@
 //! Declarations in a memory of 80 frames, with its descriptors in frame 64 and the slots of regions from 3C000 on, before and
 //! after.
 
-ghost use Rattle.std.specs.Prelude.{◌≡◌, ◌<◌, ◌≤◌, ◌+◌, ◌*◌, ◌/◌, ℕ, [], false, true, IfOk, IfSome, OnErr, length};
+ghost use Rattle.std.specs.Prelude.{◌≡◌, ◌<◌, ◌≤◌, ◌+◌, ◌*◌, ◌/◌, ℕ, false, true, IfOk, IfSome, length};
 ghost use Rattle.nk_bits.specs.declared.kind.Kind.TheVariants.{Hidden};
 ghost use Rattle.nk_bits.specs.Kinds.{is_data, kind_of};
 ghost use Rattle.nk_bits.specs.Paging.{is_present};
@@ -12,20 +12,12 @@ ghost use Rattle.phys_mem.specs.Memory.{byte_at, entry_in};
 ghost use Rattle.region_book.specs.RegionBytes.{HoldsRegions, book_in};
 ghost use Rattle.region_book.specs.RegionRecords.{IsBook};
 
+use super::{are_zero, load};
 use nk_bits::{Kind, Rule};
 use page_desc::Frames;
 use phys_mem::{NoMemory, PhysMem};
 use region_book::{Regions, ShownRegion, held_regions_law};
 use std::alloc::{AllocError, Global};
-use std::test::Fail;
-
-/// A book with no region, and the memory of its frames.
-#[derive(Drop)]
-struct Described {
-    regions: Regions,
-    frames: Frames,
-    mem: PhysMem,
-}
 
 /// Data but for a table of each level, those of the kernel slot, the pool and the books.
 fn kinds(alloc: Global) -> Result<Vec<Kind>, AllocError>
@@ -48,7 +40,7 @@ fn kinds(alloc: Global) -> Result<Vec<Kind>, AllocError>
 }
 
 /// Pages 0 to 4 are frames 2, 3, 2, 70, which is loose, and 7, a table.
-const ENTRIES: [(u64, u64); 8] = [
+static ENTRIES: [(u64, u64); 8] = [
     (0x4000, 0x5027),
     (0x5000, 0x6027),
     (0x6000, 0x7027),
@@ -65,6 +57,17 @@ fn store(mem: &mut PhysMem, at: u64, value: u64)
     if at < 0xFFFF && at + 8 <= 4096 * u64::from(mem.frames()) {
         mem.store64(at, value);
     }
+}
+
+/// A memory of eighty frames with those entries.
+fn memory(alloc: Global) -> Result<PhysMem, NoMemory>
+    ensures { IfOk result (λ mem. length mem ≡ 4096 * 80) }
+{
+    let mut mem = PhysMem::new(alloc, 80)?;
+    for (at, value) in &ENTRIES {
+        store(&mut mem, *at, *value);
+    }
+    Ok(mem)
 }
 
 /// Whether each of a row of frames is of one kind.
@@ -133,138 +136,130 @@ fn begin(mem: &mut PhysMem, kinds: &[Kind], regions: &Regions) -> Option<Frames>
     requires regions { HoldsRegions regions.now mem.old }
     requires book { IsBook (book_in regions.now mem.old) }
     ensures held { IfSome result (λ frames. HoldsDescriptors frames mem.new) }
-    ensures pool { IfSome result (λ frames. (f : ℕ) → 10 ≤ f → f < 26 → is_data (kind_of (kinds_in mem.new) f) ≡ false) }
     ensures regions { IfSome result (λ frames. HoldsRegions regions.now mem.new) }
     ensures book { IfSome result (λ frames. IsBook (book_in regions.now mem.new)) }
 {
     held_regions_law();
-    if is_slot_fixed(mem, kinds)
-        & are_books_hidden(kinds)
-        & is_zero(mem, 64)
-        & are_of(kinds, 10, 26, Kind::Guarded)
-    {
+    if is_slot_fixed(mem, kinds) & are_books_hidden(kinds) & is_zero(mem, 64) {
         Some(Frames::start(mem, kinds))
     } else {
         None
     }
 }
 
-/// A book and that memory.
-fn open(alloc: Global) -> Result<Described, Fail>
-    ensures none { IfOk result (λ it. (it.regions.slots ≡ []) × (it.regions.next ≡ 256)) }
-    ensures regions { IfOk result (λ it. HoldsRegions it.regions it.mem) }
-    ensures book { IfOk result (λ it. IsBook (book_in it.regions it.mem)) }
-    ensures held { IfOk result (λ it. HoldsDescriptors it.frames it.mem) }
-    ensures pool { IfOk result (λ it. (f : ℕ) → 10 ≤ f → f < 26 → is_data (kind_of (kinds_in it.mem) f) ≡ false) }
-{
-    let mut mem = PhysMem::new(alloc, 80)?;
-    for (at, value) in ENTRIES {
-        store(&mut mem, at, value);
-    }
-    let kinds = kinds(alloc)?;
-    let regions = Regions::start(&mut mem);
-    match begin(&mut mem, &kinds, &regions) {
-        Some(frames) => Ok(Described {
-            regions,
-            frames,
-            mem,
-        }),
-        None => Err(NoMemory.into()),
-    }
+/// What is done or asked, and what it is to give.
+#[derive(Clone, Copy)]
+enum Step {
+    /// Pages of the root in frame 4 are declared, in a book with no region: from which on, how many, and a policy; the
+    /// identifier, or the rule that is broken.
+    Declare(u64, u64, u64, Result<u64, Rule>),
+    /// The first byte of slot 0 that isn't one of `SLOT`.
+    Slot(Option<usize>),
+    /// A slot is 0.
+    Empty(u64),
+    /// The first frame of another kind than in `GUARDED`.
+    Kinds(Option<u32>),
+    /// A frame, and its loose leaves.
+    Loose(u32, u32),
+    /// An identifier, and its region.
+    Found(u64, Option<ShownRegion>),
 }
 
-/// Declares pages of the root in frame 4, in a book with no region.
-fn declare(it: &mut Described, page: u64, pages: u64, policy: u64) -> Result<u64, Rule>
-    requires none { (it.old.regions.slots ≡ []) × (it.old.regions.next ≡ 256) }
-    requires regions { HoldsRegions it.old.regions it.old.mem }
-    requires book { IsBook (book_in it.old.regions it.old.mem) }
-    requires held { HoldsDescriptors it.old.frames it.old.mem }
-    requires pool { (f : ℕ) → 10 ≤ f → f < 26 → is_data (kind_of (kinds_in it.old.mem) f) ≡ false }
-    requires root { 4096 * 4 < length it.old.mem }
-    requires small { (page ≤ 512) × (pages ≤ 512) }
-    ensures refused { OnErr result (it.new ≡ it.old) }
-    ensures regions { HoldsRegions it.new.regions it.new.mem }
-    ensures held { HoldsDescriptors it.new.frames it.new.mem }
-{
-    it.regions.declare(
-        &mut it.frames,
-        &mut it.mem,
-        4,
-        4096 * page,
-        4096 * pages,
-        policy,
-    )
-}
+use Step::{Declare, Empty, Found, Kinds, Loose, Slot};
 
-/// Pages, how many, a policy, and the rule that declaring them breaks.
-type Row = (u64, u64, u64, Rule);
-
-/// The first row that is declared, or breaks another rule; how many rows where there is none.
-fn first_wrong(it: &mut Described, rows: &[Row]) -> usize
-    requires none { (it.old.regions.slots ≡ []) × (it.old.regions.next ≡ 256) }
-    requires regions { HoldsRegions it.old.regions it.old.mem }
-    requires book { IsBook (book_in it.old.regions it.old.mem) }
-    requires held { HoldsDescriptors it.old.frames it.old.mem }
-    requires root { 4096 * 4 < length it.old.mem }
-    requires pool { (f : ℕ) → 10 ≤ f → f < 26 → is_data (kind_of (kinds_in it.old.mem) f) ≡ false }
-    ensures { result ≡ length rows.now → it.new ≡ it.old }
-{
-    for index in 0..rows.len() {
-        let (page, pages, policy, rule) = rows[index];
-        match declare(it, page.min(512), pages.min(512), policy) {
-            Ok(_) => return index,
-            Err(broken) => {
-                if broken != rule {
-                    return index;
-                }
-            }
+/// The index of the first step that gives something else. Where the opening can't be made it is the largest number.
+fn first_wrong(alloc: Global, steps: &[Step]) -> Option<usize> {
+    let Ok(mut mem) = memory(alloc) else {
+        return Some(usize::MAX);
+    };
+    let Ok(kinds) = kinds(alloc) else {
+        return Some(usize::MAX);
+    };
+    let mut regions = Regions::start(&mut mem);
+    let Some(mut frames) = begin(&mut mem, &kinds, &regions) else {
+        return Some(usize::MAX);
+    };
+    for (index, step) in steps.iter().enumerate() {
+        if !is_met(&mut regions, &mut frames, &mut mem, step) {
+            return Some(index);
         }
     }
-    rows.len()
+    None
 }
 
-/// Page 4 is a table, and not loose.
-static WRONG: [Row; 3] = [
-    (0, 0, 1, Rule::BadRange),
-    (4, 1, 1, Rule::StillLoose),
-    (0, 17, 1, Rule::BadRange),
-];
-
-#[test]
-fn a_wrong_rule_is_found(rt: HostRuntime) -> Result<(), Fail> {
-    let mut it = open(rt.alloc())?;
-    assert_eq!(rt; first_wrong(&mut it, &WRONG), 1);
-    Ok(())
+/// Whether a step gives what it is to give.
+fn is_met(regions: &mut Regions, frames: &mut Frames, mem: &mut PhysMem, step: &Step) -> bool
+    requires regions { HoldsRegions regions.old mem.old }
+    requires book { IsBook (book_in regions.old mem.old) }
+    requires held { HoldsDescriptors frames.old mem.old }
+    ensures regions { HoldsRegions regions.new mem.new }
+    ensures book { IsBook (book_in regions.new mem.new) }
+    ensures held { HoldsDescriptors frames.new mem.new }
+{
+    match *step {
+        Declare(page, pages, policy, answer) => {
+            declare(regions, frames, mem, page.min(512), pages.min(512), policy) == answer
+        }
+        Slot(at) => first_other(mem) == at,
+        Empty(slot) => are_zero(mem, 0x3C000 + 64 * slot.min(255), 8),
+        Kinds(frame) => other_kind(frames, mem) == frame,
+        Loose(frame, count) => frames.loose(mem, frame) == count,
+        Found(id, region) => regions.find(mem, id) == region,
+    }
 }
 
-static REFUSED: [Row; 8] = [
-    (0, 0, 1, Rule::BadRange),
-    (0, 17, 1, Rule::BadRange),
-    (5, 1, 1, Rule::BadRange),
-    (0, 3, 5, Rule::BadRange),
-    (0, 2, 0, Rule::BadPolicy),
-    (0, 2, 5, Rule::BadPolicy),
-    (3, 2, 1, Rule::NotData),
-    (2, 2, 1, Rule::StillLoose),
-];
+/// Whether no frame of the pool is data.
+fn is_pool_apart(frames: &Frames, mem: &PhysMem) -> bool
+    requires { HoldsDescriptors frames.now mem.now }
+    ensures { result ≡ true → (f : ℕ) → 10 ≤ f → f < 26 → is_data (kind_of (kinds_in mem.now) f) ≡ false }
+{
+    for frame in 10..26 {
+        if frames.kind(mem, frame) == Kind::Data {
+            return false;
+        }
+    }
+    true
+}
+
+/// Declares pages of the root in frame 4, in a book with no region; in another rule 2 stands for what isn't tried.
+fn declare(
+    regions: &mut Regions,
+    frames: &mut Frames,
+    mem: &mut PhysMem,
+    page: u64,
+    pages: u64,
+    policy: u64,
+) -> Result<u64, Rule>
+    requires regions { HoldsRegions regions.old mem.old }
+    requires book { IsBook (book_in regions.old mem.old) }
+    requires held { HoldsDescriptors frames.old mem.old }
+    requires small { (page ≤ 512) × (pages ≤ 512) }
+    ensures regions { HoldsRegions regions.new mem.new }
+    ensures book { IsBook (book_in regions.new mem.new) }
+    ensures held { HoldsDescriptors frames.new mem.new }
+{
+    let is_first = regions.count() == 0 && regions.next() == 256;
+    if !is_first || !is_pool_apart(frames, mem) {
+        return Err(Rule::BadFrame);
+    }
+    regions.declare(frames, mem, 4, 4096 * page, 4096 * pages, policy)
+}
 
 /// The first slot's bytes once pages 1 and 2 are declared: identifier 256, address 1000, size 2000, policy 2, frames 3 and 2.
 #[rattlefmt::skip]
-const SLOT: [u8; 64] = [
+static SLOT: [u8; 64] = [
     0, 1, 0, 0, 0, 0, 0, 0, 0, 16, 0, 0, 0, 0, 0, 0, 0, 32, 0, 0, 0, 0, 0, 0, 2, 0, 0, 0, 0, 0, 0, 0,
     3, 0, 2, 0, 0, 0, 0, 0, 0, 0, 0, 0, 0, 0, 0, 0, 0, 0, 0, 0, 0, 0, 0, 0, 0, 0, 0, 0, 0, 0, 0, 0,
 ];
 
-/// The first byte of a slot that is another; 64 where there is none.
-fn first_other(mem: &PhysMem, slot: u64, bytes: &[u8; 64]) -> u64
-    requires { (0x40000 ≤ length mem.now) × (slot < 256) }
-{
-    for at in 0..64 {
-        if mem.load8(0x3C000 + 64 * slot + at) != bytes[at as usize] {
-            return at;
+/// The first byte of slot 0 that isn't one of `SLOT`.
+fn first_other(mem: &PhysMem) -> Option<usize> {
+    for (at, byte) in SLOT.iter().enumerate() {
+        if load(mem, 0x3C000 + (at as u64 & 63)) != *byte {
+            return Some(at);
         }
     }
-    64
+    None
 }
 
 /// The kinds of frames once pages 1 and 2 are declared.
@@ -277,10 +272,10 @@ static GUARDED: [(u32, Kind); 5] = [
 ];
 
 /// The first frame of another kind.
-fn other_kind(frames: &Frames, mem: &PhysMem, kinds: &[(u32, Kind)]) -> Option<u32>
+fn other_kind(frames: &Frames, mem: &PhysMem) -> Option<u32>
     requires { HoldsDescriptors frames.now mem.now }
 {
-    for row in kinds {
+    for row in &GUARDED {
         if frames.kind(mem, row.0) != row.1 {
             return Some(row.0);
         }
@@ -288,30 +283,56 @@ fn other_kind(frames: &Frames, mem: &PhysMem, kinds: &[(u32, Kind)]) -> Option<u
     None
 }
 
-/// The region of pages 1 and 2.
-const DECLARED: ShownRegion = ShownRegion {
-    id: 256,
-    policy: 2,
-    place: 4096,
-    size: 8192,
-    tail: 0,
-    pooled: false,
-};
+/// Steps, and the index of the first that gives something else.
+type Case = (Option<usize>, &'static [Step]);
+
+static CASES: [Case; 2] = [
+    // A wrong rule is found: page 4 is a table, and not loose.
+    (
+        Some(1),
+        &[
+            Declare(0, 0, 1, Err(Rule::BadRange)),
+            Declare(4, 1, 1, Err(Rule::StillLoose)),
+            Declare(0, 17, 1, Err(Rule::BadRange)),
+        ],
+    ),
+    // Declared pages are guarded, those of calls that are refused aren't.
+    (
+        None,
+        &[
+            Declare(0, 0, 1, Err(Rule::BadRange)),
+            Declare(0, 17, 1, Err(Rule::BadRange)),
+            Declare(5, 1, 1, Err(Rule::BadRange)),
+            Declare(0, 3, 5, Err(Rule::BadRange)),
+            Declare(0, 2, 0, Err(Rule::BadPolicy)),
+            Declare(0, 2, 5, Err(Rule::BadPolicy)),
+            Declare(3, 2, 1, Err(Rule::NotData)),
+            Declare(2, 2, 1, Err(Rule::StillLoose)),
+            Slot(Some(1)),
+            Kinds(Some(2)),
+            Declare(1, 2, 2, Ok(256)),
+            Kinds(None),
+            Loose(70, 1),
+            Found(
+                256,
+                Some(ShownRegion {
+                    id: 256,
+                    policy: 2,
+                    place: 4096,
+                    size: 8192,
+                    tail: 0,
+                    pooled: false,
+                }),
+            ),
+            Slot(None),
+            Empty(1),
+        ],
+    ),
+];
 
 #[test]
-fn declared_pages_are_guarded(rt: HostRuntime) -> Result<(), Fail> {
-    let mut it = open(rt.alloc())?;
-    let refused = first_wrong(&mut it, &REFUSED);
-    assert_eq!(rt; refused, 8);
-    assert_eq!(rt; first_other(&it.mem, 0, &SLOT), 1);
-    assert_eq!(rt; other_kind(&it.frames, &it.mem, &GUARDED), Some(2));
-    let declared = declare(&mut it, 1, 2, 2);
-    assert_eq!(rt; declared, Ok(256));
-    assert_eq!(rt; other_kind(&it.frames, &it.mem, &GUARDED), None);
-    assert_eq!(rt; it.frames.loose(&it.mem, 70), 1);
-    let found = it.regions.find(&it.mem, 256);
-    assert_eq!(rt; found, Some(DECLARED));
-    assert_eq!(rt; first_other(&it.mem, 0, &SLOT), 64);
-    assert_eq!(rt; first_other(&it.mem, 1, &[0; 64]), 64);
-    Ok(())
+fn declared_pages_are_guarded(rt: HostRuntime) {
+    for (wrong, steps) in &CASES {
+        assert!(rt; first_wrong(rt.alloc(), steps) == *wrong);
+    }
 }

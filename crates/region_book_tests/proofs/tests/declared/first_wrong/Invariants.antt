@@ -1,5 +1,11 @@
-use Rattle.std.proofs.Common.{◌≡◌}
+use Rattle.page_desc.specs.DescriptorBytes.{HoldsDescriptors}
+use Rattle.region_book.specs.RegionBytes.{HoldsRegions, book_in}
+use Rattle.region_book.specs.RegionRecords.{IsBook}
 use Rattle.region_book_tests.proofs.tests.declared.first_wrong.Given as goal
 
 abbrev pub invariant-loop-index : goal.invariant-loop-index
-invariant-loop-index l = record { same : l.it ≡ l.fn.it }
+invariant-loop-index l = record {
+  regions : HoldsRegions l.regions l.mem;
+  book : IsBook (book_in l.regions l.mem);
+  held : HoldsDescriptors l.frames l.mem;
+}
