@@ -1,51 +1,108 @@
 //! The ports at worked values, and every other port.
 
 use port_bus::Ports;
-use std::test::Fail;
+use std::alloc::Global;
 
-#[test]
-fn input_is_taken_in_order(rt: HostRuntime) -> Result<(), Fail> {
-    let mut ports = Ports::new(vec![in rt.alloc(); 0x41, 0x00, 0xFF]?);
-    for byte in [0x41, 0x00, 0xFF] {
-        assert_eq!(rt; ports.take(0xEB), 1);
-        assert_eq!(rt; ports.take(0xEB), 1);
-        assert_eq!(rt; ports.take(0xEA), byte);
-    }
-    for _ in 0..3 {
-        assert_eq!(rt; ports.take(0xEB), 0);
-        assert_eq!(rt; ports.take(0xEA), 0);
-    }
-    Ok(())
+/// What is done, and what it is to give.
+#[derive(Clone, Copy)]
+enum Step {
+    /// IN from a port, and the byte.
+    Take(u16, u8),
+    /// OUT to a port of a byte, and the console's.
+    Give(u16, u8, Option<u8>),
 }
 
-#[test]
-fn no_input_is_at_its_end(rt: HostRuntime) {
-    let mut ports = Ports::new(Vec::new(rt.alloc()));
-    assert_eq!(rt; ports.take(0xEB), 0);
-    assert_eq!(rt; ports.take(0xEA), 0);
+use Step::{Give, Take};
+
+/// The index of the first step that gives something else over this input. Want of memory fails at 0.
+fn first_wrong(alloc: Global, input: &[u8], steps: &[Step]) -> Option<usize> {
+    let mut bytes = Vec::new(alloc);
+    if bytes.extend_from_slice(input).is_err() {
+        return Some(0);
+    }
+    let mut ports = Ports::new(bytes);
+    for (index, step) in steps.iter().enumerate() {
+        if !is_met(&mut ports, step) {
+            return Some(index);
+        }
+    }
+    None
 }
 
-#[test]
-fn other_ports_take_no_input(rt: HostRuntime) -> Result<(), Fail> {
-    let mut ports = Ports::new(vec![in rt.alloc(); 0x41]?);
-    for port in [
-        0, 0x20, 0x60, 0xE8, 0xE9, 0xEC, 0x1EA, 0xEA00, 0xFFEA, 0xFFFF,
-    ] {
-        assert_eq!(rt; ports.take(port), 0xFF);
+fn is_met(ports: &mut Ports, step: &Step) -> bool {
+    match *step {
+        Take(port, byte) => ports.take(port) == byte,
+        Give(port, byte, console) => ports.give(port, byte) == console,
     }
-    assert_eq!(rt; ports.take(0xEA), 0x41);
-    Ok(())
 }
 
+/// An input, and steps over it.
+type Case = (&'static [u8], &'static [Step]);
+
+static CASES: [Case; 4] = [
+    // Input is taken in order, to its end.
+    (
+        &[0x41, 0x00, 0xFF],
+        &[
+            Take(0xEB, 1),
+            Take(0xEB, 1),
+            Take(0xEA, 0x41),
+            Take(0xEB, 1),
+            Take(0xEB, 1),
+            Take(0xEA, 0x00),
+            Take(0xEB, 1),
+            Take(0xEB, 1),
+            Take(0xEA, 0xFF),
+            Take(0xEB, 0),
+            Take(0xEA, 0),
+            Take(0xEB, 0),
+            Take(0xEA, 0),
+            Take(0xEB, 0),
+            Take(0xEA, 0),
+        ],
+    ),
+    // No input is at its end.
+    (&[], &[Take(0xEB, 0), Take(0xEA, 0)]),
+    // Other ports take no input.
+    (
+        &[0x41],
+        &[
+            Take(0, 0xFF),
+            Take(0x20, 0xFF),
+            Take(0x60, 0xFF),
+            Take(0xE8, 0xFF),
+            Take(0xE9, 0xFF),
+            Take(0xEC, 0xFF),
+            Take(0x1EA, 0xFF),
+            Take(0xEA00, 0xFF),
+            Take(0xFFEA, 0xFF),
+            Take(0xFFFF, 0xFF),
+            Take(0xEA, 0x41),
+        ],
+    ),
+    // The console has one port.
+    (
+        &[0x41],
+        &[
+            Give(0xE9, 0, Some(0)),
+            Give(0xE9, 0x0A, Some(0x0A)),
+            Give(0xE9, 0xFF, Some(0xFF)),
+            Give(0, 0x58, None),
+            Give(0x80, 0x58, None),
+            Give(0xE8, 0x58, None),
+            Give(0xEA, 0x58, None),
+            Give(0xEB, 0x58, None),
+            Give(0x1E9, 0x58, None),
+            Give(0xE900, 0x58, None),
+            Give(0xFFFF, 0x58, None),
+            Take(0xEA, 0x41),
+        ],
+    ),
+];
+
 #[test]
-fn console_has_one_port(rt: HostRuntime) -> Result<(), Fail> {
-    let mut ports = Ports::new(vec![in rt.alloc(); 0x41]?);
-    for byte in [0, 0x0A, 0xFF] {
-        assert_eq!(rt; ports.give(0xE9, byte), Some(byte));
+fn each_port_gives_its_own(rt: HostRuntime) {
+    for (input, steps) in &CASES {
+        assert!(rt; first_wrong(rt.alloc(), input, steps).is_none());
     }
-    for port in [0, 0x80, 0xE8, 0xEA, 0xEB, 0x1E9, 0xE900, 0xFFFF] {
-        assert_eq!(rt; ports.give(port, 0x58), None);
-    }
-    assert_eq!(rt; ports.take(0xEA), 0x41);
-    Ok(())
 }
