@@ -2,8 +2,8 @@
 
 use gate_text::{byte, is_point};
 
-/// An offset in the text, and the bytes from there on.
-type Row = (usize, &'static [u8]);
+/// Whether the row is so, an offset in the text, and the bytes from there on.
+type Row = (bool, usize, &'static [u8]);
 
 /// Whether the text holds these bytes from this offset on.
 fn holds(start: usize, bytes: &[u8]) -> bool {
@@ -15,47 +15,30 @@ fn holds(start: usize, bytes: &[u8]) -> bool {
     true
 }
 
-/// The index of the first row that isn't so.
-fn first_wrong(rows: &[Row]) -> Option<usize> {
-    for (index, (start, bytes)) in rows.iter().enumerate() {
-        if !holds(*start, bytes) {
-            return Some(index);
-        }
-    }
-    None
-}
-
 #[rattlefmt::skip]
-static TEXT: [Row; 4] = [
+static TEXT: [Row; 9] = [
     // The stub of the first interrupt: jmp 448 from the end of the stub at 64 + 8 * 32, seven bytes
     // long.
-    (320, &[0x6A, 0x20, 0xE9, 0x79, 0x00, 0x00, 0x00, 0xCC]),
+    (true, 320, &[0x6A, 0x20, 0xE9, 0x79, 0x00, 0x00, 0x00, 0xCC]),
     // The exit gate sets WP again.
-    (29, &[0x0F, 0x20, 0xC0, 0x0D, 0x00, 0x00, 0x01, 0x00, 0x0F, 0x22, 0xC0]),
+    (true, 29, &[0x0F, 0x20, 0xC0, 0x0D, 0x00, 0x00, 0x01, 0x00, 0x0F, 0x22, 0xC0]),
     // The body is an instruction of its own.
-    (27, &[0x0F, 0x0B]),
-    (4095, &[0xCC]),
+    (true, 27, &[0x0F, 0x0B]),
+    (true, 4095, &[0xCC]),
+    // Another byte behind the body's first one.
+    (true, 27, &[0x0F, 0x0B]),
+    (false, 27, &[0x0F, 0x0A]),
+    (true, 27, &[0x0F, 0x0B]),
+    // The second row passes the text's end.
+    (true, 4095, &[0xCC]),
+    (false, 4095, &[0xCC, 0xCC]),
 ];
 
 #[test]
 fn bytes_of_the_text(rt: HostRuntime) {
-    assert_eq!(rt; first_wrong(&TEXT), None);
-}
-
-/// The body with another byte behind its first one.
-static OTHER_BODY: [Row; 3] = [
-    (27, &[0x0F, 0x0B]),
-    (27, &[0x0F, 0x0A]),
-    (27, &[0x0F, 0x0B]),
-];
-
-/// A row that passes the text's end.
-static TOO_LONG: [Row; 2] = [(4095, &[0xCC]), (4095, &[0xCC, 0xCC])];
-
-#[test]
-fn wrong_bytes_are_found(rt: HostRuntime) {
-    assert_eq!(rt; first_wrong(&OTHER_BODY), Some(1));
-    assert_eq!(rt; first_wrong(&TOO_LONG), Some(1));
+    for (index, (so, start, bytes)) in TEXT.iter().enumerate() {
+        assert!(rt; holds(*start, bytes) == *so, "row {index}");
+    }
 }
 
 /// How many offsets below this one are points.
@@ -69,35 +52,25 @@ fn points_below(end: usize) -> usize {
     count
 }
 
-/// An offset, and whether it is a point.
-type Point = (usize, bool);
-
-/// The index of the first row that isn't so.
-fn first_other_point(rows: &[Point]) -> Option<usize> {
-    for (index, (offset, expected)) in rows.iter().enumerate() {
-        if is_point(*offset) != *expected {
-            return Some(index);
-        }
-    }
-    None
-}
+/// Whether the row is so, an offset, and whether it is a point.
+type Point = (bool, usize, bool);
 
 /// The first behind the load that clears WP, the body's place, the last stub; neither the loads nor
 /// the stub of a fault.
 #[rattlefmt::skip]
-static POINTS: [Point; 13] = [
-    (16, true), (27, true), (37, true), (320, true), (442, true), (457, true),
-    (13, false), (47, false), (64, false), (312, false), (321, false), (467, false),
-    (4095, false),
+static POINTS: [Point; 15] = [
+    (true, 16, true), (true, 27, true), (true, 37, true), (true, 320, true), (true, 442, true), (true, 457, true),
+    (true, 13, false), (true, 47, false), (true, 64, false), (true, 312, false), (true, 321, false), (true, 467, false),
+    (true, 4095, false),
+    // A load that would be a point.
+    (true, 16, true), (false, 13, true),
 ];
-
-/// The first row as it is, and a load that would be a point.
-static WRONG_POINTS: [Point; 2] = [(16, true), (13, true)];
 
 /// Fourteen in the gates, and two in each of the sixteen stubs of interrupts.
 #[test]
 fn points_of_the_listing(rt: HostRuntime) {
-    assert_eq!(rt; points_below(512), 46);
-    assert_eq!(rt; first_other_point(&POINTS), None);
-    assert_eq!(rt; first_other_point(&WRONG_POINTS), Some(1));
+    assert!(rt; points_below(512) == 46);
+    for (index, (so, offset, expected)) in POINTS.iter().enumerate() {
+        assert!(rt; (is_point(*offset) == *expected) == *so, "row {index}");
+    }
 }

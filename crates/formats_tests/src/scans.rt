@@ -5,51 +5,163 @@ use byte_scanner::{Found, Scanner, first_protected, scan};
 use elf_image::Image;
 use std::alloc::Global;
 
-/// Bytes, and the place of the first encoding among them.
-type Place = (&'static [u8], Option<usize>);
-
-/// The index of the first row that isn't so.
-fn first_other_place(rows: &[Place]) -> Option<usize> {
-    for (index, (bytes, place)) in rows.iter().enumerate() {
-        if first_protected(bytes) != *place {
-            return Some(index);
-        }
-    }
-    None
+/// What is found.
+enum Row {
+    /// Bytes, and the place of the first encoding among them.
+    Place(&'static [u8], Option<usize>),
+    /// Six bytes of a run at address 0x1000, and what a scanner finds in them, whichever way the run is cut.
+    Run([u8; 6], Option<Found>),
+    /// Pieces with their addresses, and what is found with the last one. With those before it nothing is, and the
+    /// scanner's end is then theirs.
+    Pieces(&'static [(u64, &'static [u8])], Option<Found>),
+    /// Bytes at a place of two pages of NOPs at the home's start, and what is found in them.
+    Edge(Change, Option<Found>),
 }
 
+/// Rows, each with whether it is so.
 #[rattlefmt::skip]
-static PLACES: [Place; 20] = [
+static ROWS: [(bool, Row); 59] = [
     // MOV to CR0 and DR7; WRMSR; LGDT [rax], LIDT [rax+disp8]; LMSW ax; LLDT ax, LTR [rax].
-    (&[0x90, 0x0F, 0x22, 0xC0], Some(1)),
-    (&[0x90, 0x0F, 0x23, 0xF8], Some(1)),
-    (&[0x90, 0x0F, 0x30], Some(1)),
-    (&[0x90, 0x0F, 0x01, 0x10], Some(1)),
-    (&[0x90, 0x0F, 0x01, 0x58], Some(1)),
-    (&[0x90, 0x0F, 0x01, 0xF0], Some(1)),
-    (&[0x90, 0x0F, 0x00, 0xD0], Some(1)),
-    (&[0x90, 0x0F, 0x00, 0x18], Some(1)),
+    (true, Row::Place(&[0x90, 0x0F, 0x22, 0xC0], Some(1))),
+    (true, Row::Place(&[0x90, 0x0F, 0x23, 0xF8], Some(1))),
+    (true, Row::Place(&[0x90, 0x0F, 0x30], Some(1))),
+    (true, Row::Place(&[0x90, 0x0F, 0x01, 0x10], Some(1))),
+    (true, Row::Place(&[0x90, 0x0F, 0x01, 0x58], Some(1))),
+    (true, Row::Place(&[0x90, 0x0F, 0x01, 0xF0], Some(1))),
+    (true, Row::Place(&[0x90, 0x0F, 0x00, 0xD0], Some(1))),
+    (true, Row::Place(&[0x90, 0x0F, 0x00, 0x18], Some(1))),
     // The least place counts.
-    (&[0x0F, 0x0F, 0x30, 0x0F, 0x22, 0x00], Some(1)),
+    (true, Row::Place(&[0x0F, 0x0F, 0x30, 0x0F, 0x22, 0x00], Some(1))),
     // MOV from CR0; RDMSR; SGDT [rax], VMCALL, INVLPG [rax]; SLDT ax, VERR ax.
-    (&[0x0F, 0x20, 0xC0], None),
-    (&[0x0F, 0x32], None),
-    (&[0x0F, 0x01, 0x00], None),
-    (&[0x0F, 0x01, 0xD1], None),
-    (&[0x0F, 0x01, 0x38], None),
-    (&[0x0F, 0x00, 0xC0], None),
-    (&[0x0F, 0x00, 0xE0], None),
+    (true, Row::Place(&[0x0F, 0x20, 0xC0], None)),
+    (true, Row::Place(&[0x0F, 0x32], None)),
+    (true, Row::Place(&[0x0F, 0x01, 0x00], None)),
+    (true, Row::Place(&[0x0F, 0x01, 0xD1], None)),
+    (true, Row::Place(&[0x0F, 0x01, 0x38], None)),
+    (true, Row::Place(&[0x0F, 0x00, 0xC0], None)),
+    (true, Row::Place(&[0x0F, 0x00, 0xE0], None)),
     // Encodings that the end cuts off; no bytes.
-    (&[0x0F, 0x22], None),
-    (&[0x0F, 0x01], None),
-    (&[0x0F], None),
-    (&[], None),
+    (true, Row::Place(&[0x0F, 0x22], None)),
+    (true, Row::Place(&[0x0F, 0x01], None)),
+    (true, Row::Place(&[0x0F], None)),
+    (true, Row::Place(&[], None)),
+    // MOV to CR0; WRMSR before MOV to DR7; LMSW ax behind an escape byte; LIDT [rax+disp8] and WRMSR at the end; VMCALL
+    // and SLDT ax; MOV to a control register without its last byte.
+    (
+        true,
+        Row::Run(
+            [0x90, 0x90, 0x0F, 0x22, 0xC0, 0x90],
+            Some(Found { at: 0x1002, bytes: [0x0F, 0x22, 0xC0], count: 3 }),
+        ),
+    ),
+    (
+        true,
+        Row::Run(
+            [0x90, 0x0F, 0x30, 0x0F, 0x23, 0xF8],
+            Some(Found { at: 0x1001, bytes: [0x0F, 0x30, 0], count: 2 }),
+        ),
+    ),
+    (
+        true,
+        Row::Run(
+            [0x0F, 0x0F, 0x01, 0xF0, 0x90, 0x90],
+            Some(Found { at: 0x1001, bytes: [0x0F, 0x01, 0xF0], count: 3 }),
+        ),
+    ),
+    (
+        true,
+        Row::Run(
+            [0x90, 0x90, 0x90, 0x0F, 0x01, 0x58],
+            Some(Found { at: 0x1003, bytes: [0x0F, 0x01, 0x58], count: 3 }),
+        ),
+    ),
+    (
+        true,
+        Row::Run(
+            [0x90, 0x90, 0x90, 0x90, 0x0F, 0x30],
+            Some(Found { at: 0x1004, bytes: [0x0F, 0x30, 0], count: 2 }),
+        ),
+    ),
+    (true, Row::Run([0x0F, 0x01, 0xD1, 0x0F, 0x00, 0xC0], None)),
+    (true, Row::Run([0x90, 0x90, 0x90, 0x90, 0x0F, 0x22], None)),
+    // MOV to CR0 and WRMSR, which the second piece completes, but not behind a gap.
+    (
+        true,
+        Row::Pieces(
+            &[(0x1000, &[0x90, 0x0F]), (0x1002, &[0x22, 0xC0])],
+            Some(Found { at: 0x1001, bytes: [0x0F, 0x22, 0xC0], count: 3 }),
+        ),
+    ),
+    (true, Row::Pieces(&[(0x1000, &[0x90, 0x0F]), (0x1003, &[0x22, 0xC0])], None)),
+    (true, Row::Pieces(&[(0x1000, &[0x90, 0x0F]), (0x1004, &[0x22, 0xC0])], None)),
+    (true, Row::Pieces(&[(0x1000, &[0x90, 0x0F]), (0x2002, &[0x22, 0xC0])], None)),
+    (
+        true,
+        Row::Pieces(
+            &[(0x1000, &[0x0F, 0x22]), (0x1002, &[0xC0, 0x90])],
+            Some(Found { at: 0x1000, bytes: [0x0F, 0x22, 0xC0], count: 3 }),
+        ),
+    ),
+    (true, Row::Pieces(&[(0x1000, &[0x0F, 0x22]), (0x1003, &[0xC0, 0x90])], None)),
+    (true, Row::Pieces(&[(0x1000, &[0x0F, 0x22]), (0x1004, &[0xC0, 0x90])], None)),
+    (true, Row::Pieces(&[(0x1000, &[0x0F, 0x22]), (0x2002, &[0xC0, 0x90])], None)),
+    (
+        true,
+        Row::Pieces(
+            &[(0x1000, &[0x90, 0x0F]), (0x1002, &[0x30, 0x90])],
+            Some(Found { at: 0x1001, bytes: [0x0F, 0x30, 0], count: 2 }),
+        ),
+    ),
+    (true, Row::Pieces(&[(0x1000, &[0x90, 0x0F]), (0x1003, &[0x30, 0x90])], None)),
+    (true, Row::Pieces(&[(0x1000, &[0x90, 0x0F]), (0x1004, &[0x30, 0x90])], None)),
+    (true, Row::Pieces(&[(0x1000, &[0x90, 0x0F]), (0x2002, &[0x30, 0x90])], None)),
+    // WRMSR behind the gap, where it stands.
+    (
+        true,
+        Row::Pieces(
+            &[(0x1000, &[0x90, 0x0F]), (0x1003, &[0x0F, 0x30])],
+            Some(Found { at: 0x1003, bytes: [0x0F, 0x30, 0], count: 2 }),
+        ),
+    ),
+    // WRMSR around an empty piece; the same with a gap before it.
+    (
+        true,
+        Row::Pieces(
+            &[(0x1000, &[0x0F]), (0x1001, &[]), (0x1001, &[0x30])],
+            Some(Found { at: 0x1000, bytes: [0x0F, 0x30, 0], count: 2 }),
+        ),
+    ),
+    (true, Row::Pieces(&[(0x1000, &[0x0F]), (0x1002, &[]), (0x1002, &[0x30])], None)),
+    // Encodings at the edges of pages.
+    (true, Row::Edge((0, 2, 0x30_0F), Some(Found { at: HOME, bytes: [0x0F, 0x30, 0], count: 2 }))),
+    (true, Row::Edge((4094, 3, 0xC0_22_0F), Some(Found { at: HOME + 4094, bytes: [0x0F, 0x22, 0xC0], count: 3 }))),
+    (true, Row::Edge((4095, 3, 0xC0_22_0F), Some(Found { at: HOME + 4095, bytes: [0x0F, 0x22, 0xC0], count: 3 }))),
+    (true, Row::Edge((4095, 2, 0x30_0F), Some(Found { at: HOME + 4095, bytes: [0x0F, 0x30, 0], count: 2 }))),
+    (true, Row::Edge((4095, 2, 0x23_0F), Some(Found { at: HOME + 4095, bytes: [0x0F, 0x23, 0x90], count: 3 }))),
+    (true, Row::Edge((8189, 3, 0xF0_01_0F), Some(Found { at: HOME + 8189, bytes: [0x0F, 0x01, 0xF0], count: 3 }))),
+    (true, Row::Edge((8190, 2, 0x30_0F), Some(Found { at: HOME + 8190, bytes: [0x0F, 0x30, 0], count: 2 }))),
+    // The code ends before the third byte, and before the second.
+    (true, Row::Edge((8190, 2, 0x22_0F), None)),
+    (true, Row::Edge((8191, 1, 0x0F), None)),
+    // A right row, and one with another place.
+    (true, Row::Place(&[0x90, 0x0F, 0x30], Some(1))),
+    (false, Row::Place(&[0x90, 0x0F, 0x30], Some(0))),
+    // WRMSR, and as if it weren't found.
+    (
+        true,
+        Row::Run(
+            [0x90, 0x90, 0x90, 0x90, 0x0F, 0x30],
+            Some(Found { at: 0x1004, bytes: [0x0F, 0x30, 0], count: 2 }),
+        ),
+    ),
+    (false, Row::Run([0x90, 0x90, 0x90, 0x90, 0x0F, 0x30], None)),
+    // Nothing found, and what is found before the last piece.
+    (true, Row::Pieces(&[(0x1000, &[0x0F]), (0x1001, &[0x90])], None)),
+    (false, Row::Pieces(&[(0x1000, &[0x0F, 0x30]), (0x1002, &[0x90])], None)),
+    // Nothing found, and as if WRMSR weren't.
+    (true, Row::Edge((8191, 1, 0x0F), None)),
+    (false, Row::Edge((8190, 2, 0x30_0F), None)),
 ];
-
-#[test]
-fn encodings_are_found_at_their_places(rt: HostRuntime) {
-    assert_eq!(rt; first_other_place(&PLACES), None);
-}
 
 /// Gives a scanner its next piece. None where it can't take it.
 fn give(scanner: &mut Scanner, at: u64, piece: &[u8]) -> Option<Option<Found>> {
@@ -97,65 +209,15 @@ fn scan_cut(run: &[u8], at: u64, cuts: Cuts) -> Option<Option<Found>> {
     Some(None)
 }
 
-/// Six bytes of a run at address 0x1000, and what a scanner finds in them.
-type Run = ([u8; 6], Option<Found>);
-
-/// Whether it says so, whichever way the run is cut.
-fn is_found_in_every_cut(run: &Run) -> bool {
+/// Whether a scanner says so of a run, whichever way the run is cut.
+fn is_found_in_every_cut(run: &[u8; 6], found: Option<Found>) -> bool {
     for cuts in 0..32 {
-        if scan_cut(&run.0, 0x1000, Cuts::Bits(cuts)) != Some(run.1) {
+        if scan_cut(run, 0x1000, Cuts::Bits(cuts)) != Some(found) {
             return false;
         }
     }
     true
 }
-
-/// The index of the first run of which it doesn't.
-fn first_other_run(runs: &[Run]) -> Option<usize> {
-    for (index, run) in runs.iter().enumerate() {
-        if !is_found_in_every_cut(run) {
-            return Some(index);
-        }
-    }
-    None
-}
-
-/// MOV to CR0; WRMSR before MOV to DR7; LMSW ax behind an escape byte; LIDT [rax+disp8] and WRMSR
-/// at the end; VMCALL and SLDT ax; MOV to a control register without its last byte.
-#[rattlefmt::skip]
-static RUNS: [Run; 7] = [
-    (
-        [0x90, 0x90, 0x0F, 0x22, 0xC0, 0x90],
-        Some(Found { at: 0x1002, bytes: [0x0F, 0x22, 0xC0], count: 3 }),
-    ),
-    (
-        [0x90, 0x0F, 0x30, 0x0F, 0x23, 0xF8],
-        Some(Found { at: 0x1001, bytes: [0x0F, 0x30, 0], count: 2 }),
-    ),
-    (
-        [0x0F, 0x0F, 0x01, 0xF0, 0x90, 0x90],
-        Some(Found { at: 0x1001, bytes: [0x0F, 0x01, 0xF0], count: 3 }),
-    ),
-    (
-        [0x90, 0x90, 0x90, 0x0F, 0x01, 0x58],
-        Some(Found { at: 0x1003, bytes: [0x0F, 0x01, 0x58], count: 3 }),
-    ),
-    (
-        [0x90, 0x90, 0x90, 0x90, 0x0F, 0x30],
-        Some(Found { at: 0x1004, bytes: [0x0F, 0x30, 0], count: 2 }),
-    ),
-    ([0x0F, 0x01, 0xD1, 0x0F, 0x00, 0xC0], None),
-    ([0x90, 0x90, 0x90, 0x90, 0x0F, 0x22], None),
-];
-
-#[test]
-fn every_way_to_cut_a_run_gives_one_answer(rt: HostRuntime) {
-    assert_eq!(rt; first_other_run(&RUNS), None);
-}
-
-/// Pieces with their addresses, and what is found with the last one. With those before it nothing
-/// is, and the scanner's end is then theirs.
-type Pieces = (&'static [(u64, &'static [u8])], Option<Found>);
 
 /// What a scanner says of the last piece. None where it finds something before, or has another end.
 fn scan_pieces(pieces: &[(u64, &[u8])]) -> Option<Option<Found>> {
@@ -173,58 +235,6 @@ fn scan_pieces(pieces: &[(u64, &[u8])]) -> Option<Option<Found>> {
     Some(answer)
 }
 
-/// The index of the first row that isn't so.
-fn first_other_pieces(rows: &[Pieces]) -> Option<usize> {
-    for (index, (pieces, found)) in rows.iter().enumerate() {
-        if scan_pieces(pieces) != Some(*found) {
-            return Some(index);
-        }
-    }
-    None
-}
-
-#[rattlefmt::skip]
-static PIECES: [Pieces; 15] = [
-    // MOV to CR0 and WRMSR, which the second piece completes, but not behind a gap.
-    (
-        &[(0x1000, &[0x90, 0x0F]), (0x1002, &[0x22, 0xC0])],
-        Some(Found { at: 0x1001, bytes: [0x0F, 0x22, 0xC0], count: 3 }),
-    ),
-    (&[(0x1000, &[0x90, 0x0F]), (0x1003, &[0x22, 0xC0])], None),
-    (&[(0x1000, &[0x90, 0x0F]), (0x1004, &[0x22, 0xC0])], None),
-    (&[(0x1000, &[0x90, 0x0F]), (0x2002, &[0x22, 0xC0])], None),
-    (
-        &[(0x1000, &[0x0F, 0x22]), (0x1002, &[0xC0, 0x90])],
-        Some(Found { at: 0x1000, bytes: [0x0F, 0x22, 0xC0], count: 3 }),
-    ),
-    (&[(0x1000, &[0x0F, 0x22]), (0x1003, &[0xC0, 0x90])], None),
-    (&[(0x1000, &[0x0F, 0x22]), (0x1004, &[0xC0, 0x90])], None),
-    (&[(0x1000, &[0x0F, 0x22]), (0x2002, &[0xC0, 0x90])], None),
-    (
-        &[(0x1000, &[0x90, 0x0F]), (0x1002, &[0x30, 0x90])],
-        Some(Found { at: 0x1001, bytes: [0x0F, 0x30, 0], count: 2 }),
-    ),
-    (&[(0x1000, &[0x90, 0x0F]), (0x1003, &[0x30, 0x90])], None),
-    (&[(0x1000, &[0x90, 0x0F]), (0x1004, &[0x30, 0x90])], None),
-    (&[(0x1000, &[0x90, 0x0F]), (0x2002, &[0x30, 0x90])], None),
-    // WRMSR behind the gap, where it stands.
-    (
-        &[(0x1000, &[0x90, 0x0F]), (0x1003, &[0x0F, 0x30])],
-        Some(Found { at: 0x1003, bytes: [0x0F, 0x30, 0], count: 2 }),
-    ),
-    // WRMSR around an empty piece; the same with a gap before it.
-    (
-        &[(0x1000, &[0x0F]), (0x1001, &[]), (0x1001, &[0x30])],
-        Some(Found { at: 0x1000, bytes: [0x0F, 0x30, 0], count: 2 }),
-    ),
-    (&[(0x1000, &[0x0F]), (0x1002, &[]), (0x1002, &[0x30])], None),
-];
-
-#[test]
-fn a_gap_ends_the_run_and_an_empty_piece_goes_on_with_it(rt: HostRuntime) {
-    assert_eq!(rt; first_other_pieces(&PIECES), None);
-}
-
 /// Whether a scanner says so of a run at the home's start, in pieces of each of four sizes.
 fn is_found_by_each_size(run: &[u8], found: Option<Found>) -> bool {
     for size in [1, 2, 3, 4096] {
@@ -235,98 +245,37 @@ fn is_found_by_each_size(run: &[u8], found: Option<Found>) -> bool {
     true
 }
 
-/// Bytes at a place of two pages of NOPs at the home's start, and what is found in them.
-type Edge = (Change, Option<Found>);
-
 /// Whether it is found in the pages, and in the image of a file that loads them as code.
-fn is_found_in_pages(alloc: Global, ((place, size, value), found): &Edge) -> bool {
-    if *place >= 8192 {
+fn is_found_in_pages(alloc: Global, change: Change, found: Option<Found>) -> bool {
+    let (place, size, value) = change;
+    if place >= 8192 {
         return false;
     }
-    let changes = [
-        (96, 8, 8192),
-        (104, 8, 8192),
-        (4096 + *place, *size, *value),
-    ];
+    let changes = [(96, 8, 8192), (104, 8, 8192), (4096 + place, size, value)];
     let Some(file) = file_with(alloc, 4096 + 8192, 0x90, &changes) else {
         return false;
     };
-    if file.len() != 4096 + 8192 || !is_found_by_each_size(&file[4096..], *found) {
+    if file.len() != 4096 + 8192 || !is_found_by_each_size(&file[4096..], found) {
         return false;
     }
     match Image::read(file) {
-        Ok(image) => scan(&image) == *found,
+        Ok(image) => scan(&image) == found,
         Err(_) => false,
     }
 }
 
-/// The index of the first row that isn't so.
-fn first_other_edge(alloc: Global, rows: &[Edge]) -> Option<usize> {
-    for (index, row) in rows.iter().enumerate() {
-        if !is_found_in_pages(alloc, row) {
-            return Some(index);
-        }
+fn is_so(alloc: Global, row: &Row) -> bool {
+    match row {
+        Row::Place(bytes, place) => first_protected(bytes) == *place,
+        Row::Run(run, found) => is_found_in_every_cut(run, *found),
+        Row::Pieces(pieces, found) => scan_pieces(pieces) == Some(*found),
+        Row::Edge(change, found) => is_found_in_pages(alloc, *change, *found),
     }
-    None
 }
 
-#[rattlefmt::skip]
-static EDGES: [Edge; 9] = [
-    ((0, 2, 0x30_0F), Some(Found { at: HOME, bytes: [0x0F, 0x30, 0], count: 2 })),
-    (
-        (4094, 3, 0xC0_22_0F),
-        Some(Found { at: HOME + 4094, bytes: [0x0F, 0x22, 0xC0], count: 3 }),
-    ),
-    (
-        (4095, 3, 0xC0_22_0F),
-        Some(Found { at: HOME + 4095, bytes: [0x0F, 0x22, 0xC0], count: 3 }),
-    ),
-    ((4095, 2, 0x30_0F), Some(Found { at: HOME + 4095, bytes: [0x0F, 0x30, 0], count: 2 })),
-    ((4095, 2, 0x23_0F), Some(Found { at: HOME + 4095, bytes: [0x0F, 0x23, 0x90], count: 3 })),
-    (
-        (8189, 3, 0xF0_01_0F),
-        Some(Found { at: HOME + 8189, bytes: [0x0F, 0x01, 0xF0], count: 3 }),
-    ),
-    ((8190, 2, 0x30_0F), Some(Found { at: HOME + 8190, bytes: [0x0F, 0x30, 0], count: 2 })),
-    // The code ends before the third byte, and before the second.
-    ((8190, 2, 0x22_0F), None),
-    ((8191, 1, 0x0F), None),
-];
-
 #[test]
-fn encodings_at_the_edges_of_pages(rt: HostRuntime) {
-    assert_eq!(rt; first_other_edge(rt.alloc(), &EDGES), None);
-}
-
-/// A right row, and one with another place.
-static OTHER_PLACE: [Place; 2] = [
-    (&[0x90, 0x0F, 0x30], Some(1)),
-    (&[0x90, 0x0F, 0x30], Some(0)),
-];
-
-/// WRMSR, and as if it weren't found.
-#[rattlefmt::skip]
-static MISSED: [Run; 2] = [
-    (
-        [0x90, 0x90, 0x90, 0x90, 0x0F, 0x30],
-        Some(Found { at: 0x1004, bytes: [0x0F, 0x30, 0], count: 2 }),
-    ),
-    ([0x90, 0x90, 0x90, 0x90, 0x0F, 0x30], None),
-];
-
-/// Nothing found, and what is found before the last piece.
-static EARLIER: [Pieces; 2] = [
-    (&[(0x1000, &[0x0F]), (0x1001, &[0x90])], None),
-    (&[(0x1000, &[0x0F, 0x30]), (0x1002, &[0x90])], None),
-];
-
-/// Nothing found, and as if WRMSR weren't.
-static MISSED_IN_IMAGE: [Edge; 2] = [((8191, 1, 0x0F), None), ((8190, 2, 0x30_0F), None)];
-
-#[test]
-fn wrong_rows_are_found(rt: HostRuntime) {
-    assert_eq!(rt; first_other_place(&OTHER_PLACE), Some(1));
-    assert_eq!(rt; first_other_run(&MISSED), Some(1));
-    assert_eq!(rt; first_other_pieces(&EARLIER), Some(1));
-    assert_eq!(rt; first_other_edge(rt.alloc(), &MISSED_IN_IMAGE), Some(1));
+fn encodings_are_found_where_they_stand(rt: HostRuntime) {
+    for (index, (so, row)) in ROWS.iter().enumerate() {
+        assert!(rt; is_so(rt.alloc(), row) == *so, "row {index}");
+    }
 }
