@@ -4,26 +4,140 @@ use proc_audit::Audit;
 use std::alloc::{AllocError, Global};
 use std::test::Fail;
 
-/// The size of a region, numbers that are written in it, each with its offset and in eight bytes, whether the chain is
-/// then broken, and what each slot then hides.
-type Row = (u32, &'static [(u32, u64)], bool, &'static [Option<u64>]);
+/// The region that a row is of.
+enum Region {
+    /// A new one of so many bytes.
+    New(u32),
+    /// A new one of 4,096 slots, the most, each with its number as its process, of which each leads to the one behind.
+    Chain,
+    /// That of the row before, as it then is.
+    Same,
+}
 
-/// A number a step, with its offset, on one region, and what that makes of the chain and of what slots hide.
-type Step = (u32, u64, bool, &'static [Option<u64>]);
+/// What slots hide.
+enum Hidden {
+    /// What each slot hides, no more and no fewer.
+    Each(&'static [Option<u64>]),
+    /// How many slots there are, and what these hide.
+    At(u32, &'static [(u32, Option<u64>)]),
+}
+
+use Hidden::{At, Each};
+use Region::{Chain, New, Same};
+
+/// Whether the row is so, its region, numbers that are written in it, each with its offset and in eight bytes, whether
+/// the chain is then broken, and what slots then hide.
+type Row = (bool, Region, &'static [(u32, u64)], bool, Hidden);
+
+#[rattlefmt::skip]
+static ROWS: [Row; 48] = [
+    // A part of a slot is no slot.
+    (true, New(0), &[], false, Each(&[])),
+    (true, New(15), &[(0, 5), (7, u64::MAX)], false, Each(&[])),
+    (true, New(16), &[], false, Each(&[None])),
+    (true, New(16), &[(0, 9)], false, Each(&[None])),
+    (true, New(17), &[(9, 1 << 56)], false, Each(&[None])),
+    (true, New(17), &[(9, 1)], true, Each(&[None])),
+    (true, New(31), &[(16, 5), (23, u64::MAX)], false, Each(&[None])),
+    (true, New(32), &[(16, 5)], false, Each(&[None, Some(5)])),
+    // A next leads to the slot before its number.
+    (true, New(16), &[(8, 1)], true, Each(&[None])),
+    (true, New(16), &[(8, 2)], true, Each(&[None])),
+    (true, New(32), &[(16, 5), (8, 2)], false, Each(&[None, None])),
+    (true, New(32), &[(16, 5), (8, 3)], true, Each(&[None, Some(5)])),
+    (true, New(32), &[(16, 5), (8, 2), (24, 1)], true, Each(&[None, None])),
+    (true, New(32), &[(16, 5), (8, 2), (24, 2)], true, Each(&[None, None])),
+    (
+        true,
+        New(64),
+        &[(16, 1), (32, 2), (48, 3), (8, 4), (56, 2)],
+        false,
+        Each(&[None, None, Some(2), None]),
+    ),
+    // Numbers have 64 bits.
+    (true, New(32), &[(16, 5), (8, u64::MAX)], true, Each(&[None, Some(5)])),
+    (true, New(32), &[(16, 5), (8, 1 << 32)], true, Each(&[None, Some(5)])),
+    (true, New(32), &[(16, 5), (8, 0x1_0000_0001)], true, Each(&[None, Some(5)])),
+    (true, New(32), &[(16, 5), (8, 0x1_0000_0002)], true, Each(&[None, Some(5)])),
+    (true, New(32), &[(16, u64::MAX)], false, Each(&[None, Some(u64::MAX)])),
+    // A write begins and ends anywhere.
+    (true, New(32), &[(16, 5), (4, 2 << 32)], false, Each(&[None, None])),
+    (true, New(32), &[(12, 1), (16, 5)], true, Each(&[None, Some(5)])),
+    (true, New(32), &[(16, 5), (12, 1)], true, Each(&[None, None])),
+    (true, New(32), &[(20, 7)], false, Each(&[None, Some(7 << 32)])),
+    (true, New(40), &[(32, u64::MAX)], false, Each(&[None, None])),
+    (
+        true,
+        New(40),
+        &[(28, 0xFFFF_FFFF_0000_0000), (16, 5), (8, 2)],
+        false,
+        Each(&[None, None]),
+    ),
+    (true, New(40), &[(28, 0xFFFF_FFFF), (16, 5), (8, 2)], true, Each(&[None, None])),
+    // A wrong row is found.
+    (true, New(32), &[(16, 5)], false, Each(&[None, Some(5)])),
+    (false, New(32), &[(16, 5)], true, Each(&[None, Some(5)])),
+    (false, New(32), &[(16, 5)], false, Each(&[None, None])),
+    (false, New(32), &[(16, 5)], false, Each(&[None, Some(6)])),
+    (false, New(32), &[(16, 5)], false, Each(&[None])),
+    (false, New(48), &[(16, 5)], false, Each(&[None, Some(5)])),
+    (false, New(32), &[(25, 5)], false, Each(&[None, None])),
+    // A process is hidden and linked again.
+    (true, New(48), &[(8, 2)], false, Each(&[None, None, None])),
+    (true, Same, &[(16, 1)], false, Each(&[None, None, None])),
+    (true, Same, &[(24, 3)], false, Each(&[None, None, None])),
+    (true, Same, &[(32, 7)], false, Each(&[None, None, None])),
+    // Slot 1 is the last one.
+    (true, Same, &[(24, 0)], false, Each(&[None, None, Some(7)])),
+    // Slot 0 leads to itself.
+    (true, Same, &[(8, 1)], true, Each(&[None, Some(1), Some(7)])),
+    (true, Same, &[(8, 3)], false, Each(&[None, Some(1), None])),
+    (true, Same, &[(40, 2)], false, Each(&[None, None, None])),
+    // An identifier of 0 is no process.
+    (true, Same, &[(8, 0)], false, Each(&[None, Some(1), Some(7)])),
+    (true, Same, &[(16, 0)], false, Each(&[None, None, Some(7)])),
+    // The longest chain is followed, also where it leads back to its first slot, and where that is its last one.
+    (true, Chain, &[], false, At(4096, &[(1, None), (4095, None)])),
+    (true, Same, &[(65528, 1)], true, At(4096, &[(4095, None)])),
+    (true, Same, &[(8, 0)], false, At(4096, &[(1, Some(1)), (4095, Some(4095))])),
+    // The last byte that is written would be behind the region.
+    (false, Same, &[(65529, 0)], false, At(4096, &[(1, Some(1)), (4095, Some(4095))])),
+];
+
+/// The bytes of the longest chain.
+fn slots(alloc: Global) -> Result<Vec<u8>, AllocError> {
+    let mut bytes = Vec::new(alloc);
+    for i in 0..65536usize {
+        let slot = i as u64 / 16;
+        let number = if i % 16 < 8 { slot } else { (slot + 2) % 4097 };
+        bytes.push(number.to_le_bytes()[i % 8])?;
+    }
+    Ok(bytes)
+}
 
 /// Writes bytes; false where they don't fit.
-fn write(audit: &mut Audit, offset: u32, bytes: &[u8]) -> bool {
-    let room = audit.size() as usize;
-    if bytes.len() > room || offset as usize > room - bytes.len() {
+fn put(audit: &mut Audit, offset: u32, bytes: &[u8]) -> bool {
+    let size = audit.size() as usize;
+    if bytes.len() > size || offset as usize > size - bytes.len() {
         return false;
     }
     audit.apply(offset, bytes);
     true
 }
 
-/// Whether the chain is broken as is said, and the slots, no more and no fewer, hide what is said.
-fn tells(audit: &Audit, broken: bool, hidden: &[Option<u64>]) -> bool {
-    if audit.slots() as usize != hidden.len() || audit.broken() != broken {
+/// Writes numbers; false where one doesn't fit.
+fn write(audit: &mut Audit, numbers: &[(u32, u64)]) -> bool {
+    for (offset, number) in numbers {
+        if !put(audit, *offset, &number.to_le_bytes()) {
+            return false;
+        }
+    }
+    true
+}
+
+/// Whether the slots, no more and no fewer, hide this.
+fn each_hides(audit: &Audit, hidden: &[Option<u64>]) -> bool {
+    if audit.slots() as usize != hidden.len() {
         return false;
     }
     for slot in 0..audit.slots() {
@@ -34,168 +148,42 @@ fn tells(audit: &Audit, broken: bool, hidden: &[Option<u64>]) -> bool {
     true
 }
 
-/// Whether a region with these numbers tells what its row says.
-fn is_so(alloc: Global, row: &Row) -> bool {
-    let (size, numbers, broken, hidden) = *row;
-    let Ok(mut audit) = Audit::start(alloc, size) else {
-        return false;
-    };
-    for (offset, number) in numbers {
-        if !write(&mut audit, *offset, &number.to_le_bytes()) {
+/// Whether there are these slots, and they hide this.
+fn these_hide(audit: &Audit, hidden: &[(u32, Option<u64>)]) -> bool {
+    for (slot, hidden) in hidden {
+        if *slot >= audit.slots() || audit.hidden(*slot) != *hidden {
             return false;
         }
     }
-    tells(&audit, broken, hidden)
+    true
 }
 
-/// The index of the first row that isn't so.
-fn first_wrong(alloc: Global, rows: &[Row]) -> Option<usize> {
-    for (index, row) in rows.iter().enumerate() {
-        if !is_so(alloc, row) {
-            return Some(index);
+/// Whether the numbers fit, and the chain and the slots are then as is said.
+fn is_so(audit: &mut Audit, numbers: &[(u32, u64)], broken: bool, hidden: &Hidden) -> bool {
+    write(audit, numbers)
+        && audit.broken() == broken
+        && match hidden {
+            Each(hidden) => each_hides(audit, hidden),
+            At(slots, hidden) => audit.slots() == *slots && these_hide(audit, hidden),
         }
+}
+
+#[test]
+fn audits_of_regions(rt: HostRuntime) -> Result<(), Fail> {
+    let mut audit = Audit::start(rt.alloc(), 0)?;
+    for (index, (so, region, numbers, broken, hidden)) in ROWS.iter().enumerate() {
+        match region {
+            New(size) => audit = Audit::start(rt.alloc(), *size)?,
+            Chain => {
+                audit = Audit::start(rt.alloc(), 65536)?;
+                assert!(rt; put(&mut audit, 0, &slots(rt.alloc())?));
+            }
+            Same => {}
+        }
+        assert!(rt;
+            is_so(&mut audit, numbers, *broken, hidden) == *so,
+            "row {index}"
+        );
     }
-    None
-}
-
-#[test]
-fn a_part_of_a_slot_is_no_slot(rt: HostRuntime) {
-    let rows: [Row; 8] = [
-        (0, &[], false, &[]),
-        (15, &[(0, 5), (7, u64::MAX)], false, &[]),
-        (16, &[], false, &[None]),
-        (16, &[(0, 9)], false, &[None]),
-        (17, &[(9, 1 << 56)], false, &[None]),
-        (17, &[(9, 1)], true, &[None]),
-        (31, &[(16, 5), (23, u64::MAX)], false, &[None]),
-        (32, &[(16, 5)], false, &[None, Some(5)]),
-    ];
-    assert_eq!(rt; first_wrong(rt.alloc(), &rows), None);
-}
-
-#[test]
-fn a_next_leads_to_the_slot_before_its_number(rt: HostRuntime) {
-    let rows: [Row; 7] = [
-        (16, &[(8, 1)], true, &[None]),
-        (16, &[(8, 2)], true, &[None]),
-        (32, &[(16, 5), (8, 2)], false, &[None, None]),
-        (32, &[(16, 5), (8, 3)], true, &[None, Some(5)]),
-        (32, &[(16, 5), (8, 2), (24, 1)], true, &[None, None]),
-        (32, &[(16, 5), (8, 2), (24, 2)], true, &[None, None]),
-        (
-            64,
-            &[(16, 1), (32, 2), (48, 3), (8, 4), (56, 2)],
-            false,
-            &[None, None, Some(2), None],
-        ),
-    ];
-    assert_eq!(rt; first_wrong(rt.alloc(), &rows), None);
-}
-
-#[test]
-fn numbers_have_64_bits(rt: HostRuntime) {
-    let rows: [Row; 5] = [
-        (32, &[(16, 5), (8, u64::MAX)], true, &[None, Some(5)]),
-        (32, &[(16, 5), (8, 1 << 32)], true, &[None, Some(5)]),
-        (32, &[(16, 5), (8, 0x1_0000_0001)], true, &[None, Some(5)]),
-        (32, &[(16, 5), (8, 0x1_0000_0002)], true, &[None, Some(5)]),
-        (32, &[(16, u64::MAX)], false, &[None, Some(u64::MAX)]),
-    ];
-    assert_eq!(rt; first_wrong(rt.alloc(), &rows), None);
-}
-
-#[test]
-fn a_write_begins_and_ends_anywhere(rt: HostRuntime) {
-    let rows: [Row; 7] = [
-        (32, &[(16, 5), (4, 2 << 32)], false, &[None, None]),
-        (32, &[(12, 1), (16, 5)], true, &[None, Some(5)]),
-        (32, &[(16, 5), (12, 1)], true, &[None, None]),
-        (32, &[(20, 7)], false, &[None, Some(7 << 32)]),
-        (40, &[(32, u64::MAX)], false, &[None, None]),
-        (
-            40,
-            &[(28, 0xFFFF_FFFF_0000_0000), (16, 5), (8, 2)],
-            false,
-            &[None, None],
-        ),
-        (
-            40,
-            &[(28, 0xFFFF_FFFF), (16, 5), (8, 2)],
-            true,
-            &[None, None],
-        ),
-    ];
-    assert_eq!(rt; first_wrong(rt.alloc(), &rows), None);
-}
-
-#[test]
-fn a_wrong_row_is_found(rt: HostRuntime) {
-    let right: Row = (32, &[(16, 5)], false, &[None, Some(5)]);
-    for wrong in [
-        (32, [(16, 5)].as_slice(), true, [None, Some(5)].as_slice()),
-        (32, &[(16, 5)], false, &[None, None]),
-        (32, &[(16, 5)], false, &[None, Some(6)]),
-        (32, &[(16, 5)], false, &[None]),
-        (48, &[(16, 5)], false, &[None, Some(5)]),
-        (32, &[(25, 5)], false, &[None, None]),
-    ] {
-        assert_eq!(rt; first_wrong(rt.alloc(), &[right, wrong, right]), Some(1));
-    }
-}
-
-#[test]
-fn a_process_is_hidden_and_linked_again(rt: HostRuntime) -> Result<(), Fail> {
-    let steps: [Step; 9] = [
-        (8, 2, false, &[None, None, None]),
-        (16, 1, false, &[None, None, None]),
-        (24, 3, false, &[None, None, None]),
-        (32, 7, false, &[None, None, None]),
-        // Slot 1 is the last one.
-        (24, 0, false, &[None, None, Some(7)]),
-        // Slot 0 leads to itself.
-        (8, 1, true, &[None, Some(1), Some(7)]),
-        (8, 3, false, &[None, Some(1), None]),
-        (40, 2, false, &[None, None, None]),
-        // An identifier of 0 is no process.
-        (8, 0, false, &[None, Some(1), Some(7)]),
-    ];
-    let mut audit = Audit::start(rt.alloc(), 48)?;
-    for (offset, number, broken, hidden) in steps {
-        assert!(rt; write(&mut audit, offset, &number.to_le_bytes()));
-        assert!(rt; tells(&audit, broken, hidden), "after {number} at {offset}");
-    }
-    assert!(rt; write(&mut audit, 16, &[0; 8]));
-    assert!(rt; tells(&audit, false, &[None, None, Some(7)]));
-    Ok(())
-}
-
-/// Whether the region has this slot, and it hides this.
-fn hides(audit: &Audit, slot: u32, hidden: Option<u64>) -> bool {
-    slot < audit.slots() && audit.hidden(slot) == hidden
-}
-
-/// So many slots, each with its number as its process, of which each leads to the one behind it.
-fn row_of_slots(alloc: Global, count: u32) -> Result<Vec<u8>, AllocError> {
-    let most = u64::from(count);
-    let mut bytes = Vec::new(alloc);
-    for slot in 0..most {
-        bytes.extend_from_slice(&slot.to_le_bytes())?;
-        bytes.extend_from_slice(&((slot + 2) % (most + 1)).to_le_bytes())?;
-    }
-    Ok(bytes)
-}
-
-#[test]
-fn the_longest_chain_is_followed(rt: HostRuntime) -> Result<(), Fail> {
-    let slots = row_of_slots(rt.alloc(), 4096)?;
-    let mut audit = Audit::start(rt.alloc(), 65536)?;
-    assert!(rt; write(&mut audit, 0, slots.as_slice()));
-    assert!(rt; audit.slots() == 4096 && !audit.broken());
-    assert!(rt; hides(&audit, 1, None) && hides(&audit, 4095, None));
-    assert!(rt; write(&mut audit, 65528, &[1, 0, 0, 0, 0, 0, 0, 0]));
-    assert!(rt; audit.broken() && hides(&audit, 4095, None));
-    assert!(rt; write(&mut audit, 8, &[0; 8]));
-    assert!(rt; !audit.broken() && hides(&audit, 1, Some(1)) && hides(&audit, 4095, Some(4095)));
-    assert!(rt; !write(&mut audit, 65529, &[0; 8]));
     Ok(())
 }

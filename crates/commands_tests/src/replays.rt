@@ -15,12 +15,11 @@ use nk_body::Kernel;
 use phys_mem::PhysMem;
 use replay_core::{ReplayFault, replay};
 use std::alloc::{AllocError, Global};
-use std::process::Abort;
 use std::test::Fail;
 
 /// A file's one header loads the byte at offset 4,096 to FFFFFFFF80000000, the entry, readable and executable.
 #[rattlefmt::skip]
-const HEADERS: [u8; 120] = [
+static HEADERS: [u8; 120] = [
     0x7F, 0x45, 0x4C, 0x46, 2, 1, 1, 0, 0, 0, 0, 0, 0, 0, 0, 0, 2, 0, 62, 0, 1, 0, 0, 0,
     0, 0, 0, 0x80, 0xFF, 0xFF, 0xFF, 0xFF, 64, 0, 0, 0, 0, 0, 0, 0, 0, 0, 0, 0, 0, 0, 0, 0,
     0, 0, 0, 0, 64, 0, 56, 0, 1, 0, 0, 0, 0, 0, 0, 0, 1, 0, 0, 0, 5, 0, 0, 0,
@@ -42,17 +41,18 @@ struct Opened {
 }
 
 fn file(alloc: Global) -> Result<Vec<u8>, AllocError> {
-    let mut file = HEADERS.to_vec(alloc)?;
-    file.resize(4096, 0)?;
-    file.push(0xF4)?;
-    Ok(file)
-}
-
-fn image(alloc: Global) -> Option<Image> {
-    match file(alloc) {
-        Ok(file) => Image::read(file).ok(),
-        Err(_) => None,
+    let mut file = Vec::new(alloc);
+    for k in 0..4097 {
+        let byte = if k == 4096 {
+            0xF4
+        } else if k < 120 {
+            HEADERS[k]
+        } else {
+            0
+        };
+        file.push(byte)?;
     }
+    Ok(file)
 }
 
 /// Memory and books of the opening; None for want of memory.
@@ -60,7 +60,10 @@ fn open(alloc: Global) -> Option<Opened>
     ensures books { IfSome result (λ it. HoldsBooks it.kernel it.mem) }
     ensures ledger { IfSome result (λ it. (books_in it.kernel it.mem).ledger ≡ opening_ledger) }
 {
-    let Some(image) = image(alloc) else {
+    let Ok(file) = file(alloc) else {
+        return None;
+    };
+    let Ok(image) = Image::read(file) else {
         return None;
     };
     let Ok(layout) = Layout::of(&image, 512) else {
@@ -76,8 +79,9 @@ fn open(alloc: Global) -> Option<Opened>
 }
 
 /// What a replay leaves: the root and the handler, the handler in memory, entry 71 of frame 70, the kind of frame 71,
-/// the next identifier, how many regions live and how many writes are logged, and the first eight bytes of the pool.
-#[derive(Clone, Copy, Debug, PartialEq, Eq)]
+/// the next identifier, how many regions live and how many writes are logged, region, offset and length of the first of
+/// these, if any, and the first eight bytes of the pool.
+#[derive(Clone, Copy, PartialEq)]
 struct State {
     root: u32,
     trap: u64,
@@ -87,6 +91,7 @@ struct State {
     next: u64,
     regions: usize,
     records: u64,
+    first: Option<(u64, u32, u32)>,
     pool: u64,
 }
 
@@ -100,8 +105,213 @@ const OPENING: State = State {
     next: 256,
     regions: 0,
     records: 0,
+    first: None,
     pool: 0,
 };
+
+/// A table of level 1 is declared, and mapped no longer for writing.
+const DECLARED: State = State {
+    leaf: 0x8000_0000_0004_7021,
+    kind: Kind::Table(1),
+    ..OPENING
+};
+
+/// There is no handler.
+const WITHOUT_HANDLER: State = State {
+    trap: 0,
+    slot: 0,
+    ..OPENING
+};
+
+/// Another handler is set.
+const OTHER_HANDLER: State = State {
+    trap: 0x5000,
+    slot: 0x5000,
+    ..OPENING
+};
+
+/// A region of sixteen bytes lives.
+const GRANTED: State = State {
+    next: 257,
+    regions: 1,
+    ..OPENING
+};
+
+/// Four bytes of it are written.
+const STORED: State = State {
+    pool: 0x0403_0201,
+    ..GRANTED
+};
+
+/// Of two regions the second is freed, and nine bytes of the first were written.
+const WRITTEN: State = State {
+    next: 258,
+    regions: 1,
+    records: 1,
+    first: Some((256, 0, 9)),
+    pool: 0x0908_0706_0504_0302,
+    ..OPENING
+};
+
+/// A region of eight bytes is freed, of which the last four were written: they stay in the pool.
+const FREED: State = State {
+    next: 257,
+    records: 1,
+    first: Some((256, 4, 4)),
+    pool: 0x0403_0201_0000_0000,
+    ..OPENING
+};
+
+/// A region of sixteen bytes is allocated.
+const GRANT: &str = "k 7 10 1 0 0 - 256 ffffff8000010000\n";
+
+/// A region of eight bytes is allocated, its last four bytes are written where nine would not fit, and it is freed.
+const WRITE_AND_FREE: &str = "k 7 8 4 0 0 - 256 ffffff8000010000
+k 9 100 4 ffff800000047000 5 - 21 -
+k 9 100 4 ffff800000047000 4 01020304 0 -
+k 8 100 0 0 0 - 0 -
+end halted
+";
+
+/// What stands before a text and behind it.
+type Around = (&'static str, &'static str);
+
+const NOTHING: Around = ("", "");
+
+const IN_A_REGION: Around = (GRANT, "\nK\n");
+
+const BEFORE_A_CALL: Around = ("", "\nk 1 6000 0 0 0 - 0 -\n");
+
+const BETWEEN: Around = ("c 41\n", "\nk 1 6000 0 0 0 - 0 -\n");
+
+/// A journal: what stands around a text, how often that stands, one behind the other, and the text.
+type Journal = (Around, usize, &'static str);
+
+/// A journal, the number of its first line that isn't right, if any, and what its replay leaves.
+type Row = (Journal, Option<u64>, State);
+
+#[rattlefmt::skip]
+static ROWS: [Row; 62] = [
+    // A run's text: a frame becomes a page table, and a store through the direct map faults.
+    ((NOTHING, 1, "k 3 46 47 8000000000047021 0 - 0 -
+k 2 1 47 8000000000047021 0 - 0 -
+i 14 3 ffffffff8000004e ffff800000047000
+end halted
+turns 62
+root 5
+trap ffffff80000011da
+f 71 table1
+t 70 71 8000000000047021
+"), None, DECLARED),
+    // Calls that are accepted.
+    ((NOTHING, 1, "k 1 0 0 0 0 - 0 -"), None, WITHOUT_HANDLER),
+    ((NOTHING, 1, "c 41
+k 7 40 4 0 0 - 256 ffffff8000010000
+k 7 ffff 1 0 0 - 18 -
+k 7 10 3 5 6 - 257 ffffff8000010040
+k 9 100 0 ffff800000047000 9 02030405060708090a 0 -
+i 32 - ffffff8000001010 -
+k 8 101 0 0 0 - 0 -
+k 8 101 0 0 0 - 19 -
+k 9 100 40 ffff800000047000 1 - 21 -
+k 9 100 0 1000 4 ! 22 -
+"), None, WRITTEN),
+    // The write in the log ends with the region that was asked for.
+    ((NOTHING, 1, WRITE_AND_FREE), None, FREED),
+    // Refused calls change nothing.
+    ((NOTHING, 1, "k 0 0 0 0 0 - 1 -
+k ffffffffffffffff ffffffffffffffff ffffffffffffffff ffffffffffffffff ffffffffffffffff - 1 -
+k 1 800000000000 0 0 0 - 27 -
+k 2 9 258 0 0 - 2 -
+k 3 46 47 47003 0 - 9 -
+k 4 5 0 0 0 - 12 -
+k 5 47 0 0 0 - 14 -
+k 6 ffff800000047000 1000 1 0 - 5 -
+k 7 0 1 0 0 - 15 -
+k 8 100 0 0 0 - 19 -
+k 9 100 0 0 4 - 19 -
+end steps"), None, OPENING),
+    // Nothing behind the end counts.
+    ((NOTHING, 1, ""), None, OPENING),
+    ((NOTHING, 1, "c 41\n"), None, OPENING),
+    ((NOTHING, 1, "c 41"), None, OPENING),
+    ((NOTHING, 1, "end halted"), None, OPENING),
+    ((NOTHING, 1, "end steps\n"), None, OPENING),
+    ((NOTHING, 1, "end steps\n\nrubbish\r\n\0"), None, OPENING),
+    ((NOTHING, 1, "end halted\nk 1 0 0 0 0 - 0 -\n"), None, OPENING),
+    ((NOTHING, 1, "c 00\nend steps\nend\n"), None, OPENING),
+    // Lines out of form stop.
+    ((NOTHING, 1, "\n"), Some(1), OPENING),
+    ((NOTHING, 1, "c 41\n\nend halted\n"), Some(2), OPENING),
+    ((NOTHING, 1, "c 41\r\n"), Some(1), OPENING),
+    ((NOTHING, 1, "c 41\n\0\n"), Some(2), OPENING),
+    ((NOTHING, 1, "c 41\nc 4A\n"), Some(2), OPENING),
+    ((NOTHING, 1, "K"), Some(1), OPENING),
+    ((NOTHING, 1, "root 5\n"), Some(1), OPENING),
+    ((NOTHING, 1, "k 1 00000000000000000 0 0 0 - 0 -"), Some(1), OPENING),
+    ((NOTHING, 1, "k 1 10000000000000000 0 0 0 - 0 -"), Some(1), OPENING),
+    ((NOTHING, 1, "k 1 0 0 0 0 - 18446744073709551616 -"), Some(1), OPENING),
+    ((NOTHING, 1, "k 1 A 0 0 0 - 0 -"), Some(1), OPENING),
+    ((NOTHING, 1, "k 1 0 0 0 0 - 0 - "), Some(1), OPENING),
+    ((NOTHING, 1, "k 1 0 0 0 0 - 0 -\r\n"), Some(1), OPENING),
+    ((NOTHING, 1, "k 1 0 0 0 0 - 0 - 0"), Some(1), OPENING),
+    ((NOTHING, 1, "i 48 - ffffffff80000000 -"), Some(1), OPENING),
+    ((NOTHING, 1, "i 14 0 ffffffff80000000 -"), Some(1), OPENING),
+    ((NOTHING, 1, "c 41\nc 42\nc 43\nend"), Some(4), OPENING),
+    // What is noted of a source must be what the call takes; else the call isn't made.
+    ((IN_A_REGION, 1, "k 9 100 0 1000 4 - 0 -"), Some(2), GRANTED),
+    ((IN_A_REGION, 1, "k 9 100 0 1000 4 - 22 -"), Some(2), GRANTED),
+    ((IN_A_REGION, 1, "k 9 100 0 1000 4 010203 0 -"), Some(2), GRANTED),
+    ((IN_A_REGION, 1, "k 9 100 0 1000 4 0102030405 0 -"), Some(2), GRANTED),
+    ((IN_A_REGION, 1, "k 9 100 0 1000 4 0102030 0 -"), Some(2), GRANTED),
+    ((IN_A_REGION, 1, "k 9 100 0 1000 4 010203xx 0 -"), Some(2), GRANTED),
+    ((IN_A_REGION, 1, "k 9 100 0 1000 4 0102030A 0 -"), Some(2), GRANTED),
+    ((IN_A_REGION, 1, "k 9 100 0 1000 4  0 -"), Some(2), GRANTED),
+    ((IN_A_REGION, 1, "k 9 100 0 1000 4 ! 22 0"), Some(2), GRANTED),
+    ((IN_A_REGION, 1, "k 9 100 d 1000 4 01020304 21 -"), Some(2), GRANTED),
+    ((IN_A_REGION, 1, "k 9 100 d 1000 4 ! 21 -"), Some(2), GRANTED),
+    ((IN_A_REGION, 1, "k 9 100 0 1000 0  21 -"), Some(2), GRANTED),
+    ((IN_A_REGION, 1, "k 9 101 0 1000 4 01020304 19 -"), Some(2), GRANTED),
+    ((IN_A_REGION, 1, "k 1 0 0 1000 4 01020304 0 -"), Some(2), GRANTED),
+    ((IN_A_REGION, 1, "k 1 0 0 1000 4 ! 0 -"), Some(2), GRANTED),
+    // A call whose answer or place isn't right is made, and is the last.
+    ((BETWEEN, 1, "k 1 5000 0 0 0 - 5 -"), Some(2), OTHER_HANDLER),
+    ((BETWEEN, 1, "k 1 5000 0 0 0 - 256 -"), Some(2), OTHER_HANDLER),
+    ((BETWEEN, 1, "k 1 5000 0 0 0 - 18446744073709551615 -"), Some(2), OTHER_HANDLER),
+    ((BETWEEN, 1, "k 1 5000 0 0 0 - 0 0000000000000000"), Some(2), OTHER_HANDLER),
+    ((BEFORE_A_CALL, 1, "k 7 10 1 0 0 - 0 ffffff8000010000"), Some(1), GRANTED),
+    ((BEFORE_A_CALL, 1, "k 7 10 1 0 0 - 257 ffffff8000010000"), Some(1), GRANTED),
+    ((BEFORE_A_CALL, 1, "k 7 10 1 0 0 - 256 ffffff8000010010"), Some(1), GRANTED),
+    ((BEFORE_A_CALL, 1, "k 7 10 1 0 0 - 256 -"), Some(1), GRANTED),
+    (((GRANT, "\n"), 1, "k 9 100 0 1000 4 01020304 24 -"), Some(2), STORED),
+    ((NOTHING, 1, "k 1 800000000000 0 0 0 - 0 -\n"), Some(1), OPENING),
+    // One line of a megabyte is out of form, whatever it is of.
+    ((NOTHING, 1_000_000, "k"), Some(1), OPENING),
+    ((NOTHING, 1_000_000, " "), Some(1), OPENING),
+    ((NOTHING, 1_000_000, "\0"), Some(1), OPENING),
+    ((("c ", ""), 1_000_000 - 2, "4"), Some(1), OPENING),
+    ((("k 1 ", ""), 1_000_000 - 4, "0"), Some(1), OPENING),
+    ((("k 9 100 0 1000 4 ", ""), 1_000_000 - 17, "0"), Some(1), OPENING),
+    // A journal may hold many calls: nothing but memory bounds their number.
+    ((NOTHING, 5_000, "k 1 0 0 0 0 - 0 -\n"), None, WITHOUT_HANDLER),
+];
+
+/// The text of a journal.
+fn text(alloc: Global, journal: &Journal) -> Result<Vec<u8>, AllocError> {
+    let (around, times, text) = *journal;
+    let mut whole = Vec::new(alloc);
+    for i in 0..times.saturating_add(2) {
+        let part = if i == 0 {
+            around.0
+        } else if i > times {
+            around.1
+        } else {
+            text
+        };
+        whole.extend_from_slice(part.as_bytes())?;
+    }
+    Ok(whole)
+}
 
 /// The number at a place of memory.
 fn load(mem: &PhysMem, at: u64) -> u64 {
@@ -109,6 +319,18 @@ fn load(mem: &PhysMem, at: u64) -> u64 {
         mem.load64(at)
     } else {
         u64::MAX
+    }
+}
+
+/// Region, offset and length of the first write in the log, if any.
+fn first_write(kernel: &Kernel, mem: &PhysMem) -> Option<(u64, u32, u32)>
+    requires { HoldsBooks kernel.now mem.now }
+{
+    if kernel.log().len() == 0 {
+        None
+    } else {
+        let noted = kernel.log().entry(mem, 0);
+        Some((noted.region, noted.offset, noted.length))
     }
 }
 
@@ -125,217 +347,30 @@ fn seen(kernel: &Kernel, mem: &PhysMem) -> State
         next: kernel.regions().next(),
         regions: kernel.regions().count(),
         records: kernel.log().len(),
+        first: first_write(kernel, mem),
         pool: load(mem, 0xA000),
     }
 }
 
-/// The number of the first line that isn't right, if any, and what the replay leaves; None for want of memory.
-fn replayed(alloc: Global, journal: &[u8]) -> Option<(Option<u64>, State)> {
+/// Whether this line of a journal is the first that isn't right, and the replay leaves this. False for want of memory.
+fn leaves(alloc: Global, journal: &[u8], line: Option<u64>, state: &State) -> bool {
     let Some(mut it) = open(alloc) else {
-        return None;
+        return false;
     };
     let bad = match replay(alloc, &mut it.kernel, &mut it.mem, journal) {
         Ok(()) => None,
         Err(ReplayFault::Line(number)) => Some(number),
-        Err(ReplayFault::Memory) => return None,
+        Err(ReplayFault::Memory) => return false,
     };
-    Some((bad, seen(&it.kernel, &it.mem)))
-}
-
-/// The whole journal is right, and leaves this.
-fn assert_leaves(rt: &impl Abort, alloc: Global, journal: &str, state: State) {
-    assert_eq!(rt;
-        replayed(alloc, journal.as_bytes()),
-        Some((None, state)),
-        "{journal:?}"
-    );
-}
-
-/// This line is the first that isn't right, and the journal leaves this.
-fn assert_stops(rt: &impl Abort, alloc: Global, journal: &str, line: u64, state: State) {
-    assert_eq!(rt;
-        replayed(alloc, journal.as_bytes()),
-        Some((Some(line), state)),
-        "{journal:?}"
-    );
-}
-
-/// A run's text: a frame becomes a page table, and a store through the direct map faults.
-const TABLE: &str = "k 3 46 47 8000000000047021 0 - 0 -
-k 2 1 47 8000000000047021 0 - 0 -
-i 14 3 ffffffff8000004e ffff800000047000
-end halted
-turns 62
-root 5
-trap ffffff80000011da
-f 71 table1
-t 70 71 8000000000047021
-";
-
-#[test]
-fn accepted_calls_are_made(rt: HostRuntime) {
-    let table = State {
-        leaf: 0x8000_0000_0004_7021,
-        kind: Kind::Table(1),
-        ..OPENING
-    };
-    assert_leaves(&rt, rt.alloc(), TABLE, table);
-    let handler = State {
-        trap: 0,
-        slot: 0,
-        ..OPENING
-    };
-    assert_leaves(&rt, rt.alloc(), "k 1 0 0 0 0 - 0 -", handler);
-    let regions = State {
-        next: 258,
-        regions: 1,
-        records: 1,
-        pool: 0x0908_0706_0504_0302,
-        ..OPENING
-    };
-    let journal = "c 41
-k 7 40 4 0 0 - 256 ffffff8000010000
-k 7 ffff 1 0 0 - 18 -
-k 7 10 3 5 6 - 257 ffffff8000010040
-k 9 100 0 ffff800000047000 9 02030405060708090a 0 -
-i 32 - ffffff8000001010 -
-k 8 101 0 0 0 - 0 -
-k 8 101 0 0 0 - 19 -
-k 9 100 40 ffff800000047000 1 - 21 -
-k 9 100 0 1000 4 ! 22 -
-";
-    assert_leaves(&rt, rt.alloc(), journal, regions);
+    bad == line && seen(&it.kernel, &it.mem) == *state
 }
 
 #[test]
-fn refused_calls_change_nothing(rt: HostRuntime) {
-    let journal = "k 0 0 0 0 0 - 1 -
-k ffffffffffffffff ffffffffffffffff ffffffffffffffff ffffffffffffffff ffffffffffffffff - 1 -
-k 1 800000000000 0 0 0 - 27 -
-k 2 9 258 0 0 - 2 -
-k 3 46 47 47003 0 - 9 -
-k 4 5 0 0 0 - 12 -
-k 5 47 0 0 0 - 14 -
-k 6 ffff800000047000 1000 1 0 - 5 -
-k 7 0 1 0 0 - 15 -
-k 8 100 0 0 0 - 19 -
-k 9 100 0 0 4 - 19 -
-end steps";
-    assert_leaves(&rt, rt.alloc(), journal, OPENING);
-}
-
-#[test]
-fn nothing_behind_the_end_counts(rt: HostRuntime) {
-    for journal in [
-        "",
-        "c 41\n",
-        "c 41",
-        "end halted",
-        "end steps\n",
-        "end steps\n\nrubbish\r\n\0",
-        "end halted\nk 1 0 0 0 0 - 0 -\n",
-        "c 00\nend steps\nend\n",
-    ] {
-        assert_leaves(&rt, rt.alloc(), journal, OPENING);
+fn journals_are_replayed(rt: HostRuntime) -> Result<(), Fail> {
+    for (index, (journal, line, state)) in ROWS.iter().enumerate() {
+        let text = text(rt.alloc(), journal)?;
+        assert!(rt; leaves(rt.alloc(), &text, *line, state), "row {index}");
     }
-}
-
-#[test]
-fn lines_out_of_form_stop(rt: HostRuntime) {
-    for (journal, line) in [
-        ("\n", 1),
-        ("c 41\n\nend halted\n", 2),
-        ("c 41\r\n", 1),
-        ("c 41\n\0\n", 2),
-        ("c 41\nc 4A\n", 2),
-        ("K", 1),
-        ("root 5\n", 1),
-        ("k 1 00000000000000000 0 0 0 - 0 -", 1),
-        ("k 1 10000000000000000 0 0 0 - 0 -", 1),
-        ("k 1 0 0 0 0 - 18446744073709551616 -", 1),
-        ("k 1 A 0 0 0 - 0 -", 1),
-        ("k 1 0 0 0 0 - 0 - ", 1),
-        ("k 1 0 0 0 0 - 0 -\r\n", 1),
-        ("k 1 0 0 0 0 - 0 - 0", 1),
-        ("i 48 - ffffffff80000000 -", 1),
-        ("i 14 0 ffffffff80000000 -", 1),
-        ("c 41\nc 42\nc 43\nend", 4),
-    ] {
-        assert_stops(&rt, rt.alloc(), journal, line, OPENING);
-    }
-}
-
-/// A region of sixteen bytes is allocated.
-const GRANT: &str = "k 7 10 1 0 0 - 256 ffffff8000010000";
-
-/// It lives.
-const GRANTED: State = State {
-    next: 257,
-    regions: 1,
-    ..OPENING
-};
-
-/// What is noted of a source must be what the call takes; else the call isn't made.
-#[test]
-fn sources_that_are_not_taken_stop(rt: HostRuntime) -> Result<(), Fail> {
-    for line in [
-        "k 9 100 0 1000 4 - 0 -",
-        "k 9 100 0 1000 4 - 22 -",
-        "k 9 100 0 1000 4 010203 0 -",
-        "k 9 100 0 1000 4 0102030405 0 -",
-        "k 9 100 0 1000 4 0102030 0 -",
-        "k 9 100 0 1000 4 010203xx 0 -",
-        "k 9 100 0 1000 4 0102030A 0 -",
-        "k 9 100 0 1000 4  0 -",
-        "k 9 100 0 1000 4 ! 22 0",
-        "k 9 100 d 1000 4 01020304 21 -",
-        "k 9 100 d 1000 4 ! 21 -",
-        "k 9 100 0 1000 0  21 -",
-        "k 9 101 0 1000 4 01020304 19 -",
-        "k 1 0 0 1000 4 01020304 0 -",
-        "k 1 0 0 1000 4 ! 0 -",
-    ] {
-        let journal = format!(in rt.alloc(); "{GRANT}\n{line}\nK\n")?;
-        assert_stops(&rt, rt.alloc(), &journal, 2, GRANTED);
-    }
-    Ok(())
-}
-
-/// A call whose answer or place isn't right is made, and is the last.
-#[test]
-fn wrong_answers_stop_behind_the_call(rt: HostRuntime) -> Result<(), Fail> {
-    let handler = State {
-        trap: 0x5000,
-        slot: 0x5000,
-        ..OPENING
-    };
-    let behind = "k 1 6000 0 0 0 - 0 -";
-    for line in [
-        "k 1 5000 0 0 0 - 5 -",
-        "k 1 5000 0 0 0 - 256 -",
-        "k 1 5000 0 0 0 - 18446744073709551615 -",
-        "k 1 5000 0 0 0 - 0 0000000000000000",
-    ] {
-        let journal = format!(in rt.alloc(); "c 41\n{line}\n{behind}\n")?;
-        assert_stops(&rt, rt.alloc(), &journal, 2, handler);
-    }
-    for line in [
-        "k 7 10 1 0 0 - 0 ffffff8000010000",
-        "k 7 10 1 0 0 - 257 ffffff8000010000",
-        "k 7 10 1 0 0 - 256 ffffff8000010010",
-        "k 7 10 1 0 0 - 256 -",
-    ] {
-        let journal = format!(in rt.alloc(); "{line}\n{behind}\n")?;
-        assert_stops(&rt, rt.alloc(), &journal, 1, GRANTED);
-    }
-    let stored = State {
-        pool: 0x0403_0201,
-        ..GRANTED
-    };
-    let written = format!(in rt.alloc(); "{GRANT}\nk 9 100 0 1000 4 01020304 24 -\n")?;
-    assert_stops(&rt, rt.alloc(), &written, 2, stored);
-    let refused = "k 1 800000000000 0 0 0 - 0 -\n";
-    assert_stops(&rt, rt.alloc(), refused, 1, OPENING);
     Ok(())
 }
 
@@ -345,62 +380,31 @@ fn line_cut_off(text: &[u8], cut: usize) -> Option<u64> {
     if matches!(front, [] | [.., b'\n']) || matches!(behind, [] | [b'\n', ..]) {
         return None;
     }
-    Some(1 + front.iter().filter(|byte| **byte == b'\n').count() as u64)
+    let mut line = 1u64;
+    for byte in front {
+        if *byte == b'\n' {
+            line = line.wrapping_add(1);
+        }
+    }
+    Some(line)
 }
+
+static CUT: &str = "c 41\nk 7 10 1 0 0 - 256 ffffff8000010000\ni 6 - ffffffff80000000 -\nend steps";
+
+/// What a cut before byte 40 leaves, and one behind it, which leaves the call.
+static BEFORE_CALL: State = OPENING;
+
+static BEHIND_CALL: State = GRANTED;
 
 /// A journal that is cut off anywhere is right to its last whole line, and a part of a line isn't.
 #[test]
 fn a_journal_may_be_cut_off(rt: HostRuntime) {
-    let text =
-        "c 41\nk 7 10 1 0 0 - 256 ffffff8000010000\ni 6 - ffffffff80000000 -\nend steps".as_bytes();
+    let text = CUT.as_bytes();
     for cut in 0..text.len() + 1 {
-        let bad = replayed(rt.alloc(), &text[..cut]).map(|found| found.0);
-        assert_eq!(rt; bad, Some(line_cut_off(text, cut)), "cut at {cut}");
+        let state = if cut < 40 { &BEFORE_CALL } else { &BEHIND_CALL };
+        assert!(rt;
+            leaves(rt.alloc(), &text[..cut], line_cut_off(text, cut), state),
+            "cut at {cut}"
+        );
     }
-}
-
-/// A text of so many bytes of one kind behind these.
-fn long(alloc: Global, front: &[u8], byte: u8, count: usize) -> Result<Vec<u8>, AllocError> {
-    let mut text = front.to_vec(alloc)?;
-    text.resize(count, byte)?;
-    Ok(text)
-}
-
-/// One line of a megabyte is out of form, whatever it is of.
-#[test]
-fn a_long_line_stops(rt: HostRuntime) -> Result<(), Fail> {
-    for (front, byte) in [
-        ("", b'k'),
-        ("", b' '),
-        ("", 0),
-        ("c ", b'4'),
-        ("k 1 ", b'0'),
-        ("k 9 100 0 1000 4 ", b'0'),
-    ] {
-        let text = long(rt.alloc(), front.as_bytes(), byte, 1_000_000)?;
-        assert_eq!(rt; replayed(rt.alloc(), &text), Some((Some(1), OPENING)));
-    }
-    Ok(())
-}
-
-/// So many lines of a call that names the handler 0.
-fn many_calls(alloc: Global, count: usize) -> Result<Vec<u8>, AllocError> {
-    let mut text = Vec::new(alloc);
-    for _ in 0..count {
-        text.extend_from_slice(b"k 1 0 0 0 0 - 0 -\n")?;
-    }
-    Ok(text)
-}
-
-/// A journal may hold many calls: nothing but memory bounds their number.
-#[test]
-fn many_calls_are_made(rt: HostRuntime) -> Result<(), Fail> {
-    let handler = State {
-        trap: 0,
-        slot: 0,
-        ..OPENING
-    };
-    let journal = many_calls(rt.alloc(), 5_000)?;
-    assert_eq!(rt; replayed(rt.alloc(), &journal), Some((None, handler)));
-    Ok(())
 }
