@@ -138,7 +138,7 @@ const SECOND: Upper = Upper {
     rights: NONE,
 };
 
-/// Walks below entries of the chain, that keep the rights that they are given.
+/// Entries of the chain with other rights than its own, for walks that begin below them.
 const FREE_FOURTH: Upper = Upper {
     frame: 2,
     rights: ALL,
@@ -158,6 +158,7 @@ const GIVEN_SECOND: Upper = Upper {
     },
 };
 
+/// What those walks find: the chain's page, with the rights of the given entry, as those below it narrow them.
 const PAGE: Leaf = Leaf {
     frame: 9,
     rights: Rights {
@@ -258,7 +259,7 @@ static CASES: [Case; 11] = [
         Step::Below(3, FREE_THIRD, 0x20_0000, Err(Missing { level: 2 })),
         Step::Below(4, FREE_FOURTH, 0x4000_0000, Err(Missing { level: 3 })),
     ], None),
-    // A step of each kind that gives something else is found: no table names anything.
+    // A step of each kind that gives something else is found. No table names anything here.
     (&[Step::Store(0xFFF8, 1), Step::Store(0x1_0000, 1)], Some(1)),
     (&[Step::Walk(1, 0, Err(Missing { level: 4 })), Step::Walk(1, 0, Err(Missing { level: 3 }))], Some(1)),
     (&[Step::Walk(1, 0, Err(Missing { level: 4 })), Step::Walk(1, 0, Ok(TEXT))], Some(1)),
