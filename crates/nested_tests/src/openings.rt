@@ -53,6 +53,15 @@ fn store(memory: &mut PhysMem, at: u64, value: u64)
     }
 }
 
+/// The number of eight bytes at a place; the largest past the end of memory.
+pub fn load(memory: &PhysMem, at: u64) -> u64 {
+    if at < 0xFFFF_FFFF && at + 8 <= 4096 * u64::from(memory.frames()) {
+        memory.load64(at)
+    } else {
+        u64::MAX
+    }
+}
+
 /// The entry of the table in a frame of memory.
 #[tactic(auto, unfolding(phys_mem::specs::Memory::entry_in))]
 pub fn entry(memory: &PhysMem, frame: u64, index: u64) -> Entry

@@ -6,9 +6,9 @@ ghost use Rattle.phys_mem.specs.Memory.{byte_at, entry_in};
 ghost use Rattle.nk_bits.specs.declared.kind.Kind.TheVariants.{Fixed, Hidden};
 ghost use Rattle.nk_bits.specs.Kinds.{kind_of};
 ghost use Rattle.page_desc.specs.DescriptorBytes.{HoldsDescriptors};
-ghost use Rattle.page_desc.specs.FrameCounts.{IsSlotFixed, is_link_level, is_loose};
+ghost use Rattle.page_desc.specs.FrameCounts.{IsSlotFixed};
 
-use crate::openings::{Run, are_books_hidden, are_zero, is_slot_fixed, kinds, memory};
+use crate::openings::{Run, are_books_hidden, are_zero, is_slot_fixed, kinds, load, memory};
 use nk_bits::{Entry, Kind};
 use page_desc::Frames;
 use phys_mem::PhysMem;
@@ -98,12 +98,8 @@ fn is_met(frames: &mut Frames, memory: &mut PhysMem, step: &Step) -> bool
 
 /// The sixteen bytes of a frame's descriptor, as one number.
 fn descriptor(memory: &PhysMem, frame: u32) -> u128 {
-    let at = 0x40000 + 16 * u64::from(frame & 255);
-    if memory.frames() > 64 {
-        u128::from(memory.load64(at + 8)) << 64 | u128::from(memory.load64(at))
-    } else {
-        0
-    }
+    let at = 0x40000 + 16 * u64::from(frame);
+    u128::from(load(memory, at + 8)) << 64 | u128::from(load(memory, at))
 }
 
 /// Gives a frame a kind, where it is in memory.
@@ -118,38 +114,23 @@ fn is_set(frames: &mut Frames, memory: &mut PhysMem, frame: u32, kind: Kind) -> 
     true
 }
 
-/// Whether the entry is a loose leaf, where it is one of a table of level 1.
-fn is_loose(entry: Entry) -> bool
-    ensures { result ≡ is_loose entry.0 }
-{
-    let rights = entry.rights();
-    entry.is_present() && (rights.can_write || rights.user)
-}
-
-/// Whether the entries of tables of this level are links.
-fn is_link_level(level: u8) -> bool
-    ensures { result ≡ is_link_level level }
-{
-    2 <= level && level <= 4
-}
-
-/// Replaces an entry, where the counts admit it.
+/// Replaces an entry of a frame below 16 by such a one, where the counts admit it whatever the old one's rights are.
 fn is_replaced(frames: &mut Frames, memory: &mut PhysMem, level: u8, old: Entry, new: Entry) -> bool
     requires held { HoldsDescriptors frames.old memory.old }
     ensures held { HoldsDescriptors frames.new memory.new }
 {
-    let from = (old.frame() & 15) as u32;
-    let to = (new.frame() & 15) as u32;
-    let was_loose = level == 1 && is_loose(old);
-    let was_link = is_link_level(level) && old.is_present();
-    let is_counted = (!was_loose || frames.loose(memory, from) > 0)
-        && (!was_link || frames.links(memory, from) > 0);
+    if old.frame() >= 16 || new.frame() >= 16 {
+        return false;
+    }
+    let from = old.frame() as u32;
+    let to = new.frame() as u32;
+    let is_counted = (level != 1 || frames.loose(memory, from) > 0)
+        && (level == 1 || !old.is_present() || frames.links(memory, from) > 0);
     let has_room = frames.loose(memory, to) < u32::MAX && frames.links(memory, to) < u32::MAX;
-    let is_named = old.frame() < 16 && new.frame() < 16;
-    if is_counted && has_room && is_named {
+    if is_counted && has_room {
         frames.replace(memory, level, old, new);
     }
-    is_counted && has_room && is_named
+    is_counted && has_room
 }
 
 /// The number of the rule that the value breaks; 0 where it breaks none.

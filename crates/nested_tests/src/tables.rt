@@ -9,7 +9,7 @@ ghost use Rattle.phys_mem.specs.MaskedMemory.{is_book_frame};
 ghost use Rattle.phys_mem.specs.Memory.{byte_at, entry_in};
 ghost use Rattle.page_desc.specs.DescriptorBytes.{HoldsTables};
 
-use crate::openings::{Run, are_books_hidden, are_zero, entry, is_fixed, kinds, memory};
+use crate::openings::{Run, are_books_hidden, are_zero, entry, is_fixed, kinds, load, memory};
 use nk_bits::Kind;
 use page_desc::{Frames, descriptor_law, stored_law};
 use phys_mem::{PhysMem, mask_law};
@@ -150,14 +150,6 @@ fn serve(tables: &mut Tables4, mem: &mut PhysMem, call: Call) -> u64
     match answer {
         Ok(()) => 0,
         Err(rule) => rule.number(),
-    }
-}
-
-fn load(mem: &PhysMem, at: u64) -> u64 {
-    if at < 0x4_FFFF && at + 8 <= 4096 * u64::from(mem.frames()) {
-        mem.load64(at)
-    } else {
-        u64::MAX
     }
 }
 
