@@ -11,7 +11,7 @@ ghost use Rattle.mem_access.specs.Windows.{IsWindow};
 ghost use Rattle.exec_quick.specs.QuickForms.{IsQuick, effect_made, quiet_outcome};
 
 use crate::kept::{load, store};
-use crate::operands::{address, operand, source};
+use crate::operands::{address, source};
 use crate::quick::Quick;
 use decode_fields::Place;
 use mem_access::Window;
@@ -169,7 +169,7 @@ pub(crate) fn compare_store(
         return false;
     };
     let to = load(mem, place, va, bytes);
-    let from = operand(quick.from, quick.value, &regs.general);
+    let from = source(quick, quick.width, regs);
     regs.flags = usual_comparison(quick.op, quick.width, to, from, regs.flags);
     regs.rip = next;
     true
