@@ -1,5 +1,5 @@
 -- From what holds where a file is held to what holds of the file that is.
-use Rattle.std.proofs.Common.{◌≡◌, ℕ, ◌<◌, List, length, Option, Some, None, refl, sym, subst, arith}
+use Rattle.std.proofs.Common.{◌≡◌, ◌∙◌, ℕ, ◌<◌, List, length, Option, Some, None, refl, sym, subst, arith}
 use Rattle.std.specs.Prelude.{IsSomeAnd, MatchResult, Result, Ok, Err}
 use Rattle.nk_run.specs.declared.pieces.Admitted.{Admitted}
 use Rattle.nk_run.specs.declared.pieces.Stop.{Stop}
@@ -49,3 +49,30 @@ module _ (before between after : ShelfState) (name : List ℕ) (Q : List ℕ →
   said_since (Err Longer) all = since (λ b. longest_file < length b) all
   said_since (Err (Faulty fault)) all = since (HasFault fault) all
   said_since (Err (Protected found)) all = (all.0, all.1, since (HasFound found) all.2)
+
+-- A shelf at three moments: what is kept and known from the first to the second, and from the second to the third.
+module _ (before between after : ShelfState) (name : List ℕ) (kept : AreFilesKept (record { before = before; after = between })) where
+  pub known_before : (P : List ℕ → Type 0) → WhereHeld between.files name P → WhereHeld before.files name P
+  known_before P all =
+      let R : Option Files → Type 0 = λ files. WhereHeld files name P in
+      subst R kept.same_files all
+
+  pub known_still : (P : List ℕ → Type 0) → WhereHeld before.files name P → WhereHeld between.files name P
+  known_still P all =
+      let R : Option Files → Type 0 = λ files. WhereHeld files name P in
+      subst R (sym kept.same_files) all
+
+  pub kept_on : AreFilesKept (record { before = between; after = after }) → AreFilesKept (record { before = before; after = after })
+  kept_on then = record {
+    same_files = then.same_files ∙ kept.same_files;
+    never_falls = λ other. omega (arith, kept.never_falls other, then.never_falls other);
+    wants_stand = omega (arith, kept.wants_stand, then.wants_stand);
+  }
+
+  pub stopped_since : (stop : Stop) → IsStopWhereHeld (record { before = between; after = after }) name stop
+      → IsStopWhereHeld (record { before = before; after = after }) name stop
+  stopped_since Unread rose = omega (arith, kept.never_falls name, rose)
+  stopped_since Want rose = omega (arith, kept.wants_stand, rose)
+  stopped_since Longer all = known_before (λ b. longest_file < length b) all
+  stopped_since (Faulty fault) all = known_before (HasFault fault) all
+  stopped_since (Protected found) all = (all.0, all.1, known_before (HasFound found) all.2)
