@@ -1,6 +1,8 @@
-use Rattle.std.proofs.Common.{◌∙◌, [], ◌∷◌, ap, arith, length, length-append, map, Vec, Global, ℕ, List}
+use Rattle.std.proofs.Common.{◌≡◌, ◌∙◌, [], ◌∷◌, ap, arith, inl, inr, length, length-append, map, Vec, Global, ℕ, List}
 use Rattle.std.proofs.lemmas.List.{map-append}
-use Rattle.nk_run.proofs.ModuleFetches.{fetched_more, module_stops}
+use Rattle.nk_run.specs.Outcome.{first_verdict, module_fetches, module_held, passes}
+use Rattle.nk_run.specs.Witness.{Files}
+use Rattle.nk_run.proofs.ModuleFetches.{IsFetched, fetched_all, fetched_more, module_stops}
 use Rattle.nk_run.proofs.Told.{if_told, told_at}
 use Rattle.nk_run.proofs.join.fetch_modules.Goals as goal
 
@@ -25,3 +27,17 @@ loop-i-preserved g c =
           (ap (map bytes_of) pushed ∙ map-append bytes_of c.loop-i.modules.items (c.in-Ok.bytes ∷ []))
           (told_at _ _ files e c.loop-i.invariant.fetched));
     }
+
+pub returns-in-Err-push-clause-fetched : goal.returns-in-Err-push-clause-fetched
+returns-in-Err-push-clause-fetched g c = inr (inl c.no_memory.ensures)
+
+pub returns-clause-fetched : goal.returns-clause-fetched
+returns-clause-fetched g c =
+    let told = g.S.Shelf.files c.args.shelf.now in
+    let list = c.args.list.now in
+    let bytes = map bytes_of c.loop-i.modules.items in
+    let All : Files → Type 0 = λ files. (bytes ≡ map (λ it. (module_held files it).bytes) list)
+    × (first_verdict (module_fetches files 0 list) ≡ passes) in
+    let SoFar : Files → Type 0 = λ files. IsFetched files list c.loop-i.i bytes in
+    if_told told All (λ files e. fetched_all files list c.loop-i.i bytes (omega (arith, c.len-i-end.ensures.length, c.loop-i-test.false))
+    (told_at told SoFar files e c.loop-i.invariant.fetched))
