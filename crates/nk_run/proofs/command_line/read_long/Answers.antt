@@ -10,9 +10,16 @@ pub returns : goal.returns
 returns c =
     let words = spelled string_bytes c.args.words.now
     (c.as_str.result.now ∷ c.as_str-2.result.now ∷ c.as_str-3.result.now ∷ c.as_str-4.result.now
-    ∷ c.as_str-5.result.now ∷ c.as_str-6.result.now ∷ []) c.type_inv.words
-    ((_, c.as_str.ensures.value), ((_, c.as_str-2.ensures.value), ((_, c.as_str-3.ensures.value),
-    ((_, c.as_str-4.ensures.value), ((_, c.as_str-5.ensures.value), ((_, c.as_str-6.ensures.value), tt)))))) in
+    ∷ c.as_str-5.result.now ∷ c.as_str-6.result.now ∷ []) c.type_inv.words (
+      (_, c.as_str.ensures.value),
+      (
+        (_, c.as_str-2.ensures.value),
+        (
+          (_, c.as_str-3.ensures.value),
+          ((_, c.as_str-4.ensures.value), ((_, c.as_str-5.ensures.value), ((_, c.as_str-6.ensures.value), tt))),
+        ),
+      ),
+    ) in
     record {
       command = c.read_run.ensures.command ∙ ap command_of words;
       bounds = c.read_run.ensures.bounds;

@@ -14,10 +14,14 @@ returns-in-None-clause-walked g c = λ b held.
     c.in-None.ensures.fed b (c.requires.headers b held) (c.requires.walked b held) (c.in_default.ensures.page b held)
 
 pub returns-in-Some-clause-walked : goal.returns-in-Some-clause-walked
-returns-in-Some-clause-walked g c = (c.in-Some.ensures.length.0, c.in-Some.ensures.length.1, λ b held.
-    let has = c.requires.headers b held in
-    record {
-      within = has.within;
-      formed = has.image.form;
-      first = c.in-Some.ensures.fed b has (c.requires.walked b held) (c.in_default.ensures.page b held);
-    })
+returns-in-Some-clause-walked g c = (
+  c.in-Some.ensures.length.0,
+  c.in-Some.ensures.length.1,
+  λ b held.
+      let has = c.requires.headers b held in
+      record {
+        within = has.within;
+        formed = has.image.form;
+        first = c.in-Some.ensures.fed b has (c.requires.walked b held) (c.in_default.ensures.page b held);
+      },
+)

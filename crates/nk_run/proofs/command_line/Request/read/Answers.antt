@@ -43,9 +43,13 @@ returns-in-Some-as_array-2 c =
     let it = c.in-Some-as_array-2 in
     let words = spelled string_bytes it.field-0.now
     (c.as_str-in-Some-as_array-2-2.result.now ∷ c.as_str-in-Some-as_array-2-3.result.now ∷ c.as_str-in-Some-as_array-2-4.result.now ∷ c.as_str-in-Some-as_array-2-5.result.now ∷ [])
-    (ap length it.ensures.cases.same ∙ it.ensures.cases.long)
-    ((_, c.as_str-in-Some-as_array-2-2.ensures.value), ((_, c.as_str-in-Some-as_array-2-3.ensures.value),
-    ((_, c.as_str-in-Some-as_array-2-4.ensures.value), ((_, c.as_str-in-Some-as_array-2-5.ensures.value), tt))))
+    (ap length it.ensures.cases.same ∙ it.ensures.cases.long) (
+      (_, c.as_str-in-Some-as_array-2-2.ensures.value),
+      (
+        (_, c.as_str-in-Some-as_array-2-3.ensures.value),
+        ((_, c.as_str-in-Some-as_array-2-4.ensures.value), ((_, c.as_str-in-Some-as_array-2-5.ensures.value), tt)),
+      ),
+    )
     ∙ ap (map string_bytes) it.ensures.cases.same in
     record {
       command = c.read_middle.ensures.command ∙ ap command_of words;
@@ -59,9 +63,16 @@ returns-in-Some-as_array-3 c =
     let words = spelled string_bytes it.field-0.now
     (c.as_str-in-Some-as_array-3-2.result.now ∷ c.as_str-in-Some-as_array-3-3.result.now ∷ c.as_str-in-Some-as_array-3-4.result.now
     ∷ c.as_str-in-Some-as_array-3-5.result.now ∷ c.as_str-in-Some-as_array-3-6.result.now ∷ [])
-    (ap length it.ensures.cases.same ∙ it.ensures.cases.long)
-    ((_, c.as_str-in-Some-as_array-3-2.ensures.value), ((_, c.as_str-in-Some-as_array-3-3.ensures.value), ((_, c.as_str-in-Some-as_array-3-4.ensures.value),
-    ((_, c.as_str-in-Some-as_array-3-5.ensures.value), ((_, c.as_str-in-Some-as_array-3-6.ensures.value), tt)))))
+    (ap length it.ensures.cases.same ∙ it.ensures.cases.long) (
+      (_, c.as_str-in-Some-as_array-3-2.ensures.value),
+      (
+        (_, c.as_str-in-Some-as_array-3-3.ensures.value),
+        (
+          (_, c.as_str-in-Some-as_array-3-4.ensures.value),
+          ((_, c.as_str-in-Some-as_array-3-5.ensures.value), ((_, c.as_str-in-Some-as_array-3-6.ensures.value), tt)),
+        ),
+      ),
+    )
     ∙ ap (map string_bytes) it.ensures.cases.same in
     record {
       command = c.read_audit.ensures.command ∙ ap command_of words;
