@@ -2,13 +2,46 @@
 
 use code_modules::{List, ListFault, read_list};
 use std::alloc::{AllocError, Global};
+use std::test::Fail;
 
-/// What is to come of a list: its lines, each with whether it has a guard page and with its name, or the first line out of
-/// form.
-#[derive(Clone, Copy)]
+/// What is to come of a list: its lines, each with whether it has a guard page and with its name, or the first line out
+/// of form.
 enum Listed {
     Lines(&'static [(bool, &'static str)]),
     Fault(u64),
+}
+
+use Listed::{Fault, Lines};
+
+/// Whether the row is so, a text and how often it stands, and what is to come of that as a list.
+type Row = (bool, &'static str, usize, Listed);
+
+#[rattlefmt::skip]
+static LISTS: [Row; 13] = [
+    (true, "pack a.bin\nguard _x-9", 1, Lines(&[(false, "a.bin"), (true, "_x-9")])),
+    (true, "", 1, Fault(1)),
+    (true, "\n", 1, Fault(1)),
+    (true, "pack a\n\npack b", 1, Fault(2)),
+    (true, "pack a\npack b\r\n", 1, Fault(2)),
+    (true, "pack a\npack  b", 1, Fault(2)),
+    (true, "load a", 1, Fault(1)),
+    // A list has at most 32 lines.
+    (true, "guard module\n", 32, Lines(&[(true, "module"); 32])),
+    (true, "guard module\n", 33, Fault(33)),
+    // A row is found that has another name, another line out of form, or is of no list.
+    (true, "pack a", 1, Lines(&[(false, "a")])),
+    (false, "pack a", 1, Lines(&[(false, "b")])),
+    (false, "pack  b", 1, Fault(2)),
+    (false, "load a", 1, Lines(&[(false, "a")])),
+];
+
+/// The text so many times, one behind the other.
+fn repeated(alloc: Global, text: &str, times: usize) -> Result<Vec<u8>, AllocError> {
+    let mut whole = Vec::new(alloc);
+    for _ in 0..times {
+        whole.extend_from_slice(text.as_bytes())?;
+    }
+    Ok(whole)
 }
 
 /// Whether a list has these lines.
@@ -25,82 +58,19 @@ fn has_lines(list: &List, lines: &[(bool, &str)]) -> bool {
 }
 
 /// Whether this comes of a list.
-fn is_listed(alloc: Global, text: &str, wanted: Listed) -> bool {
-    match read_list(alloc, text.as_bytes()) {
-        Ok(list) => match wanted {
-            Listed::Lines(lines) => has_lines(&list, lines),
-            Listed::Fault(_) => false,
-        },
-        Err(fault) => match wanted {
-            Listed::Lines(_) => false,
-            Listed::Fault(line) => fault == ListFault::Line(line),
-        },
-    }
-}
-
-/// The place of the first list of which something else comes.
-fn first_wrong_list(alloc: Global, lists: &[(&str, Listed)]) -> Option<usize> {
-    for (index, (text, wanted)) in lists.iter().enumerate() {
-        if !is_listed(alloc, text, *wanted) {
-            return Some(index);
-        }
-    }
-    None
-}
-
-#[test]
-fn lists_and_their_first_lines_out_of_form(rt: HostRuntime) {
-    let lists = [
-        (
-            "pack a.bin\nguard _x-9",
-            Listed::Lines(&[(false, "a.bin"), (true, "_x-9")]),
-        ),
-        ("", Listed::Fault(1)),
-        ("\n", Listed::Fault(1)),
-        ("pack a\n\npack b", Listed::Fault(2)),
-        ("pack a\npack b\r\n", Listed::Fault(2)),
-        ("pack a\npack  b", Listed::Fault(2)),
-        ("load a", Listed::Fault(1)),
-    ];
-    assert_eq!(rt; first_wrong_list(rt.alloc(), &lists), None);
-}
-
-/// The second list has another name, the third one another line out of form, and the fourth one is no list.
-#[test]
-fn wrong_list_is_found(rt: HostRuntime) {
-    let lists = [
-        ("pack a", Listed::Lines(&[(false, "a")])),
-        ("pack a", Listed::Lines(&[(false, "b")])),
-        ("pack  b", Listed::Fault(2)),
-        ("load a", Listed::Lines(&[(false, "a")])),
-    ];
-    assert_eq!(rt; first_wrong_list(rt.alloc(), &lists), Some(1));
-    assert_eq!(rt; first_wrong_list(rt.alloc(), &lists[2..]), Some(0));
-    assert_eq!(rt; first_wrong_list(rt.alloc(), &lists[3..]), Some(0));
-}
-
-/// A list of so many lines.
-fn lines(alloc: Global, count: usize) -> Result<Vec<u8>, AllocError> {
-    let mut text = Vec::new(alloc);
-    for _i in 0..count {
-        text.extend_from_slice(b"guard module\n")?;
-    }
-    Ok(text)
-}
-
-/// How many lines are read of a list of so many, or the first line out of form.
-fn lines_read(alloc: Global, count: usize) -> Option<Result<usize, ListFault>> {
-    let Ok(text) = lines(alloc, count) else {
-        return None;
-    };
-    match read_list(alloc, text.as_slice()) {
-        Ok(list) => Some(Ok(list.len())),
-        Err(fault) => Some(Err(fault)),
+fn is_listed(alloc: Global, text: &[u8], wanted: &Listed) -> bool {
+    match (read_list(alloc, text), wanted) {
+        (Ok(list), Lines(lines)) => has_lines(&list, lines),
+        (Err(fault), Fault(line)) => fault == ListFault::Line(*line),
+        _ => false,
     }
 }
 
 #[test]
-fn a_list_has_at_most_32_lines(rt: HostRuntime) {
-    assert!(rt; lines_read(rt.alloc(), 32) == Some(Ok(32)));
-    assert!(rt; lines_read(rt.alloc(), 33) == Some(Err(ListFault::Line(33))));
+fn what_comes_of_lists(rt: HostRuntime) -> Result<(), Fail> {
+    for (index, (so, text, times, wanted)) in LISTS.iter().enumerate() {
+        let text = repeated(rt.alloc(), text, *times)?;
+        assert!(rt; is_listed(rt.alloc(), &text, wanted) == *so, "list {index}");
+    }
+    Ok(())
 }
