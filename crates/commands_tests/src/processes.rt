@@ -2,6 +2,7 @@
 
 use proc_audit::Audit;
 use std::alloc::{AllocError, Global};
+use std::process::Abort;
 use std::test::Fail;
 
 /// The region that a row is of.
@@ -28,81 +29,6 @@ use Region::{Chain, New, Same};
 /// Whether the row is so, its region, numbers that are written in it, each with its offset and in eight bytes, whether
 /// the chain is then broken, and what slots then hide.
 type Row = (bool, Region, &'static [(u32, u64)], bool, Hidden);
-
-#[rattlefmt::skip]
-static ROWS: [Row; 48] = [
-    // A part of a slot is no slot.
-    (true, New(0), &[], false, Each(&[])),
-    (true, New(15), &[(0, 5), (7, u64::MAX)], false, Each(&[])),
-    (true, New(16), &[], false, Each(&[None])),
-    (true, New(16), &[(0, 9)], false, Each(&[None])),
-    (true, New(17), &[(9, 1 << 56)], false, Each(&[None])),
-    (true, New(17), &[(9, 1)], true, Each(&[None])),
-    (true, New(31), &[(16, 5), (23, u64::MAX)], false, Each(&[None])),
-    (true, New(32), &[(16, 5)], false, Each(&[None, Some(5)])),
-    // A next leads to the slot before its number.
-    (true, New(16), &[(8, 1)], true, Each(&[None])),
-    (true, New(16), &[(8, 2)], true, Each(&[None])),
-    (true, New(32), &[(16, 5), (8, 2)], false, Each(&[None, None])),
-    (true, New(32), &[(16, 5), (8, 3)], true, Each(&[None, Some(5)])),
-    (true, New(32), &[(16, 5), (8, 2), (24, 1)], true, Each(&[None, None])),
-    (true, New(32), &[(16, 5), (8, 2), (24, 2)], true, Each(&[None, None])),
-    (
-        true,
-        New(64),
-        &[(16, 1), (32, 2), (48, 3), (8, 4), (56, 2)],
-        false,
-        Each(&[None, None, Some(2), None]),
-    ),
-    // Numbers have 64 bits.
-    (true, New(32), &[(16, 5), (8, u64::MAX)], true, Each(&[None, Some(5)])),
-    (true, New(32), &[(16, 5), (8, 1 << 32)], true, Each(&[None, Some(5)])),
-    (true, New(32), &[(16, 5), (8, 0x1_0000_0001)], true, Each(&[None, Some(5)])),
-    (true, New(32), &[(16, 5), (8, 0x1_0000_0002)], true, Each(&[None, Some(5)])),
-    (true, New(32), &[(16, u64::MAX)], false, Each(&[None, Some(u64::MAX)])),
-    // A write begins and ends anywhere.
-    (true, New(32), &[(16, 5), (4, 2 << 32)], false, Each(&[None, None])),
-    (true, New(32), &[(12, 1), (16, 5)], true, Each(&[None, Some(5)])),
-    (true, New(32), &[(16, 5), (12, 1)], true, Each(&[None, None])),
-    (true, New(32), &[(20, 7)], false, Each(&[None, Some(7 << 32)])),
-    (true, New(40), &[(32, u64::MAX)], false, Each(&[None, None])),
-    (
-        true,
-        New(40),
-        &[(28, 0xFFFF_FFFF_0000_0000), (16, 5), (8, 2)],
-        false,
-        Each(&[None, None]),
-    ),
-    (true, New(40), &[(28, 0xFFFF_FFFF), (16, 5), (8, 2)], true, Each(&[None, None])),
-    // A wrong row is found.
-    (true, New(32), &[(16, 5)], false, Each(&[None, Some(5)])),
-    (false, New(32), &[(16, 5)], true, Each(&[None, Some(5)])),
-    (false, New(32), &[(16, 5)], false, Each(&[None, None])),
-    (false, New(32), &[(16, 5)], false, Each(&[None, Some(6)])),
-    (false, New(32), &[(16, 5)], false, Each(&[None])),
-    (false, New(48), &[(16, 5)], false, Each(&[None, Some(5)])),
-    (false, New(32), &[(25, 5)], false, Each(&[None, None])),
-    // A process is hidden and linked again.
-    (true, New(48), &[(8, 2)], false, Each(&[None, None, None])),
-    (true, Same, &[(16, 1)], false, Each(&[None, None, None])),
-    (true, Same, &[(24, 3)], false, Each(&[None, None, None])),
-    (true, Same, &[(32, 7)], false, Each(&[None, None, None])),
-    // Slot 1 is the last one.
-    (true, Same, &[(24, 0)], false, Each(&[None, None, Some(7)])),
-    // Slot 0 leads to itself.
-    (true, Same, &[(8, 1)], true, Each(&[None, Some(1), Some(7)])),
-    (true, Same, &[(8, 3)], false, Each(&[None, Some(1), None])),
-    (true, Same, &[(40, 2)], false, Each(&[None, None, None])),
-    // An identifier of 0 is no process.
-    (true, Same, &[(8, 0)], false, Each(&[None, Some(1), Some(7)])),
-    (true, Same, &[(16, 0)], false, Each(&[None, None, Some(7)])),
-    // The longest chain is followed, also where it leads back to its first slot, and where that is its last one.
-    (true, Chain, &[], false, At(4096, &[(1, None), (4095, None)])),
-    (true, Same, &[(65528, 1)], true, At(4096, &[(4095, None)])),
-    (true, Same, &[(8, 0)], false, At(4096, &[(1, Some(1)), (4095, Some(4095))])),
-    // The last byte that is written would be behind the region.
-    (false, Same, &[(65529, 0)], false, At(4096, &[(1, Some(1)), (4095, Some(4095))])),
-];
 
 /// The bytes of the longest chain.
 fn slots(alloc: Global) -> Result<Vec<u8>, AllocError> {
@@ -168,15 +94,15 @@ fn is_so(audit: &mut Audit, numbers: &[(u32, u64)], broken: bool, hidden: &Hidde
         }
 }
 
-#[test]
-fn audits_of_regions(rt: HostRuntime) -> Result<(), Fail> {
-    let mut audit = Audit::start(rt.alloc(), 0)?;
-    for (index, (so, region, numbers, broken, hidden)) in ROWS.iter().enumerate() {
+/// Each row is so, or isn't, as it says.
+fn assert_rows(rt: &impl Abort, alloc: Global, rows: &[Row]) -> Result<(), Fail> {
+    let mut audit = Audit::start(alloc, 0)?;
+    for (index, (so, region, numbers, broken, hidden)) in rows.iter().enumerate() {
         match region {
-            New(size) => audit = Audit::start(rt.alloc(), *size)?,
+            New(size) => audit = Audit::start(alloc, *size)?,
             Chain => {
-                audit = Audit::start(rt.alloc(), 65536)?;
-                assert!(rt; put(&mut audit, 0, &slots(rt.alloc())?));
+                audit = Audit::start(alloc, 65536)?;
+                assert!(rt; put(&mut audit, 0, &slots(alloc)?));
             }
             Same => {}
         }
@@ -186,4 +112,133 @@ fn audits_of_regions(rt: HostRuntime) -> Result<(), Fail> {
         );
     }
     Ok(())
+}
+
+#[rattlefmt::skip]
+static PARTS: [Row; 8] = [
+    (true, New(0), &[], false, Each(&[])),
+    (true, New(15), &[(0, 5), (7, u64::MAX)], false, Each(&[])),
+    (true, New(16), &[], false, Each(&[None])),
+    (true, New(16), &[(0, 9)], false, Each(&[None])),
+    (true, New(17), &[(9, 1 << 56)], false, Each(&[None])),
+    (true, New(17), &[(9, 1)], true, Each(&[None])),
+    (true, New(31), &[(16, 5), (23, u64::MAX)], false, Each(&[None])),
+    (true, New(32), &[(16, 5)], false, Each(&[None, Some(5)])),
+];
+
+#[test]
+fn a_part_of_a_slot_is_no_slot(rt: HostRuntime) -> Result<(), Fail> {
+    assert_rows(&rt, rt.alloc(), &PARTS)
+}
+
+#[rattlefmt::skip]
+static NEXTS: [Row; 7] = [
+    (true, New(16), &[(8, 1)], true, Each(&[None])),
+    (true, New(16), &[(8, 2)], true, Each(&[None])),
+    (true, New(32), &[(16, 5), (8, 2)], false, Each(&[None, None])),
+    (true, New(32), &[(16, 5), (8, 3)], true, Each(&[None, Some(5)])),
+    (true, New(32), &[(16, 5), (8, 2), (24, 1)], true, Each(&[None, None])),
+    (true, New(32), &[(16, 5), (8, 2), (24, 2)], true, Each(&[None, None])),
+    (
+        true,
+        New(64),
+        &[(16, 1), (32, 2), (48, 3), (8, 4), (56, 2)],
+        false,
+        Each(&[None, None, Some(2), None]),
+    ),
+];
+
+#[test]
+fn a_next_leads_to_the_slot_before_its_number(rt: HostRuntime) -> Result<(), Fail> {
+    assert_rows(&rt, rt.alloc(), &NEXTS)
+}
+
+#[rattlefmt::skip]
+static NUMBERS: [Row; 5] = [
+    (true, New(32), &[(16, 5), (8, u64::MAX)], true, Each(&[None, Some(5)])),
+    (true, New(32), &[(16, 5), (8, 1 << 32)], true, Each(&[None, Some(5)])),
+    (true, New(32), &[(16, 5), (8, 0x1_0000_0001)], true, Each(&[None, Some(5)])),
+    (true, New(32), &[(16, 5), (8, 0x1_0000_0002)], true, Each(&[None, Some(5)])),
+    (true, New(32), &[(16, u64::MAX)], false, Each(&[None, Some(u64::MAX)])),
+];
+
+#[test]
+fn numbers_have_64_bits(rt: HostRuntime) -> Result<(), Fail> {
+    assert_rows(&rt, rt.alloc(), &NUMBERS)
+}
+
+#[rattlefmt::skip]
+static WRITES: [Row; 7] = [
+    (true, New(32), &[(16, 5), (4, 2 << 32)], false, Each(&[None, None])),
+    (true, New(32), &[(12, 1), (16, 5)], true, Each(&[None, Some(5)])),
+    (true, New(32), &[(16, 5), (12, 1)], true, Each(&[None, None])),
+    (true, New(32), &[(20, 7)], false, Each(&[None, Some(7 << 32)])),
+    (true, New(40), &[(32, u64::MAX)], false, Each(&[None, None])),
+    (
+        true,
+        New(40),
+        &[(28, 0xFFFF_FFFF_0000_0000), (16, 5), (8, 2)],
+        false,
+        Each(&[None, None]),
+    ),
+    (true, New(40), &[(28, 0xFFFF_FFFF), (16, 5), (8, 2)], true, Each(&[None, None])),
+];
+
+#[test]
+fn a_write_begins_and_ends_anywhere(rt: HostRuntime) -> Result<(), Fail> {
+    assert_rows(&rt, rt.alloc(), &WRITES)
+}
+
+/// A row that is so, and rows that aren't.
+#[rattlefmt::skip]
+static WRONG: [Row; 7] = [
+    (true, New(32), &[(16, 5)], false, Each(&[None, Some(5)])),
+    (false, New(32), &[(16, 5)], true, Each(&[None, Some(5)])),
+    (false, New(32), &[(16, 5)], false, Each(&[None, None])),
+    (false, New(32), &[(16, 5)], false, Each(&[None, Some(6)])),
+    (false, New(32), &[(16, 5)], false, Each(&[None])),
+    (false, New(48), &[(16, 5)], false, Each(&[None, Some(5)])),
+    (false, New(32), &[(25, 5)], false, Each(&[None, None])),
+];
+
+#[test]
+fn a_wrong_row_is_found(rt: HostRuntime) -> Result<(), Fail> {
+    assert_rows(&rt, rt.alloc(), &WRONG)
+}
+
+#[rattlefmt::skip]
+static STEPS: [Row; 10] = [
+    (true, New(48), &[(8, 2)], false, Each(&[None, None, None])),
+    (true, Same, &[(16, 1)], false, Each(&[None, None, None])),
+    (true, Same, &[(24, 3)], false, Each(&[None, None, None])),
+    (true, Same, &[(32, 7)], false, Each(&[None, None, None])),
+    // Slot 1 is the last one.
+    (true, Same, &[(24, 0)], false, Each(&[None, None, Some(7)])),
+    // Slot 0 leads to itself.
+    (true, Same, &[(8, 1)], true, Each(&[None, Some(1), Some(7)])),
+    (true, Same, &[(8, 3)], false, Each(&[None, Some(1), None])),
+    (true, Same, &[(40, 2)], false, Each(&[None, None, None])),
+    // An identifier of 0 is no process.
+    (true, Same, &[(8, 0)], false, Each(&[None, Some(1), Some(7)])),
+    (true, Same, &[(16, 0)], false, Each(&[None, None, Some(7)])),
+];
+
+#[test]
+fn a_process_is_hidden_and_linked_again(rt: HostRuntime) -> Result<(), Fail> {
+    assert_rows(&rt, rt.alloc(), &STEPS)
+}
+
+/// The chain leads back to its first slot, and then that is its last one.
+#[rattlefmt::skip]
+static CHAINS: [Row; 4] = [
+    (true, Chain, &[], false, At(4096, &[(1, None), (4095, None)])),
+    (true, Same, &[(65528, 1)], true, At(4096, &[(4095, None)])),
+    (true, Same, &[(8, 0)], false, At(4096, &[(1, Some(1)), (4095, Some(4095))])),
+    // The last byte that is written would be behind the region.
+    (false, Same, &[(65529, 0)], false, At(4096, &[(1, Some(1)), (4095, Some(4095))])),
+];
+
+#[test]
+fn the_longest_chain_is_followed(rt: HostRuntime) -> Result<(), Fail> {
+    assert_rows(&rt, rt.alloc(), &CHAINS)
 }

@@ -15,6 +15,7 @@ use nk_body::Kernel;
 use phys_mem::PhysMem;
 use replay_core::{ReplayFault, replay};
 use std::alloc::{AllocError, Global};
+use std::process::Abort;
 use std::test::Fail;
 
 /// A file's one header loads the byte at offset 4,096 to FFFFFFFF80000000, the entry, readable and executable.
@@ -162,9 +163,6 @@ const FREED: State = State {
     ..OPENING
 };
 
-/// A region of sixteen bytes is allocated.
-const GRANT: &str = "k 7 10 1 0 0 - 256 ffffff8000010000\n";
-
 /// A region of eight bytes is allocated, its last four bytes are written where nine would not fit, and it is freed.
 const WRITE_AND_FREE: &str = "k 7 8 4 0 0 - 256 ffffff8000010000
 k 9 100 4 ffff800000047000 5 - 21 -
@@ -176,139 +174,29 @@ end halted
 /// What stands before a text and behind it.
 type Around = (&'static str, &'static str);
 
-const NOTHING: Around = ("", "");
+const ALONE: Around = ("", "");
 
-const IN_A_REGION: Around = (GRANT, "\nK\n");
+const IN_A_REGION: Around = ("k 7 10 1 0 0 - 256 ffffff8000010000\n", "\nK\n");
 
 const BEFORE_A_CALL: Around = ("", "\nk 1 6000 0 0 0 - 0 -\n");
 
 const BETWEEN: Around = ("c 41\n", "\nk 1 6000 0 0 0 - 0 -\n");
 
-/// A journal: what stands around a text, how often that stands, one behind the other, and the text.
-type Journal = (Around, usize, &'static str);
+/// A journal or a part of one, the number of the first line that isn't right, if any, and what the replay leaves.
+type Row = (&'static str, Option<u64>, State);
 
-/// A journal, the number of its first line that isn't right, if any, and what its replay leaves.
-type Row = (Journal, Option<u64>, State);
-
-#[rattlefmt::skip]
-static ROWS: [Row; 62] = [
-    // A run's text: a frame becomes a page table, and a store through the direct map faults.
-    ((NOTHING, 1, "k 3 46 47 8000000000047021 0 - 0 -
-k 2 1 47 8000000000047021 0 - 0 -
-i 14 3 ffffffff8000004e ffff800000047000
-end halted
-turns 62
-root 5
-trap ffffff80000011da
-f 71 table1
-t 70 71 8000000000047021
-"), None, DECLARED),
-    // Calls that are accepted.
-    ((NOTHING, 1, "k 1 0 0 0 0 - 0 -"), None, WITHOUT_HANDLER),
-    ((NOTHING, 1, "c 41
-k 7 40 4 0 0 - 256 ffffff8000010000
-k 7 ffff 1 0 0 - 18 -
-k 7 10 3 5 6 - 257 ffffff8000010040
-k 9 100 0 ffff800000047000 9 02030405060708090a 0 -
-i 32 - ffffff8000001010 -
-k 8 101 0 0 0 - 0 -
-k 8 101 0 0 0 - 19 -
-k 9 100 40 ffff800000047000 1 - 21 -
-k 9 100 0 1000 4 ! 22 -
-"), None, WRITTEN),
-    // The write in the log ends with the region that was asked for.
-    ((NOTHING, 1, WRITE_AND_FREE), None, FREED),
-    // Refused calls change nothing.
-    ((NOTHING, 1, "k 0 0 0 0 0 - 1 -
-k ffffffffffffffff ffffffffffffffff ffffffffffffffff ffffffffffffffff ffffffffffffffff - 1 -
-k 1 800000000000 0 0 0 - 27 -
-k 2 9 258 0 0 - 2 -
-k 3 46 47 47003 0 - 9 -
-k 4 5 0 0 0 - 12 -
-k 5 47 0 0 0 - 14 -
-k 6 ffff800000047000 1000 1 0 - 5 -
-k 7 0 1 0 0 - 15 -
-k 8 100 0 0 0 - 19 -
-k 9 100 0 0 4 - 19 -
-end steps"), None, OPENING),
-    // Nothing behind the end counts.
-    ((NOTHING, 1, ""), None, OPENING),
-    ((NOTHING, 1, "c 41\n"), None, OPENING),
-    ((NOTHING, 1, "c 41"), None, OPENING),
-    ((NOTHING, 1, "end halted"), None, OPENING),
-    ((NOTHING, 1, "end steps\n"), None, OPENING),
-    ((NOTHING, 1, "end steps\n\nrubbish\r\n\0"), None, OPENING),
-    ((NOTHING, 1, "end halted\nk 1 0 0 0 0 - 0 -\n"), None, OPENING),
-    ((NOTHING, 1, "c 00\nend steps\nend\n"), None, OPENING),
-    // Lines out of form stop.
-    ((NOTHING, 1, "\n"), Some(1), OPENING),
-    ((NOTHING, 1, "c 41\n\nend halted\n"), Some(2), OPENING),
-    ((NOTHING, 1, "c 41\r\n"), Some(1), OPENING),
-    ((NOTHING, 1, "c 41\n\0\n"), Some(2), OPENING),
-    ((NOTHING, 1, "c 41\nc 4A\n"), Some(2), OPENING),
-    ((NOTHING, 1, "K"), Some(1), OPENING),
-    ((NOTHING, 1, "root 5\n"), Some(1), OPENING),
-    ((NOTHING, 1, "k 1 00000000000000000 0 0 0 - 0 -"), Some(1), OPENING),
-    ((NOTHING, 1, "k 1 10000000000000000 0 0 0 - 0 -"), Some(1), OPENING),
-    ((NOTHING, 1, "k 1 0 0 0 0 - 18446744073709551616 -"), Some(1), OPENING),
-    ((NOTHING, 1, "k 1 A 0 0 0 - 0 -"), Some(1), OPENING),
-    ((NOTHING, 1, "k 1 0 0 0 0 - 0 - "), Some(1), OPENING),
-    ((NOTHING, 1, "k 1 0 0 0 0 - 0 -\r\n"), Some(1), OPENING),
-    ((NOTHING, 1, "k 1 0 0 0 0 - 0 - 0"), Some(1), OPENING),
-    ((NOTHING, 1, "i 48 - ffffffff80000000 -"), Some(1), OPENING),
-    ((NOTHING, 1, "i 14 0 ffffffff80000000 -"), Some(1), OPENING),
-    ((NOTHING, 1, "c 41\nc 42\nc 43\nend"), Some(4), OPENING),
-    // What is noted of a source must be what the call takes; else the call isn't made.
-    ((IN_A_REGION, 1, "k 9 100 0 1000 4 - 0 -"), Some(2), GRANTED),
-    ((IN_A_REGION, 1, "k 9 100 0 1000 4 - 22 -"), Some(2), GRANTED),
-    ((IN_A_REGION, 1, "k 9 100 0 1000 4 010203 0 -"), Some(2), GRANTED),
-    ((IN_A_REGION, 1, "k 9 100 0 1000 4 0102030405 0 -"), Some(2), GRANTED),
-    ((IN_A_REGION, 1, "k 9 100 0 1000 4 0102030 0 -"), Some(2), GRANTED),
-    ((IN_A_REGION, 1, "k 9 100 0 1000 4 010203xx 0 -"), Some(2), GRANTED),
-    ((IN_A_REGION, 1, "k 9 100 0 1000 4 0102030A 0 -"), Some(2), GRANTED),
-    ((IN_A_REGION, 1, "k 9 100 0 1000 4  0 -"), Some(2), GRANTED),
-    ((IN_A_REGION, 1, "k 9 100 0 1000 4 ! 22 0"), Some(2), GRANTED),
-    ((IN_A_REGION, 1, "k 9 100 d 1000 4 01020304 21 -"), Some(2), GRANTED),
-    ((IN_A_REGION, 1, "k 9 100 d 1000 4 ! 21 -"), Some(2), GRANTED),
-    ((IN_A_REGION, 1, "k 9 100 0 1000 0  21 -"), Some(2), GRANTED),
-    ((IN_A_REGION, 1, "k 9 101 0 1000 4 01020304 19 -"), Some(2), GRANTED),
-    ((IN_A_REGION, 1, "k 1 0 0 1000 4 01020304 0 -"), Some(2), GRANTED),
-    ((IN_A_REGION, 1, "k 1 0 0 1000 4 ! 0 -"), Some(2), GRANTED),
-    // A call whose answer or place isn't right is made, and is the last.
-    ((BETWEEN, 1, "k 1 5000 0 0 0 - 5 -"), Some(2), OTHER_HANDLER),
-    ((BETWEEN, 1, "k 1 5000 0 0 0 - 256 -"), Some(2), OTHER_HANDLER),
-    ((BETWEEN, 1, "k 1 5000 0 0 0 - 18446744073709551615 -"), Some(2), OTHER_HANDLER),
-    ((BETWEEN, 1, "k 1 5000 0 0 0 - 0 0000000000000000"), Some(2), OTHER_HANDLER),
-    ((BEFORE_A_CALL, 1, "k 7 10 1 0 0 - 0 ffffff8000010000"), Some(1), GRANTED),
-    ((BEFORE_A_CALL, 1, "k 7 10 1 0 0 - 257 ffffff8000010000"), Some(1), GRANTED),
-    ((BEFORE_A_CALL, 1, "k 7 10 1 0 0 - 256 ffffff8000010010"), Some(1), GRANTED),
-    ((BEFORE_A_CALL, 1, "k 7 10 1 0 0 - 256 -"), Some(1), GRANTED),
-    (((GRANT, "\n"), 1, "k 9 100 0 1000 4 01020304 24 -"), Some(2), STORED),
-    ((NOTHING, 1, "k 1 800000000000 0 0 0 - 0 -\n"), Some(1), OPENING),
-    // One line of a megabyte is out of form, whatever it is of.
-    ((NOTHING, 1_000_000, "k"), Some(1), OPENING),
-    ((NOTHING, 1_000_000, " "), Some(1), OPENING),
-    ((NOTHING, 1_000_000, "\0"), Some(1), OPENING),
-    ((("c ", ""), 1_000_000 - 2, "4"), Some(1), OPENING),
-    ((("k 1 ", ""), 1_000_000 - 4, "0"), Some(1), OPENING),
-    ((("k 9 100 0 1000 4 ", ""), 1_000_000 - 17, "0"), Some(1), OPENING),
-    // A journal may hold many calls: nothing but memory bounds their number.
-    ((NOTHING, 5_000, "k 1 0 0 0 0 - 0 -\n"), None, WITHOUT_HANDLER),
-];
-
-/// The text of a journal.
-fn text(alloc: Global, journal: &Journal) -> Result<Vec<u8>, AllocError> {
-    let (around, times, text) = *journal;
+/// A part of a journal so many times, with what stands around.
+fn text(alloc: Global, around: Around, times: usize, part: &str) -> Result<Vec<u8>, AllocError> {
     let mut whole = Vec::new(alloc);
     for i in 0..times.saturating_add(2) {
-        let part = if i == 0 {
+        let next = if i == 0 {
             around.0
         } else if i > times {
             around.1
         } else {
-            text
+            part
         };
-        whole.extend_from_slice(part.as_bytes())?;
+        whole.extend_from_slice(next.as_bytes())?;
     }
     Ok(whole)
 }
@@ -365,11 +253,202 @@ fn leaves(alloc: Global, journal: &[u8], line: Option<u64>, state: &State) -> bo
     bad == line && seen(&it.kernel, &it.mem) == *state
 }
 
+/// Each row's part, with what stands around, stops at its line, if any, and leaves what it says.
+fn assert_rows(
+    rt: &impl Abort,
+    alloc: Global,
+    around: Around,
+    rows: &[Row],
+) -> Result<(), AllocError> {
+    for (index, (part, line, state)) in rows.iter().enumerate() {
+        let journal = text(alloc, around, 1, part)?;
+        assert!(rt; leaves(alloc, &journal, *line, state), "row {index}");
+    }
+    Ok(())
+}
+
+#[rattlefmt::skip]
+static ACCEPTED: [Row; 4] = [
+    // A run's text: a frame becomes a page table, and a store through the direct map faults.
+    ("k 3 46 47 8000000000047021 0 - 0 -
+k 2 1 47 8000000000047021 0 - 0 -
+i 14 3 ffffffff8000004e ffff800000047000
+end halted
+turns 62
+root 5
+trap ffffff80000011da
+f 71 table1
+t 70 71 8000000000047021
+", None, DECLARED),
+    ("k 1 0 0 0 0 - 0 -", None, WITHOUT_HANDLER),
+    ("c 41
+k 7 40 4 0 0 - 256 ffffff8000010000
+k 7 ffff 1 0 0 - 18 -
+k 7 10 3 5 6 - 257 ffffff8000010040
+k 9 100 0 ffff800000047000 9 02030405060708090a 0 -
+i 32 - ffffff8000001010 -
+k 8 101 0 0 0 - 0 -
+k 8 101 0 0 0 - 19 -
+k 9 100 40 ffff800000047000 1 - 21 -
+k 9 100 0 1000 4 ! 22 -
+", None, WRITTEN),
+    // The write in the log ends with the region that was asked for.
+    (WRITE_AND_FREE, None, FREED),
+];
+
+#[rattlefmt::skip]
+static REFUSED: [Row; 1] = [
+    ("k 0 0 0 0 0 - 1 -
+k ffffffffffffffff ffffffffffffffff ffffffffffffffff ffffffffffffffff ffffffffffffffff - 1 -
+k 1 800000000000 0 0 0 - 27 -
+k 2 9 258 0 0 - 2 -
+k 3 46 47 47003 0 - 9 -
+k 4 5 0 0 0 - 12 -
+k 5 47 0 0 0 - 14 -
+k 6 ffff800000047000 1000 1 0 - 5 -
+k 7 0 1 0 0 - 15 -
+k 8 100 0 0 0 - 19 -
+k 9 100 0 0 4 - 19 -
+end steps", None, OPENING),
+];
+
 #[test]
-fn journals_are_replayed(rt: HostRuntime) -> Result<(), Fail> {
-    for (index, (journal, line, state)) in ROWS.iter().enumerate() {
-        let text = text(rt.alloc(), journal)?;
-        assert!(rt; leaves(rt.alloc(), &text, *line, state), "row {index}");
+fn accepted_calls_are_made(rt: HostRuntime) -> Result<(), Fail> {
+    assert_rows(&rt, rt.alloc(), ALONE, &ACCEPTED)?;
+    Ok(())
+}
+
+#[test]
+fn refused_calls_change_nothing(rt: HostRuntime) -> Result<(), Fail> {
+    assert_rows(&rt, rt.alloc(), ALONE, &REFUSED)?;
+    Ok(())
+}
+
+#[rattlefmt::skip]
+static ENDED: [Row; 8] = [
+    ("", None, OPENING),
+    ("c 41\n", None, OPENING),
+    ("c 41", None, OPENING),
+    ("end halted", None, OPENING),
+    ("end steps\n", None, OPENING),
+    ("end steps\n\nrubbish\r\n\0", None, OPENING),
+    ("end halted\nk 1 0 0 0 0 - 0 -\n", None, OPENING),
+    ("c 00\nend steps\nend\n", None, OPENING),
+];
+
+#[test]
+fn nothing_behind_the_end_counts(rt: HostRuntime) -> Result<(), Fail> {
+    assert_rows(&rt, rt.alloc(), ALONE, &ENDED)?;
+    Ok(())
+}
+
+#[rattlefmt::skip]
+static OUT_OF_FORM: [Row; 17] = [
+    ("\n", Some(1), OPENING),
+    ("c 41\n\nend halted\n", Some(2), OPENING),
+    ("c 41\r\n", Some(1), OPENING),
+    ("c 41\n\0\n", Some(2), OPENING),
+    ("c 41\nc 4A\n", Some(2), OPENING),
+    ("K", Some(1), OPENING),
+    ("root 5\n", Some(1), OPENING),
+    ("k 1 00000000000000000 0 0 0 - 0 -", Some(1), OPENING),
+    ("k 1 10000000000000000 0 0 0 - 0 -", Some(1), OPENING),
+    ("k 1 0 0 0 0 - 18446744073709551616 -", Some(1), OPENING),
+    ("k 1 A 0 0 0 - 0 -", Some(1), OPENING),
+    ("k 1 0 0 0 0 - 0 - ", Some(1), OPENING),
+    ("k 1 0 0 0 0 - 0 -\r\n", Some(1), OPENING),
+    ("k 1 0 0 0 0 - 0 - 0", Some(1), OPENING),
+    ("i 48 - ffffffff80000000 -", Some(1), OPENING),
+    ("i 14 0 ffffffff80000000 -", Some(1), OPENING),
+    ("c 41\nc 42\nc 43\nend", Some(4), OPENING),
+];
+
+#[test]
+fn lines_out_of_form_stop(rt: HostRuntime) -> Result<(), Fail> {
+    assert_rows(&rt, rt.alloc(), ALONE, &OUT_OF_FORM)?;
+    Ok(())
+}
+
+/// What is noted of a source must be what the call takes; else the call isn't made.
+#[rattlefmt::skip]
+static SOURCES: [Row; 15] = [
+    ("k 9 100 0 1000 4 - 0 -", Some(2), GRANTED),
+    ("k 9 100 0 1000 4 - 22 -", Some(2), GRANTED),
+    ("k 9 100 0 1000 4 010203 0 -", Some(2), GRANTED),
+    ("k 9 100 0 1000 4 0102030405 0 -", Some(2), GRANTED),
+    ("k 9 100 0 1000 4 0102030 0 -", Some(2), GRANTED),
+    ("k 9 100 0 1000 4 010203xx 0 -", Some(2), GRANTED),
+    ("k 9 100 0 1000 4 0102030A 0 -", Some(2), GRANTED),
+    ("k 9 100 0 1000 4  0 -", Some(2), GRANTED),
+    ("k 9 100 0 1000 4 ! 22 0", Some(2), GRANTED),
+    ("k 9 100 d 1000 4 01020304 21 -", Some(2), GRANTED),
+    ("k 9 100 d 1000 4 ! 21 -", Some(2), GRANTED),
+    ("k 9 100 0 1000 0  21 -", Some(2), GRANTED),
+    ("k 9 101 0 1000 4 01020304 19 -", Some(2), GRANTED),
+    ("k 1 0 0 1000 4 01020304 0 -", Some(2), GRANTED),
+    ("k 1 0 0 1000 4 ! 0 -", Some(2), GRANTED),
+];
+
+#[test]
+fn sources_that_are_not_taken_stop(rt: HostRuntime) -> Result<(), Fail> {
+    assert_rows(&rt, rt.alloc(), IN_A_REGION, &SOURCES)?;
+    Ok(())
+}
+
+/// A call whose answer isn't right is made, and is the last.
+#[rattlefmt::skip]
+static OTHER_ANSWERS: [Row; 4] = [
+    ("k 1 5000 0 0 0 - 5 -", Some(2), OTHER_HANDLER),
+    ("k 1 5000 0 0 0 - 256 -", Some(2), OTHER_HANDLER),
+    ("k 1 5000 0 0 0 - 18446744073709551615 -", Some(2), OTHER_HANDLER),
+    ("k 1 5000 0 0 0 - 0 0000000000000000", Some(2), OTHER_HANDLER),
+];
+
+/// So is one whose answer or place isn't right.
+#[rattlefmt::skip]
+static OTHER_PLACES: [Row; 4] = [
+    ("k 7 10 1 0 0 - 0 ffffff8000010000", Some(1), GRANTED),
+    ("k 7 10 1 0 0 - 257 ffffff8000010000", Some(1), GRANTED),
+    ("k 7 10 1 0 0 - 256 ffffff8000010010", Some(1), GRANTED),
+    ("k 7 10 1 0 0 - 256 -", Some(1), GRANTED),
+];
+
+#[rattlefmt::skip]
+static LAST: [Row; 2] = [
+    ("k 7 10 1 0 0 - 256 ffffff8000010000\nk 9 100 0 1000 4 01020304 24 -\n", Some(2), STORED),
+    ("k 1 800000000000 0 0 0 - 0 -\n", Some(1), OPENING),
+];
+
+#[test]
+fn wrong_answers_stop_behind_the_call(rt: HostRuntime) -> Result<(), Fail> {
+    assert_rows(&rt, rt.alloc(), BETWEEN, &OTHER_ANSWERS)?;
+    assert_rows(&rt, rt.alloc(), BEFORE_A_CALL, &OTHER_PLACES)?;
+    assert_rows(&rt, rt.alloc(), ALONE, &LAST)?;
+    Ok(())
+}
+
+/// What stands before a part, how often that stands, the part, the number of the first line that isn't right, if any,
+/// and what the replay leaves.
+type Long = (&'static str, usize, &'static str, Option<u64>, State);
+
+#[rattlefmt::skip]
+static LONG: [Long; 7] = [
+    // One line of a megabyte is out of form, whatever it is of.
+    ("", 1_000_000, "k", Some(1), OPENING),
+    ("", 1_000_000, " ", Some(1), OPENING),
+    ("", 1_000_000, "\0", Some(1), OPENING),
+    ("c ", 1_000_000 - 2, "4", Some(1), OPENING),
+    ("k 1 ", 1_000_000 - 4, "0", Some(1), OPENING),
+    ("k 9 100 0 1000 4 ", 1_000_000 - 17, "0", Some(1), OPENING),
+    // A journal may hold many calls: nothing but memory bounds their number.
+    ("", 5_000, "k 1 0 0 0 0 - 0 -\n", None, WITHOUT_HANDLER),
+];
+
+#[test]
+fn long_journals_are_replayed(rt: HostRuntime) -> Result<(), Fail> {
+    for (index, (front, times, part, line, state)) in LONG.iter().enumerate() {
+        let journal = text(rt.alloc(), (*front, ""), *times, part)?;
+        assert!(rt; leaves(rt.alloc(), &journal, *line, state), "row {index}");
     }
     Ok(())
 }
