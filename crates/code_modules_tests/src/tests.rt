@@ -8,6 +8,7 @@ use code_modules::JoinFault::{self, Empty, NoFit, Protected};
 use code_modules::join;
 use elf_image::Image;
 use std::alloc::{AllocError, Global};
+use std::process::Abort;
 use std::test::Fail;
 
 /// The first linear address of an image's home.
@@ -57,64 +58,6 @@ const MOV_AT_SEAM: Found = Found {
     bytes: [0x0F, 0x22, 0xC0],
     count: 3,
 };
-
-#[rattlefmt::skip]
-static CASES: [Case; 31] = [
-    // A guard page ends the run. MOV CR0, RAX around the seam.
-    (true, CUT_OFF, &[(0, &[0xC0, 0x90])], &[false], Some(Protected(MOV_AT_SEAM))),
-    (true, CUT_OFF, &[(0, &[0xC0, 0x90])], &[true], None),
-    // WRMSR in the module.
-    (
-        true, CUT_OFF, &[(0, &[0x0F, 0x30])], &[true],
-        Some(Protected(Found { at: HOME + 0x2000, bytes: [0x0F, 0x30, 0], count: 2 })),
-    ),
-    // MOV to a control register whose last byte is the padding's.
-    (
-        true, CUT_OFF, &[(0, &[0x0F, 0x22])], &[true],
-        Some(Protected(Found { at: HOME + 0x2000, bytes: [0x0F, 0x22, 0], count: 3 })),
-    ),
-    // RDMSR.
-    (true, CUT_OFF, &[(0, &[0x0F, 0x32])], &[true], None),
-    // Two modules, of which the first fills a page up to its last byte, 0F, and the second is 30.
-    (
-        true, HALTING, &[(4095, &[0x0F]), (0, &[0x30])], &[false, false],
-        Some(Protected(Found { at: HOME + 0x1FFF, bytes: [0x0F, 0x30, 0], count: 2 })),
-    ),
-    (
-        true, HALTING, &[(4095, &[0x0F]), (0, &[0x30])], &[true, false],
-        Some(Protected(Found { at: HOME + 0x2FFF, bytes: [0x0F, 0x30, 0], count: 2 })),
-    ),
-    (true, HALTING, &[(4095, &[0x0F]), (0, &[0x30])], &[false, true], None),
-    (true, HALTING, &[(4095, &[0x0F]), (0, &[0x30])], &[true, true], None),
-    // The first module without bytes comes before what doesn't fit, and that before what is protected.
-    (true, FULL, &[(0, &[]), (0, &[0x0F])], &[false, true], Some(Empty(0))),
-    (true, FULL, &[(0, &[0x0F]), (0, &[])], &[false, true], Some(Empty(1))),
-    (true, FULL, &[(0, &[]), (0, &[])], &[false, true], Some(Empty(0))),
-    (true, FULL, &[(0, &[0x0F, 0x30]), (0, &[0x0F])], &[false, true], Some(NoFit)),
-    // 8,192 pages with those of the code, the module and the directory, and one more.
-    (true, (&[CODE, (6, 0, HOME + 0x1000, 0, 8189 * 4096)], 2, HALT), &[(4096, &[])], &[false], None),
-    (true, (&[CODE, (6, 0, HOME + 0x1000, 0, 8189 * 4096)], 2, HALT), &[(4096, &[])], &[true], None),
-    (true, (&[CODE, (6, 0, HOME + 0x1000, 0, 8189 * 4096 + 1)], 2, HALT), &[(4096, &[])], &[false], Some(NoFit)),
-    (true, (&[CODE, (6, 0, HOME + 0x1000, 0, 8189 * 4096)], 2, HALT), &[(4097, &[])], &[false], Some(NoFit)),
-    // Up to the directory's page, and one more.
-    (true, (&[CODE, (6, 0, DIRECTORY - 0x1001, 0, 1)], 2, HALT), &[(4096, &[])], &[false], None),
-    (true, (&[CODE, (6, 0, DIRECTORY - 0x1001, 0, 1)], 2, HALT), &[(1, &[])], &[true], Some(NoFit)),
-    (true, (&[CODE, (6, 0, DIRECTORY - 0x1001, 0, 1)], 2, HALT), &[(4097, &[])], &[false], Some(NoFit)),
-    (true, (&[CODE, (6, 0, DIRECTORY - 0x2001, 0, 1)], 2, HALT), &[(4096, &[])], &[true], None),
-    (true, (&[CODE, (6, 0, DIRECTORY - 1, 0, 1)], 2, HALT), &[(1, &[])], &[false], Some(NoFit)),
-    // The image has the directory's page.
-    (true, (&[CODE, (6, 0, DIRECTORY, 0, 1)], 2, HALT), &[(1, &[])], &[false], Some(NoFit)),
-    (true, (&[CODE, (6, 0, DIRECTORY + 0xFFF, 0, 1)], 2, HALT), &[(1, &[])], &[false], Some(NoFit)),
-    // 64 program headers are the most, with those of the modules and the directory, and 32 modules.
-    (true, (&[CODE], 62, HALT), &[(1, &[])], &[true], None),
-    (true, (&[CODE], 63, HALT), &[(1, &[])], &[true], Some(NoFit)),
-    (true, (&[CODE], 31, HALT), &[NOP; 32], &[true; 32], None),
-    (true, (&[CODE], 32, HALT), &[NOP; 32], &[true; 32], Some(NoFit)),
-    // A case of which something else becomes is found: a module that isn't joined, or for another reason.
-    (true, HALTING, &[(0, &[])], &[true], Some(Empty(0))),
-    (false, HALTING, &[(0, &[])], &[true], None),
-    (false, HALTING, &[(0, &[])], &[true], Some(NoFit)),
-];
 
 /// Puts numbers of eight bytes at the end of a file.
 fn put_numbers(file: &mut Vec<u8>, numbers: &[u64]) -> Result<(), AllocError> {
@@ -230,11 +173,129 @@ fn is_right(alloc: Global, case: &Case) -> bool {
     }
 }
 
-#[test]
-fn what_becomes_of_modules(rt: HostRuntime) {
-    for (index, case) in CASES.iter().enumerate() {
-        assert!(rt; is_right(rt.alloc(), case) == case.0, "case {index}");
+/// Each case is so, or isn't, as it says.
+fn assert_cases(rt: &impl Abort, alloc: Global, cases: &[Case]) {
+    for (index, case) in cases.iter().enumerate() {
+        assert!(rt; is_right(alloc, case) == case.0, "case {index}");
     }
+}
+
+/// A guard page ends the run.
+#[rattlefmt::skip]
+static GUARDED: [Case; 5] = [
+    // MOV CR0, RAX around the seam.
+    (true, CUT_OFF, &[(0, &[0xC0, 0x90])], &[false], Some(Protected(MOV_AT_SEAM))),
+    (true, CUT_OFF, &[(0, &[0xC0, 0x90])], &[true], None),
+    // WRMSR in the module.
+    (
+        true, CUT_OFF, &[(0, &[0x0F, 0x30])], &[true],
+        Some(Protected(Found { at: HOME + 0x2000, bytes: [0x0F, 0x30, 0], count: 2 })),
+    ),
+    // MOV to a control register whose last byte is the padding's.
+    (
+        true, CUT_OFF, &[(0, &[0x0F, 0x22])], &[true],
+        Some(Protected(Found { at: HOME + 0x2000, bytes: [0x0F, 0x22, 0], count: 3 })),
+    ),
+    // RDMSR.
+    (true, CUT_OFF, &[(0, &[0x0F, 0x32])], &[true], None),
+];
+
+#[test]
+fn a_guard_page_ends_the_run(rt: HostRuntime) {
+    assert_cases(&rt, rt.alloc(), &GUARDED);
+}
+
+/// Two modules, of which the first fills a page up to its last byte, 0F, and the second is 30.
+#[rattlefmt::skip]
+static NEIGHBOURS: [Case; 4] = [
+    (
+        true, HALTING, &[(4095, &[0x0F]), (0, &[0x30])], &[false, false],
+        Some(Protected(Found { at: HOME + 0x1FFF, bytes: [0x0F, 0x30, 0], count: 2 })),
+    ),
+    (
+        true, HALTING, &[(4095, &[0x0F]), (0, &[0x30])], &[true, false],
+        Some(Protected(Found { at: HOME + 0x2FFF, bytes: [0x0F, 0x30, 0], count: 2 })),
+    ),
+    (true, HALTING, &[(4095, &[0x0F]), (0, &[0x30])], &[false, true], None),
+    (true, HALTING, &[(4095, &[0x0F]), (0, &[0x30])], &[true, true], None),
+];
+
+#[test]
+fn modules_are_scanned_with_their_neighbours(rt: HostRuntime) {
+    assert_cases(&rt, rt.alloc(), &NEIGHBOURS);
+}
+
+/// The first module without bytes comes before what doesn't fit, and that before what is protected.
+#[rattlefmt::skip]
+static EMPTY: [Case; 4] = [
+    (true, FULL, &[(0, &[]), (0, &[0x0F])], &[false, true], Some(Empty(0))),
+    (true, FULL, &[(0, &[0x0F]), (0, &[])], &[false, true], Some(Empty(1))),
+    (true, FULL, &[(0, &[]), (0, &[])], &[false, true], Some(Empty(0))),
+    (true, FULL, &[(0, &[0x0F, 0x30]), (0, &[0x0F])], &[false, true], Some(NoFit)),
+];
+
+#[test]
+fn the_first_empty_module_is_told(rt: HostRuntime) {
+    assert_cases(&rt, rt.alloc(), &EMPTY);
+}
+
+/// 8,192 pages with those of the code, the module and the directory, and one more.
+#[rattlefmt::skip]
+static PAGES: [Case; 4] = [
+    (true, (&[CODE, (6, 0, HOME + 0x1000, 0, 8189 * 4096)], 2, HALT), &[(4096, &[])], &[false], None),
+    (true, (&[CODE, (6, 0, HOME + 0x1000, 0, 8189 * 4096)], 2, HALT), &[(4096, &[])], &[true], None),
+    (true, (&[CODE, (6, 0, HOME + 0x1000, 0, 8189 * 4096 + 1)], 2, HALT), &[(4096, &[])], &[false], Some(NoFit)),
+    (true, (&[CODE, (6, 0, HOME + 0x1000, 0, 8189 * 4096)], 2, HALT), &[(4097, &[])], &[false], Some(NoFit)),
+];
+
+#[test]
+fn as_many_pages_as_may_be(rt: HostRuntime) {
+    assert_cases(&rt, rt.alloc(), &PAGES);
+}
+
+#[rattlefmt::skip]
+static DIRECTORIES: [Case; 7] = [
+    // Up to the directory's page, and one more.
+    (true, (&[CODE, (6, 0, DIRECTORY - 0x1001, 0, 1)], 2, HALT), &[(4096, &[])], &[false], None),
+    (true, (&[CODE, (6, 0, DIRECTORY - 0x1001, 0, 1)], 2, HALT), &[(1, &[])], &[true], Some(NoFit)),
+    (true, (&[CODE, (6, 0, DIRECTORY - 0x1001, 0, 1)], 2, HALT), &[(4097, &[])], &[false], Some(NoFit)),
+    (true, (&[CODE, (6, 0, DIRECTORY - 0x2001, 0, 1)], 2, HALT), &[(4096, &[])], &[true], None),
+    (true, (&[CODE, (6, 0, DIRECTORY - 1, 0, 1)], 2, HALT), &[(1, &[])], &[false], Some(NoFit)),
+    // The image has the directory's page.
+    (true, (&[CODE, (6, 0, DIRECTORY, 0, 1)], 2, HALT), &[(1, &[])], &[false], Some(NoFit)),
+    (true, (&[CODE, (6, 0, DIRECTORY + 0xFFF, 0, 1)], 2, HALT), &[(1, &[])], &[false], Some(NoFit)),
+];
+
+#[test]
+fn what_fits_before_the_directory(rt: HostRuntime) {
+    assert_cases(&rt, rt.alloc(), &DIRECTORIES);
+}
+
+/// 64 program headers are the most, with those of the modules and the directory, and 32 modules.
+#[rattlefmt::skip]
+static HEADERS: [Case; 4] = [
+    (true, (&[CODE], 62, HALT), &[(1, &[])], &[true], None),
+    (true, (&[CODE], 63, HALT), &[(1, &[])], &[true], Some(NoFit)),
+    (true, (&[CODE], 31, HALT), &[NOP; 32], &[true; 32], None),
+    (true, (&[CODE], 32, HALT), &[NOP; 32], &[true; 32], Some(NoFit)),
+];
+
+#[test]
+fn as_many_headers_as_may_be(rt: HostRuntime) {
+    assert_cases(&rt, rt.alloc(), &HEADERS);
+}
+
+/// A case of which something else becomes is found: a module that isn't joined, or for another reason.
+#[rattlefmt::skip]
+static WRONG: [Case; 3] = [
+    (true, HALTING, &[(0, &[])], &[true], Some(Empty(0))),
+    (false, HALTING, &[(0, &[])], &[true], None),
+    (false, HALTING, &[(0, &[])], &[true], Some(NoFit)),
+];
+
+#[test]
+fn wrong_cases_are_found(rt: HostRuntime) {
+    assert_cases(&rt, rt.alloc(), &WRONG);
 }
 
 /// F4, and a module of C3 behind a guard page.
