@@ -181,9 +181,9 @@ fn follow<'i, O: Sink>(
     }
 }
 
-/// Takes the steps of a run, and writes those that are shown, as docs/FORMATS.md has them. The copy, of as many frames
-/// as the machine's memory, is to hold what memory held at the step before. Err where the sink failed, and the text is
-/// cut.
+/// Takes the steps of a run, and writes those that are shown, as docs/FORMATS.md has them. The copy may hold anything:
+/// it becomes that of memory as the shown steps find it. It is to have as many frames as the machine's memory, since
+/// changes beyond them aren't shown. Err where the sink failed, and the text is cut.
 pub fn drive_shown<'i, O: Sink>(
     machine: Machine<'i>,
     plan: &Plan,
