@@ -1,5 +1,5 @@
-//! Tests of the crates of the nested kernel, over what they publish; `region_book` and `nk_body` have crates of their
-//! own, and `policy_book` has its tests itself. Floor: tests.
+//! Tests of the crates of the nested kernel, over what they publish; `nk_body`, and `region_book` with `policy_book`, have
+//! crates of their own. Floor: tests.
 #![tactic(auto)]
 
 #[cfg(test)]

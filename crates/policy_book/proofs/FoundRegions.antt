@@ -24,7 +24,7 @@ pub has_id : (book : Book) (id : ℕ) → IfSome (region_of book id) (λ r. r.id
 has_id book id =
     IfSome_then (region_of book id) (found (λ r. r.id == id) (λ r. Unit {0}) book.regions (λ k r below. tt)) (λ r holds. eqb-true r.id id holds.0)
 
-pub is_sound : (book : Book) (id : ℕ) → IsBook book → IfSome (region_of book id) (IsRegion book.next)
+is_sound : (book : Book) (id : ℕ) → IsBook book → IfSome (region_of book id) (IsRegion book.next)
 is_sound book id sound =
     IfSome_then (region_of book id) (found (λ r. r.id == id) (IsRegion book.next) book.regions sound.each) (λ r holds. holds.1)
 

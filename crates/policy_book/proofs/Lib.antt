@@ -1,5 +1,4 @@
 mod FoundRegions
 mod OtherBooks
-mod PoolFrames
 mod Writes
 mod WorkedPolicies

@@ -3,7 +3,5 @@
 #![tactic(auto)]
 
 mod policy;
-#[cfg(test)]
-mod tests;
 
 pub use policy::write;

@@ -1,1 +1,2 @@
+mod LogFrames
 mod PoolFrames

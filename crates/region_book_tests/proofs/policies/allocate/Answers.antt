@@ -1,6 +1,6 @@
 use Rattle.std.proofs.Common.{◌/◌, length, inl}
-use Rattle.policy_book.proofs.OtherBooks.{log_place}
-use Rattle.policy_book.proofs.tests.allocate.Goals as goal
+use Rattle.region_book_tests.proofs.LogFrames.{log_place}
+use Rattle.region_book_tests.proofs.policies.allocate.Goals as goal
 
 pub returns-in-Ok-clause-held_log : goal.returns-in-Ok-clause-held_log
 returns-in-Ok-clause-held_log c =

@@ -1,5 +1,5 @@
 use Rattle.std.proofs.Common.{inr}
-use Rattle.policy_book.proofs.tests.start_log.Goals as goal
+use Rattle.region_book_tests.proofs.policies.start_log.Goals as goal
 
 pub returns-clause-held : goal.returns-clause-held
 returns-clause-held c =

@@ -1,5 +1,5 @@
 use Rattle.std.proofs.Common.{inl}
-use Rattle.policy_book.proofs.tests.free.Goals as goal
+use Rattle.region_book_tests.proofs.policies.free.Goals as goal
 
 pub returns-clause-held_log : goal.returns-clause-held_log
 returns-clause-held_log c =
