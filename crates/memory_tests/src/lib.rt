@@ -5,4 +5,6 @@
 #[cfg(test)]
 mod openings;
 #[cfg(test)]
+mod stores;
+#[cfg(test)]
 mod walks;

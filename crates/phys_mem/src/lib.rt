@@ -14,8 +14,6 @@ mod memory;
 
 // What follows from the definitions.
 mod laws;
-#[cfg(test)]
-mod tests;
 
 pub use laws::{frame_law, mask_law, memory_law};
 pub use memory::{NoMemory, PhysMem};
