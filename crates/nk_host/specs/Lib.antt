@@ -5,10 +5,9 @@ pub mod Files
 pub mod Taken
 pub mod PiecesOut
 pub mod CountedStream
+pub mod Streams
 pub mod Attempts
 pub mod ShelfInMemory
 pub mod SinkInMemory
 -- Laws: what is proved of the definitions.
 pub mod PieceLaws
--- Words of private clauses and proofs.
-pub mod Streams

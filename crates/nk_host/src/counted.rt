@@ -17,24 +17,26 @@ pub struct Counted<T> {
 }
 
 impl<T> Counted<T> {
+    ghost use Rattle.nk_host.specs.CountedStream.{faults_of, stream_of};
+
     /// A reader or a writer that had so many faults before.
-    pub(crate) fn after(inner: T, faults: u64) -> Counted<T>
-        ensures inner { result.inner ≡ inner }
-        ensures faults { result.faults ≡ faults }
+    pub fn after(inner: T, faults: u64) -> Counted<T>
+        ensures inner { stream_of result ≡ inner }
+        ensures faults { faults_of result ≡ faults }
     {
         Counted { inner, faults }
     }
 
-    /// The count of faults.
-    pub(crate) fn faults(&self) -> u64
-        ensures { result ≡ self.now.faults }
+    /// The count of faults, which stays at 2^64 - 1.
+    pub fn faults(&self) -> u64
+        ensures { result ≡ faults_of self.now }
     {
         self.faults
     }
 
-    /// The reader or the writer.
-    pub(crate) fn into_inner(self) -> T
-        ensures { result ≡ self.inner }
+    /// The reader or the writer; the count ends.
+    pub fn into_inner(self) -> T
+        ensures { result ≡ stream_of self }
     {
         self.inner
     }
@@ -69,13 +71,16 @@ impl<F: Read> Counted<F> {
 }
 
 impl<F: Seek> Counted<F> {
-    /// How many bytes the stream has in all. What has no end to go to, as a pipe, is a fault.
-    pub(crate) fn size(&mut self) -> Result<u64, PieceFault>
-        ensures whole { IfSome (F.stream_position self.old.inner)
-            (λ _. IfOk result (HasLength (F.stream_bytes self.old.inner))) }
-        ensures never_falls { self.old.faults ≤ self.new.faults }
-        ensures failed { OnErr result (RoseTo self.old.faults self.new.faults) }
-        ensures kept { OnOk result (self.new.faults ≡ self.old.faults) }
+    ghost use Rattle.nk_host.specs.CountedStream.{faults_of, stream_of};
+
+    /// How many bytes the stream has in all; it stands at its end then. What has no end to go to, as a
+    /// pipe, is a fault.
+    pub fn size(&mut self) -> Result<u64, PieceFault>
+        ensures whole { IfSome (F.stream_position (stream_of self.old))
+            (λ _. IfOk result (HasLength (F.stream_bytes (stream_of self.old)))) }
+        ensures never_falls { faults_of self.old ≤ faults_of self.new }
+        ensures failed { OnErr result (RoseTo (faults_of self.old) (faults_of self.new)) }
+        ensures kept { OnOk result (faults_of self.new ≡ faults_of self.old) }
         ensures only { IfErr result (λ fault. fault ≡ PieceFault.Failed) }
     {
         match self.inner.seek(SeekFrom::End(0)) {
@@ -87,12 +92,13 @@ impl<F: Seek> Counted<F> {
         }
     }
 
-    /// Moves the stream to place `at`.
-    pub(crate) fn go_to(&mut self, at: u64) -> Result<(), PieceFault>
-        ensures there { MovesTo (F.stream_position self.old.inner) (F.stream_position self.new.inner) at result }
-        ensures never_falls { self.old.faults ≤ self.new.faults }
-        ensures failed { OnErr result (RoseTo self.old.faults self.new.faults) }
-        ensures kept { OnOk result (self.new.faults ≡ self.old.faults) }
+    /// Moves the stream to place `at`; its first byte has place 0. Whether there is a byte there isn't
+    /// asked.
+    pub fn go_to(&mut self, at: u64) -> Result<(), PieceFault>
+        ensures there { MovesTo (F.stream_position (stream_of self.old)) (F.stream_position (stream_of self.new)) at result }
+        ensures never_falls { faults_of self.old ≤ faults_of self.new }
+        ensures failed { OnErr result (RoseTo (faults_of self.old) (faults_of self.new)) }
+        ensures kept { OnOk result (faults_of self.new ≡ faults_of self.old) }
         ensures only { IfErr result (λ fault. fault ≡ PieceFault.Failed) }
     {
         match self.inner.seek(SeekFrom::Start(at)) {

@@ -4,7 +4,7 @@ ghost use Rattle.nk_host.specs.FaultCounts.{RoseTo, raised};
 ghost use Rattle.nk_host.specs.Streams.{StandsAt};
 
 use crate::counted::Counted;
-use crate::fill::fill_from;
+use crate::filling::fill_from;
 use crate::placed::Placed;
 use crate::whole::read_whole;
 use crate::{FetchFault, PieceFault, Shelf};

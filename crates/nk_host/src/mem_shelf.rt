@@ -232,10 +232,10 @@ impl MemShelf {
         }
     }
 
-    /// The file of the name, where one is held, has so many bytes from place `at` on.
-    #[cfg(test)]
-    pub(crate) fn is_within(&self, name: &str, at: u64, len: usize) -> bool
-        ensures { IsTrue result → IsWithin (file_of self.now.files) name.now at len }
+    /// Whether the file of that name, where one is held, has so many bytes from place `at` on, as `piece`
+    /// requires. It is no read.
+    pub fn is_within(&self, name: &str, at: u64, len: usize) -> bool
+        ensures { IsTrue result ↔ IsWithin (file_of self.now.files) name.now at len }
     {
         match self.file(name) {
             Some(file) => len <= file.len() && at <= (file.len() - len) as u64,

@@ -1,6 +1,7 @@
 //! A reader read to its end, and bytes written whole.
 ghost use Rattle.std.specs.Prelude.{◌≡◌, ◌≢◌, ◌+◌, ◌-◌, ◌<◌, ◌≤◌, [], length, min, vec_len, IfOk, IsOk, OnOk, OnErr, IfErr};
 ghost use Rattle.std.specs.Io.KnownBytes.{Appends};
+ghost use Rattle.nk_host.specs.CountedStream.{faults_of, stream_of};
 ghost use Rattle.nk_host.specs.FaultCounts.{RoseTo};
 ghost use Rattle.nk_host.specs.Streams.{GivesAtMost, GivesMore, HadMore, IsAllOf};
 ghost use Rattle.nk_host.specs.Taken.{AppendsPrefix};
@@ -14,19 +15,19 @@ use std::io::{Read, Write};
 const BLOCK: usize = 8_192;
 
 /// All that the reader has, where that is at most `most` bytes. It reads at most one byte past them,
-/// and takes memory in proportion to what was read.
-pub(crate) fn read_whole<F: Read>(
+/// and takes memory in proportion to what was read. An interrupted read is a fault too.
+pub fn read_whole<F: Read>(
     alloc: Global,
     from: &mut Counted<F>,
     most: u64,
 ) -> Result<Vec<u8>, FetchFault>
-    ensures whole { IfOk result (λ bytes. IsAllOf (F.remaining from.old.inner) bytes.items) }
+    ensures whole { IfOk result (λ bytes. IsAllOf (F.remaining (stream_of from.old)) bytes.items) }
     ensures at_most { IfOk result (λ bytes. vec_len bytes ≤ most) }
-    ensures longer { result ≡ Err FetchFault.Longer → HadMore (F.remaining from.old.inner) most }
-    ensures failed { result ≡ Err FetchFault.Failed → RoseTo from.old.faults from.new.faults }
-    ensures kept { result ≢ Err FetchFault.Failed → from.new.faults ≡ from.old.faults }
-    ensures never_falls { from.old.faults ≤ from.new.faults }
-    ensures one_past { GivesAtMost (F.remaining from.old.inner) (F.remaining from.new.inner) (most + 1) }
+    ensures longer { result ≡ Err FetchFault.Longer → HadMore (F.remaining (stream_of from.old)) most }
+    ensures failed { result ≡ Err FetchFault.Failed → RoseTo (faults_of from.old) (faults_of from.new) }
+    ensures kept { result ≢ Err FetchFault.Failed → faults_of from.new ≡ faults_of from.old }
+    ensures never_falls { faults_of from.old ≤ faults_of from.new }
+    ensures one_past { GivesAtMost (F.remaining (stream_of from.old)) (F.remaining (stream_of from.new)) (most + 1) }
 {
     let mut bytes = Vec::new(alloc);
     let mut block = [0; BLOCK];
@@ -72,13 +73,14 @@ fn read_more<F: Read>(
     }
 }
 
-/// Writes all of the bytes, or some first ones and fails.
-pub(crate) fn write_whole<W: Write>(to: &mut Counted<W>, bytes: &[u8]) -> Result<(), SinkFault>
-    ensures all { OnOk result (Appends (W.contents to.old.inner) (W.contents to.new.inner) bytes.now) }
-    ensures some { OnErr result (AppendsPrefix (W.contents to.old.inner) (W.contents to.new.inner) bytes.now) }
+/// Writes all of the bytes, or some first ones and fails. A write that is interrupted, or takes no byte,
+/// is a fault.
+pub fn write_whole<W: Write>(to: &mut Counted<W>, bytes: &[u8]) -> Result<(), SinkFault>
+    ensures all { OnOk result (Appends (W.contents (stream_of to.old)) (W.contents (stream_of to.new)) bytes.now) }
+    ensures some { OnErr result (AppendsPrefix (W.contents (stream_of to.old)) (W.contents (stream_of to.new)) bytes.now) }
     ensures nothing { bytes.now ≡ [] → IsOk result }
-    ensures failed { OnErr result (RoseTo to.old.faults to.new.faults) }
-    ensures never_falls { to.old.faults ≤ to.new.faults }
+    ensures failed { OnErr result (RoseTo (faults_of to.old) (faults_of to.new)) }
+    ensures never_falls { faults_of to.old ≤ faults_of to.new }
 {
     let mut rest = bytes;
     while !rest.is_empty() {

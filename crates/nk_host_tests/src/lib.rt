@@ -9,3 +9,7 @@ mod disk;
 mod memory;
 #[cfg(test)]
 mod output;
+#[cfg(test)]
+mod pieces;
+#[cfg(test)]
+mod streams;

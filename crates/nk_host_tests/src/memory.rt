@@ -16,7 +16,7 @@ fn named(alloc: Global, name: &str, content: Content) -> Option<(String, Vec<u8>
         .zip(bytes_of(alloc, content))
 }
 
-fn four_files(alloc: Global, failing: &[u64]) -> Option<MemShelf> {
+pub(crate) fn four_files(alloc: Global, failing: &[u64]) -> Option<MemShelf> {
     let files = vec![in alloc;
         named(alloc, "one", Text(b"first"))?,
         named(alloc, "two", Text(b""))?,

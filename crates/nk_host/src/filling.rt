@@ -2,6 +2,7 @@
 ghost use Rattle.std.specs.Prelude.{◌≡◌, ◌≢◌, ℕ, ◌+◌, ◌<◌, ◌≤◌, ◌^◌, length, take, Some, IfOk, IfSome, OnOk, OnErr, IfErr};
 ghost use Rattle.std.specs.Option.{SomeIff};
 ghost use Rattle.std.specs.Io.KnownBytes.{Consumes};
+ghost use Rattle.nk_host.specs.CountedStream.{faults_of, stream_of};
 ghost use Rattle.nk_host.specs.FaultCounts.{RoseTo};
 ghost use Rattle.nk_host.specs.Streams.{GivesAt, GivesMore, StandsAt};
 
@@ -11,24 +12,25 @@ use std::io::{Read, Seek};
 
 /// Fills the block with what the reader has from place `at` on. Where the reader stands, if that is
 /// known, is taken from `stands`, and kept there: from a reader that stands at `at` the block is what it
-/// has next, and any other is first moved there.
-pub(crate) fn fill_from<F: Read + Seek>(
+/// has next, and any other is first moved there. An end before the block's is a fault, and so is an
+/// interrupted read; the block may hold any bytes then.
+pub fn fill_from<F: Read + Seek>(
     from: &mut Counted<F>,
     stands: &mut Option<u64>,
     at: u64,
     block: &mut [u8],
 ) -> Result<(), PieceFault>
-    requires { IfSome stands.old (StandsAt F.stream_position F.remaining from.old.inner) }
+    requires { IfSome stands.old (StandsAt F.stream_position F.remaining (stream_of from.old)) }
     ensures next { OnOk result (stands.old ≡ Some at
-        → Consumes (F.remaining from.old.inner) (F.remaining from.new.inner) block.new) }
+        → Consumes (F.remaining (stream_of from.old)) (F.remaining (stream_of from.new)) block.new) }
     ensures moved { OnOk result (stands.old ≢ Some at
-        → GivesAt F.stream_position F.remaining from.old.inner from.new.inner at block.new) }
+        → GivesAt F.stream_position F.remaining (stream_of from.old) (stream_of from.new) at block.new) }
     ensures behind { OnOk result
         (SomeIff stands.new (at + length block.new < 2 ^ 64) (at + length block.new)) }
-    ensures stands { IfSome stands.new (StandsAt F.stream_position F.remaining from.new.inner) }
-    ensures never_falls { from.old.faults ≤ from.new.faults }
-    ensures failed { OnErr result (RoseTo from.old.faults from.new.faults) }
-    ensures kept { OnOk result (from.new.faults ≡ from.old.faults) }
+    ensures stands { IfSome stands.new (StandsAt F.stream_position F.remaining (stream_of from.new)) }
+    ensures never_falls { faults_of from.old ≤ faults_of from.new }
+    ensures failed { OnErr result (RoseTo (faults_of from.old) (faults_of from.new)) }
+    ensures kept { OnOk result (faults_of from.new ≡ faults_of from.old) }
     ensures only { IfErr result (λ fault. fault ≡ PieceFault.Failed) }
 {
     let known = stands.take();
@@ -61,12 +63,13 @@ fn stand_at<F: Read + Seek>(
     }
 }
 
-/// Fills the block with what the reader has next. An end before the block's is a fault.
-pub(crate) fn fill<F: Read>(from: &mut Counted<F>, block: &mut [u8]) -> Result<(), PieceFault>
-    ensures given { OnOk result (Consumes (F.remaining from.old.inner) (F.remaining from.new.inner) block.new) }
-    ensures never_falls { from.old.faults ≤ from.new.faults }
-    ensures failed { OnErr result (RoseTo from.old.faults from.new.faults) }
-    ensures kept { OnOk result (from.new.faults ≡ from.old.faults) }
+/// Fills the block with what the reader has next. An end before the block's is a fault, and so is an
+/// interrupted read; the block may hold any bytes then.
+pub fn fill<F: Read>(from: &mut Counted<F>, block: &mut [u8]) -> Result<(), PieceFault>
+    ensures given { OnOk result (Consumes (F.remaining (stream_of from.old)) (F.remaining (stream_of from.new)) block.new) }
+    ensures never_falls { faults_of from.old ≤ faults_of from.new }
+    ensures failed { OnErr result (RoseTo (faults_of from.old) (faults_of from.new)) }
+    ensures kept { OnOk result (faults_of from.new ≡ faults_of from.old) }
     ensures only { IfErr result (λ fault. fault ≡ PieceFault.Failed) }
 {
     let mut done = 0;

@@ -1,6 +1,6 @@
 use Rattle.std.proofs.Common.{arith}
 use Rattle.nk_host.proofs.InReads.{read_behind}
-use Rattle.nk_host.proofs.fill.read_behind.Goals as goal
+use Rattle.nk_host.proofs.filling.read_behind.Goals as goal
 
 pub returns-clause-given : goal.returns-clause-given
 returns-clause-given g c =
