@@ -1,2 +1,4 @@
 pub mod Places
 pub mod Instructions
+mod WorkedGates
+mod RefutedGates
