@@ -7,3 +7,5 @@ pub mod PageBytes
 pub mod AllCode
 pub mod ScannedRuns
 pub mod WalkedPages
+mod WorkedScans
+mod RefutedScans
