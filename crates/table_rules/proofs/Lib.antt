@@ -1,1 +1,3 @@
 pub mod LawfulValues
+mod WorkedRules
+mod RefutedRules
