@@ -8,3 +8,5 @@ pub mod RemovedTables
 pub mod CarriedRules
 pub mod CarriedCounts
 pub mod HeldTables
+mod WorkedCalls
+mod RefutedCalls
