@@ -2,8 +2,10 @@
 //! machine stands with WP clear. A program's text begins at FFFFFFFF80000000.
 
 mod attacks;
+mod books;
 mod calls;
 mod cases;
+mod descriptors;
 mod jumps;
 mod opening;
 mod programs;
@@ -289,13 +291,10 @@ fn open(alloc: Global, image: &Image, layout: &Layout) -> Option<Opened>
     }
 }
 
-/// The image of a program, in which nothing is protected.
-fn admitted(alloc: Global, text: &[u8]) -> Option<Image>
+/// The image in a file, in which nothing is protected.
+fn admitted(file: Vec<u8>) -> Option<Image>
     ensures { IfSome result (λ image. first_found image ≡ None) }
 {
-    let Ok(file) = file(alloc, text) else {
-        return None;
-    };
     let Ok(image) = Image::read(file) else {
         return None;
     };
@@ -322,9 +321,19 @@ fn begun<'i>(
     OuterMachine::start(alloc, mem, kernel, image, layout, input).ok()
 }
 
+/// The image of a program, in which nothing is protected.
+fn program(alloc: Global, text: &[u8]) -> Option<Image>
+    ensures { IfSome result (λ image. first_found image ≡ None) }
+{
+    match file(alloc, text) {
+        Ok(file) => admitted(file),
+        Err(_) => None,
+    }
+}
+
 /// So many steps of a program under the plan that these bytes are, or fewer where it rests; None for want of memory.
 fn run(alloc: Global, text: &[u8], plan: &[u8], steps: u32) -> Option<Ran> {
-    let Some(image) = admitted(alloc, text) else {
+    let Some(image) = program(alloc, text) else {
         return None;
     };
     let Ok(plan) = Plan::read(alloc, plan) else {

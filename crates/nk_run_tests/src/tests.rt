@@ -1,11 +1,9 @@
 //! Worked cases of the command line, over a shelf and a sink in memory.
 mod audits;
-mod books;
 mod calls;
 mod cases;
 mod compiled;
 mod deliveries;
-mod descriptors;
 mod entries;
 mod hostile;
 mod joins;

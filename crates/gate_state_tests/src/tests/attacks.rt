@@ -1,6 +1,6 @@
 //! An outer kernel that jumps to each byte of the gates, one jump after the other: its handler of traps makes the next one.
 
-use super::{NOTHING, Ran, admitted, advanced, begun, ended, seen_in};
+use super::{NOTHING, Ran, advanced, begun, ended, program, seen_in};
 use boot_map::Layout;
 use gate_state::{Machine, OuterMachine};
 use irq_plan::Plan;
@@ -111,7 +111,7 @@ fn attack(
     after: Option<u32>,
 ) -> Option<(Ran, u32)> {
     let [quiet, irqs] = plans;
-    let Some(image) = admitted(alloc, &attacker(sets_if)) else {
+    let Some(image) = program(alloc, &attacker(sets_if)) else {
         return None;
     };
     let Ok(layout) = Layout::of(&image, 512) else {

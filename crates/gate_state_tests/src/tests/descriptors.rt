@@ -1,27 +1,19 @@
 //! Worked cases of the books as memory holds them, in a run's closing memory and behind each call of a run: the bytes of
 //! descriptors are what is told of kind, loose leaves and links, and the counts are those of the tables, entry by entry.
-ghost use Rattle.std.specs.Prelude.{◌≡◌, ◌≤◌, IfSome, None};
-ghost use Rattle.phys_mem.specs.MaskedMemory.{seen};
-ghost use Rattle.byte_scanner.specs.FirstFound.{first_found};
-ghost use Rattle.boot_map.specs.Division.{IsLayout};
-ghost use Rattle.boot_map.specs.Opening.{IsOpening};
-ghost use Rattle.boot_map.specs.OpeningKinds.{kinds};
-ghost use Rattle.page_desc.specs.DescriptorBytes.{HoldsDescriptors, kinds_in};
+ghost use Rattle.std.specs.Prelude.{◌≤◌, IfSome};
+ghost use Rattle.page_desc.specs.DescriptorBytes.{HoldsDescriptors};
 ghost use Rattle.nk_body.specs.CallRules.{IsSourceOf};
-ghost use Rattle.nk_body.specs.NestedRecord.{HoldsBooks, books_in};
-ghost use Rattle.nk_body.specs.SourceWords.{opening_ledger, sourced_of};
+ghost use Rattle.nk_body.specs.NestedRecord.{HoldsBooks};
+ghost use Rattle.nk_body.specs.SourceWords.{sourced_of};
 
 use super::books::{Books, are_slots_right};
-use super::image;
-use super::tables::DECLARES;
-use boot_map::{Layout, prepare};
-use byte_scanner::scan;
-use elf_image::Image;
-use gate_state::{Called, Finished, Machine, OuterMachine};
+use super::{Opened, admitted, begun, file, open};
+use boot_map::Layout;
+use gate_state::{Called, Finished, Machine};
 use image_maker::make_image;
 use irq_plan::Plan;
 use nk_bits::{AREA_TABLE, Entry, IMAGE_DIRECTORY, Kind};
-use nk_body::{Kernel, Source};
+use nk_body::Source;
 use page_desc::Frames;
 use phys_mem::PhysMem;
 use std::alloc::{AllocError, Global};
@@ -178,56 +170,6 @@ fn first_wrong(alloc: Global, frames: &Frames, mem: &PhysMem) -> Result<Option<u
     Ok(None)
 }
 
-/// The image in a file, in which nothing is protected.
-fn admitted(file: Vec<u8>) -> Option<Image>
-    ensures { IfSome result (λ image. first_found image ≡ None) }
-{
-    let Ok(image) = Image::read(file) else {
-        return None;
-    };
-    match scan(&image) {
-        Some(_) => None,
-        None => Some(image),
-    }
-}
-
-/// The opening's memory with the books in it, and what the nested kernel keeps beside it.
-#[derive(Drop)]
-struct Guarded {
-    memory: PhysMem,
-    kernel: Kernel,
-}
-
-/// That of an image with this layout; None for want of memory.
-fn guard(alloc: Global, image: &Image, layout: &Layout) -> Option<Guarded>
-    requires { IsLayout image.now layout.now }
-    ensures opening { IfSome result (λ it. IsOpening image.now layout.now.frames (seen it.memory)) }
-    ensures kinds { IfSome result (λ it. kinds_in it.memory ≡ kinds image.now layout.now.frames) }
-    ensures root { IfSome result (λ it. it.kernel.root ≡ 5) }
-    ensures ledger { IfSome result (λ it. (books_in it.kernel it.memory).ledger ≡ opening_ledger) }
-    ensures books { IfSome result (λ it. HoldsBooks it.kernel it.memory) }
-{
-    let Ok(mut memory) = prepare(alloc, image, layout) else {
-        return None;
-    };
-    match Kernel::start(alloc, &mut memory, image, layout) {
-        Ok(kernel) => Some(Guarded { memory, kernel }),
-        Err(_) => None,
-    }
-}
-
-/// The machine as a run of that image begins, without input; None for want of memory.
-fn begin<'i>(alloc: Global, image: &'i Image, layout: &'i Layout) -> Option<OuterMachine<'i>>
-    requires layout { IsLayout image.now layout.now }
-    requires clean { first_found image.now ≡ None }
-{
-    let Some(it) = guard(alloc, image, layout) else {
-        return None;
-    };
-    let Guarded { memory, kernel } = it;
-    OuterMachine::start(alloc, memory, kernel, image, layout, Vec::new(alloc)).ok()
-}
-
 /// What was read for a call that takes so many bytes.
 fn read<'s>(wanted: Option<u64>, data: &'s [u8]) -> Source<'s>
     ensures { IsSourceOf wanted (sourced_of result) }
@@ -254,25 +196,25 @@ struct Made {
 /// Makes a call as a run made it; whether it is answered as there, and all books are right behind it.
 fn serve(
     alloc: Global,
-    beside: &mut Guarded,
+    beside: &mut Opened,
     books: &mut Books,
     called: &Called,
     source: &[u8],
 ) -> bool
-    requires { HoldsBooks beside.old.kernel beside.old.memory }
-    ensures { HoldsBooks beside.new.kernel beside.new.memory }
+    requires { HoldsBooks beside.old.kernel beside.old.mem }
+    ensures { HoldsBooks beside.new.kernel beside.new.mem }
 {
-    let Guarded { memory, kernel } = beside;
+    let Opened { kernel, mem } = beside;
     if kernel.regions().next() >= 1 << 63 {
         return false;
     }
-    books.follow(memory, called, source);
-    let source = read(kernel.wants(memory, &called.call), source);
-    let answer = kernel.serve(memory, &called.call, source);
-    if !books.are_in(memory) || !are_slots_right(kernel, memory) {
+    books.follow(mem, called, source);
+    let source = read(kernel.wants(mem, &called.call), source);
+    let answer = kernel.serve(mem, &called.call, source);
+    if !books.are_in(mem) || !are_slots_right(kernel, mem) {
         return false;
     }
-    match first_wrong(alloc, &kernel.tables().frames, memory) {
+    match first_wrong(alloc, &kernel.tables().frames, mem) {
         Ok(wrong) => answer == called.answer && wrong.is_none(),
         Err(_) => false,
     }
@@ -283,12 +225,12 @@ fn step<'i>(
     alloc: Global,
     machine: Machine<'i>,
     plan: &Plan,
-    beside: &mut Guarded,
+    beside: &mut Opened,
     books: &mut Books,
     made: &mut Made,
 ) -> Machine<'i>
-    requires { HoldsBooks beside.old.kernel beside.old.memory }
-    ensures { HoldsBooks beside.new.kernel beside.new.memory }
+    requires { HoldsBooks beside.old.kernel beside.old.mem }
+    ensures { HoldsBooks beside.new.kernel beside.new.mem }
 {
     match machine {
         Machine::Outer(outer) => {
@@ -322,7 +264,7 @@ fn step<'i>(
 #[derive(Drop)]
 struct Ran {
     end: Finished,
-    beside: Guarded,
+    beside: Opened,
     noted: (u64, usize),
     made: Made,
 }
@@ -331,7 +273,7 @@ struct Ran {
 fn run(alloc: Global, file: Vec<u8>, frames: u32) -> Option<Ran>
     requires { (512 ≤ frames) × (frames ≤ 65536) }
     ensures end { IfSome result (λ it. HoldsBooks it.end.kernel it.end.mem) }
-    ensures beside { IfSome result (λ it. HoldsBooks it.beside.kernel it.beside.memory) }
+    ensures beside { IfSome result (λ it. HoldsBooks it.beside.kernel it.beside.mem) }
 {
     let Some(image) = admitted(file) else {
         return None;
@@ -345,10 +287,10 @@ fn run(alloc: Global, file: Vec<u8>, frames: u32) -> Option<Ran>
     let Ok(mut books) = Books::new(alloc) else {
         return None;
     };
-    let Some(mut beside) = guard(alloc, &image, &layout) else {
+    let Some(mut beside) = open(alloc, &image, &layout) else {
         return None;
     };
-    let Some(start) = begin(alloc, &image, &layout) else {
+    let Some(start) = begun(alloc, &image, &layout, Vec::new(alloc)) else {
         return None;
     };
     let mut made = Made { calls: 0, wrong: 0 };
@@ -407,11 +349,23 @@ fn leave(alloc: Global, file: Vec<u8>, frames: u32, shown: [u32; 2]) -> Option<L
             descriptor(&end.mem, shown[1]),
         ],
         wrong,
-        same: are_same(&end.mem, &beside.memory, frames),
+        same: are_same(&end.mem, &beside.mem, frames),
         noted,
         made,
     })
 }
+
+/// MOV RBX, the direct map's address of frame 71, which is the first free one; MOV [RBX], AL. MOV EDI, 3; MOV ESI, 70;
+/// MOV EDX, 71; MOV RCX, a leaf of frame 71 that grants reads alone; MOV RAX, the gates; CALL RAX; MOV [RBX], AL. MOV
+/// EDI, 2; MOV ESI, 1; MOV EDX, 71; MOV RAX, the gates; CALL RAX; MOV [RBX], AL. The second store goes through the
+/// translation that the first one kept. The declaration empties the translations, so the third store faults.
+const DECLARES: [u8; 80] = [
+    0x48, 0xbb, 0x00, 0x70, 0x04, 0x00, 0x00, 0x80, 0xff, 0xff, 0x88, 0x03, 0xbf, 0x03, 0x00, 0x00,
+    0x00, 0xbe, 0x46, 0x00, 0x00, 0x00, 0xba, 0x47, 0x00, 0x00, 0x00, 0x48, 0xb9, 0x21, 0x70, 0x04,
+    0x00, 0x00, 0x00, 0x00, 0x80, 0x48, 0xb8, 0x00, 0x10, 0x00, 0x00, 0x80, 0xff, 0xff, 0xff, 0xff,
+    0xd0, 0x88, 0x03, 0xbf, 0x02, 0x00, 0x00, 0x00, 0xbe, 0x01, 0x00, 0x00, 0x00, 0xba, 0x47, 0x00,
+    0x00, 0x00, 0x48, 0xb8, 0x00, 0x10, 0x00, 0x00, 0x80, 0xff, 0xff, 0xff, 0xff, 0xd0, 0x88, 0x03,
+];
 
 #[test]
 fn a_closing_memory_holds_the_descriptors(rt: HostRuntime) -> Result<(), Fail> {
@@ -427,7 +381,7 @@ fn a_closing_memory_holds_the_descriptors(rt: HostRuntime) -> Result<(), Fail> {
         noted: (0, 0),
         made: Made { calls: 2, wrong: 0 },
     };
-    let file = image(alloc, &DECLARES)?;
+    let file = file(alloc, &DECLARES)?;
     assert_eq!(rt; leave(alloc, file, 512, [70, 71]), Some(left));
     Ok(())
 }

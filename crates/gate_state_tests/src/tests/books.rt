@@ -48,7 +48,7 @@ fn number(mem: &PhysMem, at: u64, count: u64) -> u64 {
 }
 
 /// What a slot holds, but for a region's frames.
-#[derive(Clone, Copy, Debug, PartialEq, Eq)]
+#[derive(Clone, Copy)]
 struct Slot {
     id: u64,
     first: u64,
@@ -98,7 +98,12 @@ fn count_slots(mem: &PhysMem) -> Option<usize> {
 }
 
 fn is_empty(mem: &PhysMem, at: u64) -> bool {
-    (0..SLOT_SIZE).all(|i| byte(mem, at.saturating_add(i)) == 0)
+    for i in 0..SLOT_SIZE {
+        if byte(mem, at.saturating_add(i)) != 0 {
+            return false;
+        }
+    }
+    true
 }
 
 /// Whether the slot holds what is told of the region.
