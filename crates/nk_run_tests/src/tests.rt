@@ -20,8 +20,9 @@ mod texts;
 
 use cases::Failing::{No, Put};
 use cases::File::{Filled, Holds, Nops, Placed, Segments};
-use cases::Wanted::{Bytes, Ending, Front, Long, Padded, Text};
-use cases::{Case, File, HALTING, first_other, shelf_of};
+use cases::Table::{Cases, Forms, Pages, Runs};
+use cases::Wanted::{Bytes, Ending, Front, Lines, Long, Padded, Text};
+use cases::{Case, HALTING, first_other, first_other_case};
 use nk_host::{MemShelf, MemSink};
 use nk_run::nk_main;
 use std::alloc::{AllocError, Global};
@@ -173,7 +174,9 @@ const ADMITTED: &str = "admitted entry ffffffff80000000 pages 1\n";
 /// One byte more than a file may have.
 const PAST_THE_LIMIT: usize = 67_108_865;
 
-static SEARCHED: [Case; 8] = [
+/// Code is searched at every address. The text is so many NOPs and then these bytes; a page that it doesn't fill is
+/// padded with zeros.
+static SEARCHED: [Case; 4] = [
     (&SCAN, &[(NAME, Nops(0, &[0xf4]))], No, 0, Text(ADMITTED)),
     // Inside an immediate.
     (
@@ -199,6 +202,10 @@ static SEARCHED: [Case; 8] = [
         0,
         Text(ADMITTED),
     ),
+];
+
+/// What stands behind the text counts, and the operand byte.
+static DECIDED: [Case; 4] = [
     (
         &SCAN,
         &[(NAME, Nops(4094, &[0x0f, 0x30]))],
@@ -231,13 +238,6 @@ static SEARCHED: [Case; 8] = [
     ),
 ];
 
-#[test]
-fn code_is_searched_at_every_address(rt: HostRuntime) -> Result<(), Fail> {
-    // The text is so many NOPs and then these bytes; a page that it doesn't fill is padded with zeros.
-    assert_eq!(rt; first_other(rt.alloc(), &SEARCHED)?, None);
-    Ok(())
-}
-
 /// The second case has another status.
 static OTHERS: [Case; 3] = [
     (&SCAN, &[HALTING], No, 0, Text(ADMITTED)),
@@ -246,7 +246,7 @@ static OTHERS: [Case; 3] = [
 ];
 
 /// Nothing of this is written.
-static UNWRITTEN: [Case; 7] = [
+static UNWRITTEN: [Case; 8] = [
     (
         &SCAN,
         &[HALTING],
@@ -260,18 +260,10 @@ static UNWRITTEN: [Case; 7] = [
     (&SCAN, &[HALTING], No, 0, Long(39, b"pages 1\n")),
     (&SCAN, &[HALTING], No, 0, Long(40, b"pages 2\n")),
     (&SCAN, &[HALTING], No, 0, Front(40)),
+    (&SCAN, &[HALTING], No, 0, Lines(&[(b'a', 1)])),
 ];
 
-/// A case that doesn't give what it should is found at its place.
-#[test]
-fn other_cases_are_found(rt: HostRuntime) -> Result<(), Fail> {
-    assert_eq!(rt; first_other(rt.alloc(), &OTHERS)?, Some(1));
-    for case in &UNWRITTEN {
-        assert_eq!(rt; first_other(rt.alloc(), &[*case])?, Some(0));
-    }
-    Ok(())
-}
-
+/// The form is judged before the code.
 static UNFORMED: [Case; 3] = [
     (
         &SCAN,
@@ -296,57 +288,32 @@ static UNFORMED: [Case; 3] = [
     ),
 ];
 
-#[test]
-fn the_form_is_judged_before_the_code(rt: HostRuntime) -> Result<(), Fail> {
-    assert_eq!(rt; first_other(rt.alloc(), &UNFORMED)?, None);
-    Ok(())
-}
+/// Other words have no form.
+static OTHER_WORDS: [&[&str]; 18] = [
+    &[],
+    &["scan"],
+    &["scan", NAME, NAME],
+    &["Scan", NAME],
+    &["join", NAME],
+    &["join", NAME, NAME, NAME],
+    &["--help"],
+    &["run", NAME, NAME, NAME, "10", "511"],
+    &["map", NAME, "512"],
+    &["map", NAME, "511", "0"],
+    &["map", NAME, "65537", "0"],
+    &["map", NAME, "0512", "0"],
+    &["map", NAME, "+512", "0"],
+    &["map", NAME, "", "0"],
+    &["map", NAME, "512", ""],
+    &["map", NAME, "512", "0x1000"],
+    &["map", NAME, "512", "0000800000000000"],
+    &["map", NAME, "512", "00000000000000000"],
+];
 
-/// The place of the first words that have a form, over a shelf of which the first call fails.
-fn first_with_form(
-    alloc: Global,
-    files: &[(&str, File)],
-    forms: &[&[&str]],
-) -> Result<Option<usize>, Fail> {
-    for (at, words) in forms.iter().enumerate() {
-        let files = shelf_of(alloc, files, &[])?;
-        let ran = run_over(alloc, words, files, &[1], &[], 0)?;
-        if ran.status != 2 || ran.text.as_slice() != USAGE.as_bytes() {
-            return Ok(Some(at));
-        }
-    }
-    Ok(None)
-}
+/// The second words have a form.
+static FORMED: [&[&str]; 3] = [&["scan"], &SCAN, &["scan"]];
 
-#[test]
-fn other_words_have_no_form(rt: HostRuntime) -> Result<(), Fail> {
-    let forms: &[&[&str]] = &[
-        &[],
-        &["scan"],
-        &["scan", NAME, NAME],
-        &["Scan", NAME],
-        &["join", NAME],
-        &["join", NAME, NAME, NAME],
-        &["--help"],
-        &["run", NAME, NAME, NAME, "10", "511"],
-        &["map", NAME, "512"],
-        &["map", NAME, "511", "0"],
-        &["map", NAME, "65537", "0"],
-        &["map", NAME, "0512", "0"],
-        &["map", NAME, "+512", "0"],
-        &["map", NAME, "", "0"],
-        &["map", NAME, "512", ""],
-        &["map", NAME, "512", "0x1000"],
-        &["map", NAME, "512", "0000800000000000"],
-        &["map", NAME, "512", "00000000000000000"],
-    ];
-    let files = [(NAME, Holds(&[]))];
-    assert_eq!(rt; first_with_form(rt.alloc(), &files, forms)?, None);
-    let others: &[&[&str]] = &[&["scan"], &SCAN, &["scan"]];
-    assert_eq!(rt; first_with_form(rt.alloc(), &files, others)?, Some(1));
-    Ok(())
-}
-
+/// A failing put leaves a prefix.
 static FRONTS: [Case; 2] = [
     (&SCAN, &[HALTING], Put(1, 3), 4, Text("adm")),
     (
@@ -357,12 +324,6 @@ static FRONTS: [Case; 2] = [
         Text("usage: nk"),
     ),
 ];
-
-#[test]
-fn a_failing_put_leaves_a_prefix(rt: HostRuntime) -> Result<(), Fail> {
-    assert_eq!(rt; first_other(rt.alloc(), &FRONTS)?, None);
-    Ok(())
-}
 
 /// Code that may be written: WRMSR.
 const WRITABLE: Segment = Segment {
@@ -393,6 +354,7 @@ const DATA: Segment = Segment {
     ..SECOND
 };
 
+/// Adjacent code pages of two segments are one run.
 static ADJACENT: [Case; 3] = [
     (
         &SCAN,
@@ -417,12 +379,6 @@ static ADJACENT: [Case; 3] = [
     ),
 ];
 
-#[test]
-fn adjacent_code_pages_of_two_segments_are_one_run(rt: HostRuntime) -> Result<(), Fail> {
-    assert_eq!(rt; first_other(rt.alloc(), &ADJACENT)?, None);
-    Ok(())
-}
-
 /// What is loaded of the compiled kernel's file.
 const COMPILED: [(usize, &[u8]); 4] = [
     (0, &compiled::HEADERS),
@@ -431,11 +387,44 @@ const COMPILED: [(usize, &[u8]); 4] = [
     (0x3000, &compiled::DATA),
 ];
 
+/// What gcc and ld built from examples/outer is admitted, with code, constants and data on pages of their own.
 static BUILT: [Case; 1] = [(&SCAN, &[(NAME, Placed(&COMPILED))], No, 0, Text(ADMITTED))];
 
-/// What gcc and ld built from examples/outer: admitted, with code, constants and data on pages of their own.
 #[test]
-fn a_compiled_kernel_is_admitted(rt: HostRuntime) -> Result<(), Fail> {
-    assert_eq!(rt; first_other(rt.alloc(), &BUILT)?, None);
+fn scans_are_as_worked_out(rt: HostRuntime) -> Result<(), Fail> {
+    let tables = [
+        Cases(&SEARCHED),
+        Cases(&DECIDED),
+        Cases(&UNFORMED),
+        Cases(&FRONTS),
+        Cases(&ADJACENT),
+        Cases(&BUILT),
+        Forms(&OTHER_WORDS),
+    ];
+    assert_eq!(rt; first_other(rt.alloc(), &tables)?, None);
+    Ok(())
+}
+
+/// A row that doesn't give what it should is found at its place.
+#[test]
+fn other_rows_are_found(rt: HostRuntime) -> Result<(), Fail> {
+    let alloc = rt.alloc();
+    let others = [
+        (Cases(&OTHERS), 1),
+        (Runs(0, cases::UNCHANGED, &run::OTHERS), 1),
+        (Runs(0, "", &run::OTHERS), 0),
+        (Runs(1, cases::UNCHANGED, &run::OTHERS), 0),
+        (Pages(&maps::KERNEL, "512", &maps::OTHERS), 1),
+        (Forms(&FORMED), 1),
+    ];
+    for (table, place) in others {
+        assert_eq!(rt;
+            first_other(alloc, &[Cases(&FRONTS), table])?,
+            Some((1, place))
+        );
+    }
+    for case in &UNWRITTEN {
+        assert_eq!(rt; first_other_case(alloc, &[*case])?, Some(0));
+    }
     Ok(())
 }

@@ -2,11 +2,12 @@
 //! have no log, and what comes before either.
 use super::cases::Failing::{Fetch, No, Put};
 use super::cases::File::{Code, Filled, Holds, Nops, Written};
+use super::cases::Table::{Cases, Forms};
 use super::cases::Wanted::{Any, Text};
 use super::cases::{Case, File, HALTING, HALTS, JOURNAL, first_other};
 use super::regions::{ALLOCATES_LOGGED, CALLS, STORES, WRITES};
 use super::run::{NO_INPUT, NO_PLAN, RUN};
-use super::{NAME, PAST_THE_LIMIT, first_with_form};
+use super::{NAME, PAST_THE_LIMIT};
 use std::test::Fail;
 
 /// The words of an audit of the regions that the tests have.
@@ -39,7 +40,8 @@ const HIDDEN: &str = "h 1 2 7\nrecords 2\nhidden 1\nchain good\n";
 
 const CLEAN: &str = "records 0\nhidden 0\nchain good\n";
 
-static HIDING: [Case; 8] = [
+/// What the records of a region hide.
+static HIDING: [Case; 4] = [
     (
         &AUDIT_256,
         &[HALTING, (JOURNAL, Holds(&[GIVES]))],
@@ -68,6 +70,10 @@ static HIDING: [Case; 8] = [
         0,
         Text("h 1 2 7\nb 2\nh 2 1 1\nrecords 3\nhidden 2\nchain broken\n"),
     ),
+];
+
+/// What later records show again, and what stands behind the records.
+static SHOWING: [Case; 4] = [
     (
         &AUDIT_256,
         &[HALTING, (JOURNAL, Holds(&[GIVES, LISTS, UNLINKS, LINKS]))],
@@ -109,12 +115,6 @@ static HIDING: [Case; 8] = [
     ),
 ];
 
-#[test]
-fn what_the_records_of_a_region_hide(rt: HostRuntime) -> Result<(), Fail> {
-    assert_eq!(rt; first_other(rt.alloc(), &HIDING)?, None);
-    Ok(())
-}
-
 /// Slot 1 of two has process 9, and no slot leads there.
 const TWO_REGIONS: (&str, File) = (
     JOURNAL,
@@ -132,6 +132,7 @@ const TWO_REGIONS: (&str, File) = (
 /// A write of 15 bytes.
 const FIFTEEN: &[u8] = b"k 9 100 0 ffff800000047000 f ffffffffffffffffffffffffffffff 0 -\n";
 
+/// Records of two regions are numbered in one row.
 static NUMBERED: [Case; 3] = [
     (
         &AUDIT_256,
@@ -156,12 +157,7 @@ static NUMBERED: [Case; 3] = [
     ),
 ];
 
-#[test]
-fn records_of_two_regions_are_numbered_in_one_row(rt: HostRuntime) -> Result<(), Fail> {
-    assert_eq!(rt; first_other(rt.alloc(), &NUMBERED)?, None);
-    Ok(())
-}
-
+/// Fifteen bytes have no slot and sixteen have one.
 static SLOTS: [Case; 2] = [
     (
         &AUDIT_256,
@@ -191,17 +187,12 @@ static SLOTS: [Case; 2] = [
     ),
 ];
 
-#[test]
-fn fifteen_bytes_have_no_slot_and_sixteen_have_one(rt: HostRuntime) -> Result<(), Fail> {
-    assert_eq!(rt; first_other(rt.alloc(), &SLOTS)?, None);
-    Ok(())
-}
-
 /// A page that is declared with policy 4.
 const DECLARED: &[u8] =
     b"k 3 46 47 8000000000047021 0 - 0 -\nk 6 ffff800000047000 1000 4 0 - 256 -\n";
 
-static UNLOGGED: [Case; 9] = [
+/// No region has the number.
+static UNKNOWN: [Case; 4] = [
     (
         &AUDIT_256,
         &[HALTING, (JOURNAL, Holds(&[]))],
@@ -230,6 +221,10 @@ static UNLOGGED: [Case; 9] = [
         9,
         Text("noregion 8589934591\n"),
     ),
+];
+
+/// A region has a log where a call 7 gave it policy 4.
+static UNLOGGED: [Case; 5] = [
     (
         &AUDIT_256,
         &[
@@ -274,12 +269,7 @@ static UNLOGGED: [Case; 9] = [
     ),
 ];
 
-#[test]
-fn a_region_has_a_log_where_a_call_7_gave_it_policy_4(rt: HostRuntime) -> Result<(), Fail> {
-    assert_eq!(rt; first_other(rt.alloc(), &UNLOGGED)?, None);
-    Ok(())
-}
-
+/// The lines of a journal come before its regions.
 static UNFORMED: [Case; 5] = [
     (
         &AUDIT_256,
@@ -328,12 +318,7 @@ static UNFORMED: [Case; 5] = [
     ),
 ];
 
-#[test]
-fn the_lines_of_a_journal_come_before_its_regions(rt: HostRuntime) -> Result<(), Fail> {
-    assert_eq!(rt; first_other(rt.alloc(), &UNFORMED)?, None);
-    Ok(())
-}
-
+/// The files and the room come before the journal's lines.
 static UNREAD: [Case; 5] = [
     (
         &AUDIT_300,
@@ -372,18 +357,13 @@ static UNREAD: [Case; 5] = [
     ),
 ];
 
-#[test]
-fn the_files_and_the_room_come_before_the_journal_s_lines(rt: HostRuntime) -> Result<(), Fail> {
-    assert_eq!(rt; first_other(rt.alloc(), &UNREAD)?, None);
-    Ok(())
-}
-
 /// The image of a region and a write to it.
 const WRITING: (&str, File) = (
     NAME,
     Code(&[&STORES, &ALLOCATES_LOGGED, &CALLS, &WRITES, &CALLS, &HALTS]),
 );
 
+/// A run is audited by its text. The journal of a run is its own text, with the closing section behind it.
 static AUDITED: [Case; 2] = [
     (&RUN, &[WRITING, NO_INPUT, NO_PLAN], No, 0, Any),
     (
@@ -395,13 +375,7 @@ static AUDITED: [Case; 2] = [
     ),
 ];
 
-/// The journal of a run is its own text, with the closing section behind it.
-#[test]
-fn a_run_is_audited_by_its_text(rt: HostRuntime) -> Result<(), Fail> {
-    assert_eq!(rt; first_other(rt.alloc(), &AUDITED)?, None);
-    Ok(())
-}
-
+/// An audit may be cut.
 static CUTS: [Case; 3] = [
     (
         &AUDIT_256,
@@ -426,29 +400,38 @@ static CUTS: [Case; 3] = [
     ),
 ];
 
-#[test]
-fn an_audit_may_be_cut(rt: HostRuntime) -> Result<(), Fail> {
-    assert_eq!(rt; first_other(rt.alloc(), &CUTS)?, None);
-    Ok(())
-}
+/// Other words are no audit.
+static OTHER_WORDS: [&[&str]; 13] = [
+    &["audit", NAME, "512", JOURNAL],
+    &["audit", NAME, "512", JOURNAL, "256", "256"],
+    &["audit", NAME, JOURNAL, "512", "256"],
+    &["audits", NAME, "512", JOURNAL, "256"],
+    &["audit", NAME, "511", JOURNAL, "256"],
+    &["audit", NAME, "65537", JOURNAL, "256"],
+    &["audit", NAME, "512", JOURNAL, "255"],
+    &["audit", NAME, "512", JOURNAL, "8589934592"],
+    &["audit", NAME, "512", JOURNAL, "18446744073709551872"],
+    &["audit", NAME, "512", JOURNAL, "0256"],
+    &["audit", NAME, "512", JOURNAL, "+256"],
+    &["audit", NAME, "512", JOURNAL, "0x100"],
+    &["audit", NAME, "512", JOURNAL, ""],
+];
 
 #[test]
-fn other_words_are_no_audit(rt: HostRuntime) -> Result<(), Fail> {
-    let forms: &[&[&str]] = &[
-        &["audit", NAME, "512", JOURNAL],
-        &["audit", NAME, "512", JOURNAL, "256", "256"],
-        &["audit", NAME, JOURNAL, "512", "256"],
-        &["audits", NAME, "512", JOURNAL, "256"],
-        &["audit", NAME, "511", JOURNAL, "256"],
-        &["audit", NAME, "65537", JOURNAL, "256"],
-        &["audit", NAME, "512", JOURNAL, "255"],
-        &["audit", NAME, "512", JOURNAL, "8589934592"],
-        &["audit", NAME, "512", JOURNAL, "18446744073709551872"],
-        &["audit", NAME, "512", JOURNAL, "0256"],
-        &["audit", NAME, "512", JOURNAL, "+256"],
-        &["audit", NAME, "512", JOURNAL, "0x100"],
-        &["audit", NAME, "512", JOURNAL, ""],
+fn audits_are_as_worked_out(rt: HostRuntime) -> Result<(), Fail> {
+    let tables = [
+        Cases(&HIDING),
+        Cases(&SHOWING),
+        Cases(&NUMBERED),
+        Cases(&SLOTS),
+        Cases(&UNKNOWN),
+        Cases(&UNLOGGED),
+        Cases(&UNFORMED),
+        Cases(&UNREAD),
+        Cases(&AUDITED),
+        Cases(&CUTS),
+        Forms(&OTHER_WORDS),
     ];
-    assert_eq!(rt; first_with_form(rt.alloc(), &[], forms)?, None);
+    assert_eq!(rt; first_other(rt.alloc(), &tables)?, None);
     Ok(())
 }

@@ -2,8 +2,9 @@
 use super::NAME;
 use super::cases::Failing::Put;
 use super::cases::File::Code;
+use super::cases::Table::{Cases, Runs};
 use super::cases::Wanted::Text;
-use super::cases::{Case, Run, UNCHANGED, first_other, first_other_run};
+use super::cases::{Case, Run, UNCHANGED, first_other};
 use super::run::{NO_INPUT, NO_PLAN, RUN};
 use std::test::Fail;
 
@@ -13,14 +14,14 @@ const SETS: [u8; 27] = [
     0x00, 0x00, 0x80, 0xff, 0xff, 0xff, 0xff, 0xd0, 0x0f, 0x0b, 0xf4,
 ];
 
-#[test]
-fn a_handler_is_set_and_takes_the_next_trap(rt: HostRuntime) -> Result<(), Fail> {
-    let lines = "k 1 ffffffff8000001a 0 0 0 - 0 -\ni 6 - ffffffff80000018 -\nend halted\nturns 34";
-    let section = "\nroot 5\ntrap ffffffff8000001a\n";
-    let runs: &[Run] = &[(&[&SETS], "", "100", lines)];
-    assert_eq!(rt; first_other_run(rt.alloc(), 0, section, runs)?, None);
-    Ok(())
-}
+/// The lines of a run of it, and the section behind them.
+const SET: &str =
+    "k 1 ffffffff8000001a 0 0 0 - 0 -\ni 6 - ffffffff80000018 -\nend halted\nturns 34";
+
+const HANDLED: &str = "\nroot 5\ntrap ffffffff8000001a\n";
+
+/// A handler is set and takes the next trap.
+static TAKEN: [Run; 1] = [(&[&SETS], "", "100", SET)];
 
 /// The handler's address isn't canonical: MOV RSI, 800000000000.
 const SETS_NO_ADDRESS: [u8; 28] = [
@@ -40,34 +41,31 @@ const JUMPS: [u8; 17] = [
     0xe1,
 ];
 
-#[test]
-fn a_call_that_breaks_a_rule_changes_nothing(rt: HostRuntime) -> Result<(), Fail> {
-    let runs: &[Run] = &[
-        (
-            &[&SETS_NO_ADDRESS],
-            "",
-            "100",
-            "k 1 800000000000 0 0 0 - 27 -\nend halted\nturns 23",
-        ),
-        (
-            &[&CALLS_0],
-            "",
-            "100",
-            "k 0 200 0 0 0 - 1 -\nend halted\nturns 22",
-        ),
-        // The body takes one turn: as many turns as it may take come first, and an event that is due comes behind.
-        (&[&JUMPS], "6 drop 0", "6", "end steps\nturns 6"),
-        (
-            &[&JUMPS],
-            "6 drop 0",
-            "7",
-            "k 47 200 0 ffffff800000100d 0 - 1 -\nend steps\nturns 7",
-        ),
-    ];
-    assert_eq!(rt; first_other_run(rt.alloc(), 0, UNCHANGED, runs)?, None);
-    Ok(())
-}
+/// A call that breaks a rule changes nothing.
+static REFUSED: [Run; 4] = [
+    (
+        &[&SETS_NO_ADDRESS],
+        "",
+        "100",
+        "k 1 800000000000 0 0 0 - 27 -\nend halted\nturns 23",
+    ),
+    (
+        &[&CALLS_0],
+        "",
+        "100",
+        "k 0 200 0 0 0 - 1 -\nend halted\nturns 22",
+    ),
+    // The body takes one turn: as many turns as it may take come first, and an event that is due comes behind.
+    (&[&JUMPS], "6 drop 0", "6", "end steps\nturns 6"),
+    (
+        &[&JUMPS],
+        "6 drop 0",
+        "7",
+        "k 47 200 0 ffffff800000100d 0 - 1 -\nend steps\nturns 7",
+    ),
+];
 
+/// The line of a call may be cut.
 static CUTS: [Case; 1] = [(
     &RUN,
     &[(NAME, Code(&[&SETS])), NO_INPUT, NO_PLAN],
@@ -77,7 +75,12 @@ static CUTS: [Case; 1] = [(
 )];
 
 #[test]
-fn the_line_of_a_call_may_be_cut(rt: HostRuntime) -> Result<(), Fail> {
-    assert_eq!(rt; first_other(rt.alloc(), &CUTS)?, None);
+fn calls_go_through_the_gates(rt: HostRuntime) -> Result<(), Fail> {
+    let tables = [
+        Runs(0, HANDLED, &TAKEN),
+        Runs(0, UNCHANGED, &REFUSED),
+        Cases(&CUTS),
+    ];
+    assert_eq!(rt; first_other(rt.alloc(), &tables)?, None);
     Ok(())
 }

@@ -1,6 +1,6 @@
-//! Cases as rows of a table: the words of the command line, the files of its shelf, the call that fails, and what has to
-//! come of it.
-use super::{NAME, Ran, Segment, image, image_of, run_over};
+//! Cases as rows of tables: the words of the command line, the files of its shelf, the call that fails, and what has to
+//! come of it; and shorter rows for runs, for pages that are looked up, and for words without a form.
+use super::{HOME, NAME, Ran, Segment, USAGE, gives, image, image_of, run_over};
 use std::alloc::{AllocError, Global};
 use std::test::Fail;
 
@@ -17,7 +17,7 @@ pub(super) const LIST: &str = "list";
 pub(super) const HALTS: [u8; 1] = [0xf4];
 
 /// The file of the halting kernel.
-pub(super) const HALTING: (&str, File) = (NAME, File::Code(&[&HALTS]));
+pub(super) const HALTING: (&str, File) = (NAME, File::Halting);
 
 /// The section behind the lines of a run that changed nothing of its opening.
 pub(super) const UNCHANGED: &str = "\nroot 5\ntrap ffffff80000011da\n";
@@ -25,6 +25,10 @@ pub(super) const UNCHANGED: &str = "\nroot 5\ntrap ffffff80000011da\n";
 /// What a file of the shelf holds.
 #[derive(Clone, Copy)]
 pub(super) enum File {
+    /// No byte.
+    Empty,
+    /// The halting kernel.
+    Halting,
     /// These pieces, one behind the other.
     Holds(&'static [&'static [u8]]),
     /// A byte so many times, and then these bytes.
@@ -35,6 +39,8 @@ pub(super) enum File {
     Code(&'static [&'static [u8]]),
     /// An image with a text of so many NOPs and then these bytes.
     Nops(usize, &'static [u8]),
+    /// An image of pages, one behind the other: so many with these flags and bytes.
+    Pages(&'static [(usize, u32, &'static [u8])]),
     /// An image of these segments.
     Segments(&'static [Segment<'static>]),
     /// The halting kernel's file, 4,097 bytes, with these bytes at these places.
@@ -68,6 +74,8 @@ pub(super) enum Wanted {
     Long(usize, &'static [u8]),
     /// The first bytes of what the last case of status 0 wrote, so many of them.
     Front(usize),
+    /// So many lines that begin with these letters and a space.
+    Lines(&'static [(u8, usize)]),
     Any,
 }
 
@@ -81,7 +89,8 @@ pub(super) type Case = (
 );
 
 fn filled(alloc: Global, byte: u8, count: usize, rest: &[u8]) -> Result<Vec<u8>, AllocError> {
-    let mut bytes = vec![in alloc; byte; count]?;
+    let mut bytes = Vec::new(alloc);
+    bytes.resize(count, byte)?;
     bytes.extend_from_slice(rest)?;
     Ok(bytes)
 }
@@ -93,6 +102,38 @@ fn repeated(alloc: Global, count: usize, line: &[u8], last: &[u8]) -> Result<Vec
     }
     bytes.extend_from_slice(last)?;
     Ok(bytes)
+}
+
+/// The segment of the image's page of this number.
+fn page_of(number: u64, flags: u32, bytes: &[u8]) -> Segment {
+    Segment {
+        flags,
+        offset: number.saturating_add(1) << 12,
+        address: HOME | number << 12,
+        memory: bytes.len() as u64,
+        nops: 0,
+        bytes,
+    }
+}
+
+fn push_pages<'a>(
+    segments: &mut Vec<Segment<'a>>,
+    count: usize,
+    flags: u32,
+    bytes: &'a [u8],
+) -> Result<(), AllocError> {
+    for _ in 0..count {
+        segments.push(page_of(segments.len() as u64, flags, bytes))?;
+    }
+    Ok(())
+}
+
+fn paged(alloc: Global, pages: &[(usize, u32, &[u8])]) -> Result<Vec<u8>, AllocError> {
+    let mut segments = Vec::new(alloc);
+    for (count, flags, bytes) in pages {
+        push_pages(&mut segments, *count, *flags, bytes)?;
+    }
+    image_of(alloc, &segments)
 }
 
 /// Writes bytes at a place, past the end too.
@@ -125,11 +166,14 @@ fn cut(mut file: Vec<u8>, length: usize) -> Vec<u8> {
 /// The bytes of a file, where this was written last.
 fn contents(alloc: Global, file: File, written: &[u8]) -> Result<Vec<u8>, AllocError> {
     match file {
+        File::Empty => Ok(Vec::new(alloc)),
+        File::Halting => image(alloc, &HALTS),
         File::Holds(pieces) => pieces.concat(alloc),
         File::Filled(byte, count, rest) => filled(alloc, byte, count, rest),
         File::Lines(count, line, last) => repeated(alloc, count, line, last),
         File::Code(pieces) => image(alloc, &pieces.concat(alloc)?),
         File::Nops(count, rest) => image(alloc, &filled(alloc, 0x90, count, rest)?),
+        File::Pages(pages) => paged(alloc, pages),
         File::Segments(segments) => image_of(alloc, segments),
         File::Changed(changes) => placed(image(alloc, &HALTS)?, changes),
         File::Cut(length) => Ok(cut(image(alloc, &HALTS)?, length)),
@@ -172,6 +216,28 @@ fn padded(alloc: Global, texts: &[(&str, usize)]) -> Result<Vec<u8>, AllocError>
     Ok(bytes)
 }
 
+/// How many lines of a text begin with this letter and a space.
+fn count_lines(text: &[u8], letter: u8) -> usize {
+    let mut count = 0usize;
+    let mut before = *b"\n\n";
+    for byte in text {
+        if before == [b'\n', letter] && *byte == b' ' {
+            count = count.saturating_add(1);
+        }
+        before = [before[1], *byte];
+    }
+    count
+}
+
+fn has_lines(text: &[u8], counts: &[(u8, usize)]) -> bool {
+    for (letter, count) in counts {
+        if count_lines(text, *letter) != *count {
+            return false;
+        }
+    }
+    true
+}
+
 fn is_wanted(
     alloc: Global,
     wanted: Wanted,
@@ -185,6 +251,7 @@ fn is_wanted(
         Wanted::Ending(texts) => Ok(text.ends_with(&padded(alloc, texts)?)),
         Wanted::Long(length, end) => Ok(text.len() == length && text.ends_with(end)),
         Wanted::Front(length) => Ok(text.len() == length && written.starts_with(text)),
+        Wanted::Lines(counts) => Ok(has_lines(text, counts)),
         Wanted::Any => Ok(true),
     }
 }
@@ -201,7 +268,7 @@ fn run_case(alloc: Global, case: &Case, written: &[u8]) -> Result<Ran, Fail> {
 }
 
 /// The place of the first case that gives another status or text.
-pub(super) fn first_other(alloc: Global, cases: &[Case]) -> Result<Option<usize>, Fail> {
+pub(super) fn first_other_case(alloc: Global, cases: &[Case]) -> Result<Option<usize>, Fail> {
     let mut written = Vec::new(alloc);
     for (at, case) in cases.iter().enumerate() {
         let ran = run_case(alloc, case, &written)?;
@@ -216,23 +283,23 @@ pub(super) fn first_other(alloc: Global, cases: &[Case]) -> Result<Option<usize>
 }
 
 /// The pieces of a text, a plan, the most turns, and the lines of the run of an image with that text.
-pub(super) type Run<'a> = (&'a [&'a [u8]], &'a str, &'a str, &'a str);
+pub(super) type Run = (
+    &'static [&'static [u8]],
+    &'static str,
+    &'static str,
+    &'static str,
+);
 
 /// A run in 512 frames, without input.
 fn run_planned(alloc: Global, run: &Run) -> Result<Ran, Fail> {
     let (code, plan, steps, _) = *run;
-    let mut files = Vec::new(alloc);
-    files.push((
-        String::from_str(alloc, NAME)?,
-        image(alloc, &code.concat(alloc)?)?,
-    ))?;
-    files.push((String::from_str(alloc, INPUT)?, Vec::new(alloc)))?;
-    files.push((
-        String::from_str(alloc, PLAN)?,
-        plan.as_bytes().to_vec(alloc)?,
-    ))?;
+    let files = [
+        (NAME, File::Code(code)),
+        (INPUT, File::Empty),
+        (PLAN, File::Lines(0, &[], plan.as_bytes())),
+    ];
     let words = ["run", NAME, INPUT, PLAN, steps, "512"];
-    run_over(alloc, &words, files, &[], &[], 0)
+    run_over(alloc, &words, shelf_of(alloc, &files, &[])?, &[], &[], 0)
 }
 
 /// Whether the text is these two, one behind the other.
@@ -244,7 +311,7 @@ fn is_both(text: &[u8], front: &[u8], back: &[u8]) -> bool {
 
 /// The place of the first run that doesn't end with this status, or writes something else than its lines and this section
 /// behind them.
-pub(super) fn first_other_run(
+fn first_other_run(
     alloc: Global,
     status: u8,
     section: &str,
@@ -254,6 +321,69 @@ pub(super) fn first_other_run(
         let ran = run_planned(alloc, run)?;
         if ran.status != status || !is_both(&ran.text, run.3.as_bytes(), section.as_bytes()) {
             return Ok(Some(at));
+        }
+    }
+    Ok(None)
+}
+
+/// An address, and the line that `map` writes of it.
+pub(super) type Page = (&'static str, &'static str);
+
+/// The place of the first address for which `map` writes another line, over an image in so many frames.
+fn first_other_page(
+    alloc: Global,
+    files: &[(&str, File)],
+    frames: &'static str,
+    pages: &[Page],
+) -> Result<Option<usize>, Fail> {
+    for (at, (address, line)) in pages.iter().enumerate() {
+        let files = shelf_of(alloc, files, &[])?;
+        let ran = run_over(alloc, &["map", NAME, frames, address], files, &[], &[], 0)?;
+        if !gives(&ran, 0, line) {
+            return Ok(Some(at));
+        }
+    }
+    Ok(None)
+}
+
+/// The place of the first words that have a form, over a shelf of which the first call fails.
+fn first_with_form(alloc: Global, forms: &[&[&str]]) -> Result<Option<usize>, Fail> {
+    for (at, words) in forms.iter().enumerate() {
+        let files = shelf_of(alloc, &[(NAME, File::Empty)], &[])?;
+        let ran = run_over(alloc, words, files, &[1], &[], 0)?;
+        if !gives(&ran, 2, USAGE) {
+            return Ok(Some(at));
+        }
+    }
+    Ok(None)
+}
+
+/// Rows of one kind.
+#[derive(Clone, Copy)]
+pub(super) enum Table {
+    Cases(&'static [Case]),
+    /// Runs that end with this status, and this section behind their lines.
+    Runs(u8, &'static str, &'static [Run]),
+    /// Pages of the image in these files, in so many frames.
+    Pages(&'static [(&'static str, File)], &'static str, &'static [Page]),
+    /// Words that have no form.
+    Forms(&'static [&'static [&'static str]]),
+}
+
+fn first_in(alloc: Global, table: Table) -> Result<Option<usize>, Fail> {
+    match table {
+        Table::Cases(cases) => first_other_case(alloc, cases),
+        Table::Runs(status, section, runs) => first_other_run(alloc, status, section, runs),
+        Table::Pages(files, frames, pages) => first_other_page(alloc, files, frames, pages),
+        Table::Forms(forms) => first_with_form(alloc, forms),
+    }
+}
+
+/// The first table with a row that gives something else, and the row's place in it.
+pub(super) fn first_other(alloc: Global, tables: &[Table]) -> Result<Option<(usize, usize)>, Fail> {
+    for (number, table) in tables.iter().enumerate() {
+        if let Some(at) = first_in(alloc, *table)? {
+            return Ok(Some((number, at)));
         }
     }
     Ok(None)

@@ -1,6 +1,7 @@
 //! Worked cases of `run` with upper entries that the processor keeps: a page that the tables no longer map is stored to
 //! through an entry that a plan's event kept, until the entry goes.
-use super::cases::{Run, first_other_run};
+use super::cases::Table::Runs;
+use super::cases::{Run, first_other};
 use std::test::Fail;
 
 /// MOV RBX, the direct map's address of frame 71; MOV EDI, 3; MOV ESI, 69; MOV RAX, the gates; CALL RAX. RDX and RCX are
@@ -25,63 +26,66 @@ const FAULTED: &str =
 
 const STORED: &str = "k 3 45 0 0 0 - 0 -\nend halted\nturns 25";
 
+/// A kept entry serves a page that is unlinked.
+static KEPT: [Run; 9] = [
+    (&[&UNLINKS, &STORES], "", "100", FAULTED),
+    (
+        &[&UNLINKS, &STORES],
+        "0 keep 2 ffff800000000000",
+        "100",
+        STORED,
+    ),
+    // The page's translation alone goes.
+    (
+        &[&UNLINKS, &STORES],
+        "0 keep 2 ffff800000000000\n14 drop ffff800000047000",
+        "100",
+        STORED,
+    ),
+    (
+        &[&UNLINKS, &STORES],
+        "0 keep 2 ffff800000000000\n14 forget 2 ffff8000001ff000",
+        "100",
+        FAULTED,
+    ),
+    // The entry of the next 2 MiB is missing, and those of levels 3 and 4 lead to the entry that is 0.
+    (
+        &[&UNLINKS, &STORES],
+        "0 keep 2 ffff800000200000",
+        "100",
+        FAULTED,
+    ),
+    (
+        &[&UNLINKS, &STORES],
+        "0 keep 3 ffff800000000000\n0 keep 4 ffff800000000000",
+        "100",
+        FAULTED,
+    ),
+    // Once the entry is unlinked none is kept, and an older one goes on being kept.
+    (
+        &[&UNLINKS, &STORES],
+        "20 keep 2 ffff800000000000",
+        "100",
+        FAULTED,
+    ),
+    (
+        &[&UNLINKS, &STORES],
+        "0 keep 2 ffff800000000000\n20 keep 2 ffff800000000000",
+        "100",
+        STORED,
+    ),
+    // The entry goes with INVLPG.
+    (
+        &[&UNLINKS, &INVALIDATES, &STORES],
+        "0 keep 2 ffff800000000000",
+        "100",
+        "k 3 45 0 0 0 - 0 -\ni 14 2 ffffffff80000023 ffff800000047000\nend halted\nturns 36",
+    ),
+];
+
 #[test]
-fn a_kept_entry_serves_a_page_that_is_unlinked(rt: HostRuntime) -> Result<(), Fail> {
-    let runs: &[Run] = &[
-        (&[&UNLINKS, &STORES], "", "100", FAULTED),
-        (
-            &[&UNLINKS, &STORES],
-            "0 keep 2 ffff800000000000",
-            "100",
-            STORED,
-        ),
-        // The page's translation alone goes.
-        (
-            &[&UNLINKS, &STORES],
-            "0 keep 2 ffff800000000000\n14 drop ffff800000047000",
-            "100",
-            STORED,
-        ),
-        (
-            &[&UNLINKS, &STORES],
-            "0 keep 2 ffff800000000000\n14 forget 2 ffff8000001ff000",
-            "100",
-            FAULTED,
-        ),
-        // The entry of the next 2 MiB is missing, and those of levels 3 and 4 lead to the entry that is 0.
-        (
-            &[&UNLINKS, &STORES],
-            "0 keep 2 ffff800000200000",
-            "100",
-            FAULTED,
-        ),
-        (
-            &[&UNLINKS, &STORES],
-            "0 keep 3 ffff800000000000\n0 keep 4 ffff800000000000",
-            "100",
-            FAULTED,
-        ),
-        // Once the entry is unlinked none is kept, and an older one goes on being kept.
-        (
-            &[&UNLINKS, &STORES],
-            "20 keep 2 ffff800000000000",
-            "100",
-            FAULTED,
-        ),
-        (
-            &[&UNLINKS, &STORES],
-            "0 keep 2 ffff800000000000\n20 keep 2 ffff800000000000",
-            "100",
-            STORED,
-        ),
-        // The entry goes with INVLPG.
-        (
-            &[&UNLINKS, &INVALIDATES, &STORES],
-            "0 keep 2 ffff800000000000",
-            "100",
-            "k 3 45 0 0 0 - 0 -\ni 14 2 ffffffff80000023 ffff800000047000\nend halted\nturns 36",
-        ),
-    ];
-    assert_eq!(rt; first_other_run(rt.alloc(), 0, UNLINKED, runs)?, None);
+fn entries_are_kept_until_they_go(rt: HostRuntime) -> Result<(), Fail> {
+    let tables = [Runs(0, UNLINKED, &KEPT)];
+    assert_eq!(rt; first_other(rt.alloc(), &tables)?, None);
     Ok(())
 }

@@ -1,8 +1,7 @@
 //! Hostile files, and ends that fail at each of their calls.
-ghost use Rattle.std.specs.Prelude.{◌<◌};
-
 use super::cases::Failing::No;
 use super::cases::File::{Changed, Cut, Holds, Segments};
+use super::cases::Table::Cases;
 use super::cases::Wanted::Text;
 use super::cases::{Case, File, HALTING, HALTS, INPUT, JOURNAL, LIST, PLAN, first_other, shelf_of};
 use super::run::{NO_INPUT, NO_PLAN};
@@ -15,7 +14,8 @@ const MODULE: &str = "a";
 
 const TEXT: &str = "text";
 
-static FAULTS: [Case; 17] = [
+/// Each fault has its line: those of the file's header.
+static FILE_FAULTS: [Case; 5] = [
     (
         &SCAN,
         &[(NAME, Changed(&[(3, &[0x47])]))],
@@ -51,6 +51,10 @@ static FAULTS: [Case; 17] = [
         1,
         Text("image 5 Machine 18\n"),
     ),
+];
+
+/// Those of the table.
+static TABLE_FAULTS: [Case; 4] = [
     (
         &SCAN,
         &[(NAME, Changed(&[(54, &[57])]))],
@@ -79,6 +83,10 @@ static FAULTS: [Case; 17] = [
         1,
         Text("image 6 Table 32\n"),
     ),
+];
+
+/// Those of a segment.
+static SEGMENT_FAULTS: [Case; 4] = [
     (
         &SCAN,
         &[(NAME, Changed(&[(96, &[2])]))],
@@ -107,6 +115,10 @@ static FAULTS: [Case; 17] = [
         1,
         Text("image 11 WritableCode 0\n"),
     ),
+];
+
+/// Those of the entry and of the size; the largest image is admitted.
+static ENTRY_FAULTS: [Case; 4] = [
     (
         &SCAN,
         &[(NAME, Changed(&[(68, &[4])]))],
@@ -137,12 +149,6 @@ static FAULTS: [Case; 17] = [
     ),
 ];
 
-#[test]
-fn each_fault_has_its_line(rt: HostRuntime) -> Result<(), Fail> {
-    assert_eq!(rt; first_other(rt.alloc(), &FAULTS)?, None);
-    Ok(())
-}
-
 /// The segment and the entry at 1000, below the home of images.
 const LOW: [(usize, &[u8]); 2] = [
     (80, &[0, 0x10, 0, 0, 0, 0, 0, 0]),
@@ -156,6 +162,7 @@ const PAGE: Segment = Segment {
     ..CODE
 };
 
+/// A segment is whole and lies alone at home.
 static ALONE: [Case; 6] = [
     (&SCAN, &[(NAME, Cut(0))], No, 1, Text("image 1 Short 0\n")),
     (&SCAN, &[(NAME, Cut(63))], No, 1, Text("image 1 Short 63\n")),
@@ -184,14 +191,9 @@ static ALONE: [Case; 6] = [
     ),
 ];
 
-#[test]
-fn a_segment_is_whole_and_lies_alone_at_home(rt: HostRuntime) -> Result<(), Fail> {
-    assert_eq!(rt; first_other(rt.alloc(), &ALONE)?, None);
-    Ok(())
-}
-
 const REPLAY: [&str; 4] = ["replay", NAME, "512", JOURNAL];
 
+/// A journal is judged by its calls.
 static JUDGED: [Case; 4] = [
     (
         &REPLAY,
@@ -224,14 +226,22 @@ static JUDGED: [Case; 4] = [
 ];
 
 #[test]
-fn a_journal_is_judged_by_its_calls(rt: HostRuntime) -> Result<(), Fail> {
-    assert_eq!(rt; first_other(rt.alloc(), &JUDGED)?, None);
+fn hostile_files_have_their_lines(rt: HostRuntime) -> Result<(), Fail> {
+    let tables = [
+        Cases(&FILE_FAULTS),
+        Cases(&TABLE_FAULTS),
+        Cases(&SEGMENT_FAULTS),
+        Cases(&ENTRY_FAULTS),
+        Cases(&ALONE),
+        Cases(&JUDGED),
+    ];
+    assert_eq!(rt; first_other(rt.alloc(), &tables)?, None);
     Ok(())
 }
 
 /// The halting kernel, an input and a plan without bytes, a journal of one call that gives a region of 64 bytes whose
 /// writes are logged, a list of one module of RET, and a text of RET.
-const FILES: [(&str, File); 7] = [
+static FILES: [(&str, File); 7] = [
     HALTING,
     NO_INPUT,
     NO_PLAN,
@@ -241,64 +251,69 @@ const FILES: [(&str, File); 7] = [
     (TEXT, Holds(&[b"ret.64 - value 0"])),
 ];
 
-/// A command's words, the file of each of its own calls of the shelf, and how many calls of the sink it makes.
-#[derive(Clone, Copy)]
-struct Calls<'a> {
-    words: &'a [&'a str],
-    files: &'a [&'a str],
+/// A command's words, the line that each of its own calls of the shelf has where it fails, and how many calls of the sink
+/// it makes.
+struct Calls {
+    words: &'static [&'static str],
+    unread: &'static [&'static str],
     puts: u64,
 }
 
 /// Each command once, over the halting kernel. `scan` asks for its file's size, first bytes, table and page.
-const EACH: [Calls; 10] = [
+static EACH: [Calls; 10] = [
     Calls {
         words: &["scan", NAME],
-        files: &["image", "image", "image", "image"],
+        unread: &[
+            "unread image\n",
+            "unread image\n",
+            "unread image\n",
+            "unread image\n",
+        ],
         puts: 1,
     },
     Calls {
         words: &["map", NAME, "512", "0"],
-        files: &["image"],
+        unread: &["unread image\n"],
         puts: 1,
     },
     Calls {
         words: &["run", NAME, INPUT, PLAN, "10", "512"],
-        files: &["image", "input", "plan"],
+        unread: &["unread image\n", "unread input\n", "unread plan\n"],
         puts: 4,
     },
     Calls {
         words: &["replay", NAME, "512", JOURNAL],
-        files: &["image", "journal"],
+        unread: &["unread image\n", "unread journal\n"],
         puts: 3,
     },
     Calls {
         words: &["make", "1"],
-        files: &[],
+        unread: &[],
         puts: 4,
     },
     Calls {
         words: &["work", "1"],
-        files: &[],
+        unread: &[],
         puts: 7,
     },
     Calls {
         words: &["join", NAME, LIST],
-        files: &["image", "list", "module"],
+        unread: &["unread image\n", "unread list\n", "unread module\n"],
         puts: 4,
     },
     Calls {
         words: &["audit", NAME, "512", JOURNAL, "256"],
-        files: &["image", "journal"],
+        unread: &["unread image\n", "unread journal\n"],
         puts: 3,
     },
     Calls {
         words: &["asm", TEXT],
-        files: &["text"],
+        unread: &["unread text\n"],
         puts: 1,
     },
     Calls {
         words: &["list", NAME, "ffffffff80000000", "1"],
-        files: &["image"],
+        unread: &["unread image\n"],
         puts: 1,
     },
 ];
@@ -315,60 +330,82 @@ fn give(alloc: Global, calls: &Calls, fetch: u64, put: u64, cut: usize) -> Resul
     )
 }
 
-/// A call that fails is told by the role of its file exactly where the command makes it; else nothing is changed.
-#[test]
-fn each_call_of_the_shelf_may_fail(rt: HostRuntime) -> Result<(), Fail> {
-    let alloc = rt.alloc();
-    for calls in &EACH {
-        let whole = give(alloc, calls, 0, 0, 0)?;
-        assert_eq!(rt; whole.status, 0);
-        for number in 1..7 {
-            let ran = give(alloc, calls, number, 0, 0)?;
-            match calls.files.get(number as usize - 1) {
-                Some(role) => {
-                    let line = format!(in alloc; "unread {role}\n")?;
-                    assert!(rt; gives(&ran, 3, line.as_str()), "{number}");
-                }
-                None => {
-                    assert!(rt; ran.status == 0 && ran.text.as_slice() == whole.text.as_slice());
-                }
-            }
-        }
-    }
-    Ok(())
+/// Whether the command ends as it does where no call fails.
+fn is_same(ran: &Ran, whole: &Ran) -> bool {
+    ran.status == 0 && ran.text.as_slice() == whole.text.as_slice()
 }
 
-/// How many bytes of a text stand before a put of this number: lines go out one by one, and an image, a joined file and
-/// code in pieces of 4,096 bytes.
-fn before(calls: &Calls, text: &[u8], number: usize) -> usize
-    requires { number < 100 }
-{
+/// Whether a call of the shelf that fails is told by the role of its file where the command makes it, and else changes
+/// nothing; `place` is the number of the calls before it.
+fn is_told(alloc: Global, calls: &Calls, whole: &Ran, place: usize) -> Result<bool, Fail> {
+    let ran = give(alloc, calls, (place as u64).saturating_add(1), 0, 0)?;
+    match calls.unread.get(place) {
+        Some(line) => Ok(gives(&ran, 3, line)),
+        None => Ok(is_same(&ran, whole)),
+    }
+}
+
+/// How many of the first six calls of the shelf are told as they should be, up to the first other one.
+fn count_told(alloc: Global, calls: &Calls) -> Result<usize, Fail> {
+    let whole = give(alloc, calls, 0, 0, 0)?;
+    for place in 0..6 {
+        if whole.status != 0 || !is_told(alloc, calls, &whole, place)? {
+            return Ok(place);
+        }
+    }
+    Ok(6)
+}
+
+/// How many bytes stand in the first lines of a text, so many of them.
+fn bytes_of_lines(text: &[u8], count: u64) -> usize {
+    let mut lines = 0u64;
+    let mut bytes = 0usize;
+    for byte in text {
+        if lines < count {
+            bytes = bytes.saturating_add(1);
+        }
+        if *byte == b'\n' {
+            lines = lines.saturating_add(1);
+        }
+    }
+    bytes
+}
+
+/// How many bytes of a text stand before a put that has so many before it: lines go out one by one, and an image, a
+/// joined file and code in pieces of 4,096 bytes.
+fn before(calls: &Calls, text: &[u8], puts: u64) -> usize {
     if matches!(calls.words.first(), Some(&"make" | &"join" | &"asm")) {
-        return 4096 * number;
+        return (puts as usize).saturating_mul(4096);
     }
-    let mut taken = 0usize;
-    for line in text.split(|byte| *byte == b'\n').take(number) {
-        taken = taken.saturating_add(line.len()).saturating_add(1);
-    }
-    taken
+    bytes_of_lines(text, puts)
 }
 
-/// A put that fails ends the command with what was taken: a prefix of the text.
+/// Whether a put that fails, with so many before it, ends the command with what was taken: a prefix of the text.
+fn is_cut(alloc: Global, calls: &Calls, whole: &Ran, puts: u64, cut: usize) -> Result<bool, Fail> {
+    let ran = give(alloc, calls, 0, puts.saturating_add(1), cut)?;
+    let taken = before(calls, &whole.text, puts).saturating_add(cut);
+    Ok(ran.status == 4 && ran.text.len() == taken && whole.text.starts_with(&ran.text))
+}
+
+/// How many puts end the command as they should where they fail, up to the first other one, with or without a byte; the
+/// one behind the last is never made.
+fn count_cut(alloc: Global, calls: &Calls) -> Result<u64, Fail> {
+    let whole = give(alloc, calls, 0, 0, 0)?;
+    for puts in 0..calls.puts {
+        if !is_cut(alloc, calls, &whole, puts, 0)? || !is_cut(alloc, calls, &whole, puts, 1)? {
+            return Ok(puts);
+        }
+    }
+    let ran = give(alloc, calls, 0, calls.puts.saturating_add(1), 0)?;
+    Ok(calls.puts.saturating_add(u64::from(is_same(&ran, &whole))))
+}
+
 #[test]
-fn each_call_of_the_sink_may_fail(rt: HostRuntime) -> Result<(), Fail> {
+fn each_call_of_the_shelf_and_of_the_sink_may_fail(rt: HostRuntime) -> Result<(), Fail> {
     let alloc = rt.alloc();
     for calls in &EACH {
-        let whole = give(alloc, calls, 0, 0, 0)?;
-        for number in 1..calls.puts + 1 {
-            for cut in [0, 1] {
-                let ran = give(alloc, calls, 0, number, cut)?;
-                let taken = before(calls, &whole.text, number as usize - 1).saturating_add(cut);
-                assert!(rt; ran.status == 4 && ran.text.len() == taken, "{number}");
-                assert!(rt; whole.text.starts_with(&ran.text));
-            }
-        }
-        let ran = give(alloc, calls, 0, calls.puts + 1, 0)?;
-        assert!(rt; ran.status == 0 && ran.text.as_slice() == whole.text.as_slice());
+        let counts = (count_told(alloc, calls)?, count_cut(alloc, calls)?);
+        assert_eq!(rt; counts, (6, calls.puts.saturating_add(1)));
     }
     Ok(())
 }

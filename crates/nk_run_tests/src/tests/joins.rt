@@ -1,6 +1,7 @@
 //! Worked cases of `join`: a module behind a guard page and packed, each of its statuses, and the order of its checks.
 use super::cases::Failing::{Fetch, No, Put};
 use super::cases::File::{Code, Filled, Holds, Lines, Nops, Segments, Written};
+use super::cases::Table::Cases;
 use super::cases::Wanted::{Any, Front, Long, Text};
 use super::cases::{Case, File, HALTING, HALTS, LIST, first_other};
 use super::{CODE, DATA, NAME, SCAN, Segment};
@@ -16,6 +17,7 @@ const DIRECTORY: [u8; 24] = [
     1, 0, 0, 0, 0, 0, 0, 0, 0, 0x20, 0, 0x80, 0xff, 0xff, 0xff, 0xff, 1, 0, 0, 0, 0, 0, 0, 0,
 ];
 
+/// A module stands behind a guard page.
 static GUARDED: [Case; 2] = [
     (
         &JOIN,
@@ -33,12 +35,7 @@ static GUARDED: [Case; 2] = [
     ),
 ];
 
-#[test]
-fn a_module_stands_behind_a_guard_page(rt: HostRuntime) -> Result<(), Fail> {
-    assert_eq!(rt; first_other(rt.alloc(), &GUARDED)?, None);
-    Ok(())
-}
-
+/// A packed module is scanned with its neighbours.
 static PACKED: [Case; 2] = [
     (
         &JOIN,
@@ -64,13 +61,8 @@ static PACKED: [Case; 2] = [
     ),
 ];
 
-#[test]
-fn a_packed_module_is_scanned_with_its_neighbours(rt: HostRuntime) -> Result<(), Fail> {
-    assert_eq!(rt; first_other(rt.alloc(), &PACKED)?, None);
-    Ok(())
-}
-
-static CHECKS: [Case; 12] = [
+/// Each check has its line: those of the list, and of a module that no file holds.
+static LISTS: [Case; 4] = [
     (&JOIN, &[HALTING], No, 3, Text("unread list\n")),
     (
         &JOIN,
@@ -97,6 +89,10 @@ static CHECKS: [Case; 12] = [
         3,
         Text("unread module\n"),
     ),
+];
+
+/// Those of modules.
+static MODULES: [Case; 4] = [
     (
         &JOIN,
         &[HALTING, (LIST, Holds(&[b"pack a"])), ("a", Holds(&[]))],
@@ -140,6 +136,10 @@ static CHECKS: [Case; 12] = [
         1,
         Text("protected ffffffff80001000 0f30\n"),
     ),
+];
+
+/// Those of each file that isn't read, in order.
+static UNREAD: [Case; 4] = [
     (
         &JOIN,
         &[HALTING, (LIST, Holds(&[b"pack a"])), RETURNS],
@@ -170,12 +170,7 @@ static CHECKS: [Case; 12] = [
     ),
 ];
 
-#[test]
-fn each_check_has_its_line(rt: HostRuntime) -> Result<(), Fail> {
-    assert_eq!(rt; first_other(rt.alloc(), &CHECKS)?, None);
-    Ok(())
-}
-
+/// Images, lists and modules have bounds. The image is judged before the list.
 static BOUNDS: [Case; 6] = [
     (
         &JOIN,
@@ -233,13 +228,6 @@ static BOUNDS: [Case; 6] = [
     ),
 ];
 
-/// The image is judged before the list.
-#[test]
-fn images_lists_and_modules_have_bounds(rt: HostRuntime) -> Result<(), Fail> {
-    assert_eq!(rt; first_other(rt.alloc(), &BOUNDS)?, None);
-    Ok(())
-}
-
 /// Code at the first page of the home.
 const FIRST: Segment = Segment {
     memory: 1,
@@ -270,6 +258,7 @@ const THREE_BEFORE: Segment = Segment {
     ..AT_LAST
 };
 
+/// Modules end before the directory.
 static TALL: [Case; 5] = [
     (
         &JOIN,
@@ -328,12 +317,7 @@ static TALL: [Case; 5] = [
     ),
 ];
 
-#[test]
-fn modules_end_before_the_directory(rt: HostRuntime) -> Result<(), Fail> {
-    assert_eq!(rt; first_other(rt.alloc(), &TALL)?, None);
-    Ok(())
-}
-
+/// A joined image goes out in pieces.
 static PIECES: [Case; 4] = [
     (
         &JOIN,
@@ -366,7 +350,17 @@ static PIECES: [Case; 4] = [
 ];
 
 #[test]
-fn a_joined_image_goes_out_in_pieces(rt: HostRuntime) -> Result<(), Fail> {
-    assert_eq!(rt; first_other(rt.alloc(), &PIECES)?, None);
+fn joins_are_as_worked_out(rt: HostRuntime) -> Result<(), Fail> {
+    let tables = [
+        Cases(&GUARDED),
+        Cases(&PACKED),
+        Cases(&LISTS),
+        Cases(&MODULES),
+        Cases(&UNREAD),
+        Cases(&BOUNDS),
+        Cases(&TALL),
+        Cases(&PIECES),
+    ];
+    assert_eq!(rt; first_other(rt.alloc(), &tables)?, None);
     Ok(())
 }

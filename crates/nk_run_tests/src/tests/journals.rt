@@ -1,12 +1,14 @@
 //! Worked cases of `replay`: texts of runs as they are, changed and cut off, and journals that are out of form.
 use super::cases::Failing::{Fetch, No, Put};
 use super::cases::File::{Code, Filled, Holds, Nops, Written};
+use super::cases::Table::{Cases, Forms};
 use super::cases::Wanted::{Any, Ending, Padded, Text};
 use super::cases::{Case, File, HALTING, HALTS, JOURNAL, first_other, shelf_of};
 use super::regions::{ALLOCATES_LOGGED, CALLS, DECLARES_71, READS_71, STORES, WRITES};
 use super::run::{NO_INPUT, NO_PLAN, RUN};
 use super::tables::{DECLARED, DECLARES};
-use super::{NAME, PAST_THE_LIMIT, first_with_form, gives, run_over};
+use super::{NAME, PAST_THE_LIMIT, gives, run_over};
+use std::alloc::Global;
 use std::test::Fail;
 
 /// The words of a replay in the least memory.
@@ -32,6 +34,7 @@ const PAGE: (&str, File) = (
 const LOGGED: &str = "root 5\ntrap ffffff80000011da\n\
     r 256 4 ffffff8000010000 8 0000616263640000\nl 0 256 2 61626364\n";
 
+/// The text of a run is a journal.
 static REPLAYED: [Case; 4] = [
     (&RUN, &[TABLES, NO_INPUT, NO_PLAN], No, 0, Text(DECLARED)),
     (
@@ -46,16 +49,12 @@ static REPLAYED: [Case; 4] = [
     (&REPLAY, &[REGION, (JOURNAL, Written)], No, 0, Text(LOGGED)),
 ];
 
-#[test]
-fn the_text_of_a_run_is_a_journal(rt: HostRuntime) -> Result<(), Fail> {
-    assert_eq!(rt; first_other(rt.alloc(), &REPLAYED)?, None);
-    Ok(())
-}
-
 /// The section of the page, up to its bytes.
 const GUARDED: &str = "root 5\ntrap ffffff80000011da\nf 71 guarded\nt 70 71 8000000000047021\n\
     r 256 3 ffff800000047000 4096 ";
 
+/// A replay shows what calls alone leave. The outer kernel's own stores are no calls: the run shows what it stored
+/// before it declared the page, and a replay what the opening has there.
 static LEFT: [Case; 2] = [
     (
         &RUN,
@@ -73,18 +72,11 @@ static LEFT: [Case; 2] = [
     ),
 ];
 
-/// The outer kernel's own stores are no calls: the run shows what it stored before it declared the page, and a replay
-/// what the opening has there.
-#[test]
-fn a_replay_shows_what_calls_alone_leave(rt: HostRuntime) -> Result<(), Fail> {
-    assert_eq!(rt; first_other(rt.alloc(), &LEFT)?, None);
-    Ok(())
-}
-
 /// A region of 8 bytes, whose writes are logged.
 const GIVES: &[u8] = b"k 7 8 4 0 0 - 256 ffffff8000010000\n";
 
-static REFUSED: [Case; 6] = [
+/// A journal that was changed is refused.
+static REFUSED: [Case; 3] = [
     // The second answer.
     (
         &REPLAY,
@@ -130,6 +122,10 @@ static REFUSED: [Case; 6] = [
         6,
         Text("journal line 3\n"),
     ),
+];
+
+/// A place or a source that was changed is refused.
+static MISPLACED: [Case; 3] = [
     // The place of a region, and the bytes of a source, which have to number the length.
     (
         &REPLAY,
@@ -169,16 +165,11 @@ static REFUSED: [Case; 6] = [
     ),
 ];
 
-#[test]
-fn a_journal_that_was_changed_is_refused(rt: HostRuntime) -> Result<(), Fail> {
-    assert_eq!(rt; first_other(rt.alloc(), &REFUSED)?, None);
-    Ok(())
-}
-
 /// What is shown where a call set the handler.
 const HANDLED: &str = "root 5\ntrap ffffffff8000001a\n";
 
-static ENDED: [Case; 8] = [
+/// A journal may be empty and end anywhere.
+static ENDED: [Case; 4] = [
     (
         &REPLAY,
         &[HALTING, (JOURNAL, Holds(&[b""]))],
@@ -208,6 +199,10 @@ static ENDED: [Case; 8] = [
         0,
         Text(OPENED),
     ),
+];
+
+/// Lines without an end, and calls that the end follows or not.
+static WITHOUT_END: [Case; 4] = [
     // What the console and deliveries show has no effect.
     (
         &REPLAY,
@@ -258,13 +253,8 @@ static ENDED: [Case; 8] = [
     ),
 ];
 
-#[test]
-fn a_journal_may_be_empty_and_end_anywhere(rt: HostRuntime) -> Result<(), Fail> {
-    assert_eq!(rt; first_other(rt.alloc(), &ENDED)?, None);
-    Ok(())
-}
-
-static UNFORMED: [Case; 13] = [
+/// The first line of a journal out of form is named: one that is empty, or ends otherwise.
+static UNENDED: [Case; 4] = [
     (
         &REPLAY,
         &[HALTING, (JOURNAL, Holds(&[b"\n"]))],
@@ -293,6 +283,10 @@ static UNFORMED: [Case; 13] = [
         6,
         Text("journal line 2\n"),
     ),
+];
+
+/// One that isn't a line of a run.
+static UNFORMED: [Case; 5] = [
     (
         &REPLAY,
         &[HALTING, (JOURNAL, Holds(&[b"c 4\0\n"]))],
@@ -328,6 +322,10 @@ static UNFORMED: [Case; 13] = [
         6,
         Text("journal line 1\n"),
     ),
+];
+
+/// One with a number that is too long or too large.
+static TOO_LONG: [Case; 4] = [
     // Numbers of 17 digits, and an answer of 2^64.
     (
         &REPLAY,
@@ -374,38 +372,8 @@ static UNFORMED: [Case; 13] = [
     ),
 ];
 
-#[test]
-fn the_first_line_of_a_journal_out_of_form_is_named(rt: HostRuntime) -> Result<(), Fail> {
-    assert_eq!(rt; first_other(rt.alloc(), &UNFORMED)?, None);
-    Ok(())
-}
-
-/// A journal that is cut off within a line is refused at that line, and behind a whole line it has fewer calls.
-#[test]
-fn a_journal_may_be_cut_off(rt: HostRuntime) -> Result<(), Fail> {
-    let alloc = rt.alloc();
-    for cut in 0..DECLARED.len() + 1 {
-        let (front, behind) = DECLARED.as_bytes().split_at(cut);
-        let number = 1 + front.iter().filter(|byte| **byte == b'\n').count();
-        let is_whole = front.is_empty() || front.ends_with(b"\n") || behind.starts_with(b"\n");
-        let mut files = shelf_of(alloc, &[TABLES], &[])?;
-        files.push((String::from_str(alloc, JOURNAL)?, front.to_vec(alloc)?))?;
-        let ran = run_over(alloc, &REPLAY, files, &[], &[], 0)?;
-        // The fourth line is the end.
-        if is_whole || number > 4 {
-            assert!(rt;
-                ran.status == 0 && ran.text.starts_with(OPENED.as_bytes()),
-                "{cut}"
-            );
-        } else {
-            let line = format!(in alloc; "journal line {number}\n")?;
-            assert!(rt; gives(&ran, 6, &line), "{cut}");
-        }
-    }
-    Ok(())
-}
-
-static UNREAD: [Case; 9] = [
+/// A journal is fetched after the image and read after the room.
+static UNREAD: [Case; 4] = [
     (
         &REPLAY,
         &[HALTING, (JOURNAL, Filled(b'c', 67_108_864, &[]))],
@@ -434,6 +402,10 @@ static UNREAD: [Case; 9] = [
         3,
         Text("unread journal\n"),
     ),
+];
+
+/// A journal's name has no file, or what comes before isn't so; and a line may be cut.
+static UNNAMED: [Case; 5] = [
     (
         &["replay", NAME, "512", "none"],
         &[HALTING, (JOURNAL, Holds(&[]))],
@@ -472,22 +444,71 @@ static UNREAD: [Case; 9] = [
     ),
 ];
 
+/// Other words are no replay.
+static OTHER_WORDS: [&[&str]; 4] = [
+    &["replay", NAME, "512"],
+    &["replay", NAME, "512", JOURNAL, JOURNAL],
+    &["replay", NAME, JOURNAL, "512"],
+    &["Replay", NAME, "512", JOURNAL],
+];
+
 #[test]
-fn a_journal_is_fetched_after_the_image_and_read_after_the_room(
-    rt: HostRuntime,
-) -> Result<(), Fail> {
-    assert_eq!(rt; first_other(rt.alloc(), &UNREAD)?, None);
+fn replays_are_as_worked_out(rt: HostRuntime) -> Result<(), Fail> {
+    let tables = [
+        Cases(&REPLAYED),
+        Cases(&LEFT),
+        Cases(&REFUSED),
+        Cases(&MISPLACED),
+        Cases(&ENDED),
+        Cases(&WITHOUT_END),
+        Cases(&UNENDED),
+        Cases(&UNFORMED),
+        Cases(&TOO_LONG),
+        Cases(&UNREAD),
+        Cases(&UNNAMED),
+        Forms(&OTHER_WORDS),
+    ];
+    assert_eq!(rt; first_other(rt.alloc(), &tables)?, None);
     Ok(())
 }
 
+/// What a replay says of a line that is cut off, by the number of the lines before it. The fourth line is the end.
+static CUT_OFF: [&str; 4] = [
+    "journal line 1\n",
+    "journal line 2\n",
+    "journal line 3\n",
+    "journal line 4\n",
+];
+
+/// How many lines of a text are ended.
+fn count_ends(text: &[u8]) -> usize {
+    let mut count = 0usize;
+    for byte in text {
+        if *byte == b'\n' {
+            count = count.saturating_add(1);
+        }
+    }
+    count
+}
+
+/// Whether a replay of the front gives what it should.
+fn is_judged(alloc: Global, front: &[u8], behind: &[u8]) -> Result<bool, Fail> {
+    let is_whole = front.is_empty() || front.ends_with(b"\n") || behind.starts_with(b"\n");
+    let mut files = shelf_of(alloc, &[TABLES], &[])?;
+    files.push((String::from_str(alloc, JOURNAL)?, front.to_vec(alloc)?))?;
+    let ran = run_over(alloc, &REPLAY, files, &[], &[], 0)?;
+    match CUT_OFF.get(count_ends(front)) {
+        Some(line) if !is_whole => Ok(gives(&ran, 6, line)),
+        _ => Ok(ran.status == 0 && ran.text.starts_with(OPENED.as_bytes())),
+    }
+}
+
+/// A journal that is cut off within a line is refused at that line, and behind a whole line it has fewer calls.
 #[test]
-fn other_words_are_no_replay(rt: HostRuntime) -> Result<(), Fail> {
-    let forms: &[&[&str]] = &[
-        &["replay", NAME, "512"],
-        &["replay", NAME, "512", JOURNAL, JOURNAL],
-        &["replay", NAME, JOURNAL, "512"],
-        &["Replay", NAME, "512", JOURNAL],
-    ];
-    assert_eq!(rt; first_with_form(rt.alloc(), &[], forms)?, None);
+fn a_journal_may_be_cut_off(rt: HostRuntime) -> Result<(), Fail> {
+    for cut in 0..DECLARED.len() + 1 {
+        let (front, behind) = DECLARED.as_bytes().split_at(cut);
+        assert!(rt; is_judged(rt.alloc(), front, behind)?, "{cut}");
+    }
     Ok(())
 }

@@ -1,14 +1,13 @@
 //! Worked cases of `run` over long files, with ample memory: an input of a million bytes, a plan of many lines, and an
 //! image with as many headers as one may have.
-ghost use Rattle.std.specs.Prelude.{◌<◌};
-
 use super::cases::Failing::No;
-use super::cases::File::{Code, Filled, Lines};
+use super::cases::File::{Code, Filled, Lines, Pages};
+use super::cases::Table::Cases;
 use super::cases::Wanted::Text;
-use super::cases::{Case, INPUT, PLAN, first_other, shelf_of};
+use super::cases::{Case, INPUT, PLAN, first_other};
 use super::deliveries::TURNS;
 use super::run::{NO_INPUT, NO_PLAN, RUN};
-use super::{HOME, NAME, READ, READ_EXECUTE, Segment, gives, image_of, run_over};
+use super::{NAME, READ, READ_EXECUTE};
 use std::test::Fail;
 
 /// MOV ECX, 20000.
@@ -31,6 +30,7 @@ const GOES_ON: [u8; 11] = [
 const DELIVERED: &str =
     "i 47 - ffffffff80000001 -\nend halted\nturns 15\nroot 5\ntrap ffffff80000011da\n";
 
+/// An input and a plan are taken to their end.
 static TAKEN: [Case; 3] = [
     // 20,000 times 52 turns, and five beside them.
     (
@@ -71,46 +71,36 @@ static TAKEN: [Case; 3] = [
     ),
 ];
 
-#[test]
-fn an_input_and_a_plan_are_taken_to_their_end(rt: HostRuntime) -> Result<(), Fail> {
-    assert_eq!(rt; first_other(rt.alloc(), &TAKEN)?, None);
-    Ok(())
-}
-
 /// MOV AL, the byte at FFFFFFFF80001000; OUT E9, AL; MOV AL, the byte at FFFFFFFF8003F000; OUT E9, AL; HLT.
 const SHOWS: [u8; 19] = [
     0x8a, 0x04, 0x25, 0x00, 0x10, 0x00, 0x80, 0xe6, 0xe9, 0x8a, 0x04, 0x25, 0x00, 0xf0, 0x03, 0x80,
     0xe6, 0xe9, 0xf4,
 ];
 
-/// The segment of the image's page of this number.
-fn page_of(number: u64, flags: u32, bytes: &[u8]) -> Segment
-    requires { number < 64 }
-{
-    Segment {
-        flags,
-        offset: 4096 * (number + 1),
-        address: HOME + 4096 * number,
-        memory: bytes.len() as u64,
-        nops: 0,
-        bytes,
-    }
-}
+/// An image of 64 headers runs.
+static HEADED: [Case; 1] = [(
+    &RUN,
+    &[
+        (
+            NAME,
+            Pages(&[
+                (1, READ_EXECUTE, &SHOWS),
+                (1, READ, b"!"),
+                (61, READ, b"*"),
+                (1, READ, b"Z"),
+            ]),
+        ),
+        NO_INPUT,
+        NO_PLAN,
+    ],
+    No,
+    0,
+    Text("c 21\nc 5a\nend halted\nturns 5\nroot 5\ntrap ffffff80000011da\n"),
+)];
 
 #[test]
-fn an_image_of_64_headers_runs(rt: HostRuntime) -> Result<(), Fail> {
-    let alloc = rt.alloc();
-    let mut segments = Vec::new(alloc);
-    segments.push(page_of(0, READ_EXECUTE, &SHOWS))?;
-    segments.push(page_of(1, READ, b"!"))?;
-    for number in 2..63 {
-        segments.push(page_of(number, READ, b"*"))?;
-    }
-    segments.push(page_of(63, READ, b"Z"))?;
-    let mut files = shelf_of(alloc, &[NO_INPUT, NO_PLAN], &[])?;
-    files.push((String::from_str(alloc, NAME)?, image_of(alloc, &segments)?))?;
-    let ran = run_over(alloc, &RUN, files, &[], &[], 0)?;
-    let text = "c 21\nc 5a\nend halted\nturns 5\nroot 5\ntrap ffffff80000011da\n";
-    assert!(rt; gives(&ran, 0, text));
+fn long_files_are_taken_to_their_end(rt: HostRuntime) -> Result<(), Fail> {
+    let tables = [Cases(&TAKEN), Cases(&HEADED)];
+    assert_eq!(rt; first_other(rt.alloc(), &tables)?, None);
     Ok(())
 }

@@ -1,121 +1,78 @@
 //! Worked cases of `map`: the pages of the image, of the nested area and of the direct map, and the order of its checks.
 use super::cases::Failing::{Fetch, No};
 use super::cases::File::{Code, Holds, Nops, Segments};
+use super::cases::Table::{Cases, Pages};
 use super::cases::Wanted::Text;
-use super::cases::{Case, File, HALTING, first_other, shelf_of};
-use super::{ADMITTED, CODE, NAME, READ, READ_WRITE, SCAN, Segment, gives, run_over};
-use std::alloc::Global;
+use super::cases::{Case, File, HALTING, Page, first_other};
+use super::{ADMITTED, CODE, NAME, READ, READ_WRITE, SCAN, Segment};
 use std::test::Fail;
 
-/// The place of the first address for which `map` writes another line, over an image in so many frames.
-fn first_other_page(
-    alloc: Global,
-    file: File,
-    frames: &str,
-    pages: &[(&str, &str)],
-) -> Result<Option<usize>, Fail> {
-    for (at, (address, line)) in pages.iter().enumerate() {
-        let files = shelf_of(alloc, &[(NAME, file)], &[])?;
-        let ran = run_over(alloc, &["map", NAME, frames, address], files, &[], &[], 0)?;
-        if !gives(&ran, 0, line) {
-            return Ok(Some(at));
-        }
-    }
-    Ok(None)
-}
+/// The halting kernel.
+pub(super) static KERNEL: [(&str, File); 1] = [HALTING];
 
-/// The halting kernel in 512 frames.
-#[test]
-fn the_image_s_page_may_be_executed(rt: HostRuntime) -> Result<(), Fail> {
-    let pages = [
-        ("ffffffff80000000", "frame 67 r-xs\n"),
-        ("FFFFFFFF80000FFF", "frame 67 r-xs\n"),
-        ("ffffffff80001000", "missing 1\n"),
-        ("ffffffff80200000", "missing 2\n"),
-    ];
-    assert_eq!(rt;
-        first_other_page(rt.alloc(), HALTING.1, "512", &pages)?,
-        None
-    );
-    let others = [
-        ("ffffffff80000000", "frame 67 r-xs\n"),
-        ("ffffffff80000000", "frame 67 rw-s\n"),
-        ("ffffffff80000000", "frame 67 r-xs\n"),
-    ];
-    assert_eq!(rt;
-        first_other_page(rt.alloc(), HALTING.1, "512", &others)?,
-        Some(1)
-    );
-    Ok(())
-}
+/// The image's page may be executed.
+static EXECUTED: [Page; 4] = [
+    ("ffffffff80000000", "frame 67 r-xs\n"),
+    ("FFFFFFFF80000FFF", "frame 67 r-xs\n"),
+    ("ffffffff80001000", "missing 1\n"),
+    ("ffffffff80200000", "missing 2\n"),
+];
 
-#[test]
-fn the_nested_area_is_mapped_page_by_page(rt: HostRuntime) -> Result<(), Fail> {
-    let pages = [
-        ("ffffff8000000000", "frame 0 r--s\n"),
-        ("ffffff8000001000", "frame 1 r-xs\n"),
-        ("ffffff8000002000", "frame 2 r--s\n"),
-        ("ffffff8000003000", "frame 3 rw-s\n"),
-        ("ffffff8000004000", "frame 4 r--s\n"),
-        ("ffffff8000005000", "missing 1\n"),
-        ("ffffff800000f000", "missing 1\n"),
-        ("ffffff8000010000", "frame 10 r--s\n"),
-        ("ffffff800001f000", "frame 25 r--s\n"),
-        ("ffffff8000020000", "missing 1\n"),
-        ("ffffff8000200000", "missing 2\n"),
-        ("ffffff8040000000", "missing 3\n"),
-    ];
-    assert_eq!(rt;
-        first_other_page(rt.alloc(), HALTING.1, "512", &pages)?,
-        None
-    );
-    Ok(())
-}
+/// The second page has other rights.
+pub(super) static OTHERS: [Page; 3] = [
+    ("ffffffff80000000", "frame 67 r-xs\n"),
+    ("ffffffff80000000", "frame 67 rw-s\n"),
+    ("ffffffff80000000", "frame 67 r-xs\n"),
+];
 
-#[test]
-fn the_direct_map_shows_each_frame_but_the_hidden_ones(rt: HostRuntime) -> Result<(), Fail> {
-    let pages = [
-        ("ffff800000000000", "frame 0 r--s\n"),
-        ("ffff800000003000", "frame 3 r--s\n"),
-        ("ffff800000005000", "frame 5 r--s\n"),
-        ("ffff800000019000", "frame 25 r--s\n"),
-        ("ffff80000001a000", "missing 1\n"),
-        ("ffff80000003f000", "missing 1\n"),
-        ("ffff800000041000", "missing 1\n"),
-        ("ffff800000042000", "frame 66 r--s\n"),
-        ("ffff800000043000", "frame 67 r--s\n"),
-        ("ffff800000046000", "frame 70 r--s\n"),
-        ("ffff800000047000", "frame 71 rw-s\n"),
-        ("ffff8000001ff000", "frame 511 rw-s\n"),
-        ("ffff800000200000", "missing 2\n"),
-        ("ffff800040000000", "missing 3\n"),
-        ("0", "missing 4\n"),
-        ("7fffffffffff", "missing 4\n"),
-        ("ffff808000000000", "missing 4\n"),
-    ];
-    assert_eq!(rt;
-        first_other_page(rt.alloc(), HALTING.1, "512", &pages)?,
-        None
-    );
-    Ok(())
-}
+/// The nested area is mapped page by page.
+static NESTED: [Page; 12] = [
+    ("ffffff8000000000", "frame 0 r--s\n"),
+    ("ffffff8000001000", "frame 1 r-xs\n"),
+    ("ffffff8000002000", "frame 2 r--s\n"),
+    ("ffffff8000003000", "frame 3 rw-s\n"),
+    ("ffffff8000004000", "frame 4 r--s\n"),
+    ("ffffff8000005000", "missing 1\n"),
+    ("ffffff800000f000", "missing 1\n"),
+    ("ffffff8000010000", "frame 10 r--s\n"),
+    ("ffffff800001f000", "frame 25 r--s\n"),
+    ("ffffff8000020000", "missing 1\n"),
+    ("ffffff8000200000", "missing 2\n"),
+    ("ffffff8040000000", "missing 3\n"),
+];
 
-#[test]
-fn the_largest_memory_is_mapped_to_its_end(rt: HostRuntime) -> Result<(), Fail> {
-    let pages = [
-        ("ffffffff80000000", "frame 321 r-xs\n"),
-        ("ffff80000ffff000", "frame 65535 rw-s\n"),
-        ("ffff800010000000", "missing 2\n"),
-    ];
-    assert_eq!(rt;
-        first_other_page(rt.alloc(), HALTING.1, "65536", &pages)?,
-        None
-    );
-    Ok(())
-}
+/// The direct map shows each frame but the hidden ones.
+static DIRECT: [Page; 17] = [
+    ("ffff800000000000", "frame 0 r--s\n"),
+    ("ffff800000003000", "frame 3 r--s\n"),
+    ("ffff800000005000", "frame 5 r--s\n"),
+    ("ffff800000019000", "frame 25 r--s\n"),
+    ("ffff80000001a000", "missing 1\n"),
+    ("ffff80000003f000", "missing 1\n"),
+    ("ffff800000041000", "missing 1\n"),
+    ("ffff800000042000", "frame 66 r--s\n"),
+    ("ffff800000043000", "frame 67 r--s\n"),
+    ("ffff800000046000", "frame 70 r--s\n"),
+    ("ffff800000047000", "frame 71 rw-s\n"),
+    ("ffff8000001ff000", "frame 511 rw-s\n"),
+    ("ffff800000200000", "missing 2\n"),
+    ("ffff800040000000", "missing 3\n"),
+    ("0", "missing 4\n"),
+    ("7fffffffffff", "missing 4\n"),
+    ("ffff808000000000", "missing 4\n"),
+];
+
+/// The largest memory is mapped to its end.
+static LARGEST: [Page; 3] = [
+    ("ffffffff80000000", "frame 321 r-xs\n"),
+    ("ffff80000ffff000", "frame 65535 rw-s\n"),
+    ("ffff800010000000", "missing 2\n"),
+];
 
 const LOWEST: [&str; 4] = ["map", NAME, "512", "0"];
 
+/// An image is mapped where it is admitted and has room. `map` refuses what `scan` refuses, and an image whose opening
+/// has no room.
 static MAPPED: [Case; 5] = [
     (
         &LOWEST,
@@ -154,13 +111,6 @@ static MAPPED: [Case; 5] = [
     ),
 ];
 
-/// `map` refuses what `scan` refuses, and an image whose opening has no room.
-#[test]
-fn an_image_is_mapped_where_it_is_admitted_and_has_room(rt: HostRuntime) -> Result<(), Fail> {
-    assert_eq!(rt; first_other(rt.alloc(), &MAPPED)?, None);
-    Ok(())
-}
-
 /// Data first in the table, with a page that the file doesn't fill; constants; code.
 const THREE: [Segment; 3] = [
     Segment {
@@ -187,24 +137,34 @@ const THREE: [Segment; 3] = [
 
 static SCANNED: [Case; 1] = [(&SCAN, &[(NAME, Segments(&THREE))], No, 0, Text(ADMITTED))];
 
+/// The image of them.
+static SEGMENTED: [(&str, File); 1] = [(NAME, Segments(&THREE))];
+
+/// Segments become pages by address.
+static SEGMENTS: [Page; 10] = [
+    ("ffffffff80000000", "frame 67 r-xs\n"),
+    ("ffffffff80001000", "frame 68 r--s\n"),
+    ("ffffffff80002000", "frame 69 rw-s\n"),
+    ("ffffffff80003000", "frame 70 rw-s\n"),
+    ("ffffffff80004000", "missing 1\n"),
+    ("ffff800000043000", "frame 67 r--s\n"),
+    ("ffff800000044000", "frame 68 r--s\n"),
+    ("ffff800000045000", "frame 69 rw-s\n"),
+    ("ffff800000047000", "frame 71 r--s\n"),
+    ("ffff80000004a000", "frame 74 rw-s\n"),
+];
+
 #[test]
-fn segments_become_pages_by_address(rt: HostRuntime) -> Result<(), Fail> {
-    assert_eq!(rt; first_other(rt.alloc(), &SCANNED)?, None);
-    let pages = [
-        ("ffffffff80000000", "frame 67 r-xs\n"),
-        ("ffffffff80001000", "frame 68 r--s\n"),
-        ("ffffffff80002000", "frame 69 rw-s\n"),
-        ("ffffffff80003000", "frame 70 rw-s\n"),
-        ("ffffffff80004000", "missing 1\n"),
-        ("ffff800000043000", "frame 67 r--s\n"),
-        ("ffff800000044000", "frame 68 r--s\n"),
-        ("ffff800000045000", "frame 69 rw-s\n"),
-        ("ffff800000047000", "frame 71 r--s\n"),
-        ("ffff80000004a000", "frame 74 rw-s\n"),
+fn pages_are_mapped_as_worked_out(rt: HostRuntime) -> Result<(), Fail> {
+    let tables = [
+        Pages(&KERNEL, "512", &EXECUTED),
+        Pages(&KERNEL, "512", &NESTED),
+        Pages(&KERNEL, "512", &DIRECT),
+        Pages(&KERNEL, "65536", &LARGEST),
+        Cases(&MAPPED),
+        Cases(&SCANNED),
+        Pages(&SEGMENTED, "512", &SEGMENTS),
     ];
-    assert_eq!(rt;
-        first_other_page(rt.alloc(), Segments(&THREE), "512", &pages)?,
-        None
-    );
+    assert_eq!(rt; first_other(rt.alloc(), &tables)?, None);
     Ok(())
 }

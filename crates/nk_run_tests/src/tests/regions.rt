@@ -3,8 +3,9 @@
 use super::NAME;
 use super::cases::Failing::No;
 use super::cases::File::Code;
+use super::cases::Table::{Cases, Runs};
 use super::cases::Wanted::Padded;
-use super::cases::{Case, HALTS, Run, first_other, first_other_run};
+use super::cases::{Case, HALTS, Run, first_other};
 use super::run::{NO_INPUT, NO_PLAN, RUN};
 use std::test::Fail;
 
@@ -46,55 +47,54 @@ const LONG: [u8; 11] = [
     0xbe, 0x00, 0x01, 0x00, 0x00, 0x41, 0xb8, 0x07, 0x00, 0x00, 0x00,
 ];
 
-#[test]
-fn a_write_is_taken_or_changes_nothing(rt: HostRuntime) -> Result<(), Fail> {
-    let once = "k 7 10 1 0 0 - 256 ffffff8000010000\n\
-        k 9 100 2 ffff800000047000 4 61626364 0 -\n\
-        k 9 100 5 ffff800000047000 4 61626364 24 -\nend halted\nturns 72\nroot 5\n\
-        trap ffffff80000011da\nr 256 1 ffffff8000010000 16 00006162636400000000000000000000\n";
-    let untaken = "k 7 8 4 0 0 - 256 ffffff8000010000\nk 9 100 2 1000 4 ! 22 -\n\
-        k 9 101 2 1000 4 - 19 -\nk 9 100 2 1000 7 - 21 -\nend halted\nturns 95\nroot 5\n\
-        trap ffffff80000011da\nr 256 4 ffffff8000010000 8 0000000000000000\n";
-    let runs: &[Run] = &[
-        // A byte is written once.
-        (
-            &[
-                &STORES,
-                &ALLOCATES_ONCE,
-                &CALLS,
-                &WRITES,
-                &CALLS,
-                &AGAIN,
-                &CALLS,
-                &HALTS,
-            ],
-            "",
-            "100",
-            once,
-        ),
-        // What is not taken and what cannot be read.
-        (
-            &[
-                &STORES,
-                &ALLOCATES_LOGGED,
-                &CALLS,
-                &WRITES,
-                &UNREAD,
-                &CALLS,
-                &UNKNOWN,
-                &CALLS,
-                &LONG,
-                &CALLS,
-                &HALTS,
-            ],
-            "",
-            "200",
-            untaken,
-        ),
-    ];
-    assert_eq!(rt; first_other_run(rt.alloc(), 0, "", runs)?, None);
-    Ok(())
-}
+/// What is written of two writes of one byte, and of calls that aren't taken.
+const ONCE: &str = "k 7 10 1 0 0 - 256 ffffff8000010000\n\
+    k 9 100 2 ffff800000047000 4 61626364 0 -\n\
+    k 9 100 5 ffff800000047000 4 61626364 24 -\nend halted\nturns 72\nroot 5\n\
+    trap ffffff80000011da\nr 256 1 ffffff8000010000 16 00006162636400000000000000000000\n";
+
+const UNTAKEN: &str = "k 7 8 4 0 0 - 256 ffffff8000010000\nk 9 100 2 1000 4 ! 22 -\n\
+    k 9 101 2 1000 4 - 19 -\nk 9 100 2 1000 7 - 21 -\nend halted\nturns 95\nroot 5\n\
+    trap ffffff80000011da\nr 256 4 ffffff8000010000 8 0000000000000000\n";
+
+/// A write is taken or changes nothing.
+static TAKEN: [Run; 2] = [
+    // A byte is written once.
+    (
+        &[
+            &STORES,
+            &ALLOCATES_ONCE,
+            &CALLS,
+            &WRITES,
+            &CALLS,
+            &AGAIN,
+            &CALLS,
+            &HALTS,
+        ],
+        "",
+        "100",
+        ONCE,
+    ),
+    // What is not taken and what cannot be read.
+    (
+        &[
+            &STORES,
+            &ALLOCATES_LOGGED,
+            &CALLS,
+            &WRITES,
+            &UNREAD,
+            &CALLS,
+            &UNKNOWN,
+            &CALLS,
+            &LONG,
+            &CALLS,
+            &HALTS,
+        ],
+        "",
+        "200",
+        UNTAKEN,
+    ),
+];
 
 /// MOV RBX, an address: the region's own, its frame's in the direct map, the log's frame's; MOV [RBX], AL.
 const ATTACKS_REGION: [u8; 12] = [
@@ -109,57 +109,55 @@ const ATTACKS_LOG: [u8; 12] = [
     0x48, 0xbb, 0x00, 0xa0, 0x01, 0x00, 0x00, 0x80, 0xff, 0xff, 0x88, 0x03,
 ];
 
-#[test]
-fn an_attack_leaves_region_and_log(rt: HostRuntime) -> Result<(), Fail> {
-    let section = "\nend halted\nturns 63\nroot 5\ntrap ffffff80000011da\n\
-        r 256 4 ffffff8000010000 8 0000616263640000\nl 0 256 2 61626364\n";
-    let runs: &[Run] = &[
-        (
-            &[
-                &STORES,
-                &ALLOCATES_LOGGED,
-                &CALLS,
-                &WRITES,
-                &CALLS,
-                &ATTACKS_REGION,
-            ],
-            "",
-            "100",
-            "k 7 8 4 0 0 - 256 ffffff8000010000\nk 9 100 2 ffff800000047000 4 61626364 0 -\n\
-            i 14 3 ffffffff80000060 ffffff8000010002",
-        ),
-        (
-            &[
-                &STORES,
-                &ALLOCATES_LOGGED,
-                &CALLS,
-                &WRITES,
-                &CALLS,
-                &ATTACKS_FRAME,
-            ],
-            "",
-            "100",
-            "k 7 8 4 0 0 - 256 ffffff8000010000\nk 9 100 2 ffff800000047000 4 61626364 0 -\n\
-            i 14 3 ffffffff80000060 ffff80000000a002",
-        ),
-        (
-            &[
-                &STORES,
-                &ALLOCATES_LOGGED,
-                &CALLS,
-                &WRITES,
-                &CALLS,
-                &ATTACKS_LOG,
-            ],
-            "",
-            "100",
-            "k 7 8 4 0 0 - 256 ffffff8000010000\nk 9 100 2 ffff800000047000 4 61626364 0 -\n\
-            i 14 2 ffffffff80000060 ffff80000001a000",
-        ),
-    ];
-    assert_eq!(rt; first_other_run(rt.alloc(), 0, section, runs)?, None);
-    Ok(())
-}
+/// The section behind the lines of each attack.
+const LEFT: &str = "\nend halted\nturns 63\nroot 5\ntrap ffffff80000011da\n\
+    r 256 4 ffffff8000010000 8 0000616263640000\nl 0 256 2 61626364\n";
+
+/// An attack leaves region and log.
+static ATTACKED_POOL: [Run; 3] = [
+    (
+        &[
+            &STORES,
+            &ALLOCATES_LOGGED,
+            &CALLS,
+            &WRITES,
+            &CALLS,
+            &ATTACKS_REGION,
+        ],
+        "",
+        "100",
+        "k 7 8 4 0 0 - 256 ffffff8000010000\nk 9 100 2 ffff800000047000 4 61626364 0 -\n\
+        i 14 3 ffffffff80000060 ffffff8000010002",
+    ),
+    (
+        &[
+            &STORES,
+            &ALLOCATES_LOGGED,
+            &CALLS,
+            &WRITES,
+            &CALLS,
+            &ATTACKS_FRAME,
+        ],
+        "",
+        "100",
+        "k 7 8 4 0 0 - 256 ffffff8000010000\nk 9 100 2 ffff800000047000 4 61626364 0 -\n\
+        i 14 3 ffffffff80000060 ffff80000000a002",
+    ),
+    (
+        &[
+            &STORES,
+            &ALLOCATES_LOGGED,
+            &CALLS,
+            &WRITES,
+            &CALLS,
+            &ATTACKS_LOG,
+        ],
+        "",
+        "100",
+        "k 7 8 4 0 0 - 256 ffffff8000010000\nk 9 100 2 ffff800000047000 4 61626364 0 -\n\
+        i 14 2 ffffffff80000060 ffff80000001a000",
+    ),
+];
 
 /// MOV EDI, 3; MOV ESI, 70; MOV EDX, 71; MOV RCX, a leaf of frame 71 that grants reads alone.
 pub(super) const READS_71: [u8; 25] = [
@@ -182,6 +180,7 @@ const GUARDED: &str = "k 3 46 47 8000000000047021 0 - 0 -\nk 6 ffff800000047000 
     trap ffffff80000011da\nf 71 guarded\nt 70 71 8000000000047021\n\
     r 256 3 ffff800000047000 4096 61626364";
 
+/// An attack leaves a declared page.
 static ATTACKED: [Case; 1] = [(
     &RUN,
     &[
@@ -198,7 +197,12 @@ static ATTACKED: [Case; 1] = [(
 )];
 
 #[test]
-fn an_attack_leaves_a_declared_page(rt: HostRuntime) -> Result<(), Fail> {
-    assert_eq!(rt; first_other(rt.alloc(), &ATTACKED)?, None);
+fn regions_are_written_by_calls_alone(rt: HostRuntime) -> Result<(), Fail> {
+    let tables = [
+        Runs(0, "", &TAKEN),
+        Runs(0, LEFT, &ATTACKED_POOL),
+        Cases(&ATTACKED),
+    ];
+    assert_eq!(rt; first_other(rt.alloc(), &tables)?, None);
     Ok(())
 }

@@ -5,6 +5,7 @@ ghost use Rattle.nk_run.specs.CommandLine.{command_of, Scan};
 
 use super::cases::Failing::{Fetch, No};
 use super::cases::File::{Changed, Filled, Holds, Nops, Segments};
+use super::cases::Table::Cases;
 use super::cases::Wanted::Text;
 use super::cases::{Case, HALTING, HALTS, first_other};
 use super::{ADMITTED, CODE, DATA, NAME, PAST_THE_LIMIT, SCAN, Segment, image, owned};
@@ -13,6 +14,7 @@ use nk_run::nk_main;
 use std::alloc::Global;
 use std::test::Fail;
 
+/// Four reads are made of a page and each may fail.
 static READS: [Case; 7] = [
     // The size, the head, the table and the page.
     (&SCAN, &[HALTING], Fetch(1), 3, Text("unread image\n")),
@@ -38,18 +40,14 @@ static READS: [Case; 7] = [
     ),
 ];
 
-#[test]
-fn four_reads_are_made_of_a_page_and_each_may_fail(rt: HostRuntime) -> Result<(), Fail> {
-    assert_eq!(rt; first_other(rt.alloc(), &READS)?, None);
-    Ok(())
-}
-
 /// A page of constants behind the code.
 const CONSTANTS: Segment = Segment {
     bytes: &[0x90, 0xf4],
     ..DATA
 };
 
+/// Nothing is read behind a fault. A file that is too long, one without the magic number, one with a segment out of its
+/// range, and one with a protected encoding in the first of two pages.
 static FAULTS: [Case; 4] = [
     (
         &SCAN,
@@ -81,11 +79,10 @@ static FAULTS: [Case; 4] = [
     ),
 ];
 
-/// A file that is too long, one without the magic number, one with a segment out of its range, and one with a protected
-/// encoding in the first of two pages.
 #[test]
-fn nothing_is_read_behind_a_fault(rt: HostRuntime) -> Result<(), Fail> {
-    assert_eq!(rt; first_other(rt.alloc(), &FAULTS)?, None);
+fn a_shelf_is_read_as_far_as_it_is_needed(rt: HostRuntime) -> Result<(), Fail> {
+    let tables = [Cases(&READS), Cases(&FAULTS)];
+    assert_eq!(rt; first_other(rt.alloc(), &tables)?, None);
     Ok(())
 }
 
@@ -151,26 +148,23 @@ impl Shelf for Wanting {
     }
 }
 
+/// Whether a command asks such a shelf once, for at most 64 MiB, and tells of the want of memory.
+fn is_wanting(alloc: Global, words: &[&str], sized: bool) -> Result<bool, Fail> {
+    let mut shelf = Wanting {
+        sized,
+        most: 0,
+        wanted: 0,
+    };
+    let mut sink = MemSink::new(alloc, 100, Vec::new(alloc), 0)?;
+    let status = nk_main(alloc, &owned(alloc, words)?, &mut shelf, &mut sink);
+    let is_said = status == 5 && sink.taken() == b"no memory\n".as_slice();
+    Ok(is_said && shelf.most == 67_108_864 && shelf.wanted == 1)
+}
+
 #[test]
 fn a_file_of_64_mib_is_not_longer(rt: HostRuntime) -> Result<(), Fail> {
-    let alloc = rt.alloc();
-    let cases: [(&[&str], bool); 3] = [
-        (&SCAN, false),
-        (&SCAN, true),
-        (&["map", NAME, "512", "0"], false),
-    ];
-    for (words, sized) in cases {
-        let mut shelf = Wanting {
-            sized,
-            most: 0,
-            wanted: 0,
-        };
-        let mut sink = MemSink::new(alloc, 100, Vec::new(alloc), 0)?;
-        let status = nk_main(alloc, &owned(alloc, words)?, &mut shelf, &mut sink);
-        assert_eq!(rt; status, 5);
-        assert_eq!(rt; sink.taken(), b"no memory\n".as_slice());
-        assert_eq!(rt; shelf.most, 67_108_864);
-        assert_eq!(rt; shelf.wanted, 1);
-    }
+    assert!(rt; is_wanting(rt.alloc(), &SCAN, false)?);
+    assert!(rt; is_wanting(rt.alloc(), &SCAN, true)?);
+    assert!(rt; is_wanting(rt.alloc(), &["map", NAME, "512", "0"], false)?);
     Ok(())
 }

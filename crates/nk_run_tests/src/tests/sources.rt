@@ -2,8 +2,9 @@
 use super::NAME;
 use super::cases::Failing::No;
 use super::cases::File::Code;
+use super::cases::Table::{Cases, Runs};
 use super::cases::Wanted::Padded;
-use super::cases::{Case, HALTS, Run, first_other, first_other_run};
+use super::cases::{Case, HALTS, Run, first_other};
 use super::regions::{ALLOCATES_LOGGED, ALLOCATES_ONCE, CALLS, STORES, WRITES};
 use super::run::{NO_INPUT, NO_PLAN, RUN};
 use std::test::Fail;
@@ -36,99 +37,96 @@ const SHIFTS: [u8; 15] = [
     0xba, 0x03, 0x00, 0x00, 0x00, 0x48, 0xb9, 0x02, 0x00, 0x01, 0x00, 0x80, 0xff, 0xff, 0xff,
 ];
 
-#[test]
-fn a_source_lies_anywhere(rt: HostRuntime) -> Result<(), Fail> {
-    let crossed = "k 7 10 1 0 0 - 256 ffffff8000010000\n\
-        k 9 100 2 ffff800000047ffe 4 61626364 0 -\nend halted\nturns 51\nroot 5\n\
-        trap ffffff80000011da\nr 256 1 ffffff8000010000 16 00006162636400000000000000000000\n";
-    let shifted = "k 7 8 4 0 0 - 256 ffffff8000010000\n\
-        k 9 100 2 ffff800000047000 4 61626364 0 -\n\
-        k 9 100 3 ffffff8000010002 4 61626364 0 -\nend halted\nturns 73\nroot 5\n\
-        trap ffffff80000011da\nr 256 4 ffffff8000010000 8 0000616162636400\n\
-        l 0 256 2 61626364\nl 1 256 3 61626364\n";
-    let runs: &[Run] = &[
-        // It crosses pages.
-        (
-            &[
-                &STORES_ACROSS,
-                &ALLOCATES_ONCE,
-                &CALLS,
-                &WRITES_ACROSS,
-                &CALLS,
-                &HALTS,
-            ],
-            "",
-            "100",
-            crossed,
-        ),
-        // It lies in the region that is written, and is read whole before the first byte is written.
-        (
-            &[
-                &STORES,
-                &ALLOCATES_LOGGED,
-                &CALLS,
-                &WRITES,
-                &CALLS,
-                &SHIFTS,
-                &CALLS,
-                &HALTS,
-            ],
-            "",
-            "100",
-            shifted,
-        ),
-    ];
-    assert_eq!(rt; first_other_run(rt.alloc(), 0, "", runs)?, None);
-    Ok(())
-}
+/// What is written where the source crosses pages, and where it lies in the region.
+const CROSSED: &str = "k 7 10 1 0 0 - 256 ffffff8000010000\n\
+    k 9 100 2 ffff800000047ffe 4 61626364 0 -\nend halted\nturns 51\nroot 5\n\
+    trap ffffff80000011da\nr 256 1 ffffff8000010000 16 00006162636400000000000000000000\n";
+
+const SHIFTED: &str = "k 7 8 4 0 0 - 256 ffffff8000010000\n\
+    k 9 100 2 ffff800000047000 4 61626364 0 -\n\
+    k 9 100 3 ffffff8000010002 4 61626364 0 -\nend halted\nturns 73\nroot 5\n\
+    trap ffffff80000011da\nr 256 4 ffffff8000010000 8 0000616162636400\n\
+    l 0 256 2 61626364\nl 1 256 3 61626364\n";
+
+/// A source lies anywhere.
+static ANYWHERE: [Run; 2] = [
+    // It crosses pages.
+    (
+        &[
+            &STORES_ACROSS,
+            &ALLOCATES_ONCE,
+            &CALLS,
+            &WRITES_ACROSS,
+            &CALLS,
+            &HALTS,
+        ],
+        "",
+        "100",
+        CROSSED,
+    ),
+    // It lies in the region that is written, and is read whole before the first byte is written.
+    (
+        &[
+            &STORES,
+            &ALLOCATES_LOGGED,
+            &CALLS,
+            &WRITES,
+            &CALLS,
+            &SHIFTS,
+            &CALLS,
+            &HALTS,
+        ],
+        "",
+        "100",
+        SHIFTED,
+    ),
+];
+
+/// What is written where a call read the page before, and where none did.
+const FILLED: &str = "k 7 8 4 0 0 - 256 ffffff8000010000\n\
+    k 9 100 2 ffff800000048000 4 00000000 0 -\nk 3 46 48 0 4 - 0 -\n\
+    k 9 100 2 ffff800000048000 4 00000000 0 -\nend halted\nturns 98\nroot 5\n\
+    trap ffffff80000011da\nt 70 72 0000000000000000\n\
+    r 256 4 ffffff8000010000 8 0000000000000000\nl 0 256 2 00000000\nl 1 256 2 00000000\n";
+
+const UNFILLED: &str = "k 7 8 4 0 0 - 256 ffffff8000010000\nk 3 46 48 0 0 - 0 -\n\
+    k 9 100 2 ffff800000048000 4 ! 22 -\nend halted\nturns 73\nroot 5\n\
+    trap ffffff80000011da\nt 70 72 0000000000000000\n\
+    r 256 4 ffffff8000010000 8 0000000000000000\n";
 
 /// A call that reads a page keeps its translation, by which a later call reads it once the tables no longer map it.
-#[test]
-fn a_source_is_read_by_a_translation_that_a_call_filled(rt: HostRuntime) -> Result<(), Fail> {
-    let filled = "k 7 8 4 0 0 - 256 ffffff8000010000\n\
-        k 9 100 2 ffff800000048000 4 00000000 0 -\nk 3 46 48 0 4 - 0 -\n\
-        k 9 100 2 ffff800000048000 4 00000000 0 -\nend halted\nturns 98\nroot 5\n\
-        trap ffffff80000011da\nt 70 72 0000000000000000\n\
-        r 256 4 ffffff8000010000 8 0000000000000000\nl 0 256 2 00000000\nl 1 256 2 00000000\n";
-    let unfilled = "k 7 8 4 0 0 - 256 ffffff8000010000\nk 3 46 48 0 0 - 0 -\n\
-        k 9 100 2 ffff800000048000 4 ! 22 -\nend halted\nturns 73\nroot 5\n\
-        trap ffffff80000011da\nt 70 72 0000000000000000\n\
-        r 256 4 ffffff8000010000 8 0000000000000000\n";
-    let runs: &[Run] = &[
-        (
-            &[
-                &ALLOCATES_LOGGED,
-                &CALLS,
-                &WRITES_FROM_72,
-                &CALLS,
-                &UNMAPS_72,
-                &CALLS,
-                &WRITES_FROM_72,
-                &CALLS,
-                &HALTS,
-            ],
-            "",
-            "100",
-            filled,
-        ),
-        (
-            &[
-                &ALLOCATES_LOGGED,
-                &CALLS,
-                &UNMAPS_72,
-                &CALLS,
-                &WRITES_FROM_72,
-                &CALLS,
-                &HALTS,
-            ],
-            "",
-            "100",
-            unfilled,
-        ),
-    ];
-    assert_eq!(rt; first_other_run(rt.alloc(), 0, "", runs)?, None);
-    Ok(())
-}
+static TRANSLATED: [Run; 2] = [
+    (
+        &[
+            &ALLOCATES_LOGGED,
+            &CALLS,
+            &WRITES_FROM_72,
+            &CALLS,
+            &UNMAPS_72,
+            &CALLS,
+            &WRITES_FROM_72,
+            &CALLS,
+            &HALTS,
+        ],
+        "",
+        "100",
+        FILLED,
+    ),
+    (
+        &[
+            &ALLOCATES_LOGGED,
+            &CALLS,
+            &UNMAPS_72,
+            &CALLS,
+            &WRITES_FROM_72,
+            &CALLS,
+            &HALTS,
+        ],
+        "",
+        "100",
+        UNFILLED,
+    ),
+];
 
 /// MOV EDI, 7; MOV ESI, 65536; MOV EDX, 1: a write-once region that fills the pool.
 const ALLOCATES_ALL: [u8; 15] = [
@@ -148,6 +146,7 @@ const WRITTEN: &str =
 const CLOSED: &str = " 0 -\nend halted\nturns 51\nroot 5\ntrap ffffff80000011da\n\
     r 256 1 ffffff8000010000 65536 61626364";
 
+/// A source has 65,536 bytes.
 static LONGEST: [Case; 1] = [(
     &RUN,
     &[
@@ -164,7 +163,12 @@ static LONGEST: [Case; 1] = [(
 )];
 
 #[test]
-fn a_source_has_65_536_bytes(rt: HostRuntime) -> Result<(), Fail> {
-    assert_eq!(rt; first_other(rt.alloc(), &LONGEST)?, None);
+fn sources_are_read_whole(rt: HostRuntime) -> Result<(), Fail> {
+    let tables = [
+        Runs(0, "", &ANYWHERE),
+        Runs(0, "", &TRANSLATED),
+        Cases(&LONGEST),
+    ];
+    assert_eq!(rt; first_other(rt.alloc(), &tables)?, None);
     Ok(())
 }

@@ -2,8 +2,9 @@
 use super::NAME;
 use super::cases::Failing::Put;
 use super::cases::File::Code;
+use super::cases::Table::{Cases, Runs};
 use super::cases::Wanted::Text;
-use super::cases::{Case, Run, UNCHANGED, first_other, first_other_run};
+use super::cases::{Case, Run, UNCHANGED, first_other};
 use super::run::{NO_INPUT, NO_PLAN, RUN};
 use std::test::Fail;
 
@@ -25,20 +26,18 @@ pub(super) const DECLARED: &str =
     i 14 3 ffffffff8000004e ffff800000047000\nend halted\nturns 62\nroot 5\n\
     trap ffffff80000011da\nf 71 table1\nt 70 71 8000000000047021\n";
 
-#[test]
-fn kinds_and_entries_that_changed_are_told(rt: HostRuntime) -> Result<(), Fail> {
-    let changed: &[Run] = &[(&[&DECLARES], "", "100", DECLARED)];
-    assert_eq!(rt; first_other_run(rt.alloc(), 0, "", changed)?, None);
-    let unchanged: &[Run] = &[(&[&DECLARES], "", "0", "end steps\nturns 0")];
-    assert_eq!(rt; first_other_run(rt.alloc(), 0, UNCHANGED, unchanged)?, None);
-    Ok(())
-}
+/// Kinds and entries that changed are told.
+static CHANGED: [Run; 1] = [(&[&DECLARES], "", "100", DECLARED)];
+
+/// Those of the opening are not.
+static OPENED: [Run; 1] = [(&[&DECLARES], "", "0", "end steps\nturns 0")];
 
 /// What is written of it up to the middle of the first line of the closing section that tells a change.
 const CUT: &str = "k 3 46 47 8000000000047021 0 - 0 -\nk 2 1 47 8000000000047021 0 - 0 -\n\
     i 14 3 ffffffff8000004e ffff800000047000\nend halted\nturns 62\nroot 5\n\
     trap ffffff80000011da\nf 71";
 
+/// A line of the closing section may be cut.
 static CUTS: [Case; 1] = [(
     &RUN,
     &[(NAME, Code(&[&DECLARES])), NO_INPUT, NO_PLAN],
@@ -48,7 +47,12 @@ static CUTS: [Case; 1] = [(
 )];
 
 #[test]
-fn a_line_of_the_closing_section_may_be_cut(rt: HostRuntime) -> Result<(), Fail> {
-    assert_eq!(rt; first_other(rt.alloc(), &CUTS)?, None);
+fn the_closing_section_tells_what_changed(rt: HostRuntime) -> Result<(), Fail> {
+    let tables = [
+        Runs(0, "", &CHANGED),
+        Runs(0, UNCHANGED, &OPENED),
+        Cases(&CUTS),
+    ];
+    assert_eq!(rt; first_other(rt.alloc(), &tables)?, None);
     Ok(())
 }

@@ -2,13 +2,15 @@
 //! order of their checks.
 use super::cases::Failing::{Fetch, No, Put};
 use super::cases::File::{Code, Filled, Holds, Segments};
+use super::cases::Table::{Cases, Forms};
 use super::cases::Wanted::{Bytes, Padded, Text};
 use super::cases::{Case, File, first_other};
-use super::{CODE, DATA, NAME, PAST_THE_LIMIT, SECOND, Segment, first_with_form};
+use super::{CODE, DATA, NAME, PAST_THE_LIMIT, SECOND, Segment};
 use std::test::Fail;
 
 const ASM: [&str; 2] = ["asm", NAME];
 
+/// Each line of a text is an instruction.
 static ASSEMBLED: [Case; 6] = [
     (&ASM, &[(NAME, Holds(&[]))], No, 0, Bytes(&[])),
     (
@@ -51,13 +53,8 @@ static ASSEMBLED: [Case; 6] = [
     ),
 ];
 
-#[test]
-fn each_line_of_a_text_is_an_instruction(rt: HostRuntime) -> Result<(), Fail> {
-    assert_eq!(rt; first_other(rt.alloc(), &ASSEMBLED)?, None);
-    Ok(())
-}
-
-static UNFORMED: [Case; 9] = [
+/// The first line without code is named.
+static UNFORMED: [Case; 4] = [
     (
         &ASM,
         &[(NAME, Holds(&[b"mov.9 r0 r1 0"]))],
@@ -89,6 +86,10 @@ static UNFORMED: [Case; 9] = [
         6,
         Text("text line 2\n"),
     ),
+];
+
+/// A number or a line that is spelled otherwise, and operands without code.
+static UNSPELLED: [Case; 5] = [
     (
         &ASM,
         &[(NAME, Holds(&[b"mov.8 r0 value 041"]))],
@@ -128,12 +129,7 @@ static UNFORMED: [Case; 9] = [
     ),
 ];
 
-#[test]
-fn the_first_line_without_code_is_named(rt: HostRuntime) -> Result<(), Fail> {
-    assert_eq!(rt; first_other(rt.alloc(), &UNFORMED)?, None);
-    Ok(())
-}
-
+/// A text is read and its code written or not.
 static UNREAD: [Case; 4] = [
     (
         &ASM,
@@ -159,12 +155,6 @@ static UNREAD: [Case; 4] = [
     (&ASM, &[(NAME, Holds(&[b"\n"]))], Put(1, 4), 4, Text("text")),
 ];
 
-#[test]
-fn a_text_is_read_and_its_code_written_or_not(rt: HostRuntime) -> Result<(), Fail> {
-    assert_eq!(rt; first_other(rt.alloc(), &UNREAD)?, None);
-    Ok(())
-}
-
 /// MOV RBX, imm32; MOV CR0, RAX, which no scan would let by; SYSCALL, which isn't of the profile; and zeros, which are the
 /// number of ADD EAX, imm32, and ADD [RAX], AL.
 const LISTED: (&str, File) = (
@@ -185,6 +175,7 @@ const ADDS: &str = "ffffffff8000000b 0500000000 add.32 r0 value 0\n";
 
 const PADS: &str = "ffffffff80000010 0000 add.8 [r0,-,1,0] r0 0\n";
 
+/// Code is listed from an address on.
 static LISTS: [Case; 4] = [
     (
         &["list", NAME, "ffffffff80000000", "5"],
@@ -222,12 +213,6 @@ static LISTS: [Case; 4] = [
     ),
 ];
 
-#[test]
-fn code_is_listed_from_an_address_on(rt: HostRuntime) -> Result<(), Fail> {
-    assert_eq!(rt; first_other(rt.alloc(), &LISTS)?, None);
-    Ok(())
-}
-
 /// NOP.
 const PASSES: (&str, File) = (NAME, Code(&[&[0x90]]));
 
@@ -256,6 +241,7 @@ const APART: Segment = Segment {
     ..DATA
 };
 
+/// A listing ends with its run.
 static RUNS: [Case; 4] = [
     (
         &["list", NAME, "ffffffff80000ffd", "4096"],
@@ -287,12 +273,6 @@ static RUNS: [Case; 4] = [
     ),
 ];
 
-#[test]
-fn a_listing_ends_with_its_run(rt: HostRuntime) -> Result<(), Fail> {
-    assert_eq!(rt; first_other(rt.alloc(), &RUNS)?, None);
-    Ok(())
-}
-
 /// Sixteen operand size prefixes, and NOP.
 const PREFIXED: [u8; 17] = [
     0x66, 0x66, 0x66, 0x66, 0x66, 0x66, 0x66, 0x66, 0x66, 0x66, 0x66, 0x66, 0x66, 0x66, 0x66, 0x66,
@@ -303,6 +283,7 @@ const PREFIXED: [u8; 17] = [
 const SHIFTED: &str = "ffffffff80000000 66 ?\nffffffff80000001 66 ?\n\
     ffffffff80000002 666666666666666666666666666690 nop.64 - - 0\n";
 
+/// A spelling past fifteen bytes is no instruction.
 static SPELLED: [Case; 1] = [(
     &["list", NAME, "ffffffff80000000", "3"],
     &[(NAME, Code(&[&PREFIXED]))],
@@ -310,12 +291,6 @@ static SPELLED: [Case; 1] = [(
     0,
     Text(SHIFTED),
 )];
-
-#[test]
-fn a_spelling_past_fifteen_bytes_is_no_instruction(rt: HostRuntime) -> Result<(), Fail> {
-    assert_eq!(rt; first_other(rt.alloc(), &SPELLED)?, None);
-    Ok(())
-}
 
 /// A page of one NOP, and one as data behind it.
 const TWO: [Segment; 2] = [
@@ -331,6 +306,7 @@ const TWO: [Segment; 2] = [
     },
 ];
 
+/// No code stands elsewhere.
 static ELSEWHERE: [Case; 6] = [
     (
         &["list", NAME, "0", "1"],
@@ -377,12 +353,7 @@ static ELSEWHERE: [Case; 6] = [
     ),
 ];
 
-#[test]
-fn no_code_stands_elsewhere(rt: HostRuntime) -> Result<(), Fail> {
-    assert_eq!(rt; first_other(rt.alloc(), &ELSEWHERE)?, None);
-    Ok(())
-}
-
+/// The image comes before the address.
 static ORDERED: [Case; 4] = [
     (
         &["list", NAME, "0", "1"],
@@ -414,30 +385,38 @@ static ORDERED: [Case; 4] = [
     ),
 ];
 
-#[test]
-fn the_image_comes_before_the_address(rt: HostRuntime) -> Result<(), Fail> {
-    assert_eq!(rt; first_other(rt.alloc(), &ORDERED)?, None);
-    Ok(())
-}
+/// Other words are no text and no listing.
+static OTHER_WORDS: [&[&str]; 14] = [
+    &["asm"],
+    &["asm", NAME, NAME],
+    &["ASM", NAME],
+    &["list", NAME, "0"],
+    &["list", NAME, "0", "1", "1"],
+    &["lists", NAME, "0", "1"],
+    &["list", NAME, "", "1"],
+    &["list", NAME, "0x0", "1"],
+    &["list", NAME, "00000000000000000", "1"],
+    &["list", NAME, "g", "1"],
+    &["list", NAME, "0", "0"],
+    &["list", NAME, "0", "4097"],
+    &["list", NAME, "0", "01"],
+    &["list", NAME, "0", ""],
+];
 
 #[test]
-fn other_words_are_no_text_and_no_listing(rt: HostRuntime) -> Result<(), Fail> {
-    let forms: &[&[&str]] = &[
-        &["asm"],
-        &["asm", NAME, NAME],
-        &["ASM", NAME],
-        &["list", NAME, "0"],
-        &["list", NAME, "0", "1", "1"],
-        &["lists", NAME, "0", "1"],
-        &["list", NAME, "", "1"],
-        &["list", NAME, "0x0", "1"],
-        &["list", NAME, "00000000000000000", "1"],
-        &["list", NAME, "g", "1"],
-        &["list", NAME, "0", "0"],
-        &["list", NAME, "0", "4097"],
-        &["list", NAME, "0", "01"],
-        &["list", NAME, "0", ""],
+fn texts_and_listings_are_as_worked_out(rt: HostRuntime) -> Result<(), Fail> {
+    let tables = [
+        Cases(&ASSEMBLED),
+        Cases(&UNFORMED),
+        Cases(&UNSPELLED),
+        Cases(&UNREAD),
+        Cases(&LISTS),
+        Cases(&RUNS),
+        Cases(&SPELLED),
+        Cases(&ELSEWHERE),
+        Cases(&ORDERED),
+        Forms(&OTHER_WORDS),
     ];
-    assert_eq!(rt; first_with_form(rt.alloc(), &[], forms)?, None);
+    assert_eq!(rt; first_other(rt.alloc(), &tables)?, None);
     Ok(())
 }
