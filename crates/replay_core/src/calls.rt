@@ -26,7 +26,7 @@ use text_lines::cut_line;
 const MOST_TAKEN: usize = 65_536;
 
 /// What a line leaves to be done: the lines behind it; or nothing, since it ends the journal, or isn't right.
-#[derive(Clone, Copy, Debug, PartialEq, Eq)]
+#[derive(Clone, Copy)]
 enum Step {
     Goes,
     Ends,

@@ -1,7 +1,7 @@
 //! What a line of a journal says.
 
-ghost use Rattle.std.specs.Prelude.{◌≡◌, ◌<◌, [], ◌∷◌, IfSome, length};
-ghost use Rattle.replay_core.specs.JournalLines.{call_with, heard_of, least_decimal, least_hex, noted_with, place_of_word, source_of_word};
+ghost use Rattle.std.specs.Prelude.{◌≡◌, ◌<◌, [], ◌∷◌, None, IfSome, if◌then◌else◌, codes, length};
+ghost use Rattle.replay_core.specs.JournalLines.{call_with, heard_of, is_text, least_decimal, least_hex, noted_with, place_of_word, source_of_word};
 ghost use Rattle.replay_core.specs.HeardLines.{heard_in};
 ghost use Rattle.text_lines.specs.TextLines.{words};
 
@@ -11,7 +11,7 @@ use text_lines::split_words;
 
 /// What a line says of a call: the call; the word of its source, which isn't read yet; the answer, and the place of a
 /// region.
-#[derive(Clone, Copy, Debug, PartialEq, Eq)]
+#[derive(Clone, Copy)]
 pub(crate) struct ReadCall<'j> {
     pub(crate) call: CallWords,
     pub(crate) source: &'j [u8],
@@ -20,7 +20,7 @@ pub(crate) struct ReadCall<'j> {
 }
 
 /// What a line says.
-#[derive(Clone, Copy, Debug, PartialEq, Eq)]
+#[derive(Clone, Copy)]
 pub(crate) enum ReadLine<'j> {
     /// A byte of the console, or a delivery.
     Passes,
@@ -45,14 +45,19 @@ fn call_words(number: &[u8], a: &[u8], b: &[u8], c: &[u8], d: &[u8]) -> Option<C
 
 /// A line of nine words: a call, whose source isn't read yet.
 fn call_line<'j>(
+    verb: &[u8],
     call: Option<CallWords>,
     source: &'j [u8],
     value: &[u8],
     place_word: &[u8],
 ) -> Option<ReadLine<'j>>
-    ensures { heard_in result ≡ noted_with call (source_of_word source.now) (least_decimal value.now)
-        (place_of_word place_word.now) }
+    ensures { heard_in result ≡ if is_text (codes "k") verb.now
+        then noted_with call (source_of_word source.now) (least_decimal value.now) (place_of_word place_word.now)
+        else None }
 {
+    if !is_text(verb, b"k") {
+        return None;
+    }
     match (call, least_decimal(value), place(place_word)) {
         (Some(call), Some(value), Some(place)) => Some(ReadLine::Calls(ReadCall {
             call,
@@ -77,6 +82,19 @@ fn short_line<'j>(verb: &[u8], word: &[u8]) -> Option<ReadLine<'j>>
     }
 }
 
+/// A line of five words: a delivery.
+fn delivery_line<'j>(
+    verb: &[u8],
+    vector: &[u8],
+    code: &[u8],
+    rip: &[u8],
+    cr2: &[u8],
+) -> Option<ReadLine<'j>>
+    ensures { heard_in result ≡ heard_of (verb.now ∷ vector.now ∷ code.now ∷ rip.now ∷ cr2.now ∷ []) }
+{
+    (is_text(verb, b"i") && is_delivery(vector, code, rip, cr2)).then_some(ReadLine::Passes)
+}
+
 /// What the line says; None where it is out of form.
 pub(crate) fn hear(line: &[u8]) -> Option<ReadLine<'_>>
     ensures heard { heard_in result ≡ heard_of (words line.now) }
@@ -87,15 +105,9 @@ pub(crate) fn hear(line: &[u8]) -> Option<ReadLine<'_>>
     };
     match words.as_slice() {
         [verb, word] => short_line(verb, word),
-        [verb, vector, code, rip, cr2] => {
-            (is_text(verb, b"i") && is_delivery(vector, code, rip, cr2)).then_some(ReadLine::Passes)
-        }
+        [verb, vector, code, rip, cr2] => delivery_line(verb, vector, code, rip, cr2),
         [verb, number, a, b, c, d, source, value, place] => {
-            if is_text(verb, b"k") {
-                call_line(call_words(number, a, b, c, d), source, value, place)
-            } else {
-                None
-            }
+            call_line(verb, call_words(number, a, b, c, d), source, value, place)
         }
         _ => None,
     }

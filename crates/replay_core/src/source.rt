@@ -12,7 +12,7 @@ use crate::word::{is_lower, is_text};
 use nk_body::Source;
 
 /// What a call took; its bytes stand at the front of a buffer.
-#[derive(Clone, Copy, Debug, PartialEq, Eq)]
+#[derive(Clone, Copy)]
 pub(crate) enum Taken {
     Nothing,
     Unreadable,
