@@ -16,7 +16,7 @@ use x86_alu::with_flag;
 use x86_regs::{IF, RSP, Regs, Tables, with_register};
 
 /// Where a delivery goes on.
-#[derive(Clone, Copy, Debug, PartialEq, Eq)]
+#[derive(Clone, Copy)]
 pub struct Entry {
     /// The handler's address.
     pub handler: u64,

@@ -14,7 +14,7 @@ use tlb_model::Tlb;
 use x86_regs::Tables;
 
 /// The sixteen bytes of a gate (SDM volume 3, figure 6-8).
-#[derive(Clone, Copy, Debug, PartialEq, Eq)]
+#[derive(Clone, Copy)]
 pub struct Gate {
     /// Bytes 0 to 7.
     pub low: u64,
