@@ -11,7 +11,7 @@ use crate::elf::{
 use crate::fields::{word, xword};
 
 /// An entry of the program header table, `Elf64_Phdr`, as far as the reader looks at it.
-#[derive(Clone, Copy, Debug, Default, PartialEq, Eq)]
+#[derive(Clone, Copy, Default)]
 pub struct ProgramHeader {
     /// Its place in the table, from 0 on.
     pub index: u64,
