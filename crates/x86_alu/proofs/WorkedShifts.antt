@@ -124,13 +124,13 @@ signed_refusals :
 signed_refusals = (refl, refl, refl, refl, refl, refl, refl, refl, refl, refl, refl, refl, refl)
 
 -- IDIV rounds toward zero, and the remainder has the dividend's sign: -7 by 2 is -3 and -1, 7 by -2 is -3 and 1, -7 by -2 is
--- 3 and -1, -1 by 2 is 0 and -1, -128 by 1 is -128 and 0
+-- 3 and -1, -1 by 2 is 0 and -1, -128 by 1 is -128 and 0, -7 by 3 is -2 and -1
 signed_divisions :
     (quotient true 8 0xFFF9 2 ≡ 0xFD) × (rest true 8 0xFFF9 2 ≡ 0xFF) × (quotient true 8 7 0xFE ≡ 0xFD) × (rest true 8 7 0xFE ≡ 1) ×
     (quotient true 8 0xFFF9 0xFE ≡ 3) × (rest true 8 0xFFF9 0xFE ≡ 0xFF) × (quotient true 8 0xFFFF 2 ≡ 0) × (rest true 8 0xFFFF 2 ≡ 0xFF) ×
-    (quotient true 8 0xFF80 1 ≡ 0x80) × (rest true 8 0xFF80 1 ≡ 0) × (quotient true 8 0 0xFB ≡ 0) × (rest true 8 0 0xFB ≡ 0) ×
-    (quotient_size 8 0xFFF9 2 ≡ 3) × (rest_size 8 0xFFF9 2 ≡ 1)
-signed_divisions = (refl, refl, refl, refl, refl, refl, refl, refl, refl, refl, refl, refl, refl, refl)
+    (quotient true 8 0xFF80 1 ≡ 0x80) × (rest true 8 0xFF80 1 ≡ 0) × (quotient true 8 0xFFF9 3 ≡ 0xFE) × (rest true 8 0xFFF9 3 ≡ 0xFF) ×
+    (quotient true 8 0 0xFB ≡ 0) × (rest true 8 0 0xFB ≡ 0) × (quotient_size 8 0xFFF9 2 ≡ 3) × (rest_size 8 0xFFF9 2 ≡ 1) × (rest_size 8 0xFFF9 3 ≡ 1)
+signed_divisions = (refl, refl, refl, refl, refl, refl, refl, refl, refl, refl, refl, refl, refl, refl, refl, refl, refl)
 
 -- BSF and BSR: 50 has the bits 4 and 6; of 0, where the destination is undefined, the number is 0 (own)
 scans :
