@@ -16,6 +16,43 @@ const DIGITS: usize = 16;
 /// The names of kinds of steps.
 static KINDS: [&str; 6] = ["gate", "call", "delivery", "event", "memory", "console"];
 
+/// How a word stands on the command line.
+enum Form {
+    /// It has to be there.
+    File,
+    /// A number of turns.
+    Turns,
+    /// An option with a value, by what the value is called.
+    Value(&'static str),
+    /// An option without a value.
+    Flag,
+    /// An option with the name of a kind of steps.
+    KindName,
+}
+
+/// The words, how they stand, and what they are.
+static WORDS: [(&str, Form, &str); 11] = [
+    ("IMAGE", Form::File, "the image, as of nkrun run"),
+    ("INPUT", Form::File, "the bytes that the image may take"),
+    ("PLAN", Form::File, "the plan of events"),
+    ("STEPS", Form::File, "the most turns of the run"),
+    ("FRAMES", Form::File, "the frames of memory"),
+    ("FROM", Form::Turns, "the turns before the first step shown"),
+    ("TO", Form::Turns, "the turns before the last step shown"),
+    (
+        "until",
+        Form::Value("ADDRESS"),
+        "ends behind a step that leaves RIP at this hexadecimal address",
+    ),
+    (
+        "changes",
+        Form::Flag,
+        "leaves out steps that change nothing but RIP and show nothing",
+    ),
+    ("only", Form::KindName, "leaves out steps of other kinds"),
+    ("memory", Form::Flag, "shows memory as the trace begins"),
+];
+
 /// What the words ask for.
 #[derive(Drop)]
 pub enum Request {
@@ -27,65 +64,33 @@ pub enum Request {
     NoMemory,
 }
 
-/// A word that has to be there.
-fn file<'a>(alloc: Global, name: &'a str, help: &'a str) -> Arg<'a> {
-    Arg::new(alloc, name)
-        .required(true)
-        .action(ArgAction::Set)
-        .help(help)
-}
-
-/// A number of turns.
-fn turns<'a>(alloc: Global, name: &'a str, help: &'a str) -> Arg<'a> {
-    Arg::new(alloc, name)
-        .action(ArgAction::Set)
-        .value_parser(ValueParser::unsigned(0, MOST_TURNS))
-        .help(help)
-}
-
-/// An option with a value.
-fn option<'a>(alloc: Global, name: &'a str, value: &'a str, help: &'a str) -> Arg<'a> {
-    Arg::new(alloc, name)
-        .long(name)
-        .action(ArgAction::Set)
-        .value_name(value)
-        .help(help)
-}
-
-/// An option without a value.
-fn flag<'a>(alloc: Global, name: &'a str, help: &'a str) -> Arg<'a> {
-    Arg::new(alloc, name)
-        .long(name)
-        .action(ArgAction::SetTrue)
-        .help(help)
-}
-
-/// The command with the words of a run.
-fn run_command<'a>(alloc: Global) -> Result<Command<'a>, AllocError> {
-    Command::new(alloc, "nktrace")
-        .version("0.1.0")
-        .about(
-            "The steps of a run, a line each, with what they change; docs/FORMATS.md has the lines",
-        )
-        .arg(file(alloc, "IMAGE", "the image, as of nkrun run"))?
-        .arg(file(alloc, "INPUT", "the bytes that the image may take"))?
-        .arg(file(alloc, "PLAN", "the plan of events"))?
-        .arg(file(alloc, "STEPS", "the most turns of the run"))?
-        .arg(file(alloc, "FRAMES", "the frames of memory"))
+/// A word of the command line.
+fn word<'a>(alloc: Global, name: &'a str, form: &Form, help: &'a str) -> Arg<'a> {
+    let word = Arg::new(alloc, name).help(help);
+    match form {
+        Form::File => word.required(true).action(ArgAction::Set),
+        Form::Turns => word
+            .action(ArgAction::Set)
+            .value_parser(ValueParser::unsigned(0, MOST_TURNS)),
+        Form::Value(value) => word.long(name).action(ArgAction::Set).value_name(value),
+        Form::Flag => word.long(name).action(ArgAction::SetTrue),
+        Form::KindName => word
+            .long(name)
+            .action(ArgAction::Set)
+            .value_name("KIND")
+            .value_parser(KINDS.as_slice()),
+    }
 }
 
 /// The whole command.
 fn whole_command<'a>(alloc: Global) -> Result<Command<'a>, AllocError> {
-    let until = "ends behind a step that leaves RIP at this hexadecimal address";
-    let changes = "leaves out steps that change nothing but RIP and show nothing";
-    let only = option(alloc, "only", "KIND", "leaves out steps of other kinds");
-    run_command(alloc)?
-        .arg(turns(alloc, "FROM", "the turns before the first step shown"))?
-        .arg(turns(alloc, "TO", "the turns before the last step shown"))?
-        .arg(option(alloc, "until", "ADDRESS", until))?
-        .arg(flag(alloc, "changes", changes))?
-        .arg(only.value_parser(KINDS.as_slice()))?
-        .arg(flag(alloc, "memory", "shows memory as the trace begins"))
+    let mut command = Command::new(alloc, "nktrace").version("0.1.0").about(
+        "The steps of a run, a line each, with what they change; docs/FORMATS.md has the lines",
+    );
+    for (name, form, help) in &WORDS {
+        command = command.arg(word(alloc, name, form, help))?;
+    }
+    Ok(command)
 }
 
 fn kind_of(name: &str) -> Option<Kind> {
