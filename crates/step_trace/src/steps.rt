@@ -17,7 +17,7 @@ use nk_host::{Sink, SinkFault, put_all};
 use phys_mem::PhysMem;
 
 /// Why a trace ends.
-#[derive(Clone, Copy, Debug, PartialEq, Eq)]
+#[derive(Clone, Copy)]
 pub(crate) enum TraceEnd {
     /// As many turns were taken as the run may have.
     Steps,
