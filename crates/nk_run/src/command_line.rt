@@ -51,13 +51,13 @@ pub enum Role {
 }
 
 /// The name of a file, as the words have it.
-#[derive(Clone, Copy, Debug, PartialEq, Eq)]
+#[derive(Clone, Copy)]
 pub(crate) struct FileName<'w> {
     pub text: &'w str,
 }
 
 /// The files of a run.
-#[derive(Clone, Copy, Debug, PartialEq, Eq)]
+#[derive(Clone, Copy)]
 pub(crate) struct RunFiles<'w> {
     pub image: FileName<'w>,
     pub input: FileName<'w>,
@@ -65,21 +65,21 @@ pub(crate) struct RunFiles<'w> {
 }
 
 /// The files of a replay, and of an audit.
-#[derive(Clone, Copy, Debug, PartialEq, Eq)]
+#[derive(Clone, Copy)]
 pub(crate) struct ReplayFiles<'w> {
     pub image: FileName<'w>,
     pub journal: FileName<'w>,
 }
 
 /// The files of a join.
-#[derive(Clone, Copy, Debug, PartialEq, Eq)]
+#[derive(Clone, Copy)]
 pub(crate) struct JoinFiles<'w> {
     pub image: FileName<'w>,
     pub list: FileName<'w>,
 }
 
 /// What the words ask for.
-#[derive(Clone, Copy, Debug, PartialEq, Eq)]
+#[derive(Clone, Copy)]
 pub(crate) enum Request<'w> {
     /// Admit or refuse an image.
     Scan {

@@ -33,7 +33,7 @@ const STEPS: u64 = 2_000_000;
 const LOG_BYTES: u64 = 65_536;
 
 /// What a run showed so far: calls that were made, those of them that were accepted, and traps that were delivered.
-#[derive(Clone, Copy, Debug, PartialEq, Eq)]
+#[derive(Clone, Copy)]
 pub(crate) struct Tally {
     pub calls: u64,
     pub accepted: u64,

@@ -18,7 +18,7 @@ use std::alloc::Global;
 const TABLE_LIMIT: usize = 3_584;
 
 /// Why a file isn't admitted.
-#[derive(Clone, Copy, Debug, PartialEq, Eq)]
+#[derive(Clone, Copy)]
 pub(crate) enum Stop {
     /// A piece of it couldn't be read, or its size, or there is none of that name.
     Unread,
@@ -33,7 +33,7 @@ pub(crate) enum Stop {
 }
 
 /// What is told of an image that is admitted.
-#[derive(Clone, Copy, Debug, PartialEq, Eq)]
+#[derive(Clone, Copy)]
 pub(crate) struct Admitted {
     /// The linear address of the first instruction.
     pub entry: u64,

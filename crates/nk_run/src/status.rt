@@ -5,7 +5,7 @@ ghost use Rattle.nk_run.specs.Statuses.{status_number};
 use nk_host::SinkFault;
 
 /// How the program ends.
-#[derive(Clone, Copy, Debug, PartialEq, Eq)]
+#[derive(Clone, Copy)]
 pub(crate) enum Status {
     /// All was done.
     Done,
