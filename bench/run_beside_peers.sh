@@ -6,7 +6,7 @@
 #   SECONDS is about what one run takes; PROGRAM is an nkrun that is built already, or - for the peers alone; EARLIER is
 #   another, which runs beside it.
 # needs gcc, ld, objcopy, python3, and of the peers those that are there (Debian: qemu-system-x86, libunicorn-dev,
-# bochs with bochs-term); no display
+# bochs with bochs-term, bochsbios and vgabios); no display
 set -eu
 bench=$(cd "$(dirname "$0")" && pwd)
 top=$(dirname "$bench")
