@@ -123,6 +123,7 @@ impl<W: Write> Counted<W> {
         ensures err { OnErr result (Appends (W.contents self.old.inner) (W.contents self.new.inner) []) }
         ensures never_falls { self.old.faults ≤ self.new.faults }
         ensures failed { OnErr result (RoseTo self.old.faults self.new.faults) }
+        ensures kept { OnOk result (self.new.faults ≡ self.old.faults) }
     {
         match self.inner.write(bytes) {
             Ok(n) if n > 0 => Ok(n),

@@ -80,6 +80,7 @@ pub fn write_whole<W: Write>(to: &mut Counted<W>, bytes: &[u8]) -> Result<(), Si
     ensures some { OnErr result (AppendsPrefix (W.contents (stream_of to.old)) (W.contents (stream_of to.new)) bytes.now) }
     ensures nothing { bytes.now ≡ [] → IsOk result }
     ensures failed { OnErr result (RoseTo (faults_of to.old) (faults_of to.new)) }
+    ensures kept { OnOk result (faults_of to.new ≡ faults_of to.old) }
     ensures never_falls { faults_of to.old ≤ faults_of to.new }
 {
     let mut rest = bytes;

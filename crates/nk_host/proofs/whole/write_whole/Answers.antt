@@ -1,4 +1,4 @@
-use Rattle.std.proofs.Common.{arith, take-append-drop, sym, append-nil}
+use Rattle.std.proofs.Common.{◌∙◌, arith, take-append-drop, sym, append-nil}
 use Rattle.std.proofs.lemmas.Result.{err_from_is_err_and}
 use Rattle.nk_host.proofs.Passed.{more_out, prefix_out}
 use Rattle.nk_host.proofs.whole.write_whole.Goals as goal
@@ -6,7 +6,7 @@ use Rattle.nk_host.proofs.whole.write_whole.Goals as goal
 pub loop-rest-preserved : goal.loop-rest-preserved
 loop-rest-preserved g c =
     let rest = c.loop-rest.rest.now in
-    record { out = rw c.split_at.ensures.back (more_out _ rest _ _ _ _ _ c.loop-rest.invariant.out (sym (take-append-drop c.in_ok-count.count rest)) c.in_ok-count.ensures.ok); counted = omega arith }
+    record { out = rw c.split_at.ensures.back (more_out _ rest _ _ _ _ _ c.loop-rest.invariant.out (sym (take-append-drop c.in_ok-count.count rest)) c.in_ok-count.ensures.ok); counted = c.in_ok-count.ensures.kept ∙ c.loop-rest.invariant.counted }
 
 pub returns-in_err-count-clause-some : goal.returns-in_err-count-clause-some
 returns-in_err-count-clause-some g c =
