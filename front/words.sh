@@ -8,7 +8,7 @@ say() {
 }
 
 list_commands() {
-        sed -n 's/^  \([a-z][a-z]*\) [A-Z ]*$/\1/p' "$help"
+        sed -n 's/^  \([a-z][a-z]*\) [A-Z ]*$/\1/p' "$help" | paste -s -d , | sed 's/,/, /g'
 }
 
 # The words that a command takes, by their names; there are none where there is no such command.
@@ -27,11 +27,10 @@ range_of() { # NAME
 
 # Says what the words should have been, once the program has refused them.
 explain() { # WORDS..
-        commands=$(list_commands | tr '\n' ' ')
-        [ $# -gt 0 ] || { say "no command; the commands are ${commands% }"; return; }
+        [ $# -gt 0 ] || { say "no command: the commands are $(list_commands)"; return; }
         case $1 in --help | --version) say "$1 stands alone"; return ;; esac
         names=$(words_of "$1")
-        [ -n "$names" ] || { say "unknown command: $1; the commands are ${commands% }"; return; }
+        [ -n "$names" ] || { say "unknown command: $1; the commands are $(list_commands)"; return; }
         given=$(($# - 1))
         # shellcheck disable=SC2086
         wanted=$(set -- $names && echo $#)
