@@ -2,6 +2,7 @@
 # NAME.seconds has, of one first run that was measured, the second in which each step ended, a line a step in their order:
 #   STEP SECONDS      STEP is a crate, or sources for the pass over all of them that comes first, or built for the end
 # The same lines of a run of one's own stand afterwards in out/NAME.seconds; write_seconds makes the table of these.
+# shellcheck shell=sh disable=SC2154
 
 minute="-- a minute"
 

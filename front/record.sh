@@ -9,6 +9,7 @@
 #   NAME.sums      SHA-256 of each source, from before the proof began, and of the program
 #   NAME.listing   name, size and times of each of these files, from a moment when they had those sums
 # A run compares the listing, and the sums only where it differs, or where find has no -printf and there is none.
+# shellcheck shell=sh disable=SC2154
 
 use_program() { # NAME
         name=$1

@@ -1,5 +1,6 @@
 # What help.txt says of words. ../nkrun and try read these functions, and have set top. Nothing here judges a word: the
 # program does.
+# shellcheck shell=sh disable=SC2154
 
 help=$top/front/help.txt
 
@@ -8,7 +9,7 @@ say() {
 }
 
 list_commands() {
-        sed -n 's/^  \([a-z][a-z]*\) [A-Z ]*$/\1/p' "$help" | paste -s -d , | sed 's/,/, /g'
+        sed -n 's/^  \([a-z][a-z]*\) [A-Z ]*$/\1/p' "$help" | paste -s -d , - | sed 's/,/, /g'
 }
 
 # The words that a command takes, by their names; there are none where there is no such command.
