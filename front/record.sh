@@ -57,7 +57,7 @@ keep_listing() { # LISTING
 
 is_fresh() {
         [ -x "$program" ] && [ -s "$program.sums" ] && read_folders || return 1
-        [ ! -s "$program.listing" ] || ! list_files | cmp -s - "$program.listing" || return 0
+        ! list_files | cmp -s - "$program.listing" 2>/dev/null || return 0
         listing=$(list_files)
         { sum_sources && sum_program; } | cmp -s - "$program.sums" || return 1
         keep_listing "$listing"
