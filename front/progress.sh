@@ -1,7 +1,8 @@
 # How far a proof is, by time. build reads these functions, and has set name, top and out.
 # NAME.seconds has, of one first run that was measured, the second in which each step ended, a line a step in their order:
 #   STEP SECONDS      STEP is a crate, or sources for the pass over all of them that comes first, or built for the end
-# The same lines of a run of one's own stand afterwards in out/NAME.seconds; write_seconds makes the table of these.
+# Its first line says on which machine. The same lines of a run of one's own stand afterwards in out/NAME.seconds;
+# write_seconds makes the table of these.
 # shellcheck shell=sh disable=SC2154
 
 minute="-- a minute"
@@ -25,7 +26,7 @@ in_minutes() { # SECONDS
 
 expected() {
         if [ -n "$whole" ]; then
-                echo "from nothing about $(in_minutes "$whole") minutes on four processors of 2.5 GHz"
+                echo "from nothing about $(in_minutes "$whole") minutes$(sed -n '1s/.* ended,\( on .*\): .*/\1/p' "$table")"
         else
                 echo "how long it takes was not measured"
         fi
@@ -38,7 +39,7 @@ was_kept() { # SECOND NOW
 
 # A step has ended, at a second of the table, and of this run.
 advance() { # SECOND NOW
-        [ "$1" -gt "$place" ] || return
+        [ "$1" -gt "$place" ] || return 0
         ! was_kept "$1" "$2" || base=$1 base_at=$2
         place=$1 at=$2
 }
