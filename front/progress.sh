@@ -26,7 +26,8 @@ in_minutes() { # SECONDS
 
 expected() {
         if [ -n "$whole" ]; then
-                echo "from nothing about $(in_minutes "$whole") minutes$(sed -n '1s/.* ended,\( on .*\): .*/\1/p' "$table")"
+                machine=$(sed -n '1s/.* ended, on \(.*\): .*/\1/p' "$table")
+                echo "from nothing about $(in_minutes "$whole") minutes on $machine, with 4.4 GB of memory and 7.6 GB of disk"
         else
                 echo "how long it takes was not measured"
         fi
