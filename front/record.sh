@@ -1,4 +1,4 @@
-# Whether a built program is of the sources as they stand. ../nkrun, build and ../.ci/run read these functions,
+# Whether a built program is of the sources as they stand. ../nkrun, build, write_seconds and ../.ci/run read these functions,
 # and have set top, the checkout.
 #
 # A program's sources are crates.txt, and src/ and specs/ of the crates that it stands on. Proofs, tests and edits aren't
@@ -18,7 +18,7 @@ use_program() { # NAME
 
 # Reads which folders the program was built of; there are none where it was never recorded.
 read_folders() {
-        { read -r folders <"$program.folders"; } 2>/dev/null
+        { read -r folders <"$program.folders"; } 2>/dev/null && [ -n "$folders" ]
 }
 
 # Those of crates.txt as it stands. A folder that isn't there is listed too, so that it is seen when it comes.
