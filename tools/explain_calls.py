@@ -238,10 +238,10 @@ class Reader:
         region.content = content
 
     def tell_l(self, words):
-        self.check_rise("l", int(words["NUMBER"]), is_next=True)
         end = int(words["OFFSET"]) + len(words["BYTES"]) // 2
         if int(words["REGION"]) < FIRST_REGION or end > MOST_BYTES:
             raise Wrong(NO_REGION)
+        self.check_rise("l", int(words["NUMBER"]), is_next=True)
         self.counts["records"] += 1
         return (f"record {words['NUMBER']} of the log: in region {words['REGION']} from offset {words['OFFSET']} on "
                 f"{bytes_words(words['BYTES'])}")

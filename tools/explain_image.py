@@ -60,8 +60,8 @@ class Image:
 
     def name(self, place):
         """The name at a place of the file; it is read where it is wanted, and a long one is cut."""
-        text, end, _ = self.content[place:place + NAME_BYTES].partition(b"\0")
-        return console_words(text) + ("" if end else "..")
+        text, end, _ = self.content[place:place + NAME_BYTES + 1].partition(b"\0")
+        return console_words(text[:NAME_BYTES]) + ("" if end else "..")
 
     def segment(self, address):
         """The segment whose pages hold the address."""

@@ -82,10 +82,9 @@ class Tables:
                 found.append((start, frame))
                 continue
             is_whole = is_whole and frame in self.known
-            above = self.parents.get(frame, ())
+            above = list(itertools.islice(self.parents.get(frame, ()), MOST_LINKS))
             links += len(above)
-            open_ends += [(parent, start + index * reach(level + 1))
-                          for parent, index in itertools.islice(above, MOST_LINKS)
+            open_ends += [(parent, start + index * reach(level + 1)) for parent, index in reversed(above)
                           if self.levels.get(parent) == level + 1]
         return Ways(sorted(found), bool(open_ends), is_whole)
 
