@@ -202,7 +202,7 @@ def try_bounds(folder):
 
 def try_output(folder):
     text = folder / "text"
-    text.write_bytes(b"c 61\n" * 100000)
+    text.write_bytes(b"c 61\n" * 1000)
     shell = 'exec "$0" "$@" >&-'
     done = subprocess.run(["sh", "-c", shell, sys.executable, "-B", TOP / "tools" / "explain", OUTER, text],
                           capture_output=True, check=False)
