@@ -162,6 +162,16 @@ def try_owners(folder):
         "  page ffffffff80002000 (home, no segment of the image): 1, 9.1 %"], told.turns)
 
 
+    # The first and the last byte of each part.
+    offsets = (0, 26, 27, 28, 29, 54, 55, 63, 64, 447, 448, 473, 474, 476, 477)
+    told = Told(folder, trace(0, [f"{it} gate 0 {0xFFFFFF8000001000 + offset:x} - none" for it, offset in
+                                  enumerate(offsets)], "end to\nturns 15\n"), "")
+    compare("parts of the gates by their ends", [
+        "turns of the trace, 15 in all:", "  gates, breakpoint bytes: 3, 20.0 %",
+        *(f"  gates, {it}: 2, 13.3 %" for it in ("body", "entry", "exit", "handler before call 1", "stubs",
+                                                 "trap gate"))], told.turns)
+
+
 def try_doubt(folder):
     """Where a part stands at several places no line gets a turn; the turns that others took may leave one place."""
     step = "outer 0 ffffffff80000040 e6e9 out.8 value r0 e9; console 61"
