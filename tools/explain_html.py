@@ -178,6 +178,17 @@ def line_words(first, last):
     return f"line {first}" if first == last else f"lines {first} to {last}"
 
 
+def turn_words(turns):
+    first, last = turns
+    return f"turn {first}" if first == last else f"turns {first} to {last}"
+
+
+def where_words(first, last):
+    """The lines of the text, and their turns where a trace tells those."""
+    words = line_words(first.first, last.last)
+    return f"{words}, {turn_words((first.turns[0], last.turns[1]))}" if first.turns and last.turns else words
+
+
 def in_groups(told):
     """The events in their order; more than a few alike in a row are one group, others one each."""
     for _, group in itertools.groupby((it for it in told if it.name in "kic"), event_label):
@@ -188,7 +199,8 @@ def in_groups(told):
 def chip(group):
     first = group[0]
     label = event_label(first) + (f", {len(group):,} times" if len(group) > 1 else "")
-    return tag("li", tag("a", label, href=f"#line-{first.first}", title=first.text[:400]), class_=event_class(first))
+    title = f"{turn_words(first.turns)}: {first.text}" if first.turns else first.text
+    return tag("li", tag("a", label, href=f"#line-{first.first}", title=title[:400]), class_=event_class(first))
 
 
 def ending_words(told):
@@ -206,7 +218,7 @@ def line_of_events(groups, told):
 
 
 def event_item(event, identifier=None):
-    return tag("li", tag("span", line_words(event.first, event.last), class_="where"), " ",
+    return tag("li", tag("span", where_words(event, event), class_="where"), " ",
                tag("span", event_class(event), class_="what"), " ", tag("p", event.text),
                id=identifier, class_=event_class(event))
 
@@ -214,7 +226,7 @@ def event_item(event, identifier=None):
 def group_item(group):
     if len(group) == 1:
         return event_item(group[0], f"line-{group[0].first}")
-    label = f"{line_words(group[0].first, group[-1].last)}: {event_label(group[0])}, {len(group):,} times"
+    label = f"{where_words(group[0], group[-1])}: {event_label(group[0])}, {len(group):,} times"
     return tag("li", tag("details", tag("summary", label), tag("ol", *cut_items(group, MOST_ROWS, event_item))),
                id=f"line-{group[0].first}")
 
@@ -222,11 +234,21 @@ def group_item(group):
 def run_section(groups, told):
     if not groups:
         return section("run", "The run", tag("p", "The text has no calls, no deliveries and no bytes of the console."))
+    if any(it.turns for it in told):
+        known = "Each event has the turn at which it came, as far as the trace shows it."
+    else:
+        known = "The text tells no turns but how many there were in all, so the way from one event to the next says " \
+                "nothing of the turns between."
     return section(
-        "run", "The run",
-        tag("p", "What happened, in its order. The text tells no turns but how many there were in all, so the way from "
-                 "one event to the next says nothing of the turns between."),
+        "run", "The run", tag("p", f"What happened, in its order. {known}"),
         line_of_events(groups, told))
+
+
+def turns_section(turns):
+    """Whose turns those of the trace were."""
+    words, rows = turns
+    return section("turns", "Turns", table(f"Turns of the trace, {words}", ("Whose", "Turns", "Share"),
+                                           [row(name, f"{number:,}", share) for name, number, share in rows]))
 
 
 def events_section(groups):
@@ -463,12 +485,14 @@ def end_section(told):
     return section("end", "The end", bullets(lines) if lines else tag("p", "The text has no closing section."))
 
 
-def parts_of(frames, rows, reader, told):
+def parts_of(frames, rows, reader, told, turns):
     """The parts of the page, by the names of the links to them."""
     groups = list(in_groups(told))
     yield "run", run_section(groups, told)
     if groups:
         yield "events", events_section(groups)
+    if turns:
+        yield "turns", turns_section(turns)
     yield "console", console_section(told)
     yield "end", end_section(told)
     yield "frames", frames_section(frames, rows, reader)
@@ -478,10 +502,11 @@ def parts_of(frames, rows, reader, told):
     yield "counts", counts_section(reader)
 
 
-def page(names, frames, rows, reader, told):
-    """The page of a run: its image and journal have these names, and the frames of its opening are these rows."""
+def page(names, frames, rows, reader, told, turns):
+    """The page of a run: its image and journal have these names, the frames of its opening are these rows, and turns
+    are those of its trace, where there is one."""
     image, journal = names
-    parts = dict(parts_of(frames, rows, reader, told))
+    parts = dict(parts_of(frames, rows, reader, told, turns))
     title = f"The run of {image.rpartition('/')[2]}"
     links = tag("nav", *(tag("a", it.capitalize(), href=f"#{it}") for it in parts), aria_label="Parts of the page")
     header = tag("header", tag("h1", title), tag("p", f"The image {image}, and its run as {journal} has it."), links)

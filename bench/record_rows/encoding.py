@@ -1,4 +1,6 @@
 """Operands, the bytes of instructions (SDM volume 2, 2.1 and 2.2), and cases."""
+from __future__ import annotations
+
 from dataclasses import dataclass, field
 
 RAX, RCX, RDX, RBX, RSP, RBP, RSI, RDI = range(8)

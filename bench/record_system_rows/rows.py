@@ -1,4 +1,6 @@
 """Cases and rows: what stands before a turn, what stands after it, and their text (README.md)."""
+from __future__ import annotations
+
 from dataclasses import dataclass, field
 
 import base
