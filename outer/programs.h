@@ -1,5 +1,5 @@
-/* Users' programs that are linked into the image: outer/build --user makes an object NAME.o of C and assembly files, and
- * a kernel that links it declares
+/* Users' programs that are linked into the image: outer/build --user makes an object NAME.o of C and assembly files,
+ * and a kernel that links it declares
  *
  *         extern const struct program program_NAME;
  *
