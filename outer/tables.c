@@ -2,13 +2,8 @@
 
 struct memory memory_at_start(nk_frame first_free, uint64_t frames)
 {
-        struct memory memory = {first_free, frames, first_free};
+        struct memory memory = {first_free, frames, first_free, frames};
         return memory;
-}
-
-nk_frame take_frame(struct memory *memory)
-{
-        return memory->next < memory->frames ? memory->next++ : memory->frames;
 }
 
 void *frame_bytes(nk_frame frame)
@@ -18,6 +13,18 @@ void *frame_bytes(nk_frame frame)
          * doesn't have: so it is kept from knowing. */
         __asm__("" : "+r"(address));
         return (void *)address;
+}
+
+/* A frame that was given back has in its first eight bytes the one that was given back before it. */
+nk_frame take_frame(struct memory *memory)
+{
+        nk_frame frame = memory->given_back;
+        if (frame == memory->frames)
+                return memory->next < memory->frames ? memory->next++ : memory->frames;
+        nk_frame *before = frame_bytes(frame);
+        memory->given_back = *before;
+        *before = 0;
+        return frame;
 }
 
 void forget_page(nk_address address)
@@ -43,6 +50,18 @@ struct place direct_map_leaf(const struct memory *memory, nk_frame frame)
         place.table = memory->first_free - count_direct_leaves(memory) + frame / NK_ENTRIES;
         place.index = (unsigned)(frame % NK_ENTRIES);
         return place;
+}
+
+/* Only a frame of data can have a writable leaf, but for the trap stack, which take_frame never gives. */
+uint64_t give_frame(struct memory *memory, nk_frame frame)
+{
+        if (frame < memory->first_free || frame >= memory->next)
+                return NK_BAD_FRAME;
+        if (!(read_entry(direct_map_leaf(memory, frame)) & NK_WRITABLE))
+                return NK_NOT_DATA;
+        *(nk_frame *)frame_bytes(frame) = memory->given_back;
+        memory->given_back = frame;
+        return NK_ACCEPTED;
 }
 
 /* A frame past memory has no leaf in the direct map, so that no table would be the one that holds it. */
@@ -77,10 +96,15 @@ uint64_t declare_table(const struct memory *memory, unsigned level, nk_frame fra
         return answer;
 }
 
-uint64_t undo_table(const struct memory *memory, nk_frame table)
+uint64_t undo_table(struct memory *memory, nk_frame table)
 {
         uint64_t answer = nk_remove_table(table).value;
-        return answer == NK_ACCEPTED ? make_writable(memory, table) : answer;
+        if (answer == NK_ACCEPTED)
+                answer = make_writable(memory, table);
+        /* This is refused of a frame that take_frame didn't give, which isn't its to give again. */
+        if (answer == NK_ACCEPTED)
+                give_frame(memory, table);
+        return answer;
 }
 
 uint64_t link_table(struct place place, nk_frame lower)
@@ -138,7 +162,10 @@ static uint64_t link_new_table(struct memory *memory, struct place place, unsign
 {
         nk_frame table = take_frame(memory);
         uint64_t answer = declare_table(memory, level, table);
-        return answer == NK_ACCEPTED ? link_table(place, table) : answer;
+        if (answer == NK_ACCEPTED)
+                return link_table(place, table);
+        give_frame(memory, table);
+        return answer;
 }
 
 /* Bits 63 to 47 are equal. */
@@ -182,7 +209,7 @@ struct place leaf_of_page(nk_frame root, nk_address address)
 }
 
 /* The root's last entry is the nested kernel's, and no call changes it. */
-static uint64_t undo_tables(const struct memory *memory, nk_frame table, unsigned level)
+static uint64_t undo_tables(struct memory *memory, nk_frame table, unsigned level)
 {
         unsigned entries = level == 4 ? NK_KERNEL_SLOT_INDEX : NK_ENTRIES;
         for (struct place place = {table, 0}; place.index < entries; place.index++) {
@@ -206,7 +233,7 @@ static nk_frame root_in_use(void)
         return root / NK_PAGE;
 }
 
-uint64_t undo_root(const struct memory *memory, nk_frame root)
+uint64_t undo_root(struct memory *memory, nk_frame root)
 {
         struct place direct_map = {root, NK_DIRECT_MAP_INDEX};
         if (root == root_in_use())

@@ -1,7 +1,8 @@
 #!/bin/sh
 # Tries what outer/build says of an image that the scan refuses: each kernel here holds a protected encoding in another
 # way, the instruction has to be named, and each way around that outer/README.md lists has to lead to an image that is
-# admitted. usage: outer/try_build.sh, or CC=clang outer/try_build.sh. NKRUN as in outer/build.
+# admitted. Then try_words.sh tries the words of outer/build.
+# usage: outer/try_build.sh, or CC=clang outer/try_build.sh. NKRUN as in outer/build.
 set -u
 here=$(cd "$(dirname "$0")" && pwd) || exit 70
 CC=${CC:-gcc}
@@ -162,4 +163,6 @@ END
 sed 's/"movq %0, %%cr3" : : "r"/"movq %%r8, %%cr3" : : "a"/' whole.c >prefix.c
 refuses 'MOV to CR3' "which an outer kernel can't have" whole.c
 refuses 'MOV to CR3, behind a prefix' "which an outer kernel can't have" prefix.c
+
+"$here/try_words.sh" || differ=1
 exit $differ

@@ -1,9 +1,10 @@
 #!/bin/sh
 # Tries each row of README.md beside it: makes the change or the mistake, builds, scans, and compares what the tools or the
-# program say with what the row says. Outside the gate. usage: ./try_rows.sh, or CC=clang ./try_rows.sh
+# program say with what the row says. Outside the gate. usage: ./try_rows.sh, or CC=clang ./try_rows.sh. NKRUN is the
+# program, ./nkrun of the repository where it isn't set.
 set -u
 here=$(cd "$(dirname "$0")" && pwd)
-nkrun=$here/../../nkrun
+nkrun=${NKRUN:-$here/../../nkrun}
 CC=${CC:-gcc}
 export CC
 work=$(mktemp -d)

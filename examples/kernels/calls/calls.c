@@ -92,7 +92,7 @@ static void link_and_remove(struct memory *memory, nk_frame table)
         refused(NK_NOT_ROOT, nk_load_root(table));
         undo_entry(place);
         undo_table(memory, place.table);
-        *(volatile char *)frame_bytes(place.table) = 1; /* a free frame again, as it was */
+        *(volatile char *)frame_bytes(take_frame(memory)) = 1; /* the same frame, which can be written again */
         accepted(NK_REMOVE_TABLE, 0, nk_remove_table(table));
         make_writable(memory, table);
         make_root(memory, &root);

@@ -34,14 +34,14 @@ static void want(const char *what, uint64_t wanted, uint64_t found)
 
 static uint64_t accepted(uint64_t wanted, struct nk_answer answer)
 {
-        want("accepted", wanted, answer.value);
+        want("an accepted call", wanted, answer.value);
         accepted_calls += (uint64_t)nk_is_accepted(answer);
         return answer.value;
 }
 
 static void refused(enum nk_rule rule, struct nk_answer answer)
 {
-        want("refused", (uint64_t)rule, answer.value);
+        want("a refused call", (uint64_t)rule, answer.value);
         refused_calls += !nk_is_accepted(answer);
 }
 

@@ -12,6 +12,7 @@
 
 struct process {
         nk_frame root;
+        nk_frame stack; /* 0 till it is brought in */
         struct frame registers; /* while another process runs */
         int lives;
 };
@@ -98,7 +99,8 @@ static int bring_in(nk_address page)
         case CODE_PAGE:
                 return give_page(page, code, NK_CAN_EXECUTE);
         case STACK_PAGE:
-                return give_page(page, take_frame(&memory), NK_CAN_WRITE);
+                current->stack = take_frame(&memory);
+                return give_page(page, current->stack, NK_CAN_WRITE);
         case CLOCK_PAGE:
                 return give_page(page, clock, NK_CAN_READ);
         default:
@@ -117,6 +119,7 @@ static void end_process(struct frame *frame)
         else
                 must(load_root(NK_START_ROOT));
         must(undo_root(&memory, ended->root));
+        give_frame(&memory, ended->stack); /* refused of 0, where it had none */
         if (!next)
                 leave_user(0);
 }
@@ -153,7 +156,7 @@ static void serve_page_fault(struct frame *frame)
 void trap(struct frame *frame)
 {
         if (frame->cs != NK_USER_CS) {
-                print("the kernel faults\n");
+                print("the kernel itself faults, so the run ends\n");
                 end_run();
         }
         switch (frame->vector) {
