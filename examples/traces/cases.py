@@ -105,5 +105,9 @@ CASES = [
          whole="protected ffffffff80000000 0f30\n"),
     Case("a plan out of form, as a run says it", b"\xf4", plan="\n", status=6, whole="plan line 1\n"),
     Case("steps out of form, as a run says it", b"\xf4", steps="0100", status=2, head="usage: nkrun scan IMAGE"),
+    *(Case(f"{word} is no number of turns", b"\xf4", words, status=2, whole="") for word, words in (
+        ("a sign", ("+1",)), ("a leading zero", ("00",)), ("one more than the most turns", ("4294967297",)),
+        ("eleven digits", ("10000000000",)), ("an empty word", ("",)), ("a letter behind FROM", ("0", "x")))),
+    Case("the most turns", b"\xf4", ("4294967296",), head="state turn 1 outer"),
     Case("a file that takes ten bytes", b"\xf4", room=10, status=4, whole="state turn"),
 ]

@@ -1,17 +1,24 @@
 //! The words of the command line.
 
-use clap::builder::ValueParser;
 use clap::error::ErrorKind;
 use clap::{Arg, ArgAction, ArgMatches, Command, Error};
 use std::alloc::{AllocError, Global};
 use step_trace::{Kind, Shown};
-use text_lines::hexadecimal;
+use text_lines::{decimal, hexadecimal};
 
 /// The most turns of a run.
 const MOST_TURNS: u64 = 4_294_967_296;
 
-/// The most digits of an address.
+/// The most digits of a number of turns, and of an address.
+const TURN_DIGITS: usize = 10;
+
 const DIGITS: usize = 16;
+
+/// What is said of a word whose value is out of form.
+const NO_TURNS: &str =
+    "invalid value for '[FROM] [TO]': each is 0 to 4294967296, decimal, without sign or leading zeros";
+
+const NO_ADDRESS: &str = "invalid value for '--until <ADDRESS>': it has 1 to 16 hexadecimal digits";
 
 /// The names of kinds of steps.
 static KINDS: [&str; 6] = ["gate", "call", "delivery", "event", "memory", "console"];
@@ -69,9 +76,7 @@ fn word<'a>(alloc: Global, name: &'a str, form: &Form, help: &'a str) -> Arg<'a>
     let word = Arg::new(alloc, name).help(help);
     match form {
         Form::File => word.required(true).action(ArgAction::Set),
-        Form::Turns => word
-            .action(ArgAction::Set)
-            .value_parser(ValueParser::unsigned(0, MOST_TURNS)),
+        Form::Turns => word.action(ArgAction::Set),
         Form::Value(value) => word.long(name).action(ArgAction::Set).value_name(value),
         Form::Flag => word.long(name).action(ArgAction::SetTrue),
         Form::KindName => word
@@ -116,36 +121,60 @@ fn run_words(alloc: Global, matches: &ArgMatches<'_>) -> Result<Vec<String>, All
     Ok(words)
 }
 
-/// What is shown, but for the address.
-fn shown_of(matches: &ArgMatches<'_>, until: Option<u64>) -> Shown {
-    Shown {
-        from: matches.get_one::<u64>("FROM").unwrap_or(0),
-        to: matches.get_one::<u64>("TO"),
-        until,
-        changes: matches.get_flag("changes"),
-        only: matches.get_str("only").and_then(kind_of),
-        memory: matches.get_flag("memory"),
+/// The number of turns that a word writes.
+fn turns_in(word: &str) -> Option<u64> {
+    if word.len() > 1 && word.starts_with('0') {
+        return None;
+    }
+    match decimal(word.as_bytes(), TURN_DIGITS) {
+        Some(turns) if turns <= MOST_TURNS => Some(turns),
+        _ => None,
     }
 }
 
-fn no_address(alloc: Global) -> Result<Error, AllocError> {
-    let mut command = whole_command(alloc)?;
-    command.error(
-        ErrorKind::ValueValidation,
-        "invalid value for '--until <ADDRESS>': it has 1 to 16 hexadecimal digits",
-    )
+/// The number of turns of a word that may be left out, or what is wrong with it.
+fn turns_of(matches: &ArgMatches<'_>, name: &str) -> Result<Option<u64>, &'static str> {
+    match matches.get_str(name) {
+        Some(word) => match turns_in(word) {
+            Some(turns) => Ok(Some(turns)),
+            None => Err(NO_TURNS),
+        },
+        None => Ok(None),
+    }
+}
+
+/// The address at which a trace ends, or what is wrong with it.
+fn until_of(matches: &ArgMatches<'_>) -> Result<Option<u64>, &'static str> {
+    match matches.get_str("until") {
+        Some(word) => match hexadecimal(word.as_bytes(), DIGITS) {
+            Some(address) => Ok(Some(address)),
+            None => Err(NO_ADDRESS),
+        },
+        None => Ok(None),
+    }
+}
+
+/// What is shown, or what is wrong with a word of it.
+fn shown_of(matches: &ArgMatches<'_>) -> Result<Shown, &'static str> {
+    Ok(Shown {
+        from: turns_of(matches, "FROM")?.unwrap_or(0),
+        to: turns_of(matches, "TO")?,
+        until: until_of(matches)?,
+        changes: matches.get_flag("changes"),
+        only: matches.get_str("only").and_then(kind_of),
+        memory: matches.get_flag("memory"),
+    })
 }
 
 /// What the words that match ask for.
 fn asked_by(alloc: Global, matches: &ArgMatches<'_>) -> Result<Request, AllocError> {
-    let until = match matches.get_str("until") {
-        Some(word) => match hexadecimal(word.as_bytes(), DIGITS) {
-            Some(address) => Some(address),
-            None => return Ok(Request::Told(no_address(alloc)?)),
-        },
-        None => None,
-    };
-    Ok(Request::Trace(run_words(alloc, matches)?, shown_of(matches, until)))
+    match shown_of(matches) {
+        Ok(shown) => Ok(Request::Trace(run_words(alloc, matches)?, shown)),
+        Err(wrong) => {
+            let mut command = whole_command(alloc)?;
+            Ok(Request::Told(command.error(ErrorKind::ValueValidation, wrong)?))
+        }
+    }
 }
 
 /// What a parse that gave no matches tells.
