@@ -7,6 +7,7 @@ pub mod PageFetches
 pub mod PendingVectors
 mod QuickTurnLemmas
 pub mod StoresOfTurns
+mod TouchedFrames
 pub mod TurnLemmas
 mod WorkedTurns
 pub mod WordBytes

@@ -4,6 +4,7 @@ pub mod QuickTurns
 pub mod InstructionFetch
 pub mod Turns
 pub mod TurnStores
+pub mod FramesTouched
 pub mod EventsTaken
 pub mod TranslationsLent
 -- Laws: what is proved of the definitions.

@@ -11,6 +11,7 @@ mod fetch;
 mod kept_code;
 mod memo;
 mod stepped;
+mod touched;
 
 // What an instruction does, and what it asks; deliveries.
 mod acts;
@@ -32,3 +33,4 @@ pub use fetch::Fetched;
 pub use laws::{alike_fetch_law, fetch_law, pending_law, turn_stores_law};
 pub use processor::{Cpu, NoMemory};
 pub use stepped::Stepped;
+pub use touched::Touched;

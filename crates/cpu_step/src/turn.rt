@@ -5,6 +5,7 @@ ghost use Rattle.nk_bits.specs.Accesses.{wp_of};
 ghost use Rattle.nk_bits.specs.Translations.{faulted};
 ghost use Rattle.nk_bits.specs.Outcomes.{outcome_of};
 ghost use Rattle.x86_regs.specs.Effects.{FitsIn, HasAccessSize, LeavesToDelivery, LoadsFrameIn, memory_after};
+ghost use Rattle.cpu_step.specs.FramesTouched.{StaysOutside, instruction_touched, touched_by, turn_touched};
 ghost use Rattle.cpu_step.specs.Processor.{IsSound, deliverable};
 ghost use Rattle.cpu_step.specs.Turns.{acted, enters_body, instructed, instruction_made, is_at_body, refused_body, turned};
 
@@ -12,9 +13,11 @@ use crate::execution::effect_of;
 use crate::fetch::{code_on_page, fetch_by_pages, is_on_page};
 use crate::processor::Cpu;
 use crate::stepped::Stepped;
+use crate::touched::{Touched, touched_by};
 use mem_access::commit;
 use nk_bits::{BODY, NESTED_STACK_TOP, named_law};
-use phys_mem::PhysMem;
+use page_walk::places_law;
+use phys_mem::{PhysMem, memory_law};
 use x86_decode::Decoded;
 use x86_regs::{Effect, Fault, Regs, Write, bit};
 
@@ -36,10 +39,25 @@ impl Cpu {
         ensures sound { IsSound (length mem.new) self.new }
         ensures length { length mem.new ≡ length mem.old }
     {
+        self.step_touching(mem).0
+    }
+
+    /// One turn, with the frames that it may have changed: every byte of memory outside them is as it was.
+    pub fn step_touching(&mut self, mem: &mut PhysMem) -> (Stepped, Touched)
+        requires body { enters_body self.old ≡ false }
+        requires running { (self.old.halted ≡ false) ⊎ IsSome (deliverable self.old) }
+        requires sound { IsSound (length mem.old) self.old }
+        ensures turned { record { processor = self.new; memory = mem.new; stepped = result.0 }
+            ≡ turned self.old mem.old }
+        ensures sound { IsSound (length mem.new) self.new }
+        ensures length { length mem.new ≡ length mem.old }
+        ensures touched { StaysOutside result.1 mem.old mem.new }
+        ensures told { result.1 ≡ turn_touched self.old mem.old }
+    {
         match self.deliverable() {
             Some(vector) => {
                 self.wake(vector);
-                self.deliver(vector, None, mem)
+                (self.deliver(vector, None, mem), Touched::Any)
             }
             None => {
                 self.shielded = false;
@@ -58,19 +76,25 @@ impl Cpu {
 
     /// Makes an instruction, unless RIP is at the body's place.
     #[inline]
-    fn instruct(&mut self, mem: &mut PhysMem) -> Stepped
+    fn instruct(&mut self, mem: &mut PhysMem) -> (Stepped, Touched)
         requires sound { IsSound (length mem.old) self.old }
-        ensures instructed { record { processor = self.new; memory = mem.new; stepped = result }
+        ensures instructed { record { processor = self.new; memory = mem.new; stepped = result.0 }
             ≡ instructed self.old mem.old }
         ensures sound { IsSound (length mem.new) self.new }
         ensures length { length mem.new ≡ length mem.old }
+        ensures touched { StaysOutside result.1 mem.old mem.new }
+        ensures told { result.1 ≡ instruction_touched self.old mem.old }
     {
         if is_at_body(&self.regs) {
-            return self.refuse_body(mem);
+            return (self.refuse_body(mem), Touched::Any);
         }
         match self.make(mem) {
-            Ok(effect) => self.finish(&effect, mem),
-            Err(fault) => self.raise(fault, mem),
+            Ok(effect) => {
+                let stepped = self.finish(&effect, mem);
+                let touched = touched_by(&stepped, &effect.write);
+                (stepped, touched)
+            }
+            Err(fault) => (self.raise(fault, mem), Touched::Any),
         }
     }
 
@@ -87,7 +111,10 @@ impl Cpu {
             (record self.old { regs = effect.now.regs }) (memory_after effect.now.write mem.old) }
         ensures sound { IsSound (length mem.new) self.new }
         ensures length { length mem.new ≡ length mem.old }
+        ensures touched { StaysOutside (touched_by result effect.now.write) mem.old mem.new }
     {
+        memory_law();
+        places_law();
         let rip = self.regs.rip;
         self.regs = effect.regs;
         put(mem, &effect.write);

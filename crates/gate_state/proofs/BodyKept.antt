@@ -117,6 +117,10 @@ module _ (laws : LowerLaws) (o : Opening) (admitted : IsAdmitted o) (s : Machine
     settled = λ f is.
         let here : kind_of s.kinds f ≡ kind_of (kinds o.image o.frames) f = guarded.kinds.settled f is in
         laws.call_leaves.settled s.kinds root f s.ledger s.memory call source called (ap is_settled here ∙ is) ∙ here;
+    reserved = λ f is.
+        let same : kind_of after.tables.kinds f ≡ kind_of s.kinds f =
+        laws.call_leaves.reserved s.kinds root f s.ledger s.memory call source called is in
+        same ∙ guarded.kinds.reserved f (ap is_reserved (sym same) ∙ is);
     writable = λ page low high.
         still_storable (slot_leaf o.image o.frames page) (guarded.kinds.writable page low high)
         (laws.opening_entries.written o.image o.frames page (entry_in s.memory) admitted.layout admitted.pages

@@ -1,8 +1,8 @@
 -- The frames of the nested kernel's books are hidden, and no translation that respects the kinds names one.
 use Rattle.std.proofs.Common.{◌≡◌, ℕ, ◌+◌, ◌-◌, ◌/◌, ◌<◌, ◌≤◌, ◌==◌, ◌&&◌, ◌||◌, Bool, true, false, List, refl, sym, ap, subst, ◌∙◌, arith, inl, inr}
-use Rattle.std.specs.Prelude.{IfSome, Option, Some, None, nat_le, nat_lt, if◌then◌else◌}
+use Rattle.std.specs.Prelude.{IfSome, Option, Some, None, nat_le, nat_lt, if◌then◌else◌, slice_index}
 use Rattle.std.specs.List.{position}
-use Rattle.std.proofs.lemmas.Bool.{agree_below_at, and_parts, cases_Bool, cases_lt, cond-false, cond-true, false_from_ne_true, false≢true, le-ltb, leb-true, lt-ltb, ltb-true}
+use Rattle.std.proofs.lemmas.Bool.{agree_below_at, and_parts, cases_Bool, cases_lt, cond-false, cond-true, false_from_ne_true, false≢true, le-leb, le-ltb, leb-true, lt-ltb, ltb-true}
 use Rattle.nk_bits.specs.declared.kind.Kind.{Kind}
 use Rattle.nk_bits.specs.declared.kind.Kind.TheVariants.{Data, Code, Table, Fixed, Trap, Guarded, Hidden}
 use Rattle.nk_bits.specs.declared.leaf.Leaf.{Leaf}
@@ -10,10 +10,13 @@ use Rattle.nk_bits.specs.Kinds.{allows, is_hidden, is_storable, kind_of, level_o
 use Rattle.nk_bits.specs.Paging.{is_slot_page}
 use Rattle.phys_mem.specs.MaskedMemory.{is_book_frame}
 use Rattle.elf_image.specs.Pages.{is_executable, is_writable, pages_of}
-use Rattle.boot_map.specs.Division.{Division, division_of, pages_start, tables_start}
+use Rattle.boot_map.specs.declared.part.Part.{Part}
+use Rattle.boot_map.specs.declared.part.Part.TheVariants.{Free, ImagePage, MapDirectory, MapRoot, MapTable, RangeTable}
+use Rattle.boot_map.specs.Division.{Division, division_of, free_start, map_start, pages_start, tables_start}
 use Rattle.boot_map.specs.KernelSlot.{area_leaf, image_leaf, slot_leaf, slot_start}
-use Rattle.boot_map.specs.OpeningKinds.{kind_at, kind_of_part}
+use Rattle.boot_map.specs.OpeningKinds.{kind_at, kind_of_part, kinds}
 use Rattle.boot_map.specs.Parts.{common_part, part_at, sized_part}
+use Rattle.nk_body.specs.KindsKept.{is_reserved}
 use Rattle.gate_state.specs.GuardedStates.{AreKinds, IsAdmitted}
 use Rattle.gate_state.specs.MachineStates.{Opening}
 use Rattle.gate_state.specs.RespectedKinds.{respects}
@@ -71,6 +74,57 @@ opened_hidden b frames f is =
           ∙ cond-true (nat_lt f (tables_start d)) _ _ (lt-ltb f (tables_start d) at.1))
     ]
 
+-- and nothing else is: of the frames that every opening has alike, and of those behind them
+common_books : (b : List ℕ) (f : ℕ) → f < 64 → is_hidden (kind_of_part b (common_part f)) ≡ nat_le 26 f
+common_books b f low =
+    agree_below_at (λ n. is_hidden (kind_of_part b (common_part n))) (λ n. nat_le 26 n) 64 f refl low
+
+either_shown : (b : List ℕ) (c : Bool) (x y : Part) → is_hidden (kind_of_part b x) ≡ false
+    → is_hidden (kind_of_part b y) ≡ false → is_hidden (kind_of_part b (if c then x else y)) ≡ false
+either_shown b true x y first second = first
+either_shown b false x y first second = second
+
+page_shown : (executable : Bool) → is_hidden (if executable then Code else Data) ≡ false
+page_shown true = refl
+page_shown false = refl
+
+sized_shown : (b : List ℕ) (d : Division) (f : ℕ) → tables_start d ≤ f → is_hidden (kind_of_part b (sized_part d f)) ≡ false
+sized_shown b d f past =
+    ap (λ (part : Part). is_hidden (kind_of_part b part)) (cond-false (nat_lt f (tables_start d)) _ _ (le-ltb f (tables_start d) past))
+    ∙ either_shown b (nat_lt f (pages_start d)) (RangeTable (f - tables_start d)) _ refl
+    (either_shown b (nat_lt f (map_start d)) (ImagePage (f - pages_start d)) _
+    (page_shown (is_executable b (slice_index (pages_of b) (f - pages_start d))))
+    (either_shown b (f == map_start d) MapRoot _ refl
+    (either_shown b (f == map_start d + 1) MapDirectory _ refl
+    (either_shown b (nat_lt f (free_start d)) (MapTable (f - (map_start d + 2))) Free refl refl))))
+
+hidden_opened : (b : List ℕ) (frames f : ℕ) → kind_at b frames f ≡ Hidden → is_book_frame frames f ≡ true
+unfolding kind_at part_at is_book_frame
+hidden_opened b frames f is =
+    let d : Division = division_of b frames in
+    elim (cases_lt f 64) [
+      | inl low ↦
+          let common : kind_at b frames f ≡ kind_of_part b (common_part f) =
+          ap (kind_of_part b) (cond-true (nat_lt f 64) (common_part f) (sized_part d f) (lt-ltb f 64 low)) in
+          and_both (nat_le 26 f) (nat_lt f (64 + (frames + 255) / 256))
+          (sym (common_books b f low) ∙ ap is_hidden (sym common ∙ is))
+          (lt-ltb f (64 + (frames + 255) / 256) (omega (arith, low)))
+      | inr high ↦ elim (cases_lt f (tables_start d)) [
+        | inl inside ↦
+            and_both (nat_le 26 f) (nat_lt f (64 + (frames + 255) / 256)) (le-leb 26 f (omega (arith, high)))
+            (lt-ltb f (64 + (frames + 255) / 256) inside)
+        | inr past ↦
+            let sized : kind_at b frames f ≡ kind_of_part b (sized_part d f) =
+            ap (kind_of_part b) (cond-false (nat_lt f 64) (common_part f) (sized_part d f) (le-ltb f 64 high)) in
+            absurd (false≢true (sym (sized_shown b d f past) ∙ ap is_hidden (sym sized ∙ is)))
+      ]
+    ]
+  where
+    and_both : (a b : Bool) → a ≡ true → b ≡ true → (a && b) ≡ true
+    and_both true true first second = refl
+    and_both true false first second = second
+    and_both false b first second = first
+
 -- the leaves of the layout lie apart from them
 abbrev Apart : ℕ → Option Leaf → Type 0
 Apart frames found = IfSome found (λ leaf. is_book_frame frames leaf.frame ≡ false)
@@ -116,6 +170,12 @@ module _ (laws : LowerLaws) (o : Opening) (ks : List Kind) (admitted : IsAdmitte
       let at = book_bounds o.frames f is in
       let inside : f < o.frames = omega (arith, admitted.layout.least, at.1) in
       kind_is laws o ks admitted kinds_are f Hidden inside (opened_hidden o.image o.frames f is) refl
+
+  -- and no other frame's is
+  pub hidden_book : (f : ℕ) → f < o.frames → kind_of ks f ≡ Hidden → is_book f ≡ true
+  hidden_book f inside is =
+      let opened : kind_of ks f ≡ kind_of (kinds o.image o.frames) f = kinds_are.reserved f (ap is_reserved is) in
+      hidden_opened o.image o.frames f (sym (laws.opening_kinds.each o.image o.frames f inside) ∙ sym opened ∙ is)
 
   -- so a frame of another kind is none of them
   pub apart_from : (f : ℕ) → (kind_of ks f ≡ Hidden → ⊥) → is_book f ≡ false

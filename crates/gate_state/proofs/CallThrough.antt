@@ -101,7 +101,7 @@ unfolding state
 last_step plan s zero = refl
 last_step plan s (suc k) = last_step plan (next plan s) k
 
-first_state : (plan : List Event) (s : MachineState) → state plan s zero ≡ s
+pub first_state : (plan : List Event) (s : MachineState) → state plan s zero ≡ s
 unfolding state
 first_state plan s = refl
 

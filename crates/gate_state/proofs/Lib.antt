@@ -50,6 +50,7 @@ pub mod RefutedLeaves
 pub mod OpeningBytes
 pub mod OpeningGuarded
 pub mod RunsSafe
+pub mod CallComesBack
 pub mod RunsShort
 pub mod ShownStates
 pub mod MoveLemmas

@@ -4,17 +4,20 @@ use Rattle.std.proofs.lemmas.Bool.{false≢true}
 use Rattle.nk_bits.specs.Kinds.{is_storable}
 use Rattle.phys_mem.specs.MaskedMemory.{is_book_frame, masked}
 use Rattle.phys_mem.specs.Memory.{byte_at, stored}
+use Rattle.page_walk.specs.MemoryAccess.{view_of}
+use Rattle.cpu_step.specs.InstructionFetch.{instruction_at}
 use Rattle.cpu_step.specs.TurnStores.{turn_stores}
 use Rattle.cpu_step.specs.Turns.{turned}
 use Rattle.irq_plan.specs.declared.event.What.{What}
 use Rattle.cpu_step.specs.EventsTaken.{event_taken}
 use Rattle.gate_state.specs.GuardedStates.{IsAdmitted, IsGuarded}
 use Rattle.gate_state.specs.MachineStates.{MachineState, Opening}
+use Rattle.gate_state.specs.RespectedKinds.{respecting}
 use Rattle.gate_state.specs.SafeStates.{TakesTurn}
 use Rattle.gate_state.specs.SourceBytes.{source_read}
 use Rattle.gate_state.proofs.BookFrames.{book_hidden}
 use Rattle.gate_state.proofs.LowerLaws.{LowerLaws}
-use Rattle.gate_state.proofs.MaskedScenes.{IsSeen, masked_stored}
+use Rattle.gate_state.proofs.MaskedScenes.{IsSeen, alike, masked_stored}
 use Rattle.gate_state.proofs.MaskedSources.{event_same, source_same}
 use Rattle.gate_state.proofs.MaskedTurns.{Left, left_by, turned_same}
 use Rattle.gate_state.proofs.Scene.{AreStores, SceneLaws}
@@ -44,6 +47,9 @@ module _ (laws : LowerLaws) (o : Opening) (admitted : IsAdmitted o) (s : Machine
         (record { seen = seen; tables = guarded.control.tables; pass = guarded.translations }) guarded.control.registers
         guarded.control.pending storable
 
+    pub masked_stores : turn_stores s.processor m ≡ turn_stores s.processor s.memory
+    masked_stores = ap (λ (x : Left). x.2) (sym turn_left)
+
     turn_memory : (turned s.processor m).memory ≡ stored m made
     turn_memory =
         laws.turn_stores.memory s.processor m ∙ ap (λ (x : Left). stored m x.2) (sym turn_left)
@@ -67,6 +73,13 @@ module _ (laws : LowerLaws) (o : Opening) (admitted : IsAdmitted o) (s : Machine
         (place_apart s.kinds made storable.places place (λ may.
         false≢true (sym (ap is_storable (book_hidden laws o s.kinds admitted guarded.kinds (place / 4096) book))
         ∙ may)))
+
+  pub masked_fetch : instruction_at m (view_of m s.processor.control s.processor.regs.cpl) s.processor.regs.rip s.processor.tlb
+      ≡ instruction_at s.memory (view_of s.memory s.processor.control s.processor.regs.cpl) s.processor.regs.rip s.processor.tlb
+  masked_fetch =
+      sym (laws.alike_fetch.instruction (respecting o s.kinds) s.processor.control s.processor.regs.cpl s.memory m
+      s.processor.regs.rip s.processor.tlb (alike laws o s.kinds m s.memory s.processor.control seen)
+      (scenes.walked s.memory s.processor.control s.processor.regs.cpl seen.scene) guarded.translations)
 
   pub masked_event : (what : What) → event_taken what m s.processor ≡ event_taken what s.memory s.processor
   masked_event what =

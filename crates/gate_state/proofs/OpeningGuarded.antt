@@ -69,6 +69,7 @@ module _ (laws : LowerLaws) (o : Opening) (admitted : IsAdmitted o) (entry : ent
   opening_kinds = record {
     count = laws.opening_kinds.count o.image o.frames;
     settled = λ f is. refl;
+    reserved = λ f is. refl;
     writable = λ page low high. both (slot_leaf o.image o.frames page)
         (laws.slot_leaf.in_memory o.image o.frames page admitted.layout) (laws.slot_leaf.writable o.image o.frames page);
   }

@@ -1,13 +1,13 @@
 -- What is no answer to a call that is made through the gates, each named by the sentence that it guards.
-use Rattle.std.proofs.Common.{◌≡◌, ◌≢◌, ℕ, ◌+◌, ◌<◌, true, false, List, Some, slice_index, sym, subst, ◌∙◌, arith}
-use Rattle.std.specs.Prelude.{IfSome, Option}
+use Rattle.std.proofs.Common.{◌≡◌, ◌≢◌, ℕ, ◌+◌, ◌<◌, ◌≤◌, true, false, List, Some, slice_index, sym, subst, ◌∙◌, arith}
+use Rattle.std.specs.Prelude.{IfSome, Option, length}
 use Rattle.std.proofs.lemmas.Bool.{false≢true}
 use Rattle.nk_bits.specs.Accesses.{wp_of}
 use Rattle.nk_bits.specs.KernelLayout.{gate_address}
 use Rattle.x86_regs.specs.Operands.{rax, rdx, rsp}
 use Rattle.irq_plan.specs.declared.event.Event.{Event}
 use Rattle.cpu_step.specs.Turns.{enters_body}
-use Rattle.gate_state.specs.GateCalls.{IsCallAnswered, IsCalledThrough, IsServed}
+use Rattle.gate_state.specs.GateCalls.{ComesLater, IsCallAnswered, IsCalledBack, IsCalledThrough, IsServed}
 use Rattle.gate_state.specs.MachineStates.{MachineState, nested_of}
 use Rattle.gate_state.specs.MachineSteps.{answer_in, call_in, move_of, state}
 use Rattle.gate_state.specs.WholeMachine.{is_rest}
@@ -66,3 +66,18 @@ module _ (plan : List Event) (s : MachineState) (k : ℕ) where
     -- the machine rests in the thirteenth turn
     rest_within : (state plan s k).turns ≡ s.turns + 13 → is_rest (move_of plan (state plan s k)) ≡ true → ⊥
     rest_within within rests = false≢true (sym (it.runs (omega (arith, within))) ∙ rests)
+
+-- a call that doesn't come back: so many turns are taken in no state, or only behind more steps
+module _ (plan : List Event) (s : MachineState) where
+  never_there : (turns : ℕ) → ((k : ℕ) → (state plan s k).turns ≢ s.turns + turns) → ComesLater plan s turns → ⊥
+  never_there turns none it = none it.steps it.there
+
+  there_too_late : (turns : ℕ)
+      → ((k : ℕ) → (state plan s k).turns ≡ s.turns + turns → turns + length plan + 1 ≤ k) → ComesLater plan s turns → ⊥
+  there_too_late turns late it = let more = late it.steps it.there in let few = it.few in omega (arith, more, few)
+
+  never_at_the_body : ((k : ℕ) → (state plan s k).turns ≢ s.turns + 6) → IsCalledBack plan s → ⊥
+  never_at_the_body none it = never_there 6 none it.body
+
+  never_answered : ((k : ℕ) → (state plan s k).turns ≢ s.turns + 14) → IsCalledBack plan s → ⊥
+  never_answered none it = never_there 14 none it.back

@@ -32,7 +32,7 @@ use Rattle.gate_state.specs.GateCalls.{IsCalling}
 use Rattle.gate_state.specs.GuardedStates.{AreKinds, IsAdmitted, IsControlled, IsGuarded, KeepsOpeningBytes}
 use Rattle.gate_state.specs.MachineStates.{MachineState, Opening}
 use Rattle.gate_state.specs.RespectedKinds.{respecting, respects}
-use Rattle.nk_body.specs.KindsKept.{is_settled}
+use Rattle.nk_body.specs.KindsKept.{is_reserved, is_settled}
 
 -- a processor whose control registers, tables, CPL or pending vectors aren't those of a run
 module _ (p : Processor) (it : IsControlled p) where
@@ -86,6 +86,10 @@ module _ (o : Opening) (ks : List Kind) (it : AreKinds o ks) where
   changed_kind : (f : ℕ) → is_settled (kind_of (kinds o.image o.frames) f) ≡ true
       → kind_of ks f ≢ kind_of (kinds o.image o.frames) f → ⊥
   changed_kind f settled other = other (it.settled f settled)
+
+  -- one more that is hidden, say
+  given_kind : (f : ℕ) → is_reserved (kind_of ks f) ≡ true → kind_of ks f ≢ kind_of (kinds o.image o.frames) f → ⊥
+  given_kind f reserved other = other (it.reserved f reserved)
 
   unstorable_leaf : (page : ℕ) (leaf : Leaf) → slot_start ≤ page → page < 2 ^ 52
       → slot_leaf o.image o.frames page ≡ Some leaf → leaf.rights.can_write ≡ true

@@ -6,11 +6,11 @@ use Rattle.std.specs.List.{Contains}
 use Rattle.std.proofs.lemmas.Bool.{and_parts, false≢true}
 use Rattle.std.proofs.lemmas.List.Elements.{All-contains, All-head}
 use Rattle.nk_bits.specs.declared.kind.Kind.{Kind}
-use Rattle.nk_bits.specs.declared.kind.Kind.TheVariants.{Data}
+use Rattle.nk_bits.specs.declared.kind.Kind.TheVariants.{Data, Table}
 use Rattle.nk_bits.specs.declared.leaf.Leaf.{Leaf}
 use Rattle.nk_bits.specs.declared.leaf.Upper.{Upper}
 use Rattle.nk_bits.specs.Accesses.{accessed, completed, crosses, first_part, has_canonical_bytes, reached, smep_of, wp_of}
-use Rattle.nk_bits.specs.Kinds.{kind_of, level_of}
+use Rattle.nk_bits.specs.Kinds.{is_storable, kind_of, level_of}
 use Rattle.nk_bits.specs.Paging.{has_all, is_slot_page}
 use Rattle.nk_bits.specs.Translations.{IsLive}
 use Rattle.nk_bits.specs.UpperEntries.{first_of_span}
@@ -40,7 +40,15 @@ use Rattle.gate_state.proofs.SceneProofsUppers.{Leading, entry_passes, leading}
 outside_store : (o : Opening) (s : MachineState) (place byte : ℕ) → TakesTurn s.processor → wp_of s.processor.control.cr0 ≡ false
     → Contains (turn_stores s.processor s.memory) (place, byte) → place / 4096 ≢ 3 → IsSafe o s → ⊥
 outside_store o s place byte takes clear stores outside safe =
-    outside (All-contains (λ (w : ℕ × ℕ). w.0 / 4096 ≡ 3) (turn_stores s.processor s.memory) (place, byte) (safe.stores takes clear) stores)
+    outside (All-contains (λ (w : ℕ × ℕ). w.0 / 4096 ≡ 3) (turn_stores s.processor s.memory) (place, byte) (safe.window_stores takes clear) stores)
+
+-- a turn that stores a byte in a frame of another kind than Data and Trap isn't safe, with WP set as with WP clear
+guarded_store : (o : Opening) (s : MachineState) (place byte : ℕ) → TakesTurn s.processor
+    → Contains (turn_stores s.processor s.memory) (place, byte) → is_storable (kind_of s.kinds (place / 4096)) ≡ false
+    → IsSafe o s → ⊥
+guarded_store o s place byte takes stores other safe =
+    false≢true (sym other ∙ All-contains (λ (w : ℕ × ℕ). is_storable (kind_of s.kinds (w.0 / 4096)) ≡ true)
+    (turn_stores s.processor s.memory) (place, byte) (safe.stores takes) stores)
 
 -- with WP clear, a processor that is to take an instruction at no gate point isn't safe
 off_the_gates : (o : Opening) (s : MachineState) → TakesTurn s.processor → wp_of s.processor.control.cr0 ≡ false
@@ -111,9 +119,19 @@ equal_bytes : (o : Opening) (kinds : List Kind) (ledger : Ledger) (turns taken :
     → IsSafe o (record { processor = user; memory = memory; kinds = kinds; ledger = ledger; turns = turns; taken = taken }) → ⊥
 unfolding wp_of
 equal_bytes o kinds ledger turns taken safe =
-    let all = subst (All (λ (w : ℕ × ℕ). w.0 / 4096 ≡ 3)) stores_in_frame_0 (safe.stores (record { no_body = refl; runs = refl }) refl) in
+    let all = subst (All (λ (w : ℕ × ℕ). w.0 / 4096 ≡ 3)) stores_in_frame_0 (safe.window_stores (record { no_body = refl; runs = refl }) refl) in
     let first : 0x78 / 4096 ≡ 3 = All-head (λ (w : ℕ × ℕ). w.0 / 4096 ≡ 3) (0x78, 0x23) later all in
     absurd (omega (arith, first))
+
+-- nor is that delivery where frame 0 is a page table
+delivered_in_a_table : (o : Opening) (kinds : List Kind) (ledger : Ledger) (turns taken : ℕ) → kind_of kinds 0 ≡ Table 1
+    → IsSafe o (record { processor = user; memory = memory; kinds = kinds; ledger = ledger; turns = turns; taken = taken }) → ⊥
+unfolding wp_of
+delivered_in_a_table o kinds ledger turns taken table safe =
+    let storable : ℕ × ℕ → Type 0 = λ w. is_storable (kind_of kinds (w.0 / 4096)) ≡ true in
+    let all = subst (All storable) stores_in_frame_0 (safe.stores (record { no_body = refl; runs = refl })) in
+    let first : is_storable (kind_of kinds 0) ≡ true = All-head storable (0x78, 0x23) later all in
+    false≢true (ap is_storable (sym table) ∙ first)
 
 -- a state that keeps an upper entry outside the kernel slot isn't guarded where it names a frame of data, where it doesn't
 -- grant all rights, and where it is of level 1

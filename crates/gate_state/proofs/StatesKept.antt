@@ -225,7 +225,8 @@ module _ (laws : LowerLaws) (o : Opening) (admitted : IsAdmitted o) where
         gate_instruction laws o s.kinds (scenes_of s.kinds guarded.kinds) facts (stack_storable s.kinds guarded.kinds) s.processor s.memory (ready s guarded) (guarded.window clear)
         (away takes.no_body clear);
     respected = live_respects s guarded;
-    stores = λ takes clear. turn_places s guarded facts takes clear;
+    stores = λ takes. (kept s guarded facts takes).are.places;
+    window_stores = λ takes clear. turn_places s guarded facts takes clear;
     runs = λ takes. turn_runs s guarded facts takes;
   }
     where

@@ -1,5 +1,5 @@
 -- A call that is made through the gates with interrupts off: where it begins, and what it comes back with.
-use Rattle.std.specs.Prelude.{◌≡◌, ℕ, ◌+◌, ◌^◌, ◌<◌, true, false, slice_index, List, IfSome}
+use Rattle.std.specs.Prelude.{◌≡◌, ℕ, ◌+◌, ◌^◌, ◌<◌, ◌≤◌, true, false, slice_index, List, IfSome, length}
 use Rattle.nk_bits.specs.Accesses.{wp_of}
 use Rattle.x86_alu.specs.SignedNumbers.{bit}
 use Rattle.x86_regs.specs.Combinations.{interrupt_flag}
@@ -47,3 +47,15 @@ pub record IsCalledThrough (plan : List Event) (s : MachineState) (k : ℕ) : Ty
   pub reaches : (state plan s k).turns ≡ s.turns + 6 → enters_body (state plan s k).processor ≡ true
   pub returns : s.turns < 2 ^ 32 → (state plan s k).turns ≡ s.turns + 14 → IsServed plan s k
   pub runs : (state plan s k).turns < s.turns + 14 → is_rest (move_of plan (state plan s k)) ≡ false
+
+-- a state so many turns later, with at most as many steps beside as the plan has events
+pub record ComesLater (plan : List Event) (s : MachineState) (turns : ℕ) : Type 0 where
+  pub steps : ℕ
+  pub few : steps ≤ turns + length plan
+  pub there : (state plan s steps).turns ≡ s.turns + turns
+
+-- a call comes back: there is a state six turns later, at which its body is to run, and one fourteen later, at which it is
+-- answered
+pub record IsCalledBack (plan : List Event) (s : MachineState) : Type 0 where
+  pub body : ComesLater plan s 6
+  pub back : ComesLater plan s 14

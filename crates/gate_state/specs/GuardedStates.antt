@@ -13,7 +13,7 @@ use Rattle.boot_map.specs.KernelSlot.{HoldsSlot, slot_leaf, slot_start}
 use Rattle.boot_map.specs.Opening.{division_byte}
 use Rattle.boot_map.specs.OpeningKinds.{kinds}
 use Rattle.page_desc.specs.PageTables.{HoldsSoundTables, is_unchanging}
-use Rattle.nk_body.specs.KindsKept.{is_settled}
+use Rattle.nk_body.specs.KindsKept.{is_reserved, is_settled}
 use Rattle.nk_body.specs.NestedRecord.{IsLedgerKept}
 use Rattle.cpu_step.specs.Processor.{Processor}
 use Rattle.x86_regs.specs.EffectsKept.{AreRegisters}
@@ -48,12 +48,13 @@ pub record IsControlled (p : Processor) : Type 0 where
   pub registers : AreRegisters p.regs
   pub pending : p.pending < 2 ^ 16
 
--- the kinds of frames, as calls may have changed them: those that no call changes are the opening's, and what a writable leaf
--- of the kernel slot names may be stored to
+-- the kinds of frames, as calls may have changed them: those that no call changes are the opening's, and so are those that no
+-- call gives; what a writable leaf of the kernel slot names may be stored to
 pub record AreKinds (o : Opening) (ks : List Kind) : Type 0 where
   pub count : length ks ≡ o.frames
   pub settled : (f : ℕ) → is_settled (kind_of (kinds o.image o.frames) f) ≡ true
       → kind_of ks f ≡ kind_of (kinds o.image o.frames) f
+  pub reserved : (f : ℕ) → is_reserved (kind_of ks f) ≡ true → kind_of ks f ≡ kind_of (kinds o.image o.frames) f
   pub writable : (page : ℕ) → slot_start ≤ page → page < 2 ^ 52 → IfSome (slot_leaf o.image o.frames page)
       (λ leaf. leaf.rights.can_write ≡ true → is_storable (kind_of ks leaf.frame) ≡ true)
 

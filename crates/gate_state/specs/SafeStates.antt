@@ -2,6 +2,7 @@
 use Rattle.std.specs.Prelude.{◌≡◌, ◌≢◌, ℕ, ◌/◌, All, false, true, None, Ok}
 use Rattle.nk_bits.specs.declared.leaf.Leaf.{Leaf}
 use Rattle.nk_bits.specs.Accesses.{wp_of}
+use Rattle.nk_bits.specs.Kinds.{is_storable, kind_of}
 use Rattle.nk_bits.specs.Translations.{IsLive}
 use Rattle.phys_mem.specs.Memory.{entry_in}
 use Rattle.page_walk.specs.MemoryAccess.{view_of}
@@ -43,8 +44,11 @@ pub record IsSafe (o : Opening) (s : MachineState) : Type 0 where
   pub respected : (page : ℕ) (leaf : Leaf)
       → IsLive (entry_in s.memory) (length s.memory / 4096) s.processor.control.root s.processor.tlb page leaf
       → respects o s.kinds (page, leaf) ≡ true
-  -- with WP clear, each byte that a turn stores lies in the trap stack, frame 3
-  pub stores : TakesTurn s.processor → wp_of s.processor.control.cr0 ≡ false
+  -- each byte that a turn stores lies in a frame of kind Data or Trap, with WP set as with WP clear
+  pub stores : TakesTurn s.processor
+      → All (λ store. is_storable (kind_of s.kinds (store.0 / 4096)) ≡ true) (turn_stores s.processor s.memory)
+  -- with WP clear, each lies in the trap stack, frame 3
+  pub window_stores : TakesTurn s.processor → wp_of s.processor.control.cr0 ≡ false
       → All (λ store. store.0 / 4096 ≡ 3) (turn_stores s.processor s.memory)
   -- no turn shuts the machine down
   pub runs : TakesTurn s.processor → (turn_of s).stepped ≢ stepped.Shutdown

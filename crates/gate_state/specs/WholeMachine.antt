@@ -3,6 +3,10 @@ use Rattle.std.specs.Prelude.{◌≡◌, ℕ, Bool, true, false, List}
 use Rattle.phys_mem.specs.MaskedMemory.{seen}
 use Rattle.nk_body.specs.NestedRecord.{HoldsBooks, OwnState}
 use Rattle.irq_plan.specs.declared.event.Event.{Event}
+use Rattle.cpu_step.specs.declared.touched.Touched.{Touched}
+use Rattle.cpu_step.specs.declared.touched.Touched.TheVariants.{Nothing, Any}
+use Rattle.cpu_step.specs.FramesTouched.{turn_touched}
+use Rattle.cpu_step.specs.Processor.{Processor}
 use Rattle.gate_state.specs.declared.moves.Move.{Move}
 use Rattle.gate_state.specs.declared.moves.Move.TheVariants as move
 use Rattle.gate_state.specs.MachineStates.{MachineState, Opening}
@@ -15,6 +19,17 @@ pub record WholeState : Type 0 where
   pub opening : Opening
   pub state : MachineState
   pub source : List ℕ
+
+-- and with memory as it is, the books in it: what a machine holds. Which bytes the body leaves in the books' frames no
+-- definition says, so a step is told of what is known
+pub record HeldState : Type 0 where
+  pub opening : Opening
+  pub state : MachineState
+  pub source : List ℕ
+  pub real : List ℕ
+
+abbrev pub known_of : HeldState → WholeState
+known_of h = record { opening = h.opening; state = h.state; source = h.source }
 
 -- what holds at each moment of opening and state, of what the nested kernel keeps outside memory, and of memory m with the
 -- books in it: the state's memory is what is seen of m, and m holds the books, of which the state has kinds and ledger
@@ -39,6 +54,13 @@ source_after _ w = w.source
 
 abbrev pub stepped_whole : List Event → WholeState → WholeState
 stepped_whole plan w = record w { state = next plan w.state; source = source_after (move_of plan w.state) w }
+
+-- what the step from a state with this memory is told to touch
+abbrev pub touched_by_move : Move → Processor → List ℕ → Touched
+touched_by_move move.Serve p m = Any
+touched_by_move (move.Take what) p m = Nothing
+touched_by_move move.Turn p m = turn_touched p m
+touched_by_move move.Rest p m = Nothing
 
 -- no step is left
 abbrev pub is_rest : Move → Bool

@@ -5,10 +5,10 @@ ghost use Rattle.phys_mem.specs.MaskedMemory.{seen};
 ghost use Rattle.page_desc.specs.DescriptorBytes.{kinds_in};
 ghost use Rattle.nk_body.specs.NestedRecord.{HoldsBooks, books_in};
 ghost use Rattle.cpu_step.specs.Turns.{enters_body};
-ghost use Rattle.gate_state.specs.MachineOf.{IsInGates, IsOf, whole_of};
+ghost use Rattle.gate_state.specs.MachineOf.{IsStanding, IsInGates, IsOf, whole_of};
 ghost use Rattle.gate_state.specs.MachineSteps.{move_of, seen_by};
 ghost use Rattle.gate_state.specs.SafeStates.{IsSafe};
-ghost use Rattle.gate_state.specs.WholeMachine.{is_rest, next_whole};
+ghost use Rattle.gate_state.specs.WholeMachine.{is_rest, known_of, next_whole};
 ghost use Rattle.gate_state.specs.WindowLeft.{ComesNearer, left};
 
 use crate::machine::{Machine, step};
@@ -26,9 +26,9 @@ impl<'i> Model for GateMachine<'i> {
     ghost use Rattle.std.specs.Prelude.{◌≡◌, false};
     ghost use Rattle.nk_bits.specs.Accesses.{wp_of};
     ghost use Rattle.cpu_step.specs.Turns.{enters_body};
-    ghost use Rattle.gate_state.specs.WholeMachine.{WholeState};
+    ghost use Rattle.gate_state.specs.WholeMachine.{HeldState};
 
-    ghost Value = { WholeState };
+    ghost Value = { HeldState };
 
     ghost view = { λ m. m.whole.value };
 
@@ -41,11 +41,11 @@ impl<'i> GateMachine<'i> {
     /// or leaves fewer turns until it is set.
     pub fn step(self, plan: &Plan) -> (Machine<'i>, Seen)
         requires turns { self.state.turns < 4294967296 }
-        ensures next { whole_of result.0 ≡ next_whole plan.now self.entry }
+        ensures next { whole_of result.0 ≡ next_whole plan.now (known_of self.entry) }
         ensures seen { result.1 ≡ seen_by (move_of plan.now self.entry.state) self.entry.state }
         ensures no_body { enters_body self.entry.state.processor ≡ false }
         ensures safe { IsSafe self.entry.opening self.entry.state }
-        ensures in_gates { IsInGates self.entry.state.processor }
+        ensures in_gates { IsStanding IsInGates self.entry.opening self.entry.state }
         ensures sorted { IsOf result.0 }
         ensures nearer { ComesNearer (move_of plan.now self.entry.state) self.entry.state.processor
             (whole_of result.0).state.processor }
@@ -57,12 +57,19 @@ impl<'i> GateMachine<'i> {
         step(whole, plan)
     }
 
+    /// What every machine in the gates is.
+    pub(crate) fn in_gates_law(&self)
+        ensures { IsStanding IsInGates self.now.opening self.now.state }
+    {
+        self.whole.in_gates_law();
+    }
+
     /// How many turns at most go by until WP is set, the one that sets it counted in.
     pub fn left(&self) -> u8
         ensures left { result ≡ left self.now.state.processor }
         ensures some { 1 ≤ result }
         ensures most { result ≤ 11 }
-        ensures in_gates { IsInGates self.now.state.processor }
+        ensures in_gates { IsStanding IsInGates self.now.opening self.now.state }
     {
         self.whole.in_gates_law();
         self.whole.left()
@@ -72,7 +79,7 @@ impl<'i> GateMachine<'i> {
     pub fn done(&self, plan: &Plan) -> bool
         ensures done { result ≡ is_rest (move_of plan.now self.now.state) }
         ensures never { result ≡ false }
-        ensures in_gates { IsInGates self.now.state.processor }
+        ensures in_gates { IsStanding IsInGates self.now.opening self.now.state }
     {
         self.whole.in_gates_law();
         self.whole.running_law(plan);
@@ -102,7 +109,7 @@ impl<'i> GateMachine<'i> {
         ensures ledger { (books_in result.kernel result.mem).ledger ≡ self.entry.state.ledger }
         ensures books { HoldsBooks result.kernel result.mem }
         ensures safe { IsSafe self.entry.opening self.entry.state }
-        ensures in_gates { IsInGates self.entry.state.processor }
+        ensures in_gates { IsStanding IsInGates self.entry.opening self.entry.state }
     {
         let GateMachine { whole } = self;
         whole.in_gates_law();

@@ -6,17 +6,21 @@ ghost use Rattle.irq_plan.specs.declared.event.What.{What};
 ghost use Rattle.irq_plan.specs.PlannedEvents.{IsPlan, IsPlannable};
 ghost use Rattle.nk_bits.specs.Accesses.{wp_of};
 ghost use Rattle.nk_bits.specs.EntryForms.{has_form, has_leaf_form, has_table_form};
+ghost use Rattle.nk_bits.specs.declared.kind.Kind.TheVariants.{Hidden};
 ghost use Rattle.nk_bits.specs.Kinds.{kind_of, level_of};
 ghost use Rattle.nk_bits.specs.Paging.{is_present};
 ghost use Rattle.phys_mem.specs.MaskedMemory.{is_book_frame, masked};
 ghost use Rattle.phys_mem.specs.Memory.{byte_at, entry_in};
 ghost use Rattle.boot_map.specs.KernelSlot.{IsNamedIn};
+ghost use Rattle.page_walk.specs.MemoryAccess.{view_of};
 ghost use Rattle.cpu_step.specs.EventsTaken.{event_taken};
+ghost use Rattle.cpu_step.specs.InstructionFetch.{instruction_at};
+ghost use Rattle.cpu_step.specs.TurnStores.{turn_stores};
 ghost use Rattle.cpu_step.specs.Processor.{IsSound, Processor};
 ghost use Rattle.cpu_step.specs.Turns.{enters_body, turned};
 ghost use Rattle.nk_body.specs.NestedRecord.{AreBooks, Books};
 ghost use Rattle.gate_state.specs.AnyVector.{DeliversAny};
-ghost use Rattle.gate_state.specs.GateCalls.{IsCalledThrough, IsCalling};
+ghost use Rattle.gate_state.specs.GateCalls.{IsCalledBack, IsCalledThrough, IsCalling};
 ghost use Rattle.gate_state.specs.GuardedStates.{IsAdmitted, IsGuarded};
 ghost use Rattle.gate_state.specs.MachineOf.{IsAtBody, IsInGates};
 ghost use Rattle.gate_state.specs.MachineOpening.{opening_state};
@@ -89,6 +93,14 @@ pub(crate) fn steps_law()
     ensures masked_stays { (o : Opening) (s : MachineState) (m : List ℕ) (place : ℕ) → IsAdmitted o
         → TakesTurn s.processor → IsGuarded o s → masked (is_book_frame o.frames) m ≡ s.memory
         → is_book_frame o.frames (place / 4096) ≡ true → byte_at (turned s.processor m).memory place ≡ byte_at m place }
+    ensures masked_stores { (o : Opening) (s : MachineState) (m : List ℕ) → IsAdmitted o → TakesTurn s.processor
+        → IsGuarded o s → masked (is_book_frame o.frames) m ≡ s.memory
+        → turn_stores s.processor m ≡ turn_stores s.processor s.memory }
+    ensures masked_fetch { (o : Opening) (s : MachineState) (m : List ℕ) → IsAdmitted o → IsGuarded o s
+        → masked (is_book_frame o.frames) m ≡ s.memory
+        → instruction_at m (view_of m s.processor.control s.processor.regs.cpl) s.processor.regs.rip s.processor.tlb
+        ≡ instruction_at s.memory (view_of s.memory s.processor.control s.processor.regs.cpl) s.processor.regs.rip
+        s.processor.tlb }
     ensures masked_event { (o : Opening) (s : MachineState) (m : List ℕ) (what : What) → IsAdmitted o → IsGuarded o s
         → masked (is_book_frame o.frames) m ≡ s.memory
         → event_taken what m s.processor ≡ event_taken what s.memory s.processor }
@@ -96,6 +108,10 @@ pub(crate) fn steps_law()
         → masked (is_book_frame o.frames) m ≡ s.memory
         → source_read m s.processor.control.root s.processor.tlb va count
         ≡ source_read s.memory s.processor.control.root s.processor.tlb va count }
+    ensures hidden { (o : Opening) (s : MachineState) (f : ℕ) → IsAdmitted o → IsGuarded o s → f < o.frames
+        → kind_of s.kinds f ≡ Hidden → is_book_frame o.frames f ≡ true }
+    ensures books_hidden { (o : Opening) (s : MachineState) (f : ℕ) → IsAdmitted o → IsGuarded o s
+        → is_book_frame o.frames f ≡ true → kind_of s.kinds f ≡ Hidden }
 {
     access_law();
     kept_law();
@@ -137,8 +153,8 @@ pub(crate) fn steps_law()
 
 /// Every state of every run is guarded, and so safe: in the opening, and after each step under any plan. In a guarded
 /// state each vector can be delivered. What the nested kernel guards in a state is what the accepted calls make of the
-/// opening's record. A call that is made through the gates with interrupts off is answered. Of turns in a row that each
-/// begin with WP clear there are at most eleven.
+/// opening's record. A call that is made through the gates with interrupts off comes back, and is answered. Of turns in a
+/// row that each begin with WP clear there are at most eleven.
 pub fn safety_law()
     ensures opening { (o : Opening) (input : List ℕ) → IsAdmitted o → IsGuarded o (opening_state o input) }
     ensures guarded { (o : Opening) (input : List ℕ) (plan : List Event) (k : ℕ) → IsAdmitted o → IsPlan plan
@@ -152,6 +168,9 @@ pub fn safety_law()
     ensures called { (o : Opening) (input : List ℕ) (plan : List Event) (n k : ℕ) → IsAdmitted o → IsPlan plan
         → IsCalling (state plan (opening_state o input) n).processor
         → IsCalledThrough plan (state plan (opening_state o input) n) k }
+    ensures comes_back { (o : Opening) (input : List ℕ) (plan : List Event) (n : ℕ) → IsAdmitted o → IsPlan plan
+        → IsCalling (state plan (opening_state o input) n).processor
+        → IsCalledBack plan (state plan (opening_state o input) n) }
     ensures window { (o : Opening) (input : List ℕ) (plan : List Event) → IsAdmitted o → IsPlan plan
         → IsShortWindow plan (opening_state o input) }
 {
@@ -189,7 +208,8 @@ pub fn shown_law()
 }
 
 /// Over a memory of which a guarded state's is what is seen where the books' frames are hidden, a turn does what it
-/// does over the state's memory, and leaves the books' bytes; an event and the reading of a source do the same there.
+/// does over the state's memory, stores the same bytes at the same places, and leaves the books' bytes; the fetch of an
+/// instruction, an event and the reading of a source do the same there.
 pub fn masked_law()
     ensures turn { (o : Opening) (s : MachineState) (m : List ℕ) → IsAdmitted o → TakesTurn s.processor
         → IsGuarded o s → masked (is_book_frame o.frames) m ≡ s.memory
@@ -199,6 +219,14 @@ pub fn masked_law()
     ensures stays { (o : Opening) (s : MachineState) (m : List ℕ) (place : ℕ) → IsAdmitted o
         → TakesTurn s.processor → IsGuarded o s → masked (is_book_frame o.frames) m ≡ s.memory
         → is_book_frame o.frames (place / 4096) ≡ true → byte_at (turned s.processor m).memory place ≡ byte_at m place }
+    ensures stores { (o : Opening) (s : MachineState) (m : List ℕ) → IsAdmitted o → TakesTurn s.processor
+        → IsGuarded o s → masked (is_book_frame o.frames) m ≡ s.memory
+        → turn_stores s.processor m ≡ turn_stores s.processor s.memory }
+    ensures fetch { (o : Opening) (s : MachineState) (m : List ℕ) → IsAdmitted o → IsGuarded o s
+        → masked (is_book_frame o.frames) m ≡ s.memory
+        → instruction_at m (view_of m s.processor.control s.processor.regs.cpl) s.processor.regs.rip s.processor.tlb
+        ≡ instruction_at s.memory (view_of s.memory s.processor.control s.processor.regs.cpl) s.processor.regs.rip
+        s.processor.tlb }
     ensures event { (o : Opening) (s : MachineState) (m : List ℕ) (what : What) → IsAdmitted o → IsGuarded o s
         → masked (is_book_frame o.frames) m ≡ s.memory
         → event_taken what m s.processor ≡ event_taken what s.memory s.processor }
@@ -206,6 +234,16 @@ pub fn masked_law()
         → masked (is_book_frame o.frames) m ≡ s.memory
         → source_read m s.processor.control.root s.processor.tlb va count
         ≡ source_read s.memory s.processor.control.root s.processor.tlb va count }
+{
+    steps_law();
+}
+
+/// In a guarded state exactly the frames of the nested kernel's books are hidden.
+pub fn hidden_law()
+    ensures hidden { (o : Opening) (s : MachineState) (f : ℕ) → IsAdmitted o → IsGuarded o s → f < o.frames
+        → kind_of s.kinds f ≡ Hidden → is_book_frame o.frames f ≡ true }
+    ensures books { (o : Opening) (s : MachineState) (f : ℕ) → IsAdmitted o → IsGuarded o s
+        → is_book_frame o.frames f ≡ true → kind_of s.kinds f ≡ Hidden }
 {
     steps_law();
 }

@@ -25,7 +25,9 @@ mod outer;
 mod laws;
 
 pub use gate::GateMachine;
-pub use laws::{entry_forms_law, masked_law, moves_law, safety_law, shown_law, window_law};
+pub use laws::{
+    entry_forms_law, hidden_law, masked_law, moves_law, safety_law, shown_law, window_law,
+};
 pub use machine::Machine;
 pub use moves::Move;
 pub use nested::NestedMachine;

@@ -1,6 +1,7 @@
 //! The machine in one of its three states.
 
 ghost use Rattle.std.specs.Prelude.{◌≡◌, ◌<◌, false, length, ◌*◌};
+ghost use Rattle.cpu_step.specs.FramesTouched.{StaysOutside};
 ghost use Rattle.cpu_step.specs.Processor.{IsSound};
 ghost use Rattle.cpu_step.specs.Turns.{enters_body};
 ghost use Rattle.phys_mem.specs.MaskedMemory.{seen};
@@ -8,11 +9,11 @@ ghost use Rattle.page_desc.specs.DescriptorBytes.{kinds_in};
 ghost use Rattle.nk_body.specs.CallRules.{Sourced, bytes_read};
 ghost use Rattle.nk_body.specs.NestedRecord.{HoldsBooks, books_in};
 ghost use Rattle.nk_body.specs.SourceWords.{sourced_of};
-ghost use Rattle.gate_state.specs.MachineOf.{IsOf, whole_of};
+ghost use Rattle.gate_state.specs.MachineOf.{IsOf, real_of, whole_of};
 ghost use Rattle.gate_state.specs.MachineSteps.{move_of, seen_by, step_by, took_by};
 ghost use Rattle.gate_state.specs.QuietSteps.{IsHurried};
 ghost use Rattle.gate_state.specs.SafeStates.{IsSafe};
-ghost use Rattle.gate_state.specs.WholeMachine.{is_rest, next_whole, stepped_whole};
+ghost use Rattle.gate_state.specs.WholeMachine.{is_rest, known_of, next_whole, stepped_whole, touched_by_move};
 
 use crate::gate::GateMachine;
 use crate::nested::NestedMachine;
@@ -20,7 +21,7 @@ use crate::outer::OuterMachine;
 use crate::seen::{Seen, Step, Took};
 use crate::source::sourced;
 use crate::whole::{Finished, Whole};
-use cpu_step::Cpu;
+use cpu_step::{Cpu, Touched};
 use irq_plan::Plan;
 use nk_body::Source;
 use phys_mem::PhysMem;
@@ -50,11 +51,18 @@ impl<'i> Machine<'i> {
     /// plan's next event is due or so many turns were taken in all.
     pub fn hurry(self, plan: &Plan, limit: u64) -> Machine<'i>
         ensures hurried { IsHurried plan.now limit (whole_of self.entry) (whole_of result) }
+        ensures sorted { IsOf result }
     {
         match self {
             Machine::Outer(machine) => Machine::Outer(machine.hurry(plan, limit)),
-            Machine::Gate(machine) => Machine::Gate(machine),
-            Machine::Nested(machine) => Machine::Nested(machine),
+            Machine::Gate(machine) => {
+                machine.in_gates_law();
+                Machine::Gate(machine)
+            }
+            Machine::Nested(machine) => {
+                machine.at_body_law();
+                Machine::Nested(machine)
+            }
         }
     }
 
@@ -65,6 +73,22 @@ impl<'i> Machine<'i> {
         ensures step { result.1 ≡ step_by (move_of plan.now (whole_of self.entry).state) (whole_of self.entry).state }
         ensures safe { IsSafe (whole_of self.entry).opening (whole_of self.entry).state }
         ensures sorted { IsOf result.0 }
+    {
+        let (machine, step, _) = self.step_touching(plan);
+        (machine, step)
+    }
+
+    /// The step from this state, with what it shows, and the frames that it may have changed: every byte of memory
+    /// outside them is as it was.
+    pub fn step_touching(self, plan: &Plan) -> (Machine<'i>, Step, Touched)
+        requires turns { (whole_of self).state.turns < 4294967296 }
+        ensures next { whole_of result.0 ≡ stepped_whole plan.now (whole_of self.entry) }
+        ensures step { result.1 ≡ step_by (move_of plan.now (whole_of self.entry).state) (whole_of self.entry).state }
+        ensures safe { IsSafe (whole_of self.entry).opening (whole_of self.entry).state }
+        ensures sorted { IsOf result.0 }
+        ensures touched { StaysOutside result.2 (real_of self.entry) (real_of result.0) }
+        ensures told { result.2 ≡ touched_by_move (move_of plan.now (whole_of self.entry).state)
+            (whole_of self.entry).state.processor (real_of self.entry) }
     {
         match self {
             Machine::Outer(OuterMachine { whole }) => step_any(whole, plan),
@@ -97,13 +121,15 @@ impl<'i> Machine<'i> {
     pub fn memory(&self) -> &PhysMem
         ensures seen { seen result.now ≡ (whole_of self.now).state.memory }
         ensures length { length result.now ≡ length (whole_of self.now).state.memory }
+        ensures real { result.now ≡ real_of self.now }
     {
         self.whole().memory()
     }
 
     /// What the three states share.
     fn whole(&self) -> &Whole<'i>
-        ensures { result.now ≡ whole_of self.now }
+        ensures whole { known_of result.now ≡ whole_of self.now }
+        ensures real { result.now.real ≡ real_of self.now }
     {
         match self {
             Machine::Outer(machine) => &machine.whole,
@@ -144,10 +170,12 @@ impl<'i> Machine<'i> {
 
 /// The state that the machine is in.
 fn sorted<'i>(whole: Box<Whole<'i>>) -> Machine<'i>
-    ensures whole { whole_of result ≡ whole.entry.value }
+    ensures whole { whole_of result ≡ known_of whole.entry.value }
+    ensures real { real_of result ≡ whole.entry.value.real }
     ensures sorted { IsOf result }
 {
     if whole.keeps_supervisor() {
+        whole.outer_law();
         Machine::Outer(OuterMachine { whole })
     } else if whole.is_at_body() {
         whole.at_body_law();
@@ -159,17 +187,20 @@ fn sorted<'i>(whole: Box<Whole<'i>>) -> Machine<'i>
 }
 
 /// The step of a machine, where one is left, with what it shows.
-fn step_any<'i>(whole: Box<Whole<'i>>, plan: &Plan) -> (Machine<'i>, Step)
+fn step_any<'i>(whole: Box<Whole<'i>>, plan: &Plan) -> (Machine<'i>, Step, Touched)
     requires turns { whole.value.state.turns < 4294967296 }
-    ensures next { whole_of result.0 ≡ stepped_whole plan.now whole.entry.value }
+    ensures next { whole_of result.0 ≡ stepped_whole plan.now (known_of whole.entry.value) }
     ensures step { result.1 ≡ step_by (move_of plan.now whole.entry.value.state) whole.entry.value.state }
     ensures safe { IsSafe whole.entry.value.opening whole.entry.value.state }
     ensures sorted { IsOf result.0 }
+    ensures touched { StaysOutside result.2 whole.entry.value.real (real_of result.0) }
+    ensures told { result.2 ≡ touched_by_move (move_of plan.now whole.entry.value.state)
+        whole.entry.value.state.processor whole.entry.value.real }
 {
     whole.safe_law();
     let mut whole = whole;
-    let step = whole.step(plan);
-    (sorted(whole), step)
+    let (step, touched) = whole.step_touching(plan);
+    (sorted(whole), step, touched)
 }
 
 /// The step of a machine for which no body is to run, with what it shows.
@@ -177,7 +208,7 @@ pub(crate) fn step<'i>(whole: Box<Whole<'i>>, plan: &Plan) -> (Machine<'i>, Seen
     requires no_body { enters_body whole.value.state.processor ≡ false }
     requires left { is_rest (move_of plan.now whole.value.state) ≡ false }
     requires turns { whole.value.state.turns < 4294967296 }
-    ensures next { whole_of result.0 ≡ next_whole plan.now whole.entry.value }
+    ensures next { whole_of result.0 ≡ next_whole plan.now (known_of whole.entry.value) }
     ensures seen { result.1 ≡ seen_by (move_of plan.now whole.entry.value.state) whole.entry.value.state }
     ensures safe { IsSafe whole.entry.value.opening whole.entry.value.state }
     ensures sorted { IsOf result.0 }

@@ -5,10 +5,10 @@ ghost use Rattle.phys_mem.specs.MaskedMemory.{seen};
 ghost use Rattle.page_desc.specs.DescriptorBytes.{kinds_in};
 ghost use Rattle.nk_body.specs.NestedRecord.{HoldsBooks, books_in};
 ghost use Rattle.cpu_step.specs.Turns.{enters_body};
-ghost use Rattle.gate_state.specs.MachineOf.{IsAtBody, IsInGates};
+ghost use Rattle.gate_state.specs.MachineOf.{IsStanding, IsAtBody, IsInGates};
 ghost use Rattle.gate_state.specs.MachineSteps.{called_in, move_of};
 ghost use Rattle.gate_state.specs.SafeStates.{IsSafe};
-ghost use Rattle.gate_state.specs.WholeMachine.{is_rest, served_whole};
+ghost use Rattle.gate_state.specs.WholeMachine.{is_rest, known_of, served_whole};
 ghost use Rattle.gate_state.specs.WindowLeft.{left};
 
 use crate::gate::GateMachine;
@@ -25,9 +25,9 @@ pub struct NestedMachine<'i> {
 impl<'i> Model for NestedMachine<'i> {
     ghost use Rattle.std.specs.Prelude.{◌≡◌, true};
     ghost use Rattle.cpu_step.specs.Turns.{enters_body};
-    ghost use Rattle.gate_state.specs.WholeMachine.{WholeState};
+    ghost use Rattle.gate_state.specs.WholeMachine.{HeldState};
 
-    ghost Value = { WholeState };
+    ghost Value = { HeldState };
 
     ghost view = { λ m. m.whole.value };
 
@@ -38,12 +38,12 @@ impl<'i> NestedMachine<'i> {
     /// The body: the call that the registers hold is served, and the exit gate is next, with fewer turns until WP is set.
     pub fn serve(self) -> (GateMachine<'i>, Called)
         requires turns { self.state.turns < 4294967296 }
-        ensures next { result.0 ≡ served_whole self.entry }
+        ensures next { known_of result.0 ≡ served_whole (known_of self.entry) }
         ensures called { result.1 ≡ called_in self.entry.state }
         ensures body { enters_body self.entry.state.processor ≡ true }
         ensures safe { IsSafe self.entry.opening self.entry.state }
-        ensures at_body { IsAtBody self.entry.state.processor }
-        ensures in_gates { IsInGates result.0.state.processor }
+        ensures at_body { IsStanding IsAtBody self.entry.opening self.entry.state }
+        ensures in_gates { IsStanding IsInGates result.0.opening result.0.state }
         ensures nearer { left result.0.state.processor < left self.entry.state.processor }
     {
         let NestedMachine { mut whole } = self;
@@ -55,12 +55,19 @@ impl<'i> NestedMachine<'i> {
         (GateMachine { whole }, called)
     }
 
+    /// What every machine at the body is.
+    pub(crate) fn at_body_law(&self)
+        ensures { IsStanding IsAtBody self.now.opening self.now.state }
+    {
+        self.whole.at_body_law();
+    }
+
     /// How many turns at most go by until WP is set, the body and the one that sets it counted in.
     pub fn left(&self) -> u8
         ensures left { result ≡ left self.now.state.processor }
         ensures some { 1 ≤ result }
         ensures most { result ≤ 11 }
-        ensures at_body { IsAtBody self.now.state.processor }
+        ensures at_body { IsStanding IsAtBody self.now.opening self.now.state }
     {
         self.whole.at_body_law();
         self.whole.left()
@@ -70,7 +77,7 @@ impl<'i> NestedMachine<'i> {
     pub fn done(&self, plan: &Plan) -> bool
         ensures done { result ≡ is_rest (move_of plan.now self.now.state) }
         ensures never { result ≡ false }
-        ensures at_body { IsAtBody self.now.state.processor }
+        ensures at_body { IsStanding IsAtBody self.now.opening self.now.state }
     {
         self.whole.at_body_law();
         self.whole.serving_law(plan);
@@ -100,7 +107,7 @@ impl<'i> NestedMachine<'i> {
         ensures ledger { (books_in result.kernel result.mem).ledger ≡ self.entry.state.ledger }
         ensures books { HoldsBooks result.kernel result.mem }
         ensures safe { IsSafe self.entry.opening self.entry.state }
-        ensures at_body { IsAtBody self.entry.state.processor }
+        ensures at_body { IsStanding IsAtBody self.entry.opening self.entry.state }
     {
         let NestedMachine { whole } = self;
         whole.at_body_law();

@@ -11,12 +11,12 @@ ghost use Rattle.page_desc.specs.DescriptorBytes.{kinds_in};
 ghost use Rattle.nk_body.specs.NestedRecord.{HoldsBooks, books_in};
 ghost use Rattle.nk_body.specs.SourceWords.{opening_ledger};
 ghost use Rattle.cpu_step.specs.Turns.{enters_body};
-ghost use Rattle.gate_state.specs.MachineOf.{IsOf, IsOuter, whole_of};
+ghost use Rattle.gate_state.specs.MachineOf.{IsStanding, IsOf, IsOuter, whole_of};
 ghost use Rattle.gate_state.specs.MachineOpening.{opening_state};
 ghost use Rattle.gate_state.specs.MachineSteps.{move_of, seen_by};
 ghost use Rattle.gate_state.specs.QuietSteps.{IsHurried};
 ghost use Rattle.gate_state.specs.SafeStates.{IsSafe};
-ghost use Rattle.gate_state.specs.WholeMachine.{is_rest, next_whole};
+ghost use Rattle.gate_state.specs.WholeMachine.{is_rest, known_of, next_whole};
 
 use crate::laws::safety_law;
 use crate::machine::{Machine, step};
@@ -44,9 +44,9 @@ pub struct OuterMachine<'i> {
 impl<'i> Model for OuterMachine<'i> {
     ghost use Rattle.std.specs.Prelude.{◌≡◌, true};
     ghost use Rattle.nk_bits.specs.Accesses.{wp_of};
-    ghost use Rattle.gate_state.specs.WholeMachine.{WholeState};
+    ghost use Rattle.gate_state.specs.WholeMachine.{HeldState};
 
-    ghost Value = { WholeState };
+    ghost Value = { HeldState };
 
     ghost view = { λ m. m.whole.value };
 
@@ -77,7 +77,7 @@ impl<'i> OuterMachine<'i> {
         ensures state { IfOk result (λ machine. machine.state
             ≡ opening_state (record { image = image.now; frames = layout.now.frames }) input.items) }
         ensures source { IfOk result (λ machine. machine.source ≡ []) }
-        ensures outer { IfOk result (λ machine. IsOuter machine.state.processor) }
+        ensures outer { IfOk result (λ machine. IsStanding IsOuter machine.opening machine.state) }
     {
         safety_law();
         clean_image_law(image);
@@ -100,6 +100,7 @@ impl<'i> OuterMachine<'i> {
             image,
             layout,
         };
+        whole.outer_law();
         match Box::new(alloc, whole) {
             Ok(whole) => Ok(OuterMachine { whole }),
             Err(failed) => {
@@ -113,32 +114,36 @@ impl<'i> OuterMachine<'i> {
     pub fn step(self, plan: &Plan) -> (Machine<'i>, Seen)
         requires left { is_rest (move_of plan.now self.state) ≡ false }
         requires turns { self.state.turns < 4294967296 }
-        ensures next { whole_of result.0 ≡ next_whole plan.now self.entry }
+        ensures next { whole_of result.0 ≡ next_whole plan.now (known_of self.entry) }
         ensures seen { result.1 ≡ seen_by (move_of plan.now self.entry.state) self.entry.state }
         ensures no_body { enters_body self.entry.state.processor ≡ false }
         ensures safe { IsSafe self.entry.opening self.entry.state }
-        ensures outer { IsOuter self.entry.state.processor }
+        ensures outer { IsStanding IsOuter self.entry.opening self.entry.state }
         ensures sorted { IsOf result.0 }
     {
         let OuterMachine { whole } = self;
+        whole.outer_law();
         step(whole, plan)
     }
 
     /// Goes on by quick turns, if there are any: steps that show nothing, each from a safe state, until the plan's next event
     /// is due or so many turns were taken in all.
     pub fn hurry(self, plan: &Plan, limit: u64) -> OuterMachine<'i>
-        ensures hurried { IsHurried plan.now limit self.entry result }
+        ensures hurried { IsHurried plan.now limit (known_of self.entry) (known_of result) }
+        ensures outer { IsStanding IsOuter result.opening result.state }
     {
         let OuterMachine { mut whole } = self;
         whole.hurry(plan, limit);
+        whole.outer_law();
         OuterMachine { whole }
     }
 
     /// Whether the machine is halted for good: no vector wakes it, and no event of the plan is left.
     pub fn done(&self, plan: &Plan) -> bool
         ensures done { result ≡ is_rest (move_of plan.now self.now.state) }
-        ensures outer { IsOuter self.now.state.processor }
+        ensures outer { IsStanding IsOuter self.now.opening self.now.state }
     {
+        self.whole.outer_law();
         matches!(self.whole.next_move(plan), Move::Rest)
     }
 
@@ -165,9 +170,10 @@ impl<'i> OuterMachine<'i> {
         ensures ledger { (books_in result.kernel result.mem).ledger ≡ self.entry.state.ledger }
         ensures books { HoldsBooks result.kernel result.mem }
         ensures safe { IsSafe self.entry.opening self.entry.state }
-        ensures outer { IsOuter self.entry.state.processor }
+        ensures outer { IsStanding IsOuter self.entry.opening self.entry.state }
     {
         let OuterMachine { whole } = self;
+        whole.outer_law();
         whole.safe_law();
         Box::into_inner(whole).finish()
     }

@@ -3,17 +3,18 @@
 ghost use Rattle.std.specs.Prelude.{◌≡◌, ℕ, ◌+◌, ◌<◌, ◌≤◌, ◌^◌, true, false, slice_get, IfSome, Some, None, length, ◌*◌};
 ghost use Rattle.irq_plan.specs.PlannedEvents.{IsPlannable};
 ghost use Rattle.nk_bits.specs.Accesses.{wp_of};
+ghost use Rattle.cpu_step.specs.FramesTouched.{StaysOutside, turn_touched};
 ghost use Rattle.cpu_step.specs.Processor.{IsSound};
 ghost use Rattle.cpu_step.specs.Turns.{enters_body};
 ghost use Rattle.phys_mem.specs.MaskedMemory.{seen};
 ghost use Rattle.page_desc.specs.DescriptorBytes.{kinds_in};
 ghost use Rattle.nk_body.specs.NestedRecord.{HoldsBooks, books_in};
 ghost use Rattle.gate_state.specs.EventMoves.{IfTaken, IsBodyBy};
-ghost use Rattle.gate_state.specs.MachineOf.{IsAtBody, IsInGates};
+ghost use Rattle.gate_state.specs.MachineOf.{IsStanding, IsAtBody, IsInGates, IsOuter};
 ghost use Rattle.gate_state.specs.MachineSteps.{after_event, after_turn, answered_with, call_in, called_in, move_by, move_of, next, seen_by, served, shown_by_turn, step_by, turn_of, waits};
 ghost use Rattle.gate_state.specs.QuietSteps.{IsHurried};
 ghost use Rattle.gate_state.specs.SafeStates.{IsSafe, TakesTurn};
-ghost use Rattle.gate_state.specs.WholeMachine.{is_rest, next_whole, served_whole, stepped_whole};
+ghost use Rattle.gate_state.specs.WholeMachine.{is_rest, known_of, next_whole, served_whole, stepped_whole, touched_by_move};
 ghost use Rattle.gate_state.specs.WindowLeft.{ComesNearer, left};
 
 use crate::laws::{steps_law, window_law};
@@ -22,7 +23,7 @@ use crate::seen::{Called, Seen, Step};
 use crate::source::{sourced, take_source};
 use crate::turns_left::left;
 use boot_map::Layout;
-use cpu_step::{Cpu, Stepped};
+use cpu_step::{Cpu, Stepped, Touched};
 use elf_image::Image;
 use irq_plan::{Event, Plan, What};
 use nk_bits::{Answer, CallWords, EXIT};
@@ -49,9 +50,9 @@ impl<'i> Model for Whole<'i> {
     ghost use Rattle.phys_mem.specs.MaskedMemory.{seen};
     ghost use Rattle.page_desc.specs.DescriptorBytes.{kinds_in};
     ghost use Rattle.nk_body.specs.NestedRecord.{books_in};
-    ghost use Rattle.gate_state.specs.WholeMachine.{IsWhole, WholeState};
+    ghost use Rattle.gate_state.specs.WholeMachine.{HeldState, IsWhole};
 
-    ghost Value = { WholeState };
+    ghost Value = { HeldState };
 
     ghost view = { λ w. record {
       opening = record { image = w.image.now; frames = w.layout.now.frames };
@@ -64,6 +65,7 @@ impl<'i> Model for Whole<'i> {
         taken = w.taken;
       };
       source = w.source.items;
+      real = w.mem;
     } };
 
     ghost invariant = { λ w. IsWhole (record { image = w.image.now; frames = w.layout.now.frames })
@@ -90,17 +92,23 @@ impl<'i> Whole<'i> {
         move_by(&self.cpu, plan, self.turns, self.taken)
     }
 
-    /// Takes the step from this state, where one is left.
-    pub fn step(&mut self, plan: &Plan) -> Step
+    /// Takes the step from this state, where one is left, and tells the frames that it may have changed: every byte
+    /// of memory outside them is as it was.
+    pub fn step_touching(&mut self, plan: &Plan) -> (Step, Touched)
         requires turns { self.old.state.turns < 4294967296 }
-        ensures next { self.new ≡ stepped_whole plan.now self.old }
-        ensures step { result ≡ step_by (move_of plan.now self.old.state) self.old.state }
+        ensures next { known_of self.new ≡ stepped_whole plan.now (known_of self.old) }
+        ensures step { result.0 ≡ step_by (move_of plan.now self.old.state) self.old.state }
+        ensures touched { StaysOutside result.1 self.old.real self.new.real }
+        ensures told { result.1 ≡ touched_by_move (move_of plan.now self.old.state) self.old.state.processor self.old.real }
     {
         match self.next_move(plan) {
-            Move::Serve => Step::Called(self.serve()),
-            Move::Take(what) => Step::Seen(self.take(what)),
-            Move::Turn => Step::Seen(self.turn()),
-            Move::Rest => Step::Rested,
+            Move::Serve => (Step::Called(self.serve()), Touched::Any),
+            Move::Take(what) => (Step::Seen(self.take(what)), Touched::Nothing),
+            Move::Turn => {
+                let (seen, touched) = self.turn();
+                (Step::Seen(seen), touched)
+            }
+            Move::Rest => (Step::Rested, Touched::Nothing),
         }
     }
 
@@ -109,10 +117,10 @@ impl<'i> Whole<'i> {
         requires no_body { enters_body self.old.state.processor ≡ false }
         requires left { is_rest (move_of plan.now self.old.state) ≡ false }
         requires turns { self.old.state.turns < 4294967296 }
-        ensures next { self.new ≡ next_whole plan.now self.old }
+        ensures next { known_of self.new ≡ next_whole plan.now (known_of self.old) }
         ensures seen { result ≡ seen_by (move_of plan.now self.old.state) self.old.state }
     {
-        match self.step(plan) {
+        match self.step_touching(plan).0 {
             Step::Seen(seen) => seen,
             Step::Called(_) | Step::Rested => unreachable!(),
         }
@@ -132,24 +140,26 @@ impl<'i> Whole<'i> {
         Seen::Event
     }
 
-    /// Takes a turn of the processor.
-    fn turn(&mut self) -> Seen
+    /// Takes a turn of the processor, and tells the frames that it may have changed.
+    fn turn(&mut self) -> (Seen, Touched)
         requires takes { TakesTurn self.old.state.processor }
         requires turns { self.old.state.turns < 4294967296 }
-        ensures turned { self.new ≡ record self.old { state = after_turn self.old.state } }
-        ensures seen { result ≡ shown_by_turn (turn_of self.old.state).stepped }
+        ensures turned { known_of self.new ≡ record (known_of self.old) { state = after_turn self.old.state } }
+        ensures seen { result.0 ≡ shown_by_turn (turn_of self.old.state).stepped }
+        ensures touched { StaysOutside result.1 self.old.real self.new.real }
+        ensures told { result.1 ≡ turn_touched self.old.state.processor self.old.real }
     {
         steps_law();
         mask_law();
         held_law();
-        let stepped = self.cpu.step(&mut self.mem);
+        let (stepped, touched) = self.cpu.step_touching(&mut self.mem);
         self.turns += 1;
-        seen_of(stepped)
+        (seen_of(stepped), touched)
     }
 
     /// Takes quick turns, if there are any, until the next event is due or so many turns were taken in all.
     pub fn hurry(&mut self, plan: &Plan, limit: u64)
-        ensures hurried { IsHurried plan.now limit self.old self.new }
+        ensures hurried { IsHurried plan.now limit (known_of self.old) (known_of self.new) }
         ensures control { self.new.state.processor.control ≡ self.old.state.processor.control }
     {
         steps_law();
@@ -177,7 +187,7 @@ impl<'i> Whole<'i> {
     pub fn serve(&mut self) -> Called
         requires body { enters_body self.old.state.processor ≡ true }
         requires turns { self.old.state.turns < 4294967296 }
-        ensures served { self.new ≡ served_whole self.old }
+        ensures served { known_of self.new ≡ served_whole (known_of self.old) }
         ensures called { result ≡ called_in self.old.state }
     {
         steps_law();
@@ -227,11 +237,19 @@ impl<'i> Whole<'i> {
         let _taken = self.taken;
     }
 
+    /// With WP set, the machine is the outer kernel's.
+    pub(crate) fn outer_law(&self)
+        requires { wp_of self.now.state.processor.control.cr0 ≡ true }
+        ensures { IsStanding IsOuter self.now.opening self.now.state }
+    {
+        let _taken = self.taken;
+    }
+
     /// With WP clear, where no body is to run, the supervisor stands in the gates.
     pub(crate) fn in_gates_law(&self)
         requires clear { wp_of self.now.state.processor.control.cr0 ≡ false }
         requires no_body { enters_body self.now.state.processor ≡ false }
-        ensures { IsInGates self.now.state.processor }
+        ensures { IsStanding IsInGates self.now.opening self.now.state }
     {
         steps_law();
         let _taken = self.taken;
@@ -240,7 +258,7 @@ impl<'i> Whole<'i> {
     /// Where the body is to run, the supervisor stands at its place.
     pub(crate) fn at_body_law(&self)
         requires { enters_body self.now.state.processor ≡ true }
-        ensures { IsAtBody self.now.state.processor }
+        ensures { IsStanding IsAtBody self.now.opening self.now.state }
     {
         steps_law();
         let _taken = self.taken;
@@ -296,6 +314,7 @@ impl<'i> Whole<'i> {
     pub(crate) fn memory(&self) -> &PhysMem
         ensures seen { seen result.now ≡ self.now.state.memory }
         ensures length { length result.now ≡ length self.now.state.memory }
+        ensures real { result.now ≡ self.now.real }
     {
         mask_law();
         &self.mem

@@ -14,7 +14,7 @@ use Rattle.byte_scanner.specs.declared.encoding.Found.{Found}
 use Rattle.byte_scanner.specs.FirstFound.{first_found}
 use Rattle.boot_map.specs.KernelSlot.{IsCodePage}
 use Rattle.gate_state.specs.AnyVector.{DeliversAny}
-use Rattle.gate_state.specs.GateCalls.{IsCalledThrough, IsCalling}
+use Rattle.gate_state.specs.GateCalls.{IsCalledBack, IsCalledThrough, IsCalling}
 use Rattle.gate_state.specs.GuardedStates.{IsAdmitted, IsGuarded}
 use Rattle.gate_state.specs.MachineOpening.{opening_state}
 use Rattle.gate_state.specs.MachineStates.{MachineState, Opening, nested_of}
@@ -64,6 +64,10 @@ module _ (plan : List Event) (o : Opening) (input : List ℕ) (k : ℕ) (it : Is
   unanswered_call : (n : ℕ) → IsCalling (state plan (opening_state o input) n).processor
       → (IsCalledThrough plan (state plan (opening_state o input) n) k → ⊥) → ⊥
   unanswered_call n calling none = none (it.called n k calling)
+
+  lost_call : (n : ℕ) → IsCalling (state plan (opening_state o input) n).processor
+      → (IsCalledBack plan (state plan (opening_state o input) n) → ⊥) → ⊥
+  lost_call n calling none = none (it.comes_back n calling)
 
   long_window : (IsShortWindow plan (opening_state o input) → ⊥) → ⊥
   long_window none = none it.window

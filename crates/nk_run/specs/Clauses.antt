@@ -13,7 +13,7 @@ use Rattle.irq_plan.specs.declared.event.Event.{Event}
 use Rattle.irq_plan.specs.PlanFile.{plan_of}
 use Rattle.boot_map.specs.Division.{need}
 use Rattle.gate_state.specs.AnyVector.{DeliversAny}
-use Rattle.gate_state.specs.GateCalls.{IsCalledThrough, IsCalling}
+use Rattle.gate_state.specs.GateCalls.{IsCalledBack, IsCalledThrough, IsCalling}
 use Rattle.gate_state.specs.GuardedStates.{IsGuarded}
 use Rattle.gate_state.specs.MachineOpening.{opening_state}
 use Rattle.gate_state.specs.MachineStates.{Opening, nested_of}
@@ -231,6 +231,9 @@ pub record IsSafeRun (plan : List Event) (o : Opening) (input : List ℕ) : Type
   -- a call that is made through the gates with interrupts off is answered
   pub called : (n k : ℕ) → IsCalling (state plan (opening_state o input) n).processor
       → IsCalledThrough plan (state plan (opening_state o input) n) k
+  -- and it comes back
+  pub comes_back : (n : ℕ) → IsCalling (state plan (opening_state o input) n).processor
+      → IsCalledBack plan (state plan (opening_state o input) n)
   -- of turns in a row that each begin with WP clear there are at most eleven
   pub window : IsShortWindow plan (opening_state o input)
 

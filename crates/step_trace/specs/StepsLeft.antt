@@ -13,4 +13,4 @@ steps_left limit plan w = (limit - w.state.turns) + (length plan - w.state.taken
 -- behind a step fewer are left
 abbrev pub LeavesFewer : ℕ → List Event → WholeState → Taken → Type 0
 LeavesFewer limit plan w (taken.Rests machine) = ⊤
-LeavesFewer limit plan w (taken.Goes machine it) = steps_left limit plan (whole_of machine) < steps_left limit plan w
+LeavesFewer limit plan w (taken.Goes machine it touched) = steps_left limit plan (whole_of machine) < steps_left limit plan w

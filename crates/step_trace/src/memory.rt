@@ -4,6 +4,7 @@ ghost use Rattle.std.specs.Prelude.{◌≡◌, ◌+◌, ◌*◌, ◌<◌, ◌≤
 ghost use Rattle.nk_host.specs.FaultCounts.{RoseTo};
 
 use crate::line::Line;
+use cpu_step::Touched;
 use nk_host::{Pieces, Sink, SinkFault};
 use phys_mem::PhysMem;
 
@@ -57,15 +58,79 @@ fn is_same(mem: &PhysMem, copy: &PhysMem, frame: u32) -> bool
     true
 }
 
-/// The first frame from this one on that has other bytes now.
-pub(crate) fn first_changed(mem: &PhysMem, copy: &PhysMem, from: u32) -> Option<u32> {
+/// Whether a frame that both have has other bytes now.
+fn is_other(mem: &PhysMem, copy: &PhysMem, frame: u32) -> bool {
+    frame < frames(mem, copy) && !is_same(mem, copy, frame)
+}
+
+/// The first frame of those that were touched that has other bytes now.
+pub(crate) fn first_changed(mem: &PhysMem, copy: &PhysMem, touched: Touched) -> Option<u32> {
+    match touched {
+        Touched::Nothing => None,
+        Touched::Frames(one, two) => first_of_two(mem, copy, one.min(two), one.max(two)),
+        Touched::Any => first_of_all(mem, copy),
+    }
+}
+
+/// The first of two frames that has other bytes now.
+fn first_of_two(mem: &PhysMem, copy: &PhysMem, one: u64, two: u64) -> Option<u32> {
+    let one = number_of(one);
+    let two = number_of(two);
+    if is_other(mem, copy, one) {
+        Some(one)
+    } else if is_other(mem, copy, two) {
+        Some(two)
+    } else {
+        None
+    }
+}
+
+/// The number of a frame, or one that no memory has.
+fn number_of(frame: u64) -> u32 {
+    if frame < 0xFFFF_FFFF {
+        frame as u32
+    } else {
+        0xFFFF_FFFF
+    }
+}
+
+/// The first frame that has other bytes now.
+fn first_of_all(mem: &PhysMem, copy: &PhysMem) -> Option<u32> {
     let most = frames(mem, copy);
-    for frame in from..most {
+    for frame in 0..most {
         if !is_same(mem, copy, frame) {
             return Some(frame);
         }
     }
     None
+}
+
+/// Behind which frame no other was touched.
+pub(crate) fn end_of(touched: Touched) -> u32 {
+    match touched {
+        Touched::Nothing => 0,
+        Touched::Frames(one, two) => number_of(one.max(two)).saturating_add(1),
+        Touched::Any => 0xFFFF_FFFF,
+    }
+}
+
+/// Whether a frame was touched.
+fn is_touched(touched: Touched, frame: u32) -> bool {
+    match touched {
+        Touched::Nothing => false,
+        Touched::Frames(one, two) => u64::from(frame) == one || u64::from(frame) == two,
+        Touched::Any => true,
+    }
+}
+
+/// Makes the copy that of memory as it is, where it was touched.
+pub(crate) fn settle_touched(mem: &PhysMem, copy: &mut PhysMem, from: u32, touched: Touched) {
+    let most = frames(mem, copy).min(end_of(touched));
+    for frame in from..most {
+        if is_touched(touched, frame) && frame < copy.frames() && !is_same(mem, copy, frame) {
+            copy.frame_mut(frame).copy_from_slice(mem.frame(frame));
+        }
+    }
 }
 
 /// Makes the copy that of memory as it is, from a frame on.
@@ -176,13 +241,14 @@ pub(crate) fn push_changes<O: Sink>(
     mem: &PhysMem,
     copy: &mut PhysMem,
     from: u32,
+    touched: Touched,
 ) -> Result<(), SinkFault>
     ensures never_falls { O.faults sink.old ≤ O.faults sink.new }
     ensures failed { OnErr result (RoseTo (O.faults sink.old) (O.faults sink.new)) }
 {
-    let most = frames(mem, copy);
+    let most = frames(mem, copy).min(end_of(touched));
     for frame in from..most {
-        if frame < copy.frames() && !is_same(mem, copy, frame) {
+        if is_touched(touched, frame) && frame < copy.frames() && !is_same(mem, copy, frame) {
             if let Err(fault) = push_frame(
                 pieces,
                 sink,

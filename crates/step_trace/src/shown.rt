@@ -7,8 +7,9 @@ use crate::asked::{Kind, Shown};
 use crate::before::Before;
 use crate::changes::{put_pages, put_processor};
 use crate::line::Line;
-use crate::memory::{first_changed, push_changes, settle};
+use crate::memory::{first_changed, push_changes, settle_touched};
 use crate::names::{call_name, rule_name, vector_name};
+use cpu_step::Touched;
 use gate_state::{Called, Machine, Seen, Step, Took};
 use irq_plan::What;
 use nk_bits::{Answer, CallWords, Delivery};
@@ -293,6 +294,7 @@ impl Halves {
         mem: &PhysMem,
         copy: &mut PhysMem,
         changed: Option<u32>,
+        touched: Touched,
         sink: &mut O,
     ) -> Result<(), SinkFault>
         ensures never_falls { O.faults sink.old ≤ O.faults sink.new }
@@ -303,7 +305,7 @@ impl Halves {
             return Err(fault);
         }
         if let Some(frame) = changed {
-            if let Err(fault) = push_changes(&mut pieces, sink, mem, copy, frame) {
+            if let Err(fault) = push_changes(&mut pieces, sink, mem, copy, frame, touched) {
                 return Err(fault);
             }
         }
@@ -321,6 +323,7 @@ pub(crate) fn put_step<'i, O: Sink>(
     step: &Step,
     event: Option<What>,
     machine: &Machine<'i>,
+    touched: Touched,
     copy: &mut PhysMem,
     sink: &mut O,
 ) -> Result<(), SinkFault>
@@ -328,17 +331,17 @@ pub(crate) fn put_step<'i, O: Sink>(
     ensures failed { OnErr result (RoseTo (O.faults sink.old) (O.faults sink.new)) }
 {
     let halves = halves_of(before, step, was_of(before, step, event), machine);
-    let changed = first_changed(machine.memory(), copy, 0);
+    let changed = first_changed(machine.memory(), copy, touched);
     let stored = changed.is_some();
     let is_wanted = match shown.only {
         Some(kind) => is_kind(kind, before, step, stored),
         None => true,
     };
     if is_wanted && (!shown.changes || halves.is_told(stored)) {
-        return halves.put(machine.memory(), copy, changed, sink);
+        return halves.put(machine.memory(), copy, changed, touched, sink);
     }
     if let Some(frame) = changed {
-        settle(machine.memory(), copy, frame);
+        settle_touched(machine.memory(), copy, frame, touched);
     }
     Ok(())
 }

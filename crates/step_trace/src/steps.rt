@@ -11,6 +11,7 @@ use crate::line::Line;
 use crate::memory::settle;
 use crate::opening::put_opening;
 use crate::shown::put_step;
+use cpu_step::Touched;
 use gate_state::{Machine, Seen, Step, moves_law};
 use irq_plan::{Plan, What};
 use nk_host::{Sink, SinkFault, put_all};
@@ -59,7 +60,7 @@ pub(crate) enum Taken<'i> {
     /// None was left.
     Rests(Machine<'i>),
     /// It was taken.
-    Goes(Machine<'i>, Step),
+    Goes(Machine<'i>, Step, Touched),
 }
 
 /// Takes the step from a state before the last turn.
@@ -69,11 +70,11 @@ fn take_step<'i>(machine: Machine<'i>, plan: &Plan, limit: u64) -> Taken<'i>
     ensures { LeavesFewer limit plan.now (whole_of machine.entry) result }
 {
     moves_law();
-    let (next, step) = machine.step(plan);
+    let (next, step, touched) = machine.step_touching(plan);
     match step {
         Step::Rested => Taken::Rests(next),
-        Step::Seen(seen) => Taken::Goes(next, Step::Seen(seen)),
-        Step::Called(called) => Taken::Goes(next, Step::Called(called)),
+        Step::Seen(seen) => Taken::Goes(next, Step::Seen(seen), touched),
+        Step::Called(called) => Taken::Goes(next, Step::Called(called), touched),
     }
 }
 
@@ -93,7 +94,7 @@ fn go_to<'i>(machine: Machine<'i>, plan: &Plan, limit: u64) -> At<'i>
         }
         match take_step(hurried, plan, limit) {
             Taken::Rests(machine) => return At { machine, taken },
-            Taken::Goes(next, step) => {
+            Taken::Goes(next, step, _) => {
                 machine = next;
                 taken = taken_behind(taken, &step);
             }
@@ -166,8 +167,10 @@ fn follow<'i, O: Sink>(
         let event = event_after(plan, taken);
         match take_step(machine, plan, steps) {
             Taken::Rests(rested) => return end(rested, TraceEnd::Halted, sink),
-            Taken::Goes(next, step) => {
-                if let Err(fault) = put_step(shown, &before, &step, event, &next, copy, sink) {
+            Taken::Goes(next, step, touched) => {
+                if let Err(fault) = put_step(
+                    shown, &before, &step, event, &next, touched, copy, sink,
+                ) {
                     let _finished = next.finish();
                     return Err(fault);
                 }

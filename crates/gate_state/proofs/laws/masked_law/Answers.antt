@@ -4,6 +4,8 @@ pub returns : goal.returns
 returns c = record {
   turn = c.steps_law.ensures.masked_turn;
   stays = c.steps_law.ensures.masked_stays;
+  stores = c.steps_law.ensures.masked_stores;
+  fetch = c.steps_law.ensures.masked_fetch;
   event = c.steps_law.ensures.masked_event;
   source = c.steps_law.ensures.masked_source;
 }

@@ -2,6 +2,7 @@ use Rattle.gate_state.specs.GuardedStates.{IsAdmitted}
 use Rattle.gate_state.specs.MachineOpening.{opening_state}
 use Rattle.gate_state.specs.MachineSteps.{state}
 use Rattle.gate_state.specs.MachineStates.{Opening}
+use Rattle.gate_state.proofs.CallComesBack.{called_back}
 use Rattle.gate_state.proofs.RunsSafe.{StepsKept, state_guarded, state_made}
 use Rattle.gate_state.proofs.RunsShort.{StepsNearer, short_window}
 use Rattle.gate_state.proofs.laws.safety_law.Goals as goal
@@ -32,6 +33,10 @@ returns c =
       called = λ o input plan n k admitted in_form calling.
           c.steps_law.ensures.called o (state plan (opening_state o input) n) plan k admitted in_form
           (state_guarded o (steps o admitted) plan in_form (opening_state o input) n (c.steps_law.ensures.opening o input admitted)) calling;
+      comes_back = λ o input plan n admitted in_form calling.
+          called_back plan (state plan (opening_state o input) n) (λ k.
+          c.steps_law.ensures.called o (state plan (opening_state o input) n) plan k admitted in_form
+          (state_guarded o (steps o admitted) plan in_form (opening_state o input) n (c.steps_law.ensures.opening o input admitted)) calling);
       window = λ o input plan admitted in_form.
           short_window o (nearer o admitted) plan (steps o admitted) in_form (opening_state o input)
           (c.steps_law.ensures.opening o input admitted);

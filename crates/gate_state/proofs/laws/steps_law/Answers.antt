@@ -4,7 +4,8 @@ use Rattle.gate_state.proofs.Assembly.{turn_facts}
 use Rattle.gate_state.proofs.BodyKept.{body_guarded, body_serves, body_stands}
 use Rattle.gate_state.proofs.CallThrough.{called_through}
 use Rattle.gate_state.proofs.LowerLaws.{LowerLaws}
-use Rattle.gate_state.proofs.MaskedStates.{masked_event, masked_source, masked_stays, masked_turn}
+use Rattle.gate_state.proofs.BookFrames.{book_hidden, hidden_book}
+use Rattle.gate_state.proofs.MaskedStates.{masked_event, masked_fetch, masked_source, masked_stays, masked_stores, masked_turn}
 use Rattle.gate_state.proofs.OpeningGuarded.{opening_guarded}
 use Rattle.gate_state.proofs.SceneProofs.{scene_laws}
 use Rattle.gate_state.proofs.ShownStates.{call_shown}
@@ -78,6 +79,11 @@ returns c =
           masked_turn laws o admitted s guarded m is (facts o s admitted guarded) takes;
       masked_stays = λ o s m place admitted takes guarded is.
           masked_stays laws o admitted s guarded m is (facts o s admitted guarded) takes place;
+      masked_stores = λ o s m admitted takes guarded is.
+          masked_stores laws o admitted s guarded m is (facts o s admitted guarded) takes;
+      masked_fetch = λ o s m admitted guarded is. masked_fetch laws o admitted s guarded m is;
       masked_event = λ o s m what admitted guarded is. masked_event laws o admitted s guarded m is what;
       masked_source = λ o s m va count admitted guarded is. masked_source laws o admitted s guarded m is va count;
+      hidden = λ o s f admitted guarded inside is. hidden_book laws o s.kinds admitted guarded.kinds f inside is;
+      books_hidden = λ o s f admitted guarded is. book_hidden laws o s.kinds admitted guarded.kinds f is;
     }

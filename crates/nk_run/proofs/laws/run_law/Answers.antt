@@ -14,6 +14,7 @@ returns-clause-safe c =
           (c.safety_law.ensures.guarded o input plan k admitted planned_are);
       nested = λ k. c.safety_law.ensures.nested o input plan k admitted planned_are;
       called = λ n k. c.safety_law.ensures.called o input plan n k admitted planned_are;
+      comes_back = λ n. c.safety_law.ensures.comes_back o input plan n admitted planned_are;
       window = c.safety_law.ensures.window o input plan admitted planned_are;
     })
 

@@ -8,12 +8,12 @@ pub returns-in-Seen : goal.returns-in-Seen
 returns-in-Seen c =
     let w : WholeState = whole_of c.args.machine in
     nearer c.args.limit c.args.plan.now w _ c.requires.turns
-    (goes_by _ w.state _ c.step-next.ensures.step (ap is_rested c.in-Seen.is)) c.step-next.ensures.next
+    (goes_by _ w.state _ c.step_touching-next.ensures.step (ap is_rested c.in-Seen.is)) c.step_touching-next.ensures.next
     (c.moves_law.ensures c.args.plan.now w.state)
 
 pub returns-in-Called : goal.returns-in-Called
 returns-in-Called c =
     let w : WholeState = whole_of c.args.machine in
     nearer c.args.limit c.args.plan.now w _ c.requires.turns
-    (goes_by _ w.state _ c.step-next.ensures.step (ap is_rested c.in-Called.is)) c.step-next.ensures.next
+    (goes_by _ w.state _ c.step_touching-next.ensures.step (ap is_rested c.in-Called.is)) c.step_touching-next.ensures.next
     (c.moves_law.ensures c.args.plan.now w.state)

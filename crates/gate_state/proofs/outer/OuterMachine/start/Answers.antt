@@ -2,7 +2,7 @@ use Rattle.std.proofs.Common.{ap, subst, ◌∙◌, arith}
 use Rattle.nk_bits.specs.Accesses.{wp_of}
 use Rattle.boot_map.specs.Division.{IsLayout}
 use Rattle.gate_state.specs.MachineStates.{Opening}
-use Rattle.gate_state.specs.WholeMachine.{WholeState}
+use Rattle.gate_state.specs.WholeMachine.{HeldState}
 use Rattle.gate_state.proofs.OpeningWhole.{opening_whole, starts_at, starts_set}
 use Rattle.gate_state.proofs.outer.OuterMachine.start.Goals as goal
 
@@ -17,15 +17,14 @@ invariant_of-whole c =
 
 pub invariant_of-result : goal.invariant_of-result
 invariant_of-result c =
-    ap (λ (w : WholeState). wp_of w.state.processor.control.cr0) c.in-Ok-new.ensures.ok
+    ap (λ (w : HeldState). wp_of w.state.processor.control.cr0) c.in-Ok-new.ensures.ok
     ∙ starts_set (record { image = c.args.image.now; frames = c.args.layout.now.frames }) c.args.input.items c.in-Ok.cpu c.in-Ok.ensures
 
 pub returns-in-Ok-new-clause-state : goal.returns-in-Ok-new-clause-state
 returns-in-Ok-new-clause-state c =
-    ap (λ (w : WholeState). w.state) c.in-Ok-new.ensures.ok
+    ap (λ (w : HeldState). w.state) c.in-Ok-new.ensures.ok
     ∙ starts_at (record { image = c.args.image.now; frames = c.args.layout.now.frames }) c.args.input.items c.in-Ok.cpu c.args.mem c.args.kernel c.in-Ok.ensures c.requires.opening c.requires.kinds c.requires.ledger
 
-pub returns-in-Ok-new-clause-outer : goal.returns-in-Ok-new-clause-outer
-returns-in-Ok-new-clause-outer c =
-    ap (λ (w : WholeState). wp_of w.state.processor.control.cr0) c.in-Ok-new.ensures.ok
-    ∙ starts_set (record { image = c.args.image.now; frames = c.args.layout.now.frames }) c.args.input.items c.in-Ok.cpu c.in-Ok.ensures
+pub outer_law-requires : goal.outer_law-requires
+outer_law-requires c =
+    starts_set (record { image = c.args.image.now; frames = c.args.layout.now.frames }) c.args.input.items c.in-Ok.cpu c.in-Ok.ensures

@@ -1,5 +1,6 @@
-use Rattle.std.proofs.Common.{◌+◌, ◌≤◌, arith}
+use Rattle.std.proofs.Common.{◌+◌, ◌≤◌, ap, arith}
 use Rattle.gate_state.specs.MachineStates.{MachineState, Opening}
+use Rattle.gate_state.specs.WholeMachine.{known_of}
 use Rattle.gate_state.proofs.QuietTurns.{TurnLaws, control_then, hurried_then, whole_then}
 use Rattle.gate_state.proofs.WholeLemmas.{sound_is, state_by}
 use Rattle.gate_state.proofs.whole.Whole.hurry.Goals as goal
@@ -28,9 +29,9 @@ invariant_of-self c =
     } in
     let most : c.self.inside.turns + c.quick_turns.result ≤ c.until-until.result =
     omega (arith, c.quick_turns.ensures.most, c.if-self-until.true) in (
-      whole_then o laws c.self.inside.kernel c.args.plan.now c.self.inside.taken c.args.self.now c.quick_turns.result c.args.limit
+      whole_then o laws c.self.inside.kernel c.args.plan.now c.self.inside.taken (known_of c.args.self.now) c.quick_turns.result c.args.limit
           c.until-until.result c.self.inside.cpu c.self.inside.mem c.self.inside.turns c.quick_turns.new.self c.quick_turns.new.mem
-          c.self.inside.source.items c.self.view_is c.self.invariant.0 c.until-until.ensures.event most c.until-until.ensures.limit
+          c.self.inside.source.items (ap known_of c.self.view_is) c.self.invariant.0 c.until-until.ensures.event most c.until-until.ensures.limit
           c.quick_turns.ensures.turns,
       c.self.invariant.1,
     )
@@ -50,9 +51,9 @@ returns-then-self-until-clause-hurried c =
     } in
     let most : c.self.inside.turns + c.quick_turns.result ≤ c.until-until.result =
     omega (arith, c.quick_turns.ensures.most, c.if-self-until.true) in
-    hurried_then o laws c.self.inside.kernel c.args.plan.now c.self.inside.taken c.args.self.now c.quick_turns.result c.args.limit
+    hurried_then o laws c.self.inside.kernel c.args.plan.now c.self.inside.taken (known_of c.args.self.now) c.quick_turns.result c.args.limit
     c.until-until.result c.self.inside.cpu c.self.inside.mem c.self.inside.turns c.quick_turns.new.self c.quick_turns.new.mem
-    c.self.inside.source.items c.self.view_is c.self.invariant.0 c.until-until.ensures.event most c.until-until.ensures.limit
+    c.self.inside.source.items (ap known_of c.self.view_is) c.self.invariant.0 c.until-until.ensures.event most c.until-until.ensures.limit
     c.quick_turns.ensures.turns
 
 pub returns-then-self-until-clause-control : goal.returns-then-self-until-clause-control
@@ -70,7 +71,7 @@ returns-then-self-until-clause-control c =
     } in
     let most : c.self.inside.turns + c.quick_turns.result ≤ c.until-until.result =
     omega (arith, c.quick_turns.ensures.most, c.if-self-until.true) in
-    control_then o laws c.self.inside.kernel c.args.plan.now c.self.inside.taken c.args.self.now c.quick_turns.result c.args.limit
+    control_then o laws c.self.inside.kernel c.args.plan.now c.self.inside.taken (known_of c.args.self.now) c.quick_turns.result c.args.limit
     c.until-until.result c.self.inside.cpu c.self.inside.mem c.self.inside.turns c.quick_turns.new.self c.quick_turns.new.mem
-    c.self.inside.source.items c.self.view_is c.self.invariant.0 c.until-until.ensures.event most c.until-until.ensures.limit
+    c.self.inside.source.items (ap known_of c.self.view_is) c.self.invariant.0 c.until-until.ensures.event most c.until-until.ensures.limit
     c.quick_turns.ensures.turns

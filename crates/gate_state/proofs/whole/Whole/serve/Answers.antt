@@ -9,7 +9,7 @@ use Rattle.nk_body.specs.SourceWords.{sourced_of}
 use Rattle.gate_state.specs.MachineStates.{MachineState, Opening}
 use Rattle.gate_state.specs.MachineSteps.{call_in, called_in, source_of, took_by}
 use Rattle.gate_state.specs.SourceBytes.{source_through}
-use Rattle.gate_state.specs.WholeMachine.{WholeState, served_whole}
+use Rattle.gate_state.specs.WholeMachine.{HeldState, known_of, served_whole}
 use Rattle.gate_state.proofs.SourceReads.{source_is}
 use Rattle.gate_state.proofs.SourceWants.{wants_most}
 use Rattle.gate_state.proofs.WholeLemmas.{answer_now, root_stays, served_is, served_whole_is, sound_is, source_now, source_seen, state_by, tlb_seen}
@@ -46,7 +46,7 @@ pub invariant_of-self : goal.invariant_of-self
 invariant_of-self c =
     let o : Opening = record { image = c.self.inside.image.now; frames = c.self.inside.layout.now.frames } in
     let s : MachineState = state_by c.self.inside.cpu c.self.inside.mem c.self.inside.kernel c.self.inside.turns c.self.inside.taken in
-    let at : enters_body s.processor ≡ true = subst (λ (w : WholeState). enters_body w.state.processor ≡ true) (sym c.self.view_is) c.requires.body in
+    let at : enters_body s.processor ≡ true = subst (λ (w : HeldState). enters_body w.state.processor ≡ true) (sym c.self.view_is) c.requires.body in
     let read : Sourced = source_through s.memory s.processor.control.root s.processor.tlb c.call_in-call.result.c c.wants-wanted.result in
     let alike = source_seen c.mask_law.ensures.length o s c.self.inside.kernel c.self.inside.mem c.self.invariant.0
     (λ m va count. c.steps_law.ensures.masked_source o s m va count c.self.invariant.0.admitted c.self.invariant.0.guarded) c.call_in-call.result.c c.wants-wanted.result in
@@ -91,7 +91,7 @@ returns-clause-served c =
     refl c.self.invariant.0.root refl (c.call_in-call.ensures ∙ ap call_in c.regs.ensures) c.wants-wanted.ensures is kept
     c.serve-answer.ensures.answer c.serve-answer.ensures.nested c.serve-answer.ensures.memory c.root.ensures c.answer_with.ensures in
     let bytes : c.take_source-took.new.into.items ≡ bytes_read (source_of s) = c.take_source-took.ensures.bytes ∙ ap bytes_read (alike ∙ sym is ∙ source_stays) in
-    (λ i. record { opening = o; state = state_is i; source = bytes i }) ∙ ap served_whole c.self.view_is
+    (λ i. record { opening = o; state = state_is i; source = bytes i }) ∙ ap (λ (w : HeldState). served_whole (known_of w)) c.self.view_is
 
 pub returns-clause-called : goal.returns-clause-called
 returns-clause-called c =
@@ -116,4 +116,4 @@ returns-clause-called c =
     refl c.self.invariant.0.root refl (c.call_in-call.ensures ∙ ap call_in c.regs.ensures) c.wants-wanted.ensures is kept
     c.serve-answer.ensures.answer c.serve-answer.ensures.nested c.serve-answer.ensures.memory c.root.ensures c.answer_with.ensures in
     let call = c.call_in-call.ensures ∙ ap call_in c.regs.ensures in
-    (λ i. record { call = call i; source = took i; answer = answer i }) ∙ ap (λ (w : WholeState). called_in w.state) c.self.view_is
+    (λ i. record { call = call i; source = took i; answer = answer i }) ∙ ap (λ (w : HeldState). called_in w.state) c.self.view_is

@@ -1,7 +1,7 @@
 use Rattle.std.proofs.Common.{◌+◌, ap, ◌∙◌}
 use Rattle.gate_state.specs.MachineStates.{MachineState, Opening}
 use Rattle.gate_state.specs.MachineSteps.{after_event}
-use Rattle.gate_state.specs.WholeMachine.{WholeState}
+use Rattle.gate_state.specs.WholeMachine.{HeldState}
 use Rattle.gate_state.proofs.WholeLemmas.{event_whole, masked_is, sound_is, state_by}
 use Rattle.gate_state.proofs.whole.Whole.take.Goals as goal
 
@@ -30,5 +30,5 @@ returns-clause-taken c =
     let s : MachineState = state_by c.self.inside.cpu c.self.inside.mem c.self.inside.kernel c.self.inside.turns c.self.inside.taken in
     let seen_alike = c.steps_law.ensures.masked_event o s c.self.inside.mem c.args.what c.self.invariant.0.admitted c.self.invariant.0.guarded
     (masked_is c.mask_law.ensures.length o s c.self.inside.kernel c.self.inside.mem c.self.invariant.0) in
-    ap (λ p. record { opening = o; state = record s { processor = p; taken = s.taken + 1 }; source = c.self.inside.source.items }) (c.take_event.ensures.taken ∙ seen_alike)
-    ∙ ap (λ (w : WholeState). record w { state = after_event c.args.what w.state }) c.self.view_is
+    ap (λ p. record { opening = o; state = record s { processor = p; taken = s.taken + 1 }; source = c.self.inside.source.items; real = c.self.inside.mem }) (c.take_event.ensures.taken ∙ seen_alike)
+    ∙ ap (λ (w : HeldState). record w { state = after_event c.args.what w.state }) c.self.view_is

@@ -3,12 +3,14 @@ use Rattle.nk_body.specs.NestedRecord.{books_in}
 use Rattle.gate_state.specs.MachineStates.{MachineState, Opening}
 use Rattle.gate_state.specs.MachineSteps.{after_turn, shown_by_turn, turn_of}
 use Rattle.gate_state.specs.SafeStates.{TakesTurn}
-use Rattle.gate_state.specs.WholeMachine.{WholeState}
+use Rattle.gate_state.specs.WholeMachine.{HeldState}
+use Rattle.phys_mem.specs.Memory.{byte_at}
+use Rattle.cpu_step.specs.FramesTouched.{turn_touched}
 use Rattle.gate_state.proofs.WholeLemmas.{masked_is, shown_is, sound_is, state_by, turn_is, turn_whole}
 use Rattle.gate_state.proofs.whole.Whole.turn.Goals as goal
 
-pub step-stepped-requires-clause-sound : goal.step-stepped-requires-clause-sound
-step-stepped-requires-clause-sound c =
+pub step_touching-stepped-requires-clause-sound : goal.step_touching-stepped-requires-clause-sound
+step_touching-stepped-requires-clause-sound c =
     let o : Opening = record { image = c.self.inside.image.now; frames = c.self.inside.layout.now.frames } in
     let s : MachineState = state_by c.self.inside.cpu c.self.inside.mem c.self.inside.kernel c.self.inside.turns c.self.inside.taken in
     sound_is c.mask_law.ensures.length o s c.self.inside.kernel c.self.inside.mem c.self.invariant.0 c.self.inside.cpu
@@ -18,10 +20,10 @@ pub invariant_of-self : goal.invariant_of-self
 invariant_of-self c =
     let o : Opening = record { image = c.self.inside.image.now; frames = c.self.inside.layout.now.frames } in
     let s : MachineState = state_by c.self.inside.cpu c.self.inside.mem c.self.inside.kernel c.self.inside.turns c.self.inside.taken in
-    let takes : TakesTurn s.processor = subst (λ (w : WholeState). TakesTurn w.state.processor) (sym c.self.view_is) c.requires.takes in
+    let takes : TakesTurn s.processor = subst (λ (w : HeldState). TakesTurn w.state.processor) (sym c.self.view_is) c.requires.takes in
     let masked = masked_is c.mask_law.ensures.length o s c.self.inside.kernel c.self.inside.mem c.self.invariant.0 in (
       turn_whole c.mask_law.ensures.length o c.self.inside.cpu c.self.inside.mem c.self.inside.kernel c.self.inside.turns c.self.inside.taken
-          c.self.invariant.0 c.step-stepped.new.self c.step-stepped.new.mem c.step-stepped.result c.step-stepped.ensures.turned
+          c.self.invariant.0 c.step_touching-stepped.new.self c.step_touching-stepped.new.mem c.step_touching-stepped.result.0 c.step_touching-stepped.ensures.turned
           (c.steps_law.ensures.masked_turn o s c.self.inside.mem c.self.invariant.0.admitted takes c.self.invariant.0.guarded masked)
           (c.steps_law.ensures.turn o s c.self.invariant.0.admitted takes c.self.invariant.0.guarded)
           (λ place. c.steps_law.ensures.masked_stays o s c.self.inside.mem place c.self.invariant.0.admitted takes c.self.invariant.0.guarded masked)
@@ -35,29 +37,37 @@ pub returns-clause-turned : goal.returns-clause-turned
 returns-clause-turned c =
     let o : Opening = record { image = c.self.inside.image.now; frames = c.self.inside.layout.now.frames } in
     let s : MachineState = state_by c.self.inside.cpu c.self.inside.mem c.self.inside.kernel c.self.inside.turns c.self.inside.taken in
-    let takes : TakesTurn s.processor = subst (λ (w : WholeState). TakesTurn w.state.processor) (sym c.self.view_is) c.requires.takes in
+    let takes : TakesTurn s.processor = subst (λ (w : HeldState). TakesTurn w.state.processor) (sym c.self.view_is) c.requires.takes in
     let masked = masked_is c.mask_law.ensures.length o s c.self.inside.kernel c.self.inside.mem c.self.invariant.0 in
     let turned_is = turn_is c.mask_law.ensures.length o c.self.inside.cpu c.self.inside.mem c.self.inside.kernel c.self.inside.turns c.self.inside.taken
-    c.self.invariant.0 c.step-stepped.new.self c.step-stepped.new.mem c.step-stepped.result c.step-stepped.ensures.turned
+    c.self.invariant.0 c.step_touching-stepped.new.self c.step_touching-stepped.new.mem c.step_touching-stepped.result.0 c.step_touching-stepped.ensures.turned
     (c.steps_law.ensures.masked_turn o s c.self.inside.mem c.self.invariant.0.admitted takes c.self.invariant.0.guarded masked)
     (c.steps_law.ensures.turn o s c.self.invariant.0.admitted takes c.self.invariant.0.guarded)
     (λ place. c.steps_law.ensures.masked_stays o s c.self.inside.mem place c.self.invariant.0.admitted takes c.self.invariant.0.guarded masked)
     (c.steps_law.ensures.books o s (books_in c.self.inside.kernel c.self.inside.mem) c.self.invariant.0.admitted takes c.self.invariant.0.guarded refl c.self.invariant.0.kept.books)
     c.held_law.ensures.stays in
     ap (λ (t : MachineState). record { opening = o; state = t; source = c.self.inside.source.items }) turned_is
-    ∙ ap (λ (w : WholeState). record { opening = w.opening; state = after_turn w.state; source = w.source }) c.self.view_is
+    ∙ ap (λ (w : HeldState). record { opening = w.opening; state = after_turn w.state; source = w.source }) c.self.view_is
 
 pub returns-clause-seen : goal.returns-clause-seen
 returns-clause-seen c =
     let o : Opening = record { image = c.self.inside.image.now; frames = c.self.inside.layout.now.frames } in
     let s : MachineState = state_by c.self.inside.cpu c.self.inside.mem c.self.inside.kernel c.self.inside.turns c.self.inside.taken in
-    let takes : TakesTurn s.processor = subst (λ (w : WholeState). TakesTurn w.state.processor) (sym c.self.view_is) c.requires.takes in
+    let takes : TakesTurn s.processor = subst (λ (w : HeldState). TakesTurn w.state.processor) (sym c.self.view_is) c.requires.takes in
     let masked = masked_is c.mask_law.ensures.length o s c.self.inside.kernel c.self.inside.mem c.self.invariant.0 in
     let stepped_is = shown_is c.mask_law.ensures.length o c.self.inside.cpu c.self.inside.mem c.self.inside.kernel c.self.inside.turns c.self.inside.taken
-    c.self.invariant.0 c.step-stepped.new.self c.step-stepped.new.mem c.step-stepped.result c.step-stepped.ensures.turned
+    c.self.invariant.0 c.step_touching-stepped.new.self c.step_touching-stepped.new.mem c.step_touching-stepped.result.0 c.step_touching-stepped.ensures.turned
     (c.steps_law.ensures.masked_turn o s c.self.inside.mem c.self.invariant.0.admitted takes c.self.invariant.0.guarded masked)
     (c.steps_law.ensures.turn o s c.self.invariant.0.admitted takes c.self.invariant.0.guarded)
     (λ place. c.steps_law.ensures.masked_stays o s c.self.inside.mem place c.self.invariant.0.admitted takes c.self.invariant.0.guarded masked)
     (c.steps_law.ensures.books o s (books_in c.self.inside.kernel c.self.inside.mem) c.self.invariant.0.admitted takes c.self.invariant.0.guarded refl c.self.invariant.0.kept.books)
     c.held_law.ensures.stays in
-    c.seen_of.ensures ∙ ap shown_by_turn stepped_is ∙ ap (λ (w : WholeState). shown_by_turn (turn_of w.state).stepped) c.self.view_is
+    c.seen_of.ensures ∙ ap shown_by_turn stepped_is ∙ ap (λ (w : HeldState). shown_by_turn (turn_of w.state).stepped) c.self.view_is
+
+pub returns-clause-touched : goal.returns-clause-touched
+returns-clause-touched c = λ p out.
+    c.step_touching-stepped.ensures.touched p out ∙ ap (λ (h : HeldState). byte_at h.real p) c.self.view_is
+
+pub returns-clause-told : goal.returns-clause-told
+returns-clause-told c =
+    c.step_touching-stepped.ensures.told ∙ ap (λ (h : HeldState). turn_touched h.state.processor h.real) c.self.view_is
