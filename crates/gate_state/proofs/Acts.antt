@@ -1,18 +1,15 @@
 -- What an instruction asks of the processor keeps what a turn keeps: with WP set, where no control register and no table
 -- is loaded.
 use Rattle.std.proofs.Common.{◌≡◌, ◌⊎◌, ℕ, ◌+◌, ◌*◌, ◌<◌, Bool, true, false, List, [], refl, sym, subst, arith, inl, inr}
-use Rattle.std.specs.Prelude.{IfSome, Option, None, Some, Result, Ok, Err, not, ◌==◌, ◌&&◌, if◌then◌else◌}
+use Rattle.std.specs.Prelude.{IfSome, Option, None, Some, Result, Ok, Err, ◌==◌, ◌&&◌, if◌then◌else◌}
 use Rattle.std.proofs.lemmas.Bool.{and_parts}
-use Rattle.std.proofs.lemmas.List.Elements.{All-filter, All-nil}
 use Rattle.nk_bits.specs.declared.kind.Kind.{Kind}
-use Rattle.nk_bits.specs.declared.leaf.Leaf.{Leaf}
 use Rattle.nk_bits.specs.Accesses.{wp_of}
 use Rattle.nk_bits.specs.Claims.{AllPass}
 use Rattle.nk_bits.specs.Kinds.{is_storable, kind_of}
 use Rattle.nk_bits.specs.Outcomes.{Outcome}
 use Rattle.nk_bits.specs.Paging.{is_canonical}
 use Rattle.nk_bits.specs.Translations.{Translations, invalidated}
-use Rattle.nk_bits.specs.UpperEntries.{KeptEntry}
 use Rattle.port_bus.specs.PortWords.{port_byte, console_byte, input_after}
 use Rattle.x86_regs.specs.declared.delivery.Frame.{Frame}
 use Rattle.x86_regs.specs.declared.effects.Act.{Act}
@@ -28,7 +25,7 @@ use Rattle.cpu_step.specs.Processor.{Processor}
 use Rattle.cpu_step.specs.TurnStores.{act_stores, interrupt_stores, return_stores}
 use Rattle.cpu_step.specs.Turns.{acted, interrupted_by, ran, returned_by, console_shown, with_al}
 use Rattle.gate_state.specs.MachineStates.{Opening}
-use Rattle.gate_state.specs.RespectedKinds.{leads, respecting, respects}
+use Rattle.gate_state.specs.RespectedKinds.{respecting}
 use Rattle.gate_state.proofs.Delivery.{IsAsked}
 use Rattle.gate_state.proofs.Ready.{IsReady, Kept, ran_kept}
 use Rattle.gate_state.proofs.RegisterBounds.{al_registers, return_registers}
@@ -140,13 +137,6 @@ module _ (o : Opening) (ks : List Kind) (facts : TurnFacts o ks) (storable : is_
       return_choice wp false after before p m ready old set is =
           raise_kept o ks facts storable wp (record p { regs = before }) m (fault.General 0) (omega arith) old set
 
-  -- the translation of a page that goes, with all upper entries
-  dropped_pass : (tlb : Translations) (page : ℕ) → AllPass (respecting o ks) tlb → AllPass (respecting o ks) (invalidated tlb page)
-  dropped_pass tlb page pass = record {
-    pairs = All-filter (λ pair. not (pair.0 == page)) (λ (pair : ℕ × Leaf). respects o ks pair ≡ true) tlb.pairs pass.pairs;
-    upper = All-nil (λ (entry : KeptEntry). leads o ks entry ≡ true);
-  }
-
   -- any act that loads neither a control register nor a table
   pub act_kept : (wp : Bool) (a : Act) (before : Regs) (p : Processor) (m : List ℕ) → LoadsNothing a → IsSmallAct a
       → IsReady o ks p m → IsReady o ks (record p { regs = before }) m
@@ -221,5 +211,5 @@ module _ (o : Opening) (ks : List Kind) (facts : TurnFacts o ks) (storable : is_
   act_kept wp (act.Cr4 value) before p m calm small ready old set = absurd calm
   act_kept wp (act.Idt base limit) before p m calm small ready old set = absurd calm
   act_kept wp (act.DropPage page) before p m calm small ready old set =
-      ran_kept o ks wp (record p { tlb = invalidated p.tlb page }) m (with_translations o ks p m (invalidated p.tlb page) ready (dropped_pass p.tlb page ready.pass))
+      ran_kept o ks wp (record p { tlb = invalidated p.tlb page }) m (with_translations o ks p m (invalidated p.tlb page) ready (facts.invalidates p.tlb page ready.pass))
       (set_never o ks facts storable (wp_of p.control.cr0) set)

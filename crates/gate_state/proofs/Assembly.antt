@@ -1,5 +1,6 @@
 -- The parts of a turn, put together.
 use Rattle.gate_state.specs.MachineStates.{Opening}
+use Rattle.gate_state.specs.RespectedKinds.{respecting}
 use Rattle.gate_state.proofs.Delivery.{asks, delivers}
 use Rattle.gate_state.proofs.FetchFormed.{fetch_formed, fetch_pass}
 use Rattle.gate_state.proofs.FetchListed.{fetch_listed}
@@ -13,6 +14,7 @@ use Rattle.std.proofs.Common.{List}
 
 pub turn_facts : (laws : LowerLaws) (o : Opening) (ks : List Kind) → SceneLaws o ks → TurnFacts o ks
 turn_facts laws o ks scenes = record {
+  invalidates = laws.kept.invalidated (respecting o ks);
   delivers = delivers laws o ks scenes;
   asks = asks laws o ks scenes;
   fetch_pass = fetch_pass laws o ks scenes;

@@ -1,7 +1,8 @@
 -- What is fetched is well formed, since a spelling of it is in front of the bytes that were read; and translations go
 -- on respecting the kinds over a fetch.
-use Rattle.std.proofs.Common.{◌≡◌, ℕ, ◌<◌, true, List, refl, subst}
+use Rattle.std.proofs.Common.{◌≡◌, ℕ, ◌<◌, true, false, List, refl, subst}
 use Rattle.std.specs.Prelude.{Ok}
+use Rattle.std.proofs.lemmas.Bool.{false≢true}
 use Rattle.std.proofs.lemmas.List.Elements.{All-from_get_or}
 use Rattle.nk_bits.specs.declared.control.Control.{Control}
 use Rattle.nk_bits.specs.declared.kind.Kind.{Kind}
@@ -30,10 +31,10 @@ front_of laws P rip it read are =
 
 -- a claim that all that is kept passes
 abbrev anything : Claim
-anything = record { pair = λ pair. true; upper = λ entry. true }
+anything = record { pair = λ pair. true; upper = λ entry. true; limited = false }
 
 any_pass : (tlb : Translations) → AllPass anything tlb
-any_pass tlb = record { pairs = λ k d below. refl; upper = λ k d below. refl }
+any_pass tlb = record { pairs = λ k d below. refl; upper = λ k d below. refl; limits = λ is. absurd (false≢true is) }
 
 module _ (laws : LowerLaws) (o : Opening) (ks : List Kind) (scenes : SceneLaws o ks) where
   -- translations go on respecting the kinds over a fetch

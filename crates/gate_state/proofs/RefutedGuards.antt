@@ -1,5 +1,5 @@
 -- States that are not guarded, each named by the sentence that it guards.
-use Rattle.std.proofs.Common.{◌≡◌, ◌≢◌, ℕ, ◌+◌, ◌*◌, ◌/◌, ◌^◌, ◌<◌, ◌≤◌, true, false, List, length, slice_index, Some, inl, inr, sym, ap, subst, ◌∙◌, arith}
+use Rattle.std.proofs.Common.{◌≡◌, ◌≢◌, ℕ, ◌+◌, ◌*◌, ◌/◌, ◌^◌, ◌<◌, ◌≤◌, true, false, List, [], ◌∷◌, length, slice_index, Some, inl, inr, refl, sym, ap, subst, ◌∙◌, arith}
 use Rattle.std.specs.Prelude.{IfSome, Option, slice_get, not, ◌==◌}
 use Rattle.std.proofs.lemmas.Bool.{and_parts, eqb-true, false≢true}
 use Rattle.std.proofs.lemmas.List.Elements.{All-get_or}
@@ -10,7 +10,7 @@ use Rattle.nk_bits.specs.Accesses.{wp_of}
 use Rattle.nk_bits.specs.Claims.{AllPass, Claim}
 use Rattle.nk_bits.specs.Kinds.{is_storable, kind_of}
 use Rattle.nk_bits.specs.KernelLayout.{gate_address}
-use Rattle.nk_bits.specs.Translations.{Translations}
+use Rattle.nk_bits.specs.Translations.{HasDistinctPages, Translations}
 use Rattle.phys_mem.specs.Memory.{byte_at, entry_in}
 use Rattle.x86_alu.specs.SignedNumbers.{bit}
 use Rattle.x86_regs.specs.Combinations.{interrupt_flag}
@@ -136,6 +136,18 @@ module _ (o : Opening) (s : MachineState) (it : IsGuarded o s) where
       → respects o s.kinds (page, leaf) ≡ false → ⊥
   disrespecting_pair place page leaf kept other =
       false≢true (sym other ∙ pair_passes (respecting o s.kinds) s.processor.tlb place (page, leaf) kept it.translations)
+
+  -- more translations or upper entries than the processor keeps, or a page's translation twice
+  translation_1025 : length s.processor.tlb.pairs ≡ 1025 → ⊥
+  translation_1025 is = let few = (it.translations.limits refl).pairs in omega (arith, is, few)
+
+  upper_entry_65 : length s.processor.tlb.upper ≡ 65 → ⊥
+  upper_entry_65 is = let few = (it.translations.limits refl).uppers in omega (arith, is, few)
+
+  page_translated_twice : (page : ℕ) (one other : Leaf) → s.processor.tlb.pairs ≡ (page, one) ∷ (page, other) ∷ [] → ⊥
+  page_translated_twice page one other is =
+      let distinct = subst HasDistinctPages is (it.translations.limits refl).pages in
+      distinct 0 1 (page, one) (omega arith) (omega arith) refl
 
   -- more identifiers than turns
   identifier_ahead : s.ledger.book.next ≡ 257 + s.turns → ⊥

@@ -5,7 +5,7 @@ use Rattle.nk_bits.specs.declared.control.Control.{Control}
 use Rattle.nk_bits.specs.declared.kind.Kind.{Kind}
 use Rattle.nk_bits.specs.Accesses.{wp_of}
 use Rattle.nk_bits.specs.Claims.{AllPass}
-use Rattle.nk_bits.specs.Translations.{Translations}
+use Rattle.nk_bits.specs.Translations.{Translations, invalidated}
 use Rattle.page_walk.specs.MemoryAccess.{view_of}
 use Rattle.gate_text.specs.GatePoints.{instruction_bytes, is_point}
 use Rattle.nk_bits.specs.KernelLayout.{gate_address}
@@ -35,6 +35,7 @@ use Rattle.gate_state.proofs.FetchProtected.{IsLoad}
 use Rattle.gate_state.proofs.Window.{KeepsWindow, cr0_after}
 
 pub record TurnFacts (o : Opening) (ks : List Kind) : Type 0 where
+  pub invalidates : (tlb : Translations) (page : ℕ) → AllPass (respecting o ks) tlb → AllPass (respecting o ks) (invalidated tlb page)
   pub delivers : (m : List ℕ) (control : Control) (tables : Tables) (regs : Regs) (vector : ℕ) (code : Option ℕ) (tlb : Translations)
       → IsScene o ks m control → tables ≡ opening_tables → AllPass (respecting o ks) tlb → vector < 48
       → IsDelivery o ks m regs vector code (delivered regs control tables vector code m tlb)

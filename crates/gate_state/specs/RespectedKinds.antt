@@ -64,6 +64,7 @@ leads o kinds entry =
     else level_of (kind_of kinds entry.2.frame) + 1 == entry.0
     && has_all entry.2.rights)
 
--- what holds of all that the processor keeps: each pair respects the kinds, and each upper entry leads where it may
+-- what holds of all that the processor keeps: each pair respects the kinds, each upper entry leads where it may, and no more
+-- is kept than the processor keeps, and nothing twice
 abbrev pub respecting : Opening → List Kind → Claim
-respecting o kinds = record { pair = respects o kinds; upper = leads o kinds }
+respecting o kinds = record { pair = respects o kinds; upper = leads o kinds; limited = true }

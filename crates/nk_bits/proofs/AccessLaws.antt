@@ -36,37 +36,37 @@ then_ok Q (Ok x) tlb next later = later x refl
 then_ok Q (Err fault) tlb next later = tt
 
 -- What holds of each pair and of each entry kept, and of each leaf that the walk of a canonical page finds, goes on holding.
-module _ (P : ℕ × Leaf → Type 0) (K : KeptEntry → Type 0) (view : View) (access : Access)
+module _ (P : ℕ × Leaf → Type 0) (K : KeptEntry → Type 0) (limited : Bool) (view : View) (access : Access)
     (walked : (upper : List KeptEntry) (va : ℕ) → All K upper → is_canonical va ≡ true →
     IfOk (walk_by view.entries view.frames view.root upper (page_of va)) (λ leaf. P (page_of va, leaf))) where
-  kept_has : (judgement : Result ℕ AccessFault) (tlb : Translations) (va : ℕ) → Holding P K tlb → Holding P K (kept_after judgement tlb va)
+  kept_has : (judgement : Result ℕ AccessFault) (tlb : Translations) (va : ℕ) → Holding P K limited tlb → Holding P K limited (kept_after judgement tlb va)
   kept_has (Ok place) tlb va all = all
-  kept_has (Err fault) tlb va all = faulted_holds P K tlb (page_of va) all
+  kept_has (Err fault) tlb va all = faulted_holds P K limited tlb (page_of va) all
 
-  pub reached_keeps : (tlb : Translations) (va : ℕ) → is_canonical va ≡ true → Holding P K tlb → Holding P K (reached view access tlb va).tlb
+  pub reached_keeps : (tlb : Translations) (va : ℕ) → is_canonical va ≡ true → Holding P K limited tlb → Holding P K limited (reached view access tlb va).tlb
   unfolding reached
   reached_keeps tlb va canonical all =
       kept_has (judged view access va (translation view.entries view.frames view.root tlb (page_of va))) (tlb_after view.entries view.frames view.root tlb (page_of va)) va
-      (after_holds P K view.entries view.frames view.root (page_of va) tlb all (walked tlb.upper va all.upper canonical))
+      (after_holds P K limited view.entries view.frames view.root (page_of va) tlb all (walked tlb.upper va all.upper canonical))
 
-  completed_keeps : (va width first : ℕ) (tlb : Translations) → has_canonical_bytes va width ≡ true → Holding P K tlb → Holding P K (completed view access va width first tlb).tlb
+  completed_keeps : (va width first : ℕ) (tlb : Translations) → has_canonical_bytes va width ≡ true → Holding P K limited tlb → Holding P K limited (completed view access va width first tlb).tlb
   unfolding completed
   completed_keeps va width first tlb canonical all =
-      chosen_on (Holding P K) (crosses va width) _ _
+      chosen_on (Holding P K limited) (crosses va width) _ _
       (λ two.
       let second = reached view access tlb (next_page va) in
       let kept = reached_keeps tlb (next_page va) (canonical_next va width canonical two) all in
-      then_on (Holding P K) second.answer second.tlb (λ second after. answered (record { first = first; second = second }) after) kept (λ x. kept))
+      then_on (Holding P K limited) second.answer second.tlb (λ second after. answered (record { first = first; second = second }) after) kept (λ x. kept))
       all
 
-  pub accessed_keeps : (tlb : Translations) (va width : ℕ) → va < 2 ^ 64 → 1 ≤ width → Holding P K tlb → Holding P K (accessed view access tlb va width).tlb
+  pub accessed_keeps : (tlb : Translations) (va width : ℕ) → va < 2 ^ 64 → 1 ≤ width → Holding P K limited tlb → Holding P K limited (accessed view access tlb va width).tlb
   unfolding accessed
   accessed_keeps tlb va width fits some all =
-      chosen_on (Holding P K) (has_canonical_bytes va width) _ _
+      chosen_on (Holding P K limited) (has_canonical_bytes va width) _ _
       (λ canonical.
       let first = reached view access tlb va in
       let kept = reached_keeps tlb va (canonical_first va width fits some canonical) all in
-      then_on (Holding P K) first.answer first.tlb (completed view access va width) kept (λ x. completed_keeps va width x first.tlb canonical kept))
+      then_on (Holding P K limited) first.answer first.tlb (completed view access va width) kept (λ x. completed_keeps va width x first.tlb canonical kept))
       all
 
 -- A claim goes on passing.
@@ -77,11 +77,11 @@ module _ (test : Claim) (view : View) (access : Access) (walked : IsWalked view 
 
   pub reached_passes : (tlb : Translations) (va : ℕ) → is_canonical va ≡ true → AllPass test tlb → AllPass test (reached view access tlb va).tlb
   reached_passes tlb va canonical all =
-      holding_passes test _ (reached_keeps (λ pair. test.pair pair ≡ true) (λ entry. test.upper entry ≡ true) view access by_walk tlb va canonical (passing_holds test tlb all))
+      holding_passes test _ (reached_keeps (λ pair. test.pair pair ≡ true) (λ entry. test.upper entry ≡ true) test.limited view access by_walk tlb va canonical (passing_holds test tlb all))
 
   pub accessed_passes : (tlb : Translations) (va width : ℕ) → va < 2 ^ 64 → 1 ≤ width → AllPass test tlb → AllPass test (accessed view access tlb va width).tlb
   accessed_passes tlb va width fits some all =
-      holding_passes test _ (accessed_keeps (λ pair. test.pair pair ≡ true) (λ entry. test.upper entry ≡ true) view access by_walk tlb va width fits some (passing_holds test tlb all))
+      holding_passes test _ (accessed_keeps (λ pair. test.pair pair ≡ true) (λ entry. test.upper entry ≡ true) test.limited view access by_walk tlb va width fits some (passing_holds test tlb all))
 
 -- Where an access finds its places, a translation that passes the test serves each.
 module _ (test : Claim) (view : View) (access : Access) (walked : IsWalked view test) where
@@ -159,5 +159,5 @@ pub reached_within : (view : View) (access : Access) (size : ℕ) → view.frame
     NamesFramesIn size tlb → NamesFramesIn size (reached view access tlb va).tlb
 reached_within view access size whole tlb va canonical names =
     holding_names size _
-    (reached_keeps (λ pair. 4096 * pair.1.frame < size) (λ entry. 4096 * entry.2.frame < size) view access
+    (reached_keeps (λ pair. 4096 * pair.1.frame < size) (λ entry. 4096 * entry.2.frame < size) false view access
     (λ upper at _ _. walk_by_within view.entries view.frames view.root (page_of at) size upper whole) tlb va canonical (names_hold size tlb names))

@@ -2,6 +2,7 @@ mod AccessLaws
 mod EntryBits
 mod FaultBounds
 mod KeptLaws
+mod KeptLimits
 mod KindLaws
 mod SpanLaws
 mod TableFunctions

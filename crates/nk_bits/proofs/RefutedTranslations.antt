@@ -1,10 +1,11 @@
 -- Translations that don't live, and translations that don't pass a test, each named by the sentence that it guards.
-use Rattle.std.proofs.Common.{◌≡◌, ◌≢◌, ℕ, true, false, List, [], ◌∷◌, None, Some, Ok, inl, inr, sym, ◌∙◌}
+use Rattle.std.proofs.Common.{◌≡◌, ◌≢◌, ℕ, true, false, List, [], ◌∷◌, None, Some, Ok, arith, inl, inr, length, refl, sym, ◌∙◌}
 use Rattle.std.specs.Prelude.{slice_get}
 use Rattle.std.proofs.lemmas.Bool.{false≢true}
 use Rattle.std.proofs.lemmas.List.Elements.{All-head}
 use Rattle.nk_bits.specs.declared.leaf.Leaf.{Leaf}
-use Rattle.nk_bits.specs.Claims.{AllPass, Claim}
+use Rattle.nk_bits.specs.declared.leaf.Upper.{Upper}
+use Rattle.nk_bits.specs.Claims.{AllPass, Claim, IsLimited}
 use Rattle.nk_bits.specs.Paging.{is_canonical_page, walk, walk_below}
 use Rattle.nk_bits.specs.Translations.{IsBelowKept, IsLive, Translations, look}
 use Rattle.nk_bits.specs.UpperEntries.{KeptEntry, serves_page}
@@ -46,3 +47,24 @@ module _ (test : Claim) where
       → AllPass test (record { pairs = pairs; upper = entry ∷ upper }) → ⊥
   failing_entry entry pairs upper fails it =
       false≢true (sym fails ∙ All-head (λ (e : KeptEntry). test.upper e ≡ true) entry upper it.upper)
+
+-- more than the processor keeps
+module _ (tlb : Translations) (it : IsLimited tlb) where
+  pair_1025 : length tlb.pairs ≡ 1025 → ⊥
+  pair_1025 is = let few = it.pairs in omega (arith, is, few)
+
+  entry_65 : length tlb.upper ≡ 65 → ⊥
+  entry_65 is = let few = it.uppers in omega (arith, is, few)
+
+-- or twice
+page_twice : (page : ℕ) (one other : Leaf) (upper : List KeptEntry)
+    → IsLimited (record { pairs = (page, one) ∷ (page, other) ∷ []; upper = upper }) → ⊥
+page_twice page one other upper it = it.pages 0 1 (page, one) (omega arith) (omega arith) refl
+
+entry_twice : (level bits : ℕ) (one other : Upper) (pairs : List (ℕ × Leaf))
+    → IsLimited (record { pairs = pairs; upper = (level, bits, one) ∷ (level, bits, other) ∷ [] }) → ⊥
+entry_twice level bits one other pairs it = it.entries 0 1 (level, bits, one) (omega arith) (omega arith) refl refl
+
+-- and a claim of limits isn't passed so
+limits_passed : (test : Claim) (tlb : Translations) → test.limited ≡ true → length tlb.pairs ≡ 1025 → AllPass test tlb → ⊥
+limits_passed test tlb claimed is all = pair_1025 tlb (all.limits claimed) is

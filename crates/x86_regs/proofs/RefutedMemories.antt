@@ -6,7 +6,7 @@ use Rattle.phys_mem.specs.Memory.{byte_at}
 use Rattle.x86_regs.specs.AlikeMemories.{AreAlike}
 
 abbrev any_page : Claim
-any_page = record { pair = λ pair. true; upper = λ entry. true }
+any_page = record { pair = λ pair. true; upper = λ entry. true; limited = false }
 
 abbrev read_only : ℕ → Leaf
 read_only frame = record { frame = frame; rights = record { can_write = false; user = false; exec = false } }
