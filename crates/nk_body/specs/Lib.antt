@@ -1,5 +1,6 @@
 -- What a reader must believe.
 pub mod NestedRecord
+pub mod Calls
 pub mod CallRules
 pub mod CallLeft
 pub mod KindsKept

@@ -4,12 +4,14 @@
 #![tactic(auto)]
 
 // What is read for a call, and the books with the calls on them.
+mod call;
 mod kernel;
 mod source;
 
 // What follows from the definitions.
 mod laws;
 
+pub use call::{Call, call_of};
 pub use kernel::{Kernel, NoMemory};
 pub use laws::{beside_law, call_law, call_leaves_law, held_law, opening_sound_law, stores_law};
 pub use source::Source;
