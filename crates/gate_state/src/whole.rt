@@ -20,7 +20,7 @@ ghost use Rattle.gate_state.specs.WindowLeft.{ComesNearer, left};
 use crate::laws::{steps_law, window_law};
 use crate::moves::Move;
 use crate::seen::{Called, Seen, Step};
-use crate::source::{sourced, take_source};
+use crate::source::{source_place, sourced, take_source};
 use crate::turns_left::left;
 use boot_map::Layout;
 use cpu_step::{Cpu, Stepped, Touched};
@@ -194,7 +194,8 @@ impl<'i> Whole<'i> {
         mask_law();
         let call = call_in(self.cpu.regs());
         let wanted = self.kernel.wants(&self.mem, &call);
-        let took = take_source(&mut self.cpu, &self.mem, call.c, wanted, &mut self.source);
+        let place = source_place(&call);
+        let took = take_source(&mut self.cpu, &self.mem, place, wanted, &mut self.source);
         let source = sourced(took, &self.source);
         let answer = self.kernel.serve(&mut self.mem, &call, source);
         answer_with(&mut self.cpu, &answer, self.kernel.root());

@@ -13,7 +13,7 @@ use Rattle.region_book.specs.RegionRecords.{Region, region_of}
 use Rattle.nk_body.specs.declared.call.Call.{Call}
 use Rattle.nk_body.specs.declared.call.Call.TheVariants.{Allocate, DeclarePages, DeclareTable, LoadRoot, RemoveTable, Write}
 use Rattle.nk_body.specs.NestedRecord.{Nested}
-use Rattle.nk_body.specs.CallRules.{Sourced, after_call, answer_by, answer_to, answered, bytes_read, frames_of_pages, made, made_unless, place_at, verdict, with_pages, with_pool}
+use Rattle.nk_body.specs.CallRules.{Sourced, accepted_answer, after_call, answer_by, answer_to, bytes_read, frames_of_pages, made, made_unless, place_at, verdict, with_pages, with_pool}
 use Rattle.nk_body.proofs.GuardedFrames.{length_guarded}
 use Rattle.nk_body.proofs.RegionRules.{room_facts}
 
@@ -23,7 +23,7 @@ number_small BadCall = omega arith
 number_small _ = omega arith
 
 -- the identifier of a new region is one
-value_answered : (nk : Nested) (call : Call) → nk.ledger.book.next < 2 ^ 63 → (answered nk call).value < 2 ^ 64
+value_answered : (nk : Nested) (call : Call) → nk.ledger.book.next < 2 ^ 63 → (accepted_answer nk call).value < 2 ^ 64
 value_answered nk (DeclarePages address size policy) small = omega (arith, small)
 value_answered nk (Allocate size policy) small = omega (arith, small)
 value_answered nk _ small = omega arith
@@ -32,7 +32,7 @@ place_found : (o : Option ℕ) → ((p : ℕ) → o ≡ Some p → p ≤ 65536) 
 place_found None within = tt
 place_found (Some p) within = omega (arith, within p refl)
 
-place_answered : (nk : Nested) (call : Call) → IfSome (answered nk call).place (λ place. place < 2 ^ 64)
+place_answered : (nk : Nested) (call : Call) → IfSome (accepted_answer nk call).place (λ place. place < 2 ^ 64)
 place_answered nk (Allocate size policy) =
     place_found (room nk.ledger.book.regions size)
     (λ p found. let within = (room_facts nk.ledger.book.regions size p found).0 in omega (arith, within))
@@ -71,7 +71,7 @@ module _ (nk : Nested) (stand : ℕ → ℕ → ℕ) where
   written_next (Some r) offset n = refl
 
   -- the calls that drop every translation are those that change a frame's kind or the root
-  made_same : (call : Call) (source : Sourced) → (answered nk call).flush ≡ false → IsSame nk (made nk call source stand)
+  made_same : (call : Call) (source : Sourced) → (accepted_answer nk call).flush ≡ false → IsSame nk (made nk call source stand)
   made_same (DeclareTable level frame) source stays = absurd (false≢true (sym stays))
   made_same (RemoveTable frame) source stays = absurd (false≢true (sym stays))
   made_same (LoadRoot frame) source stays = absurd (false≢true (sym stays))

@@ -17,7 +17,7 @@ use Rattle.region_book.specs.RegionRecords.{IsRegion, Region}
 use Rattle.policy_book.specs.PolicyRules.{book_by, log_by, stores_by}
 use Rattle.nk_body.specs.declared.call.Call.{Call}
 use Rattle.nk_body.specs.declared.call.Call.TheVariants.{Allocate, DeclarePages, DeclareTable, Free, LoadRoot, NoCall, RemoveTable, SetHandler, Write, WriteEntry}
-use Rattle.nk_body.specs.CallRules.{IsSourceOf, Sourced, accepted_memory, answer_by, answer_to, answered, bytes_read, bytes_standing, declaring_rule, frames_of_pages, made, mapped_by, puts, stand_of, verdict, wants, with_free, with_pages, with_pool, writing_rule, zeros_of}
+use Rattle.nk_body.specs.CallRules.{IsSourceOf, Sourced, accepted_answer, accepted_memory, answer_by, answer_to, bytes_read, bytes_standing, declaring_rule, frames_of_pages, made, mapped_by, puts, stand_of, verdict, wants, with_free, with_pages, with_pool, writing_rule, zeros_of}
 use Rattle.nk_body.specs.NestedRecord.{IsLedgerKept, Nested}
 use Rattle.nk_body.specs.ReplayBeside.{IsAccepted, IsBeside, IsMadeBeside, IsTold, declares_table}
 use Rattle.nk_body.proofs.BesidePages.{beside_pages}
@@ -36,7 +36,7 @@ pub verdict_same : (nk : Nested) (held : ℕ → ℕ → ℕ) (call : Call) (sou
 verdict_same nk held NoCall source = refl
 verdict_same nk held _ source = refl
 
-answered_same : (nk : Nested) (held : ℕ → ℕ → ℕ) (call : Call) → answered (record nk { held = held }) call ≡ answered nk call
+answered_same : (nk : Nested) (held : ℕ → ℕ → ℕ) (call : Call) → accepted_answer (record nk { held = held }) call ≡ accepted_answer nk call
 answered_same nk held NoCall = refl
 answered_same nk held _ = refl
 

@@ -4,11 +4,11 @@ use Rattle.nk_bits.specs.declared.call.Answer.{Answer}
 use Rattle.nk_bits.specs.declared.rule.Rule.{Rule}
 use Rattle.nk_bits.specs.Rules.{rule_number}
 use Rattle.nk_body.specs.declared.call.Call.{Call}
-use Rattle.nk_body.specs.CallRules.{Sourced, answer_by, answer_to, answered, verdict}
+use Rattle.nk_body.specs.CallRules.{Sourced, accepted_answer, answer_by, answer_to, verdict}
 use Rattle.nk_body.specs.NestedRecord.{Nested}
 
 module _ (nk : Nested) (call : Call) (source : Sourced) where
-  pub answer_accepted : (result : Answer) → None ≡ verdict nk call source → result ≡ answered nk call → result ≡ answer_to nk call source
+  pub answer_accepted : (result : Answer) → None ≡ verdict nk call source → result ≡ accepted_answer nk call → result ≡ answer_to nk call source
   unfolding answer_to
   answer_accepted result judged is = is ∙ ap (λ v. answer_by v nk call) judged
 

@@ -156,9 +156,12 @@ accepted_memory nk (SetHandler address) source m = stored m (stores 8 0x2000 add
 accepted_memory nk (DeclareTable level frame) source m = memory_declared m level frame
 accepted_memory nk (WriteEntry table index value) source m = memory_written m table index value
 accepted_memory nk (RemoveTable frame) source m = memory_removed m frame
+accepted_memory nk (LoadRoot frame) source m = m
+accepted_memory nk (DeclarePages address size policy) source m = m
 accepted_memory nk (Allocate size policy) source m = stored m (zeros_of nk size policy (room nk.ledger.book.regions size))
+accepted_memory nk (Free region) source m = m
 accepted_memory nk (Write region offset place count) source m = stored m (stores_written nk.ledger.book region offset (bytes_read source))
-accepted_memory nk _ source m = m
+accepted_memory nk NoCall source m = m
 
 abbrev pub written_unless : Option Rule → Nested → Call → Sourced → List ℕ → List ℕ
 written_unless None nk call source m = accepted_memory nk call source m
@@ -167,24 +170,29 @@ written_unless (Some rule) nk call source m = m
 abbrev pub memory_after_call : Nested → Call → Sourced → List ℕ → List ℕ
 memory_after_call nk call source m = written_unless (verdict nk call source) nk call source m
 
--- the answer to a call that is accepted, which is the identifier of a new region, else 0; the place of an allocated one; and
--- every translation goes where a frame's kind or the root changes
+-- the place of a region of the pool
 abbrev pub place_at : Option ℕ → Option ℕ
 place_at None = None
 place_at (Some p) = Some (pool_start + p)
 
-abbrev pub answered : Nested → Call → Answer
-answered nk (DeclareTable level frame) = record { value = 0; place = None; flush = true }
-answered nk (RemoveTable frame) = record { value = 0; place = None; flush = true }
-answered nk (LoadRoot frame) = record { value = 0; place = None; flush = true }
-answered nk (DeclarePages address size policy) = record { value = nk.ledger.book.next; place = None; flush = true }
-answered nk (Allocate size policy) =
+-- the answer to a call that is accepted: the identifier of a new region, else 0; the place of an allocated one; and whether
+-- every translation goes, since a frame's kind or the root changes
+abbrev pub accepted_answer : Nested → Call → Answer
+accepted_answer nk (SetHandler address) = record { value = 0; place = None; flush = false }
+accepted_answer nk (DeclareTable level frame) = record { value = 0; place = None; flush = true }
+accepted_answer nk (WriteEntry table index value) = record { value = 0; place = None; flush = false }
+accepted_answer nk (RemoveTable frame) = record { value = 0; place = None; flush = true }
+accepted_answer nk (LoadRoot frame) = record { value = 0; place = None; flush = true }
+accepted_answer nk (DeclarePages address size policy) = record { value = nk.ledger.book.next; place = None; flush = true }
+accepted_answer nk (Allocate size policy) =
     record { value = nk.ledger.book.next; place = place_at (room nk.ledger.book.regions size); flush = false }
-answered nk _ = record { value = 0; place = None; flush = false }
+accepted_answer nk (Free region) = record { value = 0; place = None; flush = false }
+accepted_answer nk (Write region offset place count) = record { value = 0; place = None; flush = false }
+accepted_answer nk NoCall = record { value = 0; place = None; flush = false }
 
 -- the answer to any call: the number of the first rule that it breaks, where it breaks one
 abbrev pub answer_by : Option Rule → Nested → Call → Answer
-answer_by None nk call = answered nk call
+answer_by None nk call = accepted_answer nk call
 answer_by (Some rule) nk call = record { value = rule_number rule; place = None; flush = false }
 
 unfoldable pub answer_to : Nested → Call → Sourced → Answer

@@ -6,6 +6,25 @@ ghost use Rattle.nk_body.specs.Calls.{call_of};
 
 use nk_bits::CallWords;
 
+/// The numbers of the calls.
+pub const SET_HANDLER: u64 = 1;
+
+pub const DECLARE_TABLE: u64 = 2;
+
+pub const WRITE_ENTRY: u64 = 3;
+
+pub const REMOVE_TABLE: u64 = 4;
+
+pub const LOAD_ROOT: u64 = 5;
+
+pub const DECLARE_PAGES: u64 = 6;
+
+pub const ALLOCATE: u64 = 7;
+
+pub const FREE: u64 = 8;
+
+pub const WRITE: u64 = 9;
+
 /// A call, with its arguments by their names.
 #[derive(Clone, Copy, Debug, PartialEq, Eq)]
 pub enum Call {
@@ -84,29 +103,29 @@ pub fn call_of(words: &CallWords) -> Call
 {
     are_words(words);
     match words.number {
-        1 => Call::SetHandler { address: words.a },
-        2 => Call::DeclareTable {
+        SET_HANDLER => Call::SetHandler { address: words.a },
+        DECLARE_TABLE => Call::DeclareTable {
             level: words.a,
             frame: words.b,
         },
-        3 => Call::WriteEntry {
+        WRITE_ENTRY => Call::WriteEntry {
             table: words.a,
             index: words.b,
             value: words.c,
         },
-        4 => Call::RemoveTable { frame: words.a },
-        5 => Call::LoadRoot { frame: words.a },
-        6 => Call::DeclarePages {
+        REMOVE_TABLE => Call::RemoveTable { frame: words.a },
+        LOAD_ROOT => Call::LoadRoot { frame: words.a },
+        DECLARE_PAGES => Call::DeclarePages {
             address: words.a,
             size: words.b,
             policy: words.c,
         },
-        7 => Call::Allocate {
+        ALLOCATE => Call::Allocate {
             size: words.a,
             policy: words.b,
         },
-        8 => Call::Free { region: words.a },
-        9 => Call::Write {
+        FREE => Call::Free { region: words.a },
+        WRITE => Call::Write {
             region: words.a,
             offset: words.b,
             source: words.c,

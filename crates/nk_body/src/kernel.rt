@@ -15,7 +15,7 @@ ghost use Rattle.region_book.specs.RegionCalls.{fits_in};
 ghost use Rattle.region_book.specs.RegionRecords.{region_of};
 ghost use Rattle.nk_body.specs.NestedRecord.{HoldsBooks, books_in, handler_in, nested_held};
 ghost use Rattle.nk_body.specs.CallMade.{IsMade, KeepsForm};
-ghost use Rattle.nk_body.specs.CallRules.{Bytes, IsSourceOf, Sourced, after_call, answer_to, answered, memory_after_call, stand_of, wants};
+ghost use Rattle.nk_body.specs.CallRules.{Bytes, IsSourceOf, Sourced, accepted_answer, after_call, answer_to, memory_after_call, stand_of, wants};
 ghost use Rattle.nk_body.specs.Calls.{call_of};
 ghost use Rattle.nk_body.specs.declared.call.Call.TheVariants.{Allocate, DeclarePages, DeclareTable, Free, LoadRoot, NoCall, RemoveTable, SetHandler, Write, WriteEntry};
 ghost use Rattle.nk_body.specs.SourceWords.{opening_ledger, sourced_of};
@@ -115,8 +115,8 @@ impl Kernel {
             Call::Write {
                 region,
                 offset,
-                source: _,
                 count,
+                ..
             } if self.regions.fits(mem, region, offset, count) => Some(count),
             _ => None,
         }
@@ -150,7 +150,7 @@ impl Kernel {
         ensures made { IsMade (books_in self.old mem.old) (seen mem.old) call (sourced_of source.entry) (rule_of result) (books_in self.new mem.new) (seen mem.new) }
         ensures frames { self.new.frames ≡ self.old.frames }
         ensures form { KeepsForm self.new mem.new }
-        ensures shows { IfOk result (λ it. it ≡ answered (nested_held self.old mem.old) call) }
+        ensures shows { IfOk result (λ it. it ≡ accepted_answer (nested_held self.old mem.old) call) }
     {
         match call {
             Call::SetHandler { address } => self.set_handler(mem, address),
@@ -172,8 +172,8 @@ impl Kernel {
             Call::Write {
                 region,
                 offset,
-                source: _,
                 count,
+                ..
             } => self.write(mem, region, offset, count, source),
             Call::NoCall => self.refuse(mem),
         }
@@ -185,7 +185,7 @@ impl Kernel {
         ensures made { (source : Sourced) → IsMade (books_in self.old mem.old) (seen mem.old) (SetHandler address) source (rule_of result) (books_in self.new mem.new) (seen mem.new) }
         ensures frames { self.new.frames ≡ self.old.frames }
         ensures form { KeepsForm self.new mem.new }
-        ensures shows { IfOk result (λ it. it ≡ answered (nested_held self.old mem.old) (SetHandler address)) }
+        ensures shows { IfOk result (λ it. it ≡ accepted_answer (nested_held self.old mem.old) (SetHandler address)) }
     {
         page_tables_law();
         held_tables_law();
@@ -205,7 +205,7 @@ impl Kernel {
         ensures made { (source : Sourced) → IsMade (books_in self.old mem.old) (seen mem.old) (DeclareTable level frame) source (rule_of result) (books_in self.new mem.new) (seen mem.new) }
         ensures frames { self.new.frames ≡ self.old.frames }
         ensures form { KeepsForm self.new mem.new }
-        ensures shows { IfOk result (λ it. it ≡ answered (nested_held self.old mem.old) (DeclareTable level frame)) }
+        ensures shows { IfOk result (λ it. it ≡ accepted_answer (nested_held self.old mem.old) (DeclareTable level frame)) }
     {
         accepted_law();
         held_regions_law();
@@ -227,7 +227,7 @@ impl Kernel {
         ensures made { (source : Sourced) → IsMade (books_in self.old mem.old) (seen mem.old) (WriteEntry table index value) source (rule_of result) (books_in self.new mem.new) (seen mem.new) }
         ensures frames { self.new.frames ≡ self.old.frames }
         ensures form { KeepsForm self.new mem.new }
-        ensures shows { IfOk result (λ it. it ≡ answered (nested_held self.old mem.old) (WriteEntry table index value)) }
+        ensures shows { IfOk result (λ it. it ≡ accepted_answer (nested_held self.old mem.old) (WriteEntry table index value)) }
     {
         held_regions_law();
         held_log_law();
@@ -242,7 +242,7 @@ impl Kernel {
         ensures made { (source : Sourced) → IsMade (books_in self.old mem.old) (seen mem.old) (RemoveTable frame) source (rule_of result) (books_in self.new mem.new) (seen mem.new) }
         ensures frames { self.new.frames ≡ self.old.frames }
         ensures form { KeepsForm self.new mem.new }
-        ensures shows { IfOk result (λ it. it ≡ answered (nested_held self.old mem.old) (RemoveTable frame)) }
+        ensures shows { IfOk result (λ it. it ≡ accepted_answer (nested_held self.old mem.old) (RemoveTable frame)) }
     {
         accepted_law();
         held_regions_law();
@@ -258,7 +258,7 @@ impl Kernel {
         ensures made { (source : Sourced) → IsMade (books_in self.old mem.old) (seen mem.old) (LoadRoot frame) source (rule_of result) (books_in self.new mem.new) (seen mem.new) }
         ensures frames { self.new.frames ≡ self.old.frames }
         ensures form { KeepsForm self.new mem.new }
-        ensures shows { IfOk result (λ it. it ≡ answered (nested_held self.old mem.old) (LoadRoot frame)) }
+        ensures shows { IfOk result (λ it. it ≡ accepted_answer (nested_held self.old mem.old) (LoadRoot frame)) }
     {
         let _frames = mem.frames();
         match self.tables.load_root(mem, frame) {
@@ -280,7 +280,7 @@ impl Kernel {
         ensures made { (source : Sourced) → IsMade (books_in self.old mem.old) (seen mem.old) (DeclarePages address size policy) source (rule_of result) (books_in self.new mem.new) (seen mem.new) }
         ensures frames { self.new.frames ≡ self.old.frames }
         ensures form { KeepsForm self.new mem.new }
-        ensures shows { IfOk result (λ it. it ≡ answered (nested_held self.old mem.old) (DeclarePages address size policy)) }
+        ensures shows { IfOk result (λ it. it ≡ accepted_answer (nested_held self.old mem.old) (DeclarePages address size policy)) }
     {
         page_tables_law();
         held_tables_law();
@@ -312,7 +312,7 @@ impl Kernel {
         ensures made { (source : Sourced) → IsMade (books_in self.old mem.old) (seen mem.old) (Allocate size policy) source (rule_of result) (books_in self.new mem.new) (seen mem.new) }
         ensures frames { self.new.frames ≡ self.old.frames }
         ensures form { KeepsForm self.new mem.new }
-        ensures shows { IfOk result (λ it. it ≡ answered (nested_held self.old mem.old) (Allocate size policy)) }
+        ensures shows { IfOk result (λ it. it ≡ accepted_answer (nested_held self.old mem.old) (Allocate size policy)) }
     {
         page_tables_law();
         stored_law();
@@ -333,7 +333,7 @@ impl Kernel {
         ensures made { (source : Sourced) → IsMade (books_in self.old mem.old) (seen mem.old) (Free region) source (rule_of result) (books_in self.new mem.new) (seen mem.new) }
         ensures frames { self.new.frames ≡ self.old.frames }
         ensures form { KeepsForm self.new mem.new }
-        ensures shows { IfOk result (λ it. it ≡ answered (nested_held self.old mem.old) (Free region)) }
+        ensures shows { IfOk result (λ it. it ≡ accepted_answer (nested_held self.old mem.old) (Free region)) }
     {
         stored_law();
         held_regions_law();
@@ -358,7 +358,7 @@ impl Kernel {
         ensures made { (place : ℕ) → IsMade (books_in self.old mem.old) (seen mem.old) (Write region offset place count) (sourced_of source.entry) (rule_of result) (books_in self.new mem.new) (seen mem.new) }
         ensures frames { self.new.frames ≡ self.old.frames }
         ensures form { KeepsForm self.new mem.new }
-        ensures shows { IfOk result (λ it. it ≡ answered (nested_held self.old mem.old) (Write region offset 0 count)) }
+        ensures shows { IfOk result (λ it. it ≡ accepted_answer (nested_held self.old mem.old) (Write region offset 0 count)) }
     {
         match source {
             // The range isn't one of a live region, or its region isn't: no bytes were read.
@@ -393,7 +393,7 @@ impl Kernel {
         ensures made { (place : ℕ) → IsMade (books_in self.old mem.old) (seen mem.old) (Write region offset place (length bytes.now)) (Bytes bytes.now) (rule_of result) (books_in self.new mem.new) (seen mem.new) }
         ensures frames { self.new.frames ≡ self.old.frames }
         ensures form { KeepsForm self.new mem.new }
-        ensures shows { IfOk result (λ it. it ≡ answered (nested_held self.old mem.old) (Write region offset 0 (length bytes.now))) }
+        ensures shows { IfOk result (λ it. it ≡ accepted_answer (nested_held self.old mem.old) (Write region offset 0 (length bytes.now))) }
     {
         page_tables_law();
         held_tables_law();
@@ -409,7 +409,7 @@ impl Kernel {
     fn refuse(&self, mem: &PhysMem) -> Result<Answer, Rule>
         requires books { HoldsBooks self.now mem.now }
         ensures made { (source : Sourced) → IsMade (books_in self.now mem.now) (seen mem.now) NoCall source (rule_of result) (books_in self.now mem.now) (seen mem.now) }
-        ensures shows { IfOk result (λ it. it ≡ answered (nested_held self.now mem.now) NoCall) }
+        ensures shows { IfOk result (λ it. it ≡ accepted_answer (nested_held self.now mem.now) NoCall) }
     {
         let _root = self.tables.root;
         let _frames = mem.frames();

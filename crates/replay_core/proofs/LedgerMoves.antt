@@ -10,7 +10,7 @@ use Rattle.region_book.specs.RegionRecords.{Region, region_of}
 use Rattle.policy_book.specs.PolicyRules.{book_by, bounds_of, first_rule, log_by, policy_of}
 use Rattle.nk_body.specs.declared.call.Call.{Call}
 use Rattle.nk_body.specs.declared.call.Call.TheVariants.{Allocate, DeclarePages, Free, Write}
-use Rattle.nk_body.specs.CallRules.{Bytes, NotTaken, Sourced, Unreadable, after_call, answer_by, answer_to, answered, bytes_read, frames_of_pages, made, made_unless, source_rule, verdict, wants, with_pages, with_pool}
+use Rattle.nk_body.specs.CallRules.{Bytes, NotTaken, Sourced, Unreadable, accepted_answer, after_call, answer_by, answer_to, bytes_read, frames_of_pages, made, made_unless, source_rule, verdict, wants, with_pages, with_pool}
 use Rattle.nk_body.specs.NestedRecord.{Ledger, Nested}
 use Rattle.replay_core.specs.ReplayedCalls.{is_given}
 
@@ -35,7 +35,7 @@ first_none (Some rule) later is = let no : Some rule ≡ None = is in cc
 
 module _ (P : Ledger → Type 0) (nk : Nested) (source : Sourced) (stand : ℕ → ℕ → ℕ) where
   abbrev Kept : Call → Type 0
-  Kept call = IsKeptBy P nk.ledger call (answered nk call).value
+  Kept call = IsKeptBy P nk.ledger call (accepted_answer nk call).value
 
   pages_kept : (address size policy : ℕ) → Kept (DeclarePages address size policy) → (fs : Option (List ℕ))
       → P (with_pages nk address size policy stand fs).ledger
