@@ -16,7 +16,7 @@ ghost use Rattle.text_lines.specs.TextLines.{words};
 
 use crate::fault::ReplayFault;
 use crate::heard::{ReadCall, ReadLine, hear};
-use crate::source::{source, take};
+use crate::source::{is_taken, source};
 use nk_bits::Answer;
 use nk_body::{Kernel, Source, call_leaves_law};
 use phys_mem::{PhysMem, mask_law};
@@ -88,9 +88,10 @@ fn follow_call(kernel: &mut Kernel, mem: &mut PhysMem, buffer: &mut [u8], noted:
     ensures room { length buffer.new ≡ length buffer.old }
 {
     let wanted = kernel.wants(mem, &noted.call);
-    match take(buffer, wanted, noted.source) {
-        Some(taken) => make(kernel, mem, noted, source(buffer, taken)),
-        None => Step::Stops,
+    if is_taken(buffer, wanted, noted.source) {
+        make(kernel, mem, noted, source(buffer, wanted, noted.source))
+    } else {
+        Step::Stops
     }
 }
 

@@ -4,8 +4,8 @@ use Rattle.nk_body.specs.NestedRecord.{books_in}
 use Rattle.replay_core.proofs.WantedBytes.{wants_most}
 use Rattle.replay_core.proofs.calls.follow_call.Goals as goal
 
-pub take-requires : goal.take-requires
-take-requires c = record {
+pub is_taken-requires : goal.is_taken-requires
+is_taken-requires c = record {
   room = subst (λ (wanted : Option ℕ). IfSome wanted (λ count. count ≤ length c.args.buffer.now))
       (sym c.wants-wanted.ensures)
       (wants_most (books_in c.args.kernel.now c.args.mem.now).ledger.book (call_of c.args.noted.now.call)
