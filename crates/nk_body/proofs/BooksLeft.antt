@@ -25,6 +25,11 @@ err_as (Ok a) (Err e) same p = absurd (false≢true (ap is_some (sym same)))
 err_as (Err d) (Ok b) same p = tt
 err_as (Err d) (Err e) same p = p
 
+-- and of any result
+pub err_on : {A B : Type 0} {P : Type 0} (r : Result A B) → P → OnErr r P
+err_on (Ok a) p = tt
+err_on (Err b) p = p
+
 -- what is said where a call breaks a rule
 pub none_on : {P : Type 0} (verdict : Option Rule) → None ≡ verdict → OnSome verdict P
 none_on None is = tt
