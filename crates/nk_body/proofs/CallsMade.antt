@@ -41,6 +41,12 @@ pub made_as : (m : List ℕ) {seen later : List ℕ} {call : Call} {source : Sou
 made_as m {seen = seen} {later = later} {call = call} {source = source} {after = after} before own one two view same is =
     subst (λ (it : OwnState × Option Rule). IsMade (books_in it.0 m) seen call source it.1 after later) (λ i. (view i, sym same i)) is
 
+-- the call by another name
+pub call_made : {books after : Books} {m later : List ℕ} {source : Sourced} {rule : Option Rule} {call other : Call} → call ≡ other
+    → IsMade books m other source rule after later → IsMade books m call source rule after later
+call_made {books = books} {after = after} {m = m} {later = later} {source = source} {rule = rule} same is =
+    subst (λ (it : Call). IsMade books m it source rule after later) (sym same) is
+
 -- regions and log by what they were
 pub with_ledger : {seen later : List ℕ} {call : Call} {source : Sourced} {rule : Option Rule} {before : Books} (d : Descriptors) (root trap : ℕ)
     {book one : Book} {log two : List LogRecord} → one ≡ book → two ≡ log

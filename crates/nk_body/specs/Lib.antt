@@ -2,6 +2,7 @@
 pub mod NestedRecord
 pub mod Calls
 pub mod CallRules
+pub mod BooksTouched
 pub mod CallLeft
 pub mod KindsKept
 pub mod SourceWords

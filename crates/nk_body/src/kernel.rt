@@ -1,6 +1,6 @@
 //! The nested kernel's books, and the calls on them.
 
-ghost use Rattle.std.specs.Prelude.{◌≡◌, ◌<◌, ◌^◌, ℕ, false, length, IfOk, OnOk, Some};
+ghost use Rattle.std.specs.Prelude.{◌≡◌, ◌<◌, ◌^◌, ℕ, false, length, IfOk, OnErr, OnOk, OnSome, Some};
 ghost use Rattle.phys_mem.specs.MaskedMemory.{seen};
 ghost use Rattle.phys_mem.specs.Memory.{entry_in};
 ghost use Rattle.boot_map.specs.Division.{IsLayout};
@@ -14,8 +14,9 @@ ghost use Rattle.policy_book.specs.PolicyRules.{bounds_of};
 ghost use Rattle.region_book.specs.RegionCalls.{fits_in};
 ghost use Rattle.region_book.specs.RegionRecords.{region_of};
 ghost use Rattle.nk_body.specs.NestedRecord.{HoldsBooks, books_in, handler_in, nested_held};
+ghost use Rattle.nk_body.specs.BooksTouched.{LeavesBooks};
 ghost use Rattle.nk_body.specs.CallMade.{IsMade, KeepsForm};
-ghost use Rattle.nk_body.specs.CallRules.{Bytes, IsSourceOf, Sourced, accepted_answer, after_call, answer_to, memory_after_call, stand_of, wants};
+ghost use Rattle.nk_body.specs.CallRules.{Bytes, IsSourceOf, Sourced, accepted_answer, after_call, answer_to, memory_after_call, stand_of, verdict, wants};
 ghost use Rattle.nk_body.specs.Calls.{call_of};
 ghost use Rattle.nk_body.specs.declared.call.Call.TheVariants.{Allocate, DeclarePages, DeclareTable, Free, LoadRoot, NoCall, RemoveTable, SetHandler, Write, WriteEntry};
 ghost use Rattle.nk_body.specs.SourceWords.{opening_ledger, sourced_of};
@@ -132,6 +133,9 @@ impl Kernel {
             (stand_of (nested_held self.old mem.old) (call_of call.now) (seen mem.old)) }
         ensures memory { seen mem.new ≡ memory_after_call (nested_held self.old mem.old) (call_of call.now) (sourced_of source.entry) (seen mem.old) }
         ensures books { HoldsBooks self.new mem.new }
+        ensures refused { OnSome (verdict (nested_held self.old mem.old) (call_of call.now) (sourced_of source.entry))
+            ((self.new ≡ self.old) × (mem.new ≡ mem.old)) }
+        ensures leaves { LeavesBooks (books_in self.old mem.old).ledger.book (call_of call.now) mem.old mem.new }
     {
         call_law();
         call_leaves_law();
@@ -150,6 +154,8 @@ impl Kernel {
         ensures made { IsMade (books_in self.old mem.old) (seen mem.old) call (sourced_of source.entry) (rule_of result) (books_in self.new mem.new) (seen mem.new) }
         ensures frames { self.new.frames ≡ self.old.frames }
         ensures form { KeepsForm self.new mem.new }
+        ensures refused { OnErr result ((self.new ≡ self.old) × (mem.new ≡ mem.old)) }
+        ensures leaves { LeavesBooks (books_in self.old mem.old).ledger.book call mem.old mem.new }
         ensures shows { IfOk result (λ it. it ≡ accepted_answer (nested_held self.old mem.old) call) }
     {
         match call {
@@ -185,6 +191,8 @@ impl Kernel {
         ensures made { (source : Sourced) → IsMade (books_in self.old mem.old) (seen mem.old) (SetHandler address) source (rule_of result) (books_in self.new mem.new) (seen mem.new) }
         ensures frames { self.new.frames ≡ self.old.frames }
         ensures form { KeepsForm self.new mem.new }
+        ensures refused { OnErr result ((self.new ≡ self.old) × (mem.new ≡ mem.old)) }
+        ensures leaves { LeavesBooks (books_in self.old mem.old).ledger.book (SetHandler address) mem.old mem.new }
         ensures shows { IfOk result (λ it. it ≡ accepted_answer (nested_held self.old mem.old) (SetHandler address)) }
     {
         page_tables_law();
@@ -205,6 +213,8 @@ impl Kernel {
         ensures made { (source : Sourced) → IsMade (books_in self.old mem.old) (seen mem.old) (DeclareTable level frame) source (rule_of result) (books_in self.new mem.new) (seen mem.new) }
         ensures frames { self.new.frames ≡ self.old.frames }
         ensures form { KeepsForm self.new mem.new }
+        ensures refused { OnErr result ((self.new ≡ self.old) × (mem.new ≡ mem.old)) }
+        ensures leaves { LeavesBooks (books_in self.old mem.old).ledger.book (DeclareTable level frame) mem.old mem.new }
         ensures shows { IfOk result (λ it. it ≡ accepted_answer (nested_held self.old mem.old) (DeclareTable level frame)) }
     {
         accepted_law();
@@ -227,6 +237,8 @@ impl Kernel {
         ensures made { (source : Sourced) → IsMade (books_in self.old mem.old) (seen mem.old) (WriteEntry table index value) source (rule_of result) (books_in self.new mem.new) (seen mem.new) }
         ensures frames { self.new.frames ≡ self.old.frames }
         ensures form { KeepsForm self.new mem.new }
+        ensures refused { OnErr result ((self.new ≡ self.old) × (mem.new ≡ mem.old)) }
+        ensures leaves { LeavesBooks (books_in self.old mem.old).ledger.book (WriteEntry table index value) mem.old mem.new }
         ensures shows { IfOk result (λ it. it ≡ accepted_answer (nested_held self.old mem.old) (WriteEntry table index value)) }
     {
         held_regions_law();
@@ -242,6 +254,8 @@ impl Kernel {
         ensures made { (source : Sourced) → IsMade (books_in self.old mem.old) (seen mem.old) (RemoveTable frame) source (rule_of result) (books_in self.new mem.new) (seen mem.new) }
         ensures frames { self.new.frames ≡ self.old.frames }
         ensures form { KeepsForm self.new mem.new }
+        ensures refused { OnErr result ((self.new ≡ self.old) × (mem.new ≡ mem.old)) }
+        ensures leaves { LeavesBooks (books_in self.old mem.old).ledger.book (RemoveTable frame) mem.old mem.new }
         ensures shows { IfOk result (λ it. it ≡ accepted_answer (nested_held self.old mem.old) (RemoveTable frame)) }
     {
         accepted_law();
@@ -258,6 +272,8 @@ impl Kernel {
         ensures made { (source : Sourced) → IsMade (books_in self.old mem.old) (seen mem.old) (LoadRoot frame) source (rule_of result) (books_in self.new mem.new) (seen mem.new) }
         ensures frames { self.new.frames ≡ self.old.frames }
         ensures form { KeepsForm self.new mem.new }
+        ensures refused { OnErr result ((self.new ≡ self.old) × (mem.new ≡ mem.old)) }
+        ensures leaves { LeavesBooks (books_in self.old mem.old).ledger.book (LoadRoot frame) mem.old mem.new }
         ensures shows { IfOk result (λ it. it ≡ accepted_answer (nested_held self.old mem.old) (LoadRoot frame)) }
     {
         let _frames = mem.frames();
@@ -280,6 +296,8 @@ impl Kernel {
         ensures made { (source : Sourced) → IsMade (books_in self.old mem.old) (seen mem.old) (DeclarePages address size policy) source (rule_of result) (books_in self.new mem.new) (seen mem.new) }
         ensures frames { self.new.frames ≡ self.old.frames }
         ensures form { KeepsForm self.new mem.new }
+        ensures refused { OnErr result ((self.new ≡ self.old) × (mem.new ≡ mem.old)) }
+        ensures leaves { LeavesBooks (books_in self.old mem.old).ledger.book (DeclarePages address size policy) mem.old mem.new }
         ensures shows { IfOk result (λ it. it ≡ accepted_answer (nested_held self.old mem.old) (DeclarePages address size policy)) }
     {
         page_tables_law();
@@ -312,6 +330,8 @@ impl Kernel {
         ensures made { (source : Sourced) → IsMade (books_in self.old mem.old) (seen mem.old) (Allocate size policy) source (rule_of result) (books_in self.new mem.new) (seen mem.new) }
         ensures frames { self.new.frames ≡ self.old.frames }
         ensures form { KeepsForm self.new mem.new }
+        ensures refused { OnErr result ((self.new ≡ self.old) × (mem.new ≡ mem.old)) }
+        ensures leaves { LeavesBooks (books_in self.old mem.old).ledger.book (Allocate size policy) mem.old mem.new }
         ensures shows { IfOk result (λ it. it ≡ accepted_answer (nested_held self.old mem.old) (Allocate size policy)) }
     {
         page_tables_law();
@@ -333,6 +353,8 @@ impl Kernel {
         ensures made { (source : Sourced) → IsMade (books_in self.old mem.old) (seen mem.old) (Free region) source (rule_of result) (books_in self.new mem.new) (seen mem.new) }
         ensures frames { self.new.frames ≡ self.old.frames }
         ensures form { KeepsForm self.new mem.new }
+        ensures refused { OnErr result ((self.new ≡ self.old) × (mem.new ≡ mem.old)) }
+        ensures leaves { LeavesBooks (books_in self.old mem.old).ledger.book (Free region) mem.old mem.new }
         ensures shows { IfOk result (λ it. it ≡ accepted_answer (nested_held self.old mem.old) (Free region)) }
     {
         stored_law();
@@ -358,6 +380,8 @@ impl Kernel {
         ensures made { (place : ℕ) → IsMade (books_in self.old mem.old) (seen mem.old) (Write region offset place count) (sourced_of source.entry) (rule_of result) (books_in self.new mem.new) (seen mem.new) }
         ensures frames { self.new.frames ≡ self.old.frames }
         ensures form { KeepsForm self.new mem.new }
+        ensures refused { OnErr result ((self.new ≡ self.old) × (mem.new ≡ mem.old)) }
+        ensures leaves { (place : ℕ) → LeavesBooks (books_in self.old mem.old).ledger.book (Write region offset place count) mem.old mem.new }
         ensures shows { IfOk result (λ it. it ≡ accepted_answer (nested_held self.old mem.old) (Write region offset 0 count)) }
     {
         match source {
@@ -393,6 +417,8 @@ impl Kernel {
         ensures made { (place : ℕ) → IsMade (books_in self.old mem.old) (seen mem.old) (Write region offset place (length bytes.now)) (Bytes bytes.now) (rule_of result) (books_in self.new mem.new) (seen mem.new) }
         ensures frames { self.new.frames ≡ self.old.frames }
         ensures form { KeepsForm self.new mem.new }
+        ensures refused { OnErr result ((self.new ≡ self.old) × (mem.new ≡ mem.old)) }
+        ensures leaves { (place : ℕ) → LeavesBooks (books_in self.old mem.old).ledger.book (Write region offset place (length bytes.now)) mem.old mem.new }
         ensures shows { IfOk result (λ it. it ≡ accepted_answer (nested_held self.old mem.old) (Write region offset 0 (length bytes.now))) }
     {
         page_tables_law();
