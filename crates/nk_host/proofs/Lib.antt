@@ -3,3 +3,4 @@ pub mod MovedOut
 pub mod Places
 pub mod InReads
 pub mod RefutedShelves
+mod RefutedCounts
