@@ -1,6 +1,6 @@
--- The gates of the interrupt descriptor table, vector by vector: SDM volume 3, 6.14.1. A handler may be called by INT at CPL 3
--- where the gate's level, bits 5 and 6 of its type byte, is 3.
-use Rattle.std.proofs.Common.{◌≡◌, ◌+◌, ◌*◌, ◌/◌, ◌%◌, ◌^◌, ◌==◌, ℕ, List, [], ◌∷◌, filter, refl}
+-- The gates of the interrupt descriptor table, vector by vector: SDM volume 3, 6.14.1. INT at CPL 3 may name a vector
+-- where the level of its gate, bits 5 and 6 of the type byte, is 3.
+use Rattle.std.proofs.Common.{◌≡◌, ◌+◌, ◌*◌, ◌/◌, ◌%◌, ◌^◌, ◌==◌, ◌&&◌, ℕ, List, [], ◌∷◌, filter, refl}
 use Rattle.std.specs.Prelude.{not}
 use Rattle.std.specs.List.{range_with_len}
 use Rattle.boot_map.specs.Opening.{byte_of_number, gate_of, gate_type, idt_and_tss_byte}
@@ -23,7 +23,10 @@ unfolding idt_and_tss_byte gate_of byte_of_number
 closed_to_users = refl
 
 -- each is a present 64-bit interrupt gate: present is bit 7, and the type in the low four bits is 14
-none_else : filter (λ v. not (idt_and_tss_byte (16 * v + 5) % 32 + 32 * (idt_and_tss_byte (16 * v + 5) / 128) == 46)) vectors ≡ []
+abbrev type_in_table : ℕ → ℕ
+type_in_table v = idt_and_tss_byte (16 * v + 5)
+
+none_else : filter (λ v. not (type_in_table v / 128 == 1 && type_in_table v % 32 == 14)) vectors ≡ []
 unfolding idt_and_tss_byte gate_of byte_of_number
 none_else = refl
 

@@ -10,5 +10,7 @@ pub mod NameText
 pub mod PlacedParts
 pub mod PlacingSteps
 mod RefutedJoins
+mod RefutedPages
 mod WorkedLists
+mod WorkedNames
 mod WorkedParts

@@ -12,9 +12,9 @@ use std::alloc::Global;
 /// A fault, its value, and the changes that make it.
 type Fault = (FaultKind, u64, &'static [Change]);
 
-/// The twelve faults of a file that has its first 64 bytes, in the order of the rows of docs/FORMATS.md. No two change the
-/// same place, so each two can stand together. A fault of a segment has a header to itself, of a part of memory that no
-/// other has; the later its row, the lower its header.
+/// The twelve faults of a file that has its first 64 bytes, in the order of the rows of docs/FORMATS.md. No two change
+/// the same place, so each two can stand together. A fault of a segment has a header to itself, of a part of memory that
+/// no other has; the later its row, the lower its header.
 #[rattlefmt::skip]
 static FAULTS: [Fault; 12] = [
     (Magic, 0, &[(0, 1, 0x7E)]),
@@ -35,7 +35,8 @@ static FAULTS: [Fault; 12] = [
     (TooLarge, 8193, &[(120, 4, 1), (124, 4, 6), (136, 8, HOME + 0x10000), (160, 8, 8192 * 4096)]),
 ];
 
-/// Whether the halting file with seven headers, cut to this length after these and then those changes, has this first fault.
+/// Whether the halting file with seven headers, cut to this length after these changes and then those, has this first
+/// fault.
 fn is_told(
     alloc: Global,
     length: usize,
@@ -70,8 +71,8 @@ fn of_two_faults_the_earlier_is_told(rt: HostRuntime) {
     }
 }
 
-/// A file that ends too soon, whatever else is wrong with it: with each fault of its first 63 bytes, and without code at
-/// its entry.
+/// A file that ends too soon, whatever else is wrong with it: with each fault of its first 63 bytes, and without code
+/// at its entry.
 #[test]
 fn of_a_short_file_its_length_is_told(rt: HostRuntime) {
     for (at, (_, _, changes)) in FAULTS.iter().enumerate() {
@@ -79,7 +80,8 @@ fn of_a_short_file_its_length_is_told(rt: HostRuntime) {
     }
 }
 
-/// A file without a fault, and wrong answers: the later of two faults, an earlier one that doesn't stand, and another value.
+/// A file without a fault, and wrong answers: the later of two faults, an earlier one that doesn't stand, and another
+/// value.
 #[test]
 fn wrong_answers_are_found(rt: HostRuntime) {
     let (_, _, shared) = FAULTS[8];

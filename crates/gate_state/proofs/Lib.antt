@@ -81,3 +81,8 @@ mod MaskedSources
 mod MaskedStates
 mod RefutedGuards
 mod RefutedCalls
+mod BuiltCalls
+mod RefutedShutdowns
+mod RefutedStandings
+mod RefutedPlaces
+mod RefutedReturns

@@ -32,3 +32,4 @@ pub mod BesidePages
 pub mod CallsBeside
 pub mod OpeningBeside
 mod RefutedLedgers
+mod RefutedHeldBooks

@@ -4,7 +4,11 @@ use Rattle.nk_host.specs.FaultCounts.{NeverFalls, OnlyAt, Rose, RoseTo, raised}
 use Rattle.nk_host.specs.Told.{IfTold}
 
 -- a count is raised by one, and stays at its type's end
-raised_counts : (raised 0 ≡ 1) × (raised 5 ≡ 6) × (raised (2 ^ 64 - 2) ≡ 2 ^ 64 - 1) × (raised (2 ^ 64 - 1) ≡ 2 ^ 64 - 1)
+raised_counts :
+    (raised 0 ≡ 1) ×
+    (raised 5 ≡ 6) ×
+    (raised (2 ^ 64 - 2) ≡ 2 ^ 64 - 1) ×
+    (raised (2 ^ 64 - 1) ≡ 2 ^ 64 - 1)
 raised_counts = (refl, refl, refl, refl)
 
 -- a count that stayed didn't rise, nor did one that fell, nor one that stays right below its type's end

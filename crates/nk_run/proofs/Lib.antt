@@ -40,3 +40,5 @@ mod WorkedAudits
 mod RefutedPromises
 mod RefutedReplays
 mod RefutedOutcomes
+mod BuiltPremises
+mod RefutedFiles

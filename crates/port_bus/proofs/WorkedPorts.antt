@@ -1,5 +1,5 @@
 -- What each port gives and tells at worked values, and at every port that has no device.
-use Rattle.std.proofs.Common.{◌≡◌, ◌≢◌, ◌==◌, ℕ, List, [], ◌∷◌, None, Some, ne_eqb, refl}
+use Rattle.std.proofs.Common.{◌≡◌, ◌≢◌, ℕ, List, [], ◌∷◌, None, Some, ne_eqb, refl}
 use Rattle.port_bus.specs.PortWords.{console_byte, input_after, port_byte}
 
 -- the console takes a byte at its port
@@ -42,6 +42,10 @@ unfolding port_byte input_after
 left = (refl, refl, refl)
 
 -- any other port gives FF, and leaves the input
-absent : (input : List ℕ) (port : ℕ) → port ≢ 0xEA → port ≢ 0xEB → (port_byte input port ≡ 0xFF) × (input_after input port ≡ input)
+absent : (input : List ℕ) (port : ℕ) → port ≢ 0xEA → port ≢ 0xEB
+    → (port_byte input port ≡ 0xFF) × (input_after input port ≡ input)
 unfolding port_byte input_after
-absent input port other another = (rw (ne_eqb port 0xEA other, ne_eqb port 0xEB another) refl, rw (ne_eqb port 0xEA other) refl)
+absent input port other another = (
+  rw (ne_eqb port 0xEA other, ne_eqb port 0xEB another) refl,
+  rw (ne_eqb port 0xEA other) refl,
+)

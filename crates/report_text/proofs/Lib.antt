@@ -9,6 +9,7 @@ pub mod TakenUp
 pub mod HeldBooks
 pub mod LedgerLines
 mod WorkedLines
+mod WorkedSections
 pub mod CountedLists
 pub mod ToldRecords
 pub mod AuditParts
