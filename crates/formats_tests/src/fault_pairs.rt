@@ -13,8 +13,8 @@ use std::alloc::Global;
 type Fault = (FaultKind, u64, &'static [Change]);
 
 /// The twelve faults of a file that has its first 64 bytes, in the order of the rows of docs/FORMATS.md. No two change
-/// the same place, so each two can stand together. A fault of a segment has a header to itself, of a part of memory that
-/// no other has; the later its row, the lower its header.
+/// the same place, so each two can stand together. A fault of a segment has a header to itself, of a part of memory
+/// that no other has; the later its row, the lower its header.
 #[rattlefmt::skip]
 static FAULTS: [Fault; 12] = [
     (Magic, 0, &[(0, 1, 0x7E)]),

@@ -245,8 +245,8 @@ fn is_found_by_each_size(run: &[u8], found: Option<Found>) -> bool {
     true
 }
 
-/// Whether it is found in so many bytes that are NOPs but for a change, at most two pages of them, and in the image of a
-/// file that loads them as code.
+/// Whether it is found in so many bytes that are NOPs but for a change, at most two pages of them, and in the image of
+/// a file that loads them as code.
 fn is_found_in_text(alloc: Global, length: usize, change: Change, found: Option<Found>) -> bool {
     let (place, size, value) = change;
     if length > 8192 || place >= length {
