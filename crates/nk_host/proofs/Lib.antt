@@ -2,4 +2,5 @@ pub mod Passed
 pub mod MovedOut
 pub mod Places
 pub mod InReads
+pub mod HeldBytes
 pub mod RefutedShelves
