@@ -17,3 +17,4 @@ mod RefutedAudits
 pub mod FaultNames
 pub mod CodeRuns
 pub mod ListedCode
+pub mod ListingProofs
