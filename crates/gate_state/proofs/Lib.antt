@@ -20,6 +20,7 @@ pub mod FetchKnown
 pub mod GateTextPoints
 pub mod FetchListed
 pub mod ListedInstructions
+pub mod PendingOrder
 pub mod FetchEncodings
 pub mod GateTextLoads
 pub mod FetchProtected
