@@ -28,3 +28,4 @@ pub mod AssemblySteps
 mod WorkedTexts
 mod WorkedSpellings
 mod WorkedCodes
+mod RefutedCodes

@@ -21,6 +21,7 @@ pub mod GateTextPoints
 pub mod FetchListed
 pub mod ListedInstructions
 pub mod PendingOrder
+mod RefutedPending
 pub mod FetchEncodings
 pub mod GateTextLoads
 pub mod FetchProtected
