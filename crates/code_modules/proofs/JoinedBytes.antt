@@ -10,7 +10,7 @@ use Rattle.elf_image.specs.Pages.{entry_of}
 use Rattle.elf_image.specs.WrittenHeaders.{Field, byte_in_fields, file_header, number_byte}
 use Rattle.code_modules.specs.JoinAnswers.{joined_file}
 use Rattle.code_modules.specs.JoinedFile.{FilePart, byte_in_parts, data_start, file_of_parts, header_byte, joined_byte, offset_from, part_end, part_header, parts_end, placed_from, placed_parts}
-use Rattle.code_modules.specs.JoinedParts.{CodeModule, JoinedPart, directory_entry, directory_of, directory_part, image_part, joined_parts, module_parts, module_start, modules_behind, whole_pages}
+use Rattle.code_modules.specs.JoinedParts.{CodeModule, JoinedPart, directory_entry, directory_of, directory_part, image_end, image_part, joined_parts, module_parts, module_start, modules_behind, whole_pages}
 
 -- each element is a byte
 abbrev IsOfBytes : List ℕ → Type 0
@@ -134,5 +134,5 @@ joined_bytes b modules image each =
     let parts : List JoinedPart = joined_parts b modules in
     let all : ArePartsOfBytes parts =
     both_parts (map (image_part b) (segments b)) (behind ++ directory_part behind ∷ []) (image_parts b image (segments b))
-    (both_parts behind (directory_part behind ∷ []) (parts_of_modules _ modules each) (of_directory behind, tt)) in
+    (both_parts behind (directory_part behind ∷ []) (parts_of_modules (image_end b) modules each) (of_directory behind, tt)) in
     of_parts (entry_of b) (placed_parts parts) (placed (data_start (length parts)) parts all)

@@ -45,4 +45,5 @@ all_of_bytes held n all each name = at (name_place (named_files held) name) refl
         let within : i < length (named_files held) = place_below (named_files held) name i is in
         let P : Option NamedFile → Type 0 = λ o. IfSome (option_map (λ (file : NamedFile). file.bytes) o) IsFileOfBytes in
         subst P (sym (slice_get-get_or (named_files held) i no_file within))
-        (each i (omega (arith, within, length-map held as_named, all)))
+        (let size : length (named_files held) ≡ length held = length-map held as_named in
+        each i (omega (arith, within, size, all)))

@@ -1,7 +1,7 @@
 -- A listing shows what the bytes of the code decode to, and a text that does is the listing.
-use Rattle.std.proofs.Common.{◌≡◌, ℕ, zero, suc, ◌+◌, ◌-◌, ◌/◌, ◌<◌, ◌≤◌, ◌==◌, Bool, true, false, List, [], ◌∷◌, ◌++◌, length, Option, Some, None, find, inl, inr, refl, sym, ap, subst, ◌∙◌, arith, lit<}
-use Rattle.std.specs.Prelude.{slice_index, if◌then◌else◌, ⊤}
-use Rattle.std.proofs.lemmas.Bool.{cases_Bool, eqb-true}
+use Rattle.std.proofs.Common.{◌≡◌, ℕ, zero, suc, ◌+◌, ◌-◌, ◌/◌, ◌<◌, ◌≤◌, ◌==◌, true, List, [], ◌∷◌, ◌++◌, length, Option, Some, None, find, inl, inr, refl, sym, ap, ◌∙◌, arith, lit<}
+use Rattle.std.specs.Prelude.{IfSome, slice_index}
+use Rattle.std.proofs.lemmas.Bool.{cases_Bool, cond_both}
 use Rattle.std.proofs.lemmas.List.Elements.{All-cons, All-nil}
 use Rattle.elf_image.specs.declared.program_header.ProgramHeader.{ProgramHeader}
 use Rattle.elf_image.specs.Elf.{segments}
@@ -28,35 +28,30 @@ module _ (b : List ℕ) (bytes : (i : ℕ) → slice_index b i < 256) where
   unfolding byte_of
   byte_small va = loaded_byte va (find (λ s. loads s va) (segments b))
 
-  byte_run : (byte : Option ℕ) (behind : List ℕ) → (byte ≡ None ⊎ ((n : ℕ) × (byte ≡ Some n) × (n < 256)))
-      → AreBytes behind → AreBytes (byte_before byte behind)
-  byte_run None behind known rest = All-nil (λ (n : ℕ). n < 256)
-  byte_run (Some n) behind (inl none) rest = absurd (cc)
-  byte_run (Some n) behind (inr (m, is, small)) rest =
-      let same : m ≡ n = cc in
-      All-cons (λ (n : ℕ). n < 256) n behind (subst (λ (x : ℕ). x < 256) same small) rest
+  byte_run : (byte : Option ℕ) (behind : List ℕ) → IfSome byte (λ n. n < 256) → AreBytes behind
+      → AreBytes (byte_before byte behind)
+  byte_run None behind small rest = All-nil (λ (n : ℕ). n < 256)
+  byte_run (Some n) behind small rest = All-cons (λ (n : ℕ). n < 256) n behind small rest
 
-  code_known : (at : ℕ) → (code_at b at ≡ None) ⊎ ((n : ℕ) × (code_at b at ≡ Some n) × (n < 256))
-  code_known at = elim (cases_Bool (is_executable b (at / page_size))) [
-    | inl on ↦
-        inr (byte_of b at, ap (λ (c : Bool). if c then Some (byte_of b at) else None) on, byte_small at)
-    | inr off ↦ inl (ap (λ (c : Bool). if c then Some (byte_of b at) else None) off)
-  ]
+  code_small : (at : ℕ) → IfSome (code_at b at) (λ n. n < 256)
+  code_small at =
+      cond_both (is_executable b (at / page_size)) (Some (byte_of b at)) None (λ (o : Option ℕ). IfSome o (λ n. n < 256))
+      (λ on. byte_small at) (λ off. tt)
 
   run_bytes : (at most : ℕ) → AreBytes (code_run b at most)
   unfolding code_run
   run_bytes at zero = All-nil (λ (n : ℕ). n < 256)
-  run_bytes at (suc most) =
-      byte_run (code_at b at) (code_run b (at + 1) most) (code_known at) (run_bytes (at + 1) most)
+  run_bytes at (suc most) = byte_run (code_at b at) (code_run b (at + 1) most) (code_small at) (run_bytes (at + 1) most)
+
+  byte_few : (byte : Option ℕ) (behind : List ℕ) (most : ℕ) → length behind ≤ most
+      → length (byte_before byte behind) ≤ suc most
+  byte_few None behind most few = omega arith
+  byte_few (Some n) behind most few = omega (arith, few)
 
   run_few : (at most : ℕ) → length (code_run b at most) ≤ most
   unfolding code_run
   run_few at zero = omega arith
-  run_few at (suc most) = few (code_at b at)
-    where
-      few : (byte : Option ℕ) → length (byte_before byte (code_run b (at + 1) most)) ≤ suc most
-      few None = omega arith
-      few (Some n) = omega (arith, run_few (at + 1) most)
+  run_few at (suc most) = byte_few (code_at b at) (code_run b (at + 1) most) most (run_few (at + 1) most)
 
   no_run : (run : List ℕ) → (length run == 0) ≡ true → run ≡ []
   no_run [] none = refl
@@ -74,13 +69,13 @@ module _ (b : List ℕ) (bytes : (i : ℕ) → slice_index b i < 256) where
     listing_right at zero = nothing_listed b at
     listing_right at (suc count) = elim (cases_Bool (length (code_run b at 15) == 0)) [
       | inl none ↦
-          let empty : code_run b at 15 ≡ [] = no_run (code_run b at 15) none in
-          inl (record { none = empty; empty = none_listed b at (suc count) (ap length empty) })
+          let nothing : code_run b at 15 ≡ [] = no_run (code_run b at 15) none in
+          inl (record { none = nothing; empty = none_listed b at (suc count) (ap length nothing) })
       | inr some ↦
           let found : Decoded = decoded_of (code_run b at 15) in
           let stands : 0 < length (code_run b at 15) = some_run (code_run b at 15) some in
           inr (record {
-            some = λ empty. absurd (let size = ap length empty in omega (arith, size, stands));
+            some = λ nothing. let size = ap length nothing in absurd (omega (arith, size, stands));
             found = found;
             decodes = run_decodes at;
             rest = code_listing b (at + found_size found) count;
