@@ -32,7 +32,7 @@ dropped (suc n) [] all = all
 dropped (suc n) (x ∷ bytes) all = dropped n bytes (λ j. all (suc j))
 
 appended : (front back : List ℕ) → IsOfBytes front → IsOfBytes back → IsOfBytes (front ++ back)
-appended [] back first second = second
+appended [] back first second i = second i
 appended (x ∷ front) back first second zero = first 0
 appended (x ∷ front) back first second (suc i) = appended front back (λ j. first (suc j)) second i
 
