@@ -15,6 +15,8 @@ pub mod ToldRecords
 pub mod AuditParts
 pub mod WorkedAudits
 mod RefutedAudits
+mod RefutedListings
 pub mod FaultNames
 pub mod CodeRuns
 pub mod ListedCode
+pub mod ListingProofs
