@@ -33,3 +33,4 @@ pub mod BesidePages
 pub mod CallsBeside
 pub mod OpeningBeside
 mod RefutedLedgers
+mod RefutedHeldBooks

@@ -123,7 +123,7 @@ impl Kernel {
         }
     }
 
-    /// Makes a call, for which these bytes were read.
+    /// Makes a call, for which these bytes were read. One that breaks a rule leaves kernel and memory as they were.
     pub fn serve(&mut self, mem: &mut PhysMem, call: &CallWords, source: Source) -> Answer
         requires books { HoldsBooks self.old mem.old }
         requires source { IsSourceOf (wants (books_in self.old mem.old).ledger.book (call_of call.now)) (sourced_of source) }
