@@ -50,10 +50,7 @@ fn logged_by(words: &CallWords) -> Option<u64>
     ensures { result ≡ logged_by (call_of words.now) }
 {
     match call_of(words) {
-        Call::Allocate {
-            size,
-            policy: WRITE_LOG,
-        } => Some(size),
+        Call::Allocate { size, policy } if policy == WRITE_LOG => Some(size),
         _ => None,
     }
 }
