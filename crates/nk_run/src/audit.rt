@@ -45,7 +45,7 @@ fn logged_size(journal: &[u8], id: u64) -> Option<u64>
     }
 }
 
-/// And of the one that a call gives.
+/// The size of the region that a call gives, where its writes are logged.
 fn logged_by(words: &CallWords) -> Option<u64>
     ensures { result ≡ logged_by (call_of words.now) }
 {
