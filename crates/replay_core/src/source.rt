@@ -33,6 +33,7 @@ fn is_read(buffer: &mut [u8], word: &[u8]) -> bool
 pub(crate) fn is_taken(buffer: &mut [u8], wanted: Option<u64>, word: &[u8]) -> bool
     requires room { IfSome wanted (λ count. count ≤ length buffer.old) }
     ensures size { length buffer.new ≡ length buffer.old }
+    ensures room { IfSome wanted (λ count. count ≤ length buffer.new) }
     ensures taken { source_where result buffer.new wanted word.now ≡ given_source wanted (source_of_word word.now) }
 {
     match wanted {
