@@ -1,5 +1,5 @@
 -- A call doesn't come back where the machine rests: at a concrete state, which stays as it is over any number of steps.
-use Rattle.std.proofs.Common.{◌≡◌, ℕ, zero, suc, ◌+◌, ◌≤◌, true, false, List, [], ◌∷◌, refl, ap, arith}
+use Rattle.std.proofs.Common.{◌≡◌, ℕ, zero, suc, ◌+◌, ◌≤◌, true, false, List, [], refl, ap, arith}
 use Rattle.nk_bits.specs.declared.kind.Kind.{Kind}
 use Rattle.nk_body.specs.NestedRecord.{Ledger}
 use Rattle.gate_state.specs.GateCalls.{ComesLater, IsCalledBack}

@@ -1,5 +1,5 @@
 -- Memories that don't hold regions, and rows that aren't kept, each named by the sentence that it guards.
-use Rattle.std.proofs.Common.{◌≡◌, ◌≢◌, ◌+◌, ◌*◌, ◌/◌, ◌%◌, ◌<◌, ◌≤◌, ◌==◌, ℕ, true, false, if◌then◌else◌, List, take, length, inl, inr, sym, ◌∙◌, arith}
+use Rattle.std.proofs.Common.{◌≡◌, ◌≢◌, ◌+◌, ◌*◌, ◌%◌, ◌<◌, ◌≤◌, ◌==◌, ℕ, true, false, if◌then◌else◌, List, take, length, inl, inr, sym, ◌∙◌, arith}
 use Rattle.std.specs.Prelude.{All, AllPairs, Some, map, slice_get}
 use Rattle.std.specs.List.{list_any, sum_by}
 use Rattle.std.proofs.lemmas.Bool.{false≢true}
