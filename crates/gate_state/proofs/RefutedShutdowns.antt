@@ -1,6 +1,6 @@
 -- States that aren't safe, since their turn shuts the machine down, and in which a vector can't be delivered, at
 -- concrete values.
-use Rattle.std.proofs.Common.{◌≡◌, ◌<◌, ℕ, false, List, [], ◌∷◌, Err, refl, sym, ◌∙◌, arith}
+use Rattle.std.proofs.Common.{◌≡◌, ◌<◌, ℕ, false, List, [], Err, refl, sym, ◌∙◌, arith}
 use Rattle.std.specs.Prelude.{Option}
 use Rattle.std.specs.Int.Count.{count_leading_zeros}
 use Rattle.nk_bits.specs.declared.kind.Kind.{Kind}
