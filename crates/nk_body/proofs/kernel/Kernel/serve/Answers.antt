@@ -29,7 +29,7 @@ returns-in-Err-clause-books c =
     c.requires.books c.requires.source c.are_words.ensures.0 c.are_words.ensures.1 c.in-Err.ensures.made c.make.ensures.frames c.make.ensures.form
 
 pub returns-in-Ok-clause-refused : goal.returns-in-Ok-clause-refused
-returns-in-Ok-clause-refused c = none_on _ c.in-Ok.ensures.made.judged
+returns-in-Ok-clause-refused c = none_on _ _ c.in-Ok.ensures.made.judged
 
 pub returns-in-Err-clause-refused : goal.returns-in-Err-clause-refused
 returns-in-Err-clause-refused c = some_on c.in-Err.rule _ c.in-Err.ensures.made.judged c.in-Err.ensures.refused
