@@ -1,6 +1,6 @@
 -- Files whose pages aren't those of image, modules and directory together, or have other rights, each named by the
 -- sentence that it guards: a page too many, a page too few, a right too many, a right too few.
-use Rattle.std.proofs.Common.{◌≡◌, ◌≢◌, ◌/◌, ◌==◌, ℕ, true, false, ◌||◌, List, ne_eqb, refl, sym, ◌∙◌}
+use Rattle.std.proofs.Common.{◌≡◌, ◌≢◌, ◌/◌, ◌==◌, ℕ, true, false, List, ne_eqb, refl, sym, ◌∙◌}
 use Rattle.std.proofs.lemmas.Bool.{false≢true, or_from, or_left, or_right}
 use Rattle.elf_image.specs.Pages.{is_executable, is_page, is_writable}
 use Rattle.code_modules.specs.JoinedImage.{IsLoadedWith, is_page_in}

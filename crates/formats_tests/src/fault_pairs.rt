@@ -76,7 +76,10 @@ fn of_two_faults_the_earlier_is_told(rt: HostRuntime) {
 #[test]
 fn of_a_short_file_its_length_is_told(rt: HostRuntime) {
     for (at, (_, _, changes)) in FAULTS.iter().enumerate() {
-        assert!(rt; is_told(rt.alloc(), 63, &[], changes, Some((Short, 63))), "fault {at}");
+        assert!(rt;
+            is_told(rt.alloc(), 63, &[], changes, Some((Short, 63))),
+            "fault {at}"
+        );
     }
 }
 

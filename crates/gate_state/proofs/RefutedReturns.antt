@@ -1,5 +1,5 @@
 -- A call doesn't come back where the machine rests: at a concrete state, which stays as it is over any number of steps.
-use Rattle.std.proofs.Common.{◌≡◌, ℕ, zero, suc, ◌+◌, true, false, List, [], ◌∷◌, refl, ap, arith}
+use Rattle.std.proofs.Common.{◌≡◌, ℕ, zero, suc, ◌+◌, ◌≤◌, true, false, List, [], refl, ap, arith}
 use Rattle.nk_bits.specs.declared.kind.Kind.{Kind}
 use Rattle.nk_body.specs.NestedRecord.{Ledger}
 use Rattle.gate_state.specs.GateCalls.{ComesLater, IsCalledBack}
@@ -34,7 +34,7 @@ module _ (general m : List ℕ) (kinds : List Kind) (ledger : Ledger) (turns : �
 
   no_turns_later : (n : ℕ) → ComesLater [] resting (n + 1) → ⊥
   no_turns_later n it =
-      let there = it.there in
+      let there : (state [] resting it.steps).turns ≡ turns + (n + 1) = it.there in
       let stays : (state [] resting it.steps).turns ≡ turns = ap (λ (s : MachineState). s.turns) (rests_on it.steps) in
       omega (arith, there, stays)
 
@@ -46,4 +46,4 @@ module _ (general m : List ℕ) (kinds : List Kind) (ledger : Ledger) (turns : �
 
 -- fourteen turns later is behind fourteen steps and one for each event: without a plan no step more will do
 late_return : (s : MachineState) (it : ComesLater [] s 14) → it.steps ≡ 15 → ⊥
-late_return s it is = let few = it.few in omega (arith, is, few)
+late_return s it is = let few : it.steps ≤ 14 = it.few in omega (arith, is, few)

@@ -1,10 +1,10 @@
 -- States that aren't safe, since their turn shuts the machine down, and in which a vector can't be delivered, at
 -- concrete values.
-use Rattle.std.proofs.Common.{◌≡◌, ◌<◌, ℕ, true, false, List, [], ◌∷◌, Err, refl, sym, ◌∙◌, arith}
+use Rattle.std.proofs.Common.{◌≡◌, ◌<◌, ℕ, false, List, [], Err, refl, sym, ◌∙◌, arith}
 use Rattle.std.specs.Prelude.{Option}
 use Rattle.std.specs.Int.Count.{count_leading_zeros}
 use Rattle.nk_bits.specs.declared.kind.Kind.{Kind}
-use Rattle.trap_unit.specs.TrapDelivery.{delivered, entry_found, passes_limit, shut}
+use Rattle.trap_unit.specs.TrapDelivery.{delivered, entry_found, shut}
 use Rattle.cpu_step.specs.declared.stepped.Stepped.TheVariants as stepped
 use Rattle.cpu_step.specs.Processor.{Processor}
 use Rattle.cpu_step.specs.Turns.{trapped, turned}
@@ -60,28 +60,26 @@ module _ (o : Opening) (general m : List ℕ) (kinds : List Kind) (ledger : Ledg
   shutdown_in_the_gates safe =
       safe.runs (record { no_body = refl; runs = refl }) (gate_32_is_past_the_limit general m 3 0x80000001)
 
--- a vector whose gate passes the limit shuts the machine down, with an error code or without
-past_the_limit : (p : Processor) (vector : ℕ) (code : Option ℕ) (m : List ℕ) → passes_limit p.tables vector ≡ true
-    → (delivered p.regs p.control p.tables vector code m p.tlb).answer ≡ Err shut
-unfolding delivered entry_found
-past_the_limit p vector code m past = rw past refl
-
+-- a state in which some vector below 48 shuts the machine down isn't one in which each can be delivered
 undelivered : (s : MachineState) (vector : ℕ) (code : Option ℕ) → vector < 48
-    → passes_limit s.processor.tables vector ≡ true → DeliversAny s → ⊥
-undelivered s vector code below past all =
-    let made = sym (past_the_limit s.processor vector code s.memory past) ∙ all vector code below in cc
+    → (delivered s.processor.regs s.processor.control s.processor.tables vector code s.memory s.processor.tlb).answer
+    ≡ Err shut → DeliversAny s → ⊥
+undelivered s vector code below shuts all = let made = sym shuts ∙ all vector code below in cc
 
--- so a state in which the first vector, the page fault's, or the last one has no gate isn't one in which each can be
--- delivered, though each vector below it has one, and whether or not there is a code
+-- so it is where the gate of the first vector, of the page fault, or of the last vector ends one byte past the limit, though
+-- each gate below it lies within it, and whether or not there is an error code
 module _ (general m : List ℕ) (kinds : List Kind) (ledger : Ledger) (turns taken : ℕ) (code : Option ℕ) where
   abbrev limited : ℕ → MachineState
   limited limit = with_memory (waiting general 0 0x80010001 limit) m kinds ledger turns taken
 
   undelivered_first : DeliversAny (limited 14) → ⊥
+  unfolding delivered entry_found
   undelivered_first = undelivered (limited 14) 0 code (omega arith) refl
 
   undelivered_page_fault : DeliversAny (limited 238) → ⊥
+  unfolding delivered entry_found
   undelivered_page_fault = undelivered (limited 238) 14 code (omega arith) refl
 
   undelivered_last : DeliversAny (limited 766) → ⊥
+  unfolding delivered entry_found
   undelivered_last = undelivered (limited 766) 47 code (omega arith) refl

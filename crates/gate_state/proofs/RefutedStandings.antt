@@ -1,5 +1,5 @@
 -- Machines that don't stand as they say, and kinds that no calls make, each at concrete values.
-use Rattle.std.proofs.Common.{◌≡◌, ◌≢◌, ℕ, true, false, List, [], ◌∷◌, refl, ap, sym, subst, ◌∙◌, arith}
+use Rattle.std.proofs.Common.{◌≡◌, ◌≢◌, ◌+◌, ◌<◌, ℕ, true, false, List, [], ◌∷◌, refl, ap, sym, subst, ◌∙◌, arith}
 use Rattle.std.proofs.lemmas.Bool.{false≢true}
 use Rattle.nk_bits.specs.declared.kind.Kind.{Kind}
 use Rattle.nk_bits.specs.declared.kind.Kind.TheVariants.{Code, Data, Fixed, Guarded, Hidden, Table, Trap}
@@ -41,10 +41,10 @@ module _ (IsPlace : Processor → Type 0) (m : List ℕ) (ks : List Kind) (ledge
   state_of p = record { processor = p; memory = m; kinds = ks; ledger = ledger; turns = turns; taken = taken }
 
   of_no_image : (s : MachineState) → IsStanding IsPlace (record { image = 256 ∷ []; frames = 512 }) s → ⊥
-  of_no_image s it = let small = it.admitted.bytes 0 in omega (arith, small)
+  of_no_image s it = let small : 256 < 256 = it.admitted.bytes 0 in omega (arith, small)
 
   without_smep : (o : Opening) → IsStanding IsPlace o (state_of (standing 0xFFFFFFFF80000000 0x80010001 0x20)) → ⊥
-  without_smep o it = let kept = it.guarded.control.cr4 in omega (arith, kept)
+  without_smep o it = let kept : 0x20 ≡ 0x100020 = it.guarded.control.cr4 in omega (arith, kept)
 
   elsewhere : (o : Opening) (s : MachineState) → (IsPlace s.processor → ⊥) → IsStanding IsPlace o s → ⊥
   elsewhere o s none it = none it.place
@@ -60,12 +60,14 @@ unfolding wp_of
 gates_with_wp_set cr4 rip it = false≢true (sym it.clear)
 
 gates_at_the_body : (cr4 : ℕ) → IsInGates (standing 0xFFFFFF800000101B 0x80000001 cr4) → ⊥
-gates_at_the_body cr4 it = let stands = it.point.rip in it.elsewhere (omega (arith, stands))
+gates_at_the_body cr4 it =
+    let stands : 0xFFFFFF800000101B ≡ 0xFFFFFF8000001000 + it.offset = it.point.rip in
+    it.elsewhere (omega (arith, stands))
 
 gates_at_no_point : (cr4 : ℕ) → IsInGates (standing 0xFFFFFF800000100D 0x80000001 cr4) → ⊥
 unfolding is_point
 gates_at_no_point cr4 it =
-    let stands = it.point.rip in
+    let stands : 0xFFFFFF800000100D ≡ 0xFFFFFF8000001000 + it.offset = it.point.rip in
     let at : it.offset ≡ 13 = omega (arith, stands) in
     false≢true (subst (λ (n : ℕ). is_point n ≡ true) at it.point.point)
 
@@ -75,7 +77,8 @@ unfolding wp_of
 body_with_wp_set cr4 it = false≢true (sym it.clear)
 
 body_elsewhere : (cr4 : ℕ) → IsAtBody (standing 0xFFFFFF800000101D 0x80000001 cr4) → ⊥
-body_elsewhere cr4 it = let stands = it.point.rip in omega (arith, stands)
+body_elsewhere cr4 it =
+    let stands : 0xFFFFFF800000101D ≡ 0xFFFFFF800000101B = it.point.rip in omega (arith, stands)
 
 -- each of the three machines is refused where its processor stands so
 outer_machine : (held : HeldState) (cr4 rip : ℕ) → held.state.processor ≡ standing rip 0x80000001 cr4

@@ -2,6 +2,5 @@
 #![tactic(auto)]
 
 pub mod refuted_laws;
-
 #[cfg(test)]
 mod tests;

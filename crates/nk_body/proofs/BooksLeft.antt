@@ -20,11 +20,11 @@ use Rattle.nk_body.proofs.HeldBooks.{book_place}
 use Rattle.nk_body.proofs.RegionsHeld.{frames_are}
 
 -- what is said of a result that names a rule, of another one that names the same
-pub err_as : {A B : Type 0} {P : Type 0} (r : Result A Rule) (s : Result B Rule) → rule_of s ≡ rule_of r → OnErr r P → OnErr s P
-err_as (Ok a) (Ok b) same p = tt
-err_as (Ok a) (Err e) same p = absurd (false≢true (ap is_some (sym same)))
-err_as (Err d) (Ok b) same p = tt
-err_as (Err d) (Err e) same p = p
+pub err_as : {A B : Type 0} (P : Type 0) (r : Result A Rule) (s : Result B Rule) → rule_of s ≡ rule_of r → OnErr r P → OnErr s P
+err_as P (Ok a) (Ok b) same p = tt
+err_as P (Ok a) (Err e) same p = absurd (false≢true (ap is_some (sym same)))
+err_as P (Err d) (Ok b) same p = tt
+err_as P (Err d) (Err e) same p = p
 
 -- and of any result
 pub err_on : {A B : Type 0} {P : Type 0} (r : Result A B) → P → OnErr r P
@@ -32,9 +32,9 @@ err_on (Ok a) p = tt
 err_on (Err b) p = p
 
 -- what is said where a call breaks a rule
-pub none_on : {P : Type 0} (verdict : Option Rule) → None ≡ verdict → OnSome verdict P
-none_on None is = tt
-none_on (Some e) is = absurd (false≢true (ap is_some is))
+pub none_on : (P : Type 0) (verdict : Option Rule) → None ≡ verdict → OnSome verdict P
+none_on P None is = tt
+none_on P (Some e) is = absurd (false≢true (ap is_some is))
 
 pub some_on : {P : Type 0} (rule : Rule) (verdict : Option Rule) → Some rule ≡ verdict → P → OnSome verdict P
 some_on rule None is p = tt

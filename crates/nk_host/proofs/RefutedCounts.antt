@@ -1,5 +1,5 @@
 -- What is no rise of a count, and what is one, at concrete counts: a premise that says that none rose is met by these.
-use Rattle.std.proofs.Common.{◌≡◌, ◌≢◌, ℕ, ◌-◌, ◌^◌, ◌≤◌, List, [], ◌∷◌, None, Some, refl, arith}
+use Rattle.std.proofs.Common.{◌≡◌, ℕ, ◌-◌, ◌^◌, ◌≤◌, List, [], ◌∷◌, Some, refl, arith}
 use Rattle.nk_host.specs.FaultCounts.{NeverFalls, OnlyAt, Rose, RoseTo, raised}
 use Rattle.nk_host.specs.Told.{IfTold}
 

@@ -1,6 +1,6 @@
 -- Premises of the top call's promises, built at concrete values, and answers that the promises then refuse: a promise
 -- whose premise nothing meets says nothing.
-use Rattle.std.proofs.Common.{◌≡◌, ◌≢◌, ◌≤◌, ◌⊎◌, ℕ, List, [], ◌∷◌, None, Some, codes, refl, inl, inr, arith}
+use Rattle.std.proofs.Common.{◌≡◌, ◌≢◌, ◌≤◌, ◌⊎◌, ℕ, List, [], ◌∷◌, None, Some, codes, lit≤, refl, inl, inr, arith}
 use Rattle.nk_host.specs.FaultCounts.{RoseTo}
 use Rattle.irq_plan.specs.PlanFile.{plan_of, read_from}
 use Rattle.asm_text.specs.AssembledText.{code_from}
@@ -73,16 +73,16 @@ module _ (files : Files) (status : ℕ) (it : Promises (calm (codes "make" ∷ c
 -- plans, texts and lists of modules that are good
 empty_plan : IsGoodPlan []
 unfolding plan_of read_from
-empty_plan = record { within = omega arith; formed = refl }
+empty_plan = record { within = lit≤ tt; formed = refl }
 
 plan_of_one_event : IsGoodPlan (codes "5 irq 33\n")
 unfolding plan_of read_from
-plan_of_one_event = record { within = omega arith; formed = refl }
+plan_of_one_event = record { within = lit≤ tt; formed = refl }
 
 empty_text : IsGoodText []
 unfolding code_from
-empty_text = record { within = omega arith; coded = refl }
+empty_text = record { within = lit≤ tt; coded = refl }
 
 list_of_one_module : IsGoodList (codes "pack a\n")
 unfolding list_of list_from
-list_of_one_module = record { within = omega arith; formed = refl }
+list_of_one_module = record { within = lit≤ tt; formed = refl }

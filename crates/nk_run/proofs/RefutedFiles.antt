@@ -1,4 +1,5 @@
--- Files that aren't good, and a text that isn't replayed, each named by the sentence that it guards.
+-- Files that aren't good, a text that isn't replayed, and a joined file that isn't safe, each named by the sentence that it
+-- guards.
 use Rattle.std.proofs.Common.{◌≡◌, ◌≢◌, ℕ, List, Err, Some, Result, subst}
 use Rattle.std.specs.Prelude.{IsOk}
 use Rattle.std.proofs.lemmas.Bool.{false≢true}
@@ -8,8 +9,9 @@ use Rattle.elf_image.specs.Rows.{first_fault}
 use Rattle.gate_state.specs.MachineStates.{Opening}
 use Rattle.report_text.specs.ClosingSection.{section}
 use Rattle.replay_core.specs.ReplayedCalls.{replay_of}
+use Rattle.code_modules.specs.JoinedParts.{CodeModule}
 use Rattle.code_modules.specs.ModuleList.{Listed, list_of}
-use Rattle.nk_run.specs.Clauses.{HasCodeAt, IsGoodList}
+use Rattle.nk_run.specs.Clauses.{HasCodeAt, IsGoodList, IsWholeJoin, RunsSafely}
 use Rattle.nk_run.specs.JournalLaw.{IsReplayedRun, section_replayed, text_of_run}
 use Rattle.nk_run.specs.Outcome.{opened}
 
@@ -29,3 +31,7 @@ module _ (o : Opening) (input : List ℕ) (plan : List Event) (steps : ℕ) (it 
   other_section : section o.image o.frames (replay_of (text_of_run o input plan steps) (opened o)).made.nested
       ≢ section_replayed o input plan steps → ⊥
   other_section other = other it.section
+
+-- a joined file of which some run isn't safe
+unsafe_join : (b : List ℕ) (modules : List CodeModule) (file : List ℕ) → (RunsSafely file → ⊥) → IsWholeJoin b modules file → ⊥
+unsafe_join b modules file none it = none it.safe

@@ -27,6 +27,7 @@ pub mod PoolPlaces
 pub mod PoolRegions
 pub mod RefutedBooks
 pub mod RefutedRows
+mod RefutedSlots
 pub mod RegionReads
 pub mod RegionsKept
 pub mod RemovedSlot

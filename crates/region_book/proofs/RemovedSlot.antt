@@ -1,5 +1,5 @@
 -- Regions in memory after the bits of one of them were cleared, then its slot, and then it left the order.
-use Rattle.std.proofs.Common.{◌≡◌, ℕ, ◌+◌, ◌<◌, not, ◌&&◌, List, length, map, arith, sym, ap, ◌∙◌, subst, slice_index, slice_index_or}
+use Rattle.std.proofs.Common.{◌≡◌, ℕ, ◌+◌, ◌<◌, true, not, ◌&&◌, List, length, map, arith, sym, ap, ◌∙◌, subst, slice_index, slice_index_or}
 use Rattle.std.specs.Prelude.{IfSome, Some}
 use Rattle.std.specs.List.{remove}
 use Rattle.phys_mem.specs.Memory.{byte_at}

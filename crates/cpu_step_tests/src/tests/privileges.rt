@@ -48,9 +48,18 @@ fn refused_behind_iretq(rt: HostRuntime) {
     let fault = Delivered(13, Some(0));
     let lawful: &[&[u8]] = &[b"\xF4", b"\x90"];
     assert_eq!(rt; first_other_behind_iretq(rt.alloc(), &fault, &SYSTEM), None);
-    assert_eq!(rt; first_other_behind_iretq(rt.alloc(), &fault, lawful), Some(1));
-    assert_eq!(rt; first_other_behind_iretq(rt.alloc(), &Ran(0x6009), &lawful[1..]), None);
-    assert_eq!(rt; first_other_behind_iretq(rt.alloc(), &Trapped(3, 0x6009), &[b"\xCC"]), None);
+    assert_eq!(rt;
+        first_other_behind_iretq(rt.alloc(), &fault, lawful),
+        Some(1)
+    );
+    assert_eq!(rt;
+        first_other_behind_iretq(rt.alloc(), &Ran(0x6009), &lawful[1..]),
+        None
+    );
+    assert_eq!(rt;
+        first_other_behind_iretq(rt.alloc(), &Trapped(3, 0x6009), &[b"\xCC"]),
+        None
+    );
 }
 
 /// A control register that isn't there, at either CPL; then WRMSR, MOV to DR0, LMSW, LLDT, LTR and LGDT at CPL 0.

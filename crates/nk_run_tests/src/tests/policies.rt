@@ -228,7 +228,8 @@ const FIRST_WRITE: &str =
 
 const SECOND_WRITE: &str = " 0 -\nk 9 100 0 ffff800000047000 7fe9 61626364";
 
-const NO_ROOM: &str = " 0 -\nk 9 100 0 ffff800000047000 1 61 26 -\nk 9 100 4 ffff800000047000 1 61 26 -\n\
+const NO_ROOM: &str =
+    " 0 -\nk 9 100 0 ffff800000047000 1 61 26 -\nk 9 100 4 ffff800000047000 1 61 26 -\n\
     end halted\nturns 114\nroot 5\ntrap ffffff80000011da\n\
     r 256 4 ffffff8000010000 32745 61626364";
 

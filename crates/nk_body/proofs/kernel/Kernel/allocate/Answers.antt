@@ -50,7 +50,7 @@ returns-clause-refused c =
       | in-Ok w ↦ ap rule_of w.result-is ∙ sym (ap rule_of w.in-Ok.is)
       | in-Err w ↦ ap rule_of w.result-is ∙ sym (ap rule_of w.in-Err.is)
     ] in
-    err_as c.alloc.result c.match-alloc.result same
+    err_as _ c.alloc.result c.match-alloc.result same
     (err_with (λ same. (
       own_stands c.self.inside.tables c.self.inside.tables c.self.inside.trap c.self.inside.regions c.alloc.new.self c.self.inside.log c.self.inside.log
           c.args.self.now c.self.view_is refl same.0 refl,

@@ -38,7 +38,7 @@ returns-clause-refused c =
       | in-Ok w ↦ ap rule_of w.result-is ∙ sym (ap rule_of w.in-Ok.is)
       | in-Err w ↦ ap rule_of w.result-is ∙ sym (ap rule_of w.in-Err.is)
     ] in
-    err_as c.load_root.result c.match-load_root.result same
+    err_as _ c.load_root.result c.match-load_root.result same
     (err_with (λ same. (
       own_stands c.self.inside.tables c.load_root.new.self c.self.inside.trap c.self.inside.regions c.self.inside.regions c.self.inside.log c.self.inside.log
           c.args.self.now c.self.view_is same refl refl,

@@ -20,7 +20,7 @@ returns-in-Err-clause-answer c =
 
 pub returns-in-Ok-clause-refused : goal.returns-in-Ok-clause-refused
 returns-in-Ok-clause-refused c =
-    none_on _ (c.in-Ok.ensures.made.judged
+    none_on _ _ (c.in-Ok.ensures.made.judged
     ∙ ap (λ it. verdict (nested_held c.args.self.now c.args.mem.now) it (sourced_of c.args.source)) c.call_of-call.ensures.call)
 
 pub returns-in-Err-clause-refused : goal.returns-in-Err-clause-refused

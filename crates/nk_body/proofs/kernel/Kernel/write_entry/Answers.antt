@@ -51,7 +51,7 @@ returns-clause-refused c =
       | in-Ok w ↦ ap rule_of w.result-is ∙ sym (ap rule_of w.in-Ok.is)
       | in-Err w ↦ ap rule_of w.result-is ∙ sym (ap rule_of w.in-Err.is)
     ] in
-    err_as c.write_entry.result c.match-write_entry.result same
+    err_as _ c.write_entry.result c.match-write_entry.result same
     (err_with (λ same. (
       own_stands c.self.inside.tables c.write_entry.new.self c.self.inside.trap c.self.inside.regions c.self.inside.regions c.self.inside.log c.self.inside.log
           c.args.self.now c.self.view_is same.0 refl refl,
