@@ -46,7 +46,7 @@ abbrev pub move_of : List Event → MachineState → Move
 move_of plan s =
     if enters_body s.processor then move.Serve else move_by (slice_get plan s.taken) s.turns s.processor
 
--- the words that the registers hold at the body's place: the call's number in RDI, its arguments in RSI, RDX, RCX and R8
+-- the words that the registers hold at the body's place: the number in RDI, the arguments in RSI, RDX, RCX and R8
 abbrev pub call_in : Regs → CallWords
 call_in regs = record {
   number = slice_index regs.general rdi;

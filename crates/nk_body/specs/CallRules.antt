@@ -126,7 +126,8 @@ made nk (DeclareTable level frame) source stand = record nk { tables = declared 
 made nk (WriteEntry table index value) source stand = record nk { tables = entry_written nk.tables table index value }
 made nk (RemoveTable frame) source stand = record nk { tables = removed nk.tables frame }
 made nk (LoadRoot frame) source stand = record nk { tables = root_loaded nk.tables frame }
-made nk (DeclarePages address size policy) source stand = with_pages nk address size policy stand (frames_of_pages nk address size)
+made nk (DeclarePages address size policy) source stand =
+    with_pages nk address size policy stand (frames_of_pages nk address size)
 made nk (Allocate size policy) source stand = with_pool nk size policy (room nk.ledger.book.regions size)
 made nk (Free region) source stand = with_free nk region
 made nk (Write region offset place count) source stand = with_write nk region offset (bytes_read source)
@@ -158,9 +159,11 @@ accepted_memory nk (WriteEntry table index value) source m = memory_written m ta
 accepted_memory nk (RemoveTable frame) source m = memory_removed m frame
 accepted_memory nk (LoadRoot frame) source m = m
 accepted_memory nk (DeclarePages address size policy) source m = m
-accepted_memory nk (Allocate size policy) source m = stored m (zeros_of nk size policy (room nk.ledger.book.regions size))
+accepted_memory nk (Allocate size policy) source m =
+    stored m (zeros_of nk size policy (room nk.ledger.book.regions size))
 accepted_memory nk (Free region) source m = m
-accepted_memory nk (Write region offset place count) source m = stored m (stores_written nk.ledger.book region offset (bytes_read source))
+accepted_memory nk (Write region offset place count) source m =
+    stored m (stores_written nk.ledger.book region offset (bytes_read source))
 accepted_memory nk NoCall source m = m
 
 abbrev pub written_unless : Option Rule → Nested → Call → Sourced → List ℕ → List ℕ
@@ -175,15 +178,16 @@ abbrev pub place_at : Option ℕ → Option ℕ
 place_at None = None
 place_at (Some p) = Some (pool_start + p)
 
--- the answer to a call that is accepted: the identifier of a new region, else 0; the place of an allocated one; and whether
--- every translation goes, since a frame's kind or the root changes
+-- the answer to a call that is accepted: the identifier of a new region, else 0; the place of an allocated one; and
+-- whether every translation goes, since a frame's kind or the root changes
 abbrev pub accepted_answer : Nested → Call → Answer
 accepted_answer nk (SetHandler address) = record { value = 0; place = None; flush = false }
 accepted_answer nk (DeclareTable level frame) = record { value = 0; place = None; flush = true }
 accepted_answer nk (WriteEntry table index value) = record { value = 0; place = None; flush = false }
 accepted_answer nk (RemoveTable frame) = record { value = 0; place = None; flush = true }
 accepted_answer nk (LoadRoot frame) = record { value = 0; place = None; flush = true }
-accepted_answer nk (DeclarePages address size policy) = record { value = nk.ledger.book.next; place = None; flush = true }
+accepted_answer nk (DeclarePages address size policy) =
+    record { value = nk.ledger.book.next; place = None; flush = true }
 accepted_answer nk (Allocate size policy) =
     record { value = nk.ledger.book.next; place = place_at (room nk.ledger.book.regions size); flush = false }
 accepted_answer nk (Free region) = record { value = 0; place = None; flush = false }

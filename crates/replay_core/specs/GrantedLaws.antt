@@ -8,8 +8,8 @@ use Rattle.nk_body.specs.SourceWords.{opening_ledger}
 use Rattle.replay_core.specs.ReplayedCalls.{Replayed, replay_of}
 use Rattle.replay_core.specs.GrantedCalls.{granted_of}
 
--- the journal is accepted, from books in which nothing was given yet, and in it an allocation of this size gave a region
--- this identifier
+-- the journal is accepted, from books in which nothing was given yet, and in it an allocation of this size gave a
+-- region this identifier
 pub record GivesRegion (journal : List ℕ) (from : Replayed) (id size policy : ℕ) (words : CallWords) : Type 0 where
   pub opening : from.nested.ledger ≡ opening_ledger
   pub accepted : (replay_of journal from).bad ≡ None

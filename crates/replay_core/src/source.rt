@@ -27,8 +27,8 @@ fn is_read(buffer: &mut [u8], word: &[u8]) -> bool
     is_lower(word) && is_decoded(buffer, word)
 }
 
-/// Puts the bytes that a word notes, if any, to the front of the buffer; whether the word is in form, and a call that wants
-/// so many bytes takes what it notes.
+/// Puts the bytes that a word notes, if any, to the front of the buffer; whether the word is in form, and a call that
+/// wants so many bytes takes what it notes.
 #[tactic(auto, using(crate::proofs::SourceLemmas::taken_bytes))]
 pub(crate) fn is_taken(buffer: &mut [u8], wanted: Option<u64>, word: &[u8]) -> bool
     requires room { IfSome wanted (λ count. count ≤ length buffer.old) }
