@@ -55,7 +55,8 @@ compiled() { # WHAT FLAG C WANTED
 # A command makes bad.elf of the image that was built well.
 spoil() { # WHAT COMMAND WANTED
         fresh
-        tell "$1" "$3" "$(built >said && eval "$2" 2>&1 && "$NKRUN" scan bad.elf 2>&1 || cat said)"
+        built >said || { tell "$1" 'an image' "$(cat said)"; return; }
+        tell "$1" "$3" "$(eval "$2" 2>&1 && "$NKRUN" scan bad.elf 2>&1)"
 }
 
 # The byte at a place of the image is another. Called by the commands that spoil() evaluates.
