@@ -23,7 +23,9 @@ pub mod Cover
 pub mod Leasts
 pub mod FirstStrings
 pub mod LineCodes
+pub mod TextCodes
 pub mod AssemblySteps
 mod WorkedTexts
 mod WorkedSpellings
 mod WorkedCodes
+mod RefutedCodes

@@ -66,7 +66,8 @@ pub fn assemble(alloc: Global, text: &[u8]) -> Result<Vec<u8>, TextFault>
 }
 
 /// The code of a line is the least spelling of the instruction whose text it is; a line without code is the text of no
-/// instruction that bytes spell.
+/// instruction that bytes spell. The code of a text is that of its lines, one after another, each of which decodes to the
+/// line's instruction by the relation of bytes and instructions; or the first line without code is told.
 pub fn assembly_law()
     ensures { AssemblyLaws }
 {

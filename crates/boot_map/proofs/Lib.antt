@@ -17,3 +17,4 @@ pub mod WalkLaws
 pub mod WalkSchema
 mod WorkedValues
 mod RefutedLayouts
+mod WorkedGateTable

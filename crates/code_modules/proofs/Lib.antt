@@ -2,6 +2,7 @@ pub mod FilePlaces
 pub mod GuardedModules
 pub mod JoinSteps
 pub mod JoinableParts
+pub mod JoinedBytes
 pub mod JoinedHeaders
 pub mod JoinedPages
 pub mod ListSteps
@@ -10,5 +11,7 @@ pub mod NameText
 pub mod PlacedParts
 pub mod PlacingSteps
 mod RefutedJoins
+mod RefutedPages
 mod WorkedLists
+mod WorkedNames
 mod WorkedParts

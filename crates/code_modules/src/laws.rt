@@ -1,6 +1,6 @@
 //! What holds of every list of modules, and of every image that is joined with them.
 
-ghost use Rattle.std.specs.Prelude.{◌≡◌, ℕ, ◌<◌, true, List, None, Ok, length};
+ghost use Rattle.std.specs.Prelude.{◌≡◌, ℕ, ◌<◌, true, List, None, Ok, length, slice_index};
 ghost use Rattle.std.specs.List.{All};
 ghost use Rattle.elf_image.specs.Rows.{first_fault};
 ghost use Rattle.byte_scanner.specs.FirstFound.{first_found};
@@ -29,10 +29,14 @@ pub(crate) fn joined_form()
 }
 
 /// Of each image in form and modules that are joined with it: the file is in form and holds no protected encoding, and
-/// what it loads is the image, the modules and the directory, byte for byte.
+/// what it loads is the image, the modules and the directory, byte for byte. Where image and modules are made of bytes,
+/// so is the file.
 pub fn joined_law()
-    ensures { (b : List ℕ) (modules : List CodeModule) (file : List ℕ) → first_fault b ≡ None
+    ensures joined { (b : List ℕ) (modules : List CodeModule) (file : List ℕ) → first_fault b ≡ None
         → 0 < length modules → join_answer b modules ≡ Ok file → IsJoined b modules file }
+    ensures bytes { (b : List ℕ) (modules : List CodeModule) (file : List ℕ) → ((i : ℕ) → slice_index b i < 256)
+        → All (λ m. (i : ℕ) → slice_index m.bytes i < 256) modules → join_answer b modules ≡ Ok file
+        → (i : ℕ) → slice_index file i < 256 }
 {
     form_law();
     pages_law();

@@ -29,7 +29,7 @@ pub(crate) fn in_parts(file: &[u8]) -> Option<Result<Headers, ImageFault>> {
 }
 
 /// Whether the file has this first fault, read in two steps and as a whole.
-fn is_judged(file: Vec<u8>, fault: Option<(FaultKind, u64)>) -> bool {
+pub(crate) fn is_judged(file: Vec<u8>, fault: Option<(FaultKind, u64)>) -> bool {
     let wanted = match fault {
         Some((kind, value)) => Some(ImageFault { kind, value }),
         None => None,

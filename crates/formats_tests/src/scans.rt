@@ -245,17 +245,19 @@ fn is_found_by_each_size(run: &[u8], found: Option<Found>) -> bool {
     true
 }
 
-/// Whether it is found in the pages, and in the image of a file that loads them as code.
-fn is_found_in_pages(alloc: Global, change: Change, found: Option<Found>) -> bool {
+/// Whether it is found in so many bytes that are NOPs but for a change, at most two pages of them, and in the image of
+/// a file that loads them as code.
+fn is_found_in_text(alloc: Global, length: usize, change: Change, found: Option<Found>) -> bool {
     let (place, size, value) = change;
-    if place >= 8192 {
+    if length > 8192 || place >= length {
         return false;
     }
-    let changes = [(96, 8, 8192), (104, 8, 8192), (4096 + place, size, value)];
-    let Some(file) = file_with(alloc, 4096 + 8192, 0x90, &changes) else {
+    let count = length as u64;
+    let changes = [(96, 8, count), (104, 8, count), (4096 + place, size, value)];
+    let Some(file) = file_with(alloc, 4096 + length, 0x90, &changes) else {
         return false;
     };
-    if file.len() != 4096 + 8192 || !is_found_by_each_size(&file[4096..], found) {
+    if file.len() != 4096 + length || !is_found_by_each_size(&file[4096..], found) {
         return false;
     }
     match Image::read(file) {
@@ -269,7 +271,7 @@ fn is_so(alloc: Global, row: &Row) -> bool {
         Row::Place(bytes, place) => first_protected(bytes) == *place,
         Row::Run(run, found) => is_found_in_every_cut(run, *found),
         Row::Pieces(pieces, found) => scan_pieces(pieces) == Some(*found),
-        Row::Edge(change, found) => is_found_in_pages(alloc, *change, *found),
+        Row::Edge(change, found) => is_found_in_text(alloc, 8192, *change, *found),
     }
 }
 
@@ -278,4 +280,18 @@ fn encodings_are_found_where_they_stand(rt: HostRuntime) {
     for (index, (so, row)) in ROWS.iter().enumerate() {
         assert!(rt; is_so(rt.alloc(), row) == *so, "row {index}");
     }
+}
+
+/// A text of 4,098 bytes whose last three are a MOV to CR0, over a page's border; one byte shorter it has none.
+#[test]
+fn an_encoding_ends_a_text_of_a_page_and_two_bytes(rt: HostRuntime) {
+    let load = (4095, 3, 0xC0_22_0F);
+    let found = Found {
+        at: HOME + 4095,
+        bytes: [0x0F, 0x22, 0xC0],
+        count: 3,
+    };
+    assert!(rt; is_found_in_text(rt.alloc(), 4098, load, Some(found)));
+    assert!(rt; !is_found_in_text(rt.alloc(), 4098, load, None));
+    assert!(rt; is_found_in_text(rt.alloc(), 4097, (4095, 2, 0x22_0F), None));
 }

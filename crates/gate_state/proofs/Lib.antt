@@ -19,6 +19,9 @@ pub mod FetchFormed
 pub mod FetchKnown
 pub mod GateTextPoints
 pub mod FetchListed
+pub mod ListedInstructions
+pub mod PendingOrder
+mod RefutedPending
 pub mod FetchEncodings
 pub mod GateTextLoads
 pub mod FetchProtected
@@ -81,3 +84,8 @@ mod MaskedSources
 mod MaskedStates
 mod RefutedGuards
 mod RefutedCalls
+mod BuiltCalls
+mod RefutedShutdowns
+mod RefutedStandings
+mod RefutedPlaces
+mod RefutedReturns

@@ -19,8 +19,8 @@ use Rattle.page_walk.specs.MemoryAccess.{view_of}
 use Rattle.x86_regs.specs.declared.faults.Fault.{Fault}
 use Rattle.trap_unit.specs.DeliveryStores.{delivery_stores, push_stores}
 use Rattle.trap_unit.specs.TrapDelivery.{delivered, entry_found, gate_read, pushed}
-use Rattle.x86_decode.specs.Reader.{decoded_of}
 use Rattle.x86_decode.specs.declared.instruction.Decoded.TheVariants.{Whole}
+use Rattle.x86_decode.specs.Decoding.{Decodes}
 use Rattle.cpu_step.specs.declared.fetch.Fetched.{Fetched}
 use Rattle.cpu_step.specs.InstructionFetch.{instruction_at}
 use Rattle.cpu_step.specs.Processor.{Processor, deliverable}
@@ -174,8 +174,8 @@ module _ (p : Processor) (m : List ℕ) (it : IsGateInstruction p m) where
   unfetched_instruction : (fault : Fault) → (instruction_at m (view_of m p.control p.regs.cpl) p.regs.rip p.tlb).answer ≡ Err fault → ⊥
   unfetched_instruction fault is = let found = it.found in cc
 
-  unlisted_instruction : ((offset : ℕ) (fetched : Fetched) → offset ≢ 27 → decoded_of (instruction_bytes offset) ≢ Whole fetched.instr fetched.size)
-      → ⊥
+  unlisted_instruction : ((offset : ℕ) (fetched : Fetched) → offset ≢ 27
+      → Decodes (instruction_bytes offset) (Whole fetched.instr fetched.size) → ⊥) → ⊥
   unlisted_instruction other = other it.offset it.fetched it.elsewhere it.listed
 
 -- no turn is taken where the body is to run, nor where the processor waits

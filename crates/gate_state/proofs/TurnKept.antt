@@ -11,6 +11,7 @@ use Rattle.nk_bits.specs.Outcomes.{Outcome, then_by}
 use Rattle.nk_bits.specs.Translations.{faulted}
 use Rattle.page_walk.specs.MemoryAccess.{view_of}
 use Rattle.nk_bits.specs.KernelLayout.{gate_address}
+use Rattle.x86_decode.specs.declared.instruction.Decoded.TheVariants.{Whole}
 use Rattle.x86_decode.specs.WellFormed.{IsWellFormed}
 use Rattle.x86_regs.specs.declared.effects.Effect.{Effect}
 use Rattle.x86_regs.specs.declared.faults.Fault.{Fault}
@@ -27,6 +28,7 @@ use Rattle.gate_state.specs.MachineStates.{Opening}
 use Rattle.gate_state.specs.MachineSteps.{waits}
 use Rattle.gate_state.specs.RespectedKinds.{respecting}
 use Rattle.gate_state.specs.SafeStates.{IsGateInstruction}
+use Rattle.gate_state.proofs.ListedInstructions.{listed_only, listed_right}
 use Rattle.gate_state.proofs.LowerLaws.{LowerLaws}
 use Rattle.gate_state.proofs.Ready.{IsReady, Kept}
 use Rattle.gate_state.proofs.Scene.{SceneLaws}
@@ -63,7 +65,7 @@ module _ (laws : LowerLaws) (o : Opening) (ks : List Kind) (scenes : SceneLaws o
         fetched = found.0;
         found = ap (λ (r : ℕ). (instruction_at m (view_of m p.control p.regs.cpl) r p.tlb).answer) at.rip
             ∙ ap (λ (c : ℕ). (instruction_at m (view_of m p.control c) (gate_address + offset) p.tlb).answer) at.supervisor ∙ found.2;
-        listed = found.1;
+        listed = listed_right laws offset at.point (Whole found.0.instr found.0.size) found.1;
       }
 
   -- an instruction with WP clear
@@ -76,7 +78,8 @@ module _ (laws : LowerLaws) (o : Opening) (ks : List Kind) (scenes : SceneLaws o
       let it : Fetched = gate.fetched in
       let after : AllPass (respecting o ks) fetched.tlb = facts.fetch_pass m p.control p.regs.cpl p.regs.rip p.tlb ready.scene ready.pass in
       let formed = facts.fetch_formed m p.control p.regs.cpl p.regs.rip p.tlb ready.scene it gate.found in
-      let it_makes = facts.window_effect p m fetched.tlb gate.offset it ready.control ready.scene after clear gate.point gate.elsewhere gate.listed in
+      let it_makes = facts.window_effect p m fetched.tlb gate.offset it ready.control ready.scene after clear gate.point gate.elsewhere
+      (listed_only laws gate.offset gate.point.point (Whole it.instr it.size) gate.listed) in
       let outcome : Outcome Fault Effect = effect_of it.instr it.size p.regs p.control m fetched.tlb in
       let pass : AllPass (respecting o ks) outcome.tlb = laws.grant.translations it.instr it.size p.regs p.control m fetched.tlb (respecting o ks) formed ready.control.registers (scenes.walked m p.control p.regs.cpl ready.scene) after in
       let done : IsMade laws o ks scenes facts storable p m it_makes.0 = made laws o ks scenes facts storable p m fetched.tlb it it_makes.0 ready after formed it_makes.1 in

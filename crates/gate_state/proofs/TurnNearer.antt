@@ -13,6 +13,7 @@ use Rattle.gate_text.specs.GatePoints.{is_point}
 use Rattle.nk_bits.specs.KernelLayout.{gate_address}
 use Rattle.trap_unit.specs.TrapDelivery.{at_handler, codes_of, delivered}
 use Rattle.x86_alu.specs.SignedNumbers.{bit}
+use Rattle.x86_decode.specs.declared.instruction.Decoded.TheVariants.{Whole}
 use Rattle.x86_regs.specs.Combinations.{interrupt_flag}
 use Rattle.x86_regs.specs.declared.effects.Act.{Act}
 use Rattle.x86_regs.specs.declared.effects.Act.TheVariants as act
@@ -34,6 +35,7 @@ use Rattle.gate_state.specs.SafeStates.{IsGateInstruction, TakesTurn}
 use Rattle.gate_state.specs.WindowLeft.{IsNearer, left, left_at}
 use Rattle.gate_state.proofs.BodyKept.{body_stands}
 use Rattle.gate_state.proofs.Delivery.{IsDelivery}
+use Rattle.gate_state.proofs.ListedInstructions.{listed_only}
 use Rattle.gate_state.proofs.LowerLaws.{LowerLaws}
 use Rattle.gate_state.proofs.Ready.{IsReady}
 use Rattle.gate_state.proofs.Scene.{SceneLaws}
@@ -168,7 +170,7 @@ module _ (laws : LowerLaws) (o : Opening) (ks : List Kind) (scenes : SceneLaws o
       let it : Fetched = gate.fetched in
       let after = facts.fetch_pass m p.control p.regs.cpl p.regs.rip p.tlb ready.scene ready.pass in
       let makes = facts.window_effect p m fetched.tlb gate.offset it ready.control ready.scene after clear gate.point
-      gate.elsewhere gate.listed in
+      gate.elsewhere (listed_only laws gate.offset gate.point.point (Whole it.instr it.size) gate.listed) in
       let outcome : Outcome Fault Effect = effect_of it.instr it.size p.regs p.control m fetched.tlb in
       subst (λ (x : Outcome Fault Effect). IsNearer p (turned_by x.answer p m x.tlb).processor)
       (sym (made_from p m it gate.found))

@@ -12,7 +12,7 @@ use Rattle.phys_mem.specs.MaskedMemory.{is_book_frame, masked, seen}
 use Rattle.phys_mem.specs.Memory.{byte_at}
 use Rattle.page_desc.specs.DescriptorBytes.{kinds_in}
 use Rattle.nk_body.specs.NestedRecord.{AreBooks, Books, HoldsBooks, Nested, OwnState, books_in, nested_by, nested_in}
-use Rattle.nk_body.specs.CallRules.{Sourced, after_call, answer_to, memory_after_call, stand_of, wants}
+use Rattle.nk_body.specs.CallRules.{Sourced, after_call, answer_to, memory_after_call, stand_of, verdict, wants}
 use Rattle.cpu_step.specs.declared.stepped.Stepped.{Stepped}
 use Rattle.cpu_step.specs.EventsTaken.{event_taken}
 use Rattle.cpu_step.specs.Processor.{IsSound, Processor}
@@ -20,7 +20,7 @@ use Rattle.cpu_step.specs.Turns.{Turned, enters_body, turned}
 use Rattle.gate_state.specs.declared.moves.Move.{Move}
 use Rattle.gate_state.specs.GuardedStates.{IsGuarded}
 use Rattle.gate_state.specs.MachineStates.{MachineState, Opening, nested_of}
-use Rattle.gate_state.specs.MachineSteps.{after_event, after_reading, after_turn, answer_in, answered_with, call_in, move_of, nested_after, next, next_by, served, source_of, turn_of, wanted}
+use Rattle.gate_state.specs.MachineSteps.{after_event, after_reading, after_turn, answer_in, answered_with, call_in, move_of, nested_after, next, next_by, served, source_of, turn_of, verdict_in, wanted}
 use Rattle.gate_state.specs.SourceBytes.{SourceRead, source_through, source_read, source_with, tlb_by}
 use Rattle.gate_state.specs.WholeMachine.{IsWhole}
 
@@ -189,6 +189,9 @@ module _ (s : MachineState) (books after : Books) (m : List ℕ) (call : CallWor
   read_now =
       read_is
       ∙ (λ i. record s.processor { tlb = tlb_by s.memory s.processor.control.root s.processor.tlb (call_is i).c (wanted_now i) })
+
+  pub verdict_now : verdict (nested_by books s.memory) call source ≡ verdict_in s
+  verdict_now = λ i. verdict (before i) (call_is i) (source_now i)
 
   pub answer_now : answer ≡ answer_in s
   answer_now = answer_is ∙ (λ i. answer_to (before i) (call_is i) (source_now i))

@@ -15,5 +15,7 @@ pub mod GateCalls
 pub mod QuietSteps
 pub mod WindowLeft
 pub mod MachineOf
+-- Laws: what is proved of the definitions.
+pub mod HighestPendingLaws
 -- Words of private clauses and proofs.
 pub mod EventMoves

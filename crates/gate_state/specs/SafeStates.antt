@@ -6,8 +6,8 @@ use Rattle.nk_bits.specs.Kinds.{is_storable, kind_of}
 use Rattle.nk_bits.specs.Translations.{IsLive}
 use Rattle.phys_mem.specs.Memory.{entry_in}
 use Rattle.page_walk.specs.MemoryAccess.{view_of}
-use Rattle.x86_decode.specs.Reader.{decoded_of}
 use Rattle.x86_decode.specs.declared.instruction.Decoded.TheVariants.{Whole}
+use Rattle.x86_decode.specs.Decoding.{Decodes}
 use Rattle.cpu_step.specs.declared.fetch.Fetched.{Fetched}
 use Rattle.cpu_step.specs.declared.stepped.Stepped.TheVariants as stepped
 use Rattle.cpu_step.specs.InstructionFetch.{instruction_at}
@@ -22,14 +22,14 @@ use Rattle.gate_state.specs.RespectedKinds.{respects}
 use Rattle.std.specs.Prelude.{length, List}
 
 -- the supervisor stands at a gate point that isn't the body's place, and the instruction that it fetches there is the
--- one of the listing
+-- one that the listing's bytes spell
 pub record IsGateInstruction (p : Processor) (m : List ℕ) : Type 0 where
   pub offset : ℕ
   pub point : IsAtPoint offset p
   pub elsewhere : offset ≢ 27
   pub fetched : Fetched
   pub found : (instruction_at m (view_of m p.control p.regs.cpl) p.regs.rip p.tlb).answer ≡ Ok fetched
-  pub listed : decoded_of (instruction_bytes offset) ≡ Whole fetched.instr fetched.size
+  pub listed : Decodes (instruction_bytes offset) (Whole fetched.instr fetched.size)
 
 -- the processor is to take a turn: no body is to run, and it isn't halted, or an interrupt wakes it
 pub record TakesTurn (p : Processor) : Type 0 where

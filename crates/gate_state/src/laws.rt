@@ -22,6 +22,7 @@ ghost use Rattle.nk_body.specs.NestedRecord.{AreBooks, Books};
 ghost use Rattle.gate_state.specs.AnyVector.{DeliversAny};
 ghost use Rattle.gate_state.specs.GateCalls.{IsCalledBack, IsCalledThrough, IsCalling};
 ghost use Rattle.gate_state.specs.GuardedStates.{IsAdmitted, IsGuarded};
+ghost use Rattle.gate_state.specs.HighestPendingLaws.{HighestPendingLaws};
 ghost use Rattle.gate_state.specs.MachineOf.{IsAtBody, IsInGates};
 ghost use Rattle.gate_state.specs.MachineOpening.{opening_state};
 ghost use Rattle.gate_state.specs.MachineStates.{MachineState, Opening, nested_of};
@@ -247,6 +248,11 @@ pub fn hidden_law()
 {
     steps_law();
 }
+
+/// Of sixteen pending vectors the highest is the greatest of 32 to 47 that waits, and there is none where none waits.
+pub fn highest_pending_law()
+    ensures { HighestPendingLaws }
+{}
 
 /// A step takes one turn or one event of the plan; a machine that rests stays as it is.
 pub fn moves_law()

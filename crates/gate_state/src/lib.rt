@@ -26,7 +26,8 @@ mod laws;
 
 pub use gate::GateMachine;
 pub use laws::{
-    entry_forms_law, hidden_law, masked_law, moves_law, safety_law, shown_law, window_law,
+    entry_forms_law, hidden_law, highest_pending_law, masked_law, moves_law, safety_law, shown_law,
+    window_law,
 };
 pub use machine::Machine;
 pub use moves::Move;

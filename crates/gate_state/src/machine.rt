@@ -149,9 +149,10 @@ impl<'i> Machine<'i> {
         }
     }
 
-    /// Memory and books, at the end of a run.
+    /// Memory as it is and what is kept beside it, at any moment of a run: memory holds the books.
     pub fn finish(self) -> Finished
         ensures memory { seen result.mem ≡ (whole_of self.entry).state.memory }
+        ensures real { result.mem ≡ real_of self.entry }
         ensures size { length result.mem ≡ 4096 * (whole_of self.entry).opening.frames }
         ensures kinds { kinds_in result.mem ≡ (whole_of self.entry).state.kinds }
         ensures root { result.kernel.root ≡ (whole_of self.entry).state.processor.control.root }

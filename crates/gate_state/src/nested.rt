@@ -1,12 +1,13 @@
 //! The machine at the nested kernel's body: WP is clear.
 
-ghost use Rattle.std.specs.Prelude.{◌≡◌, ◌<◌, ◌≤◌, false, true, length, ◌*◌};
+ghost use Rattle.std.specs.Prelude.{◌≡◌, ◌<◌, ◌≤◌, false, true, length, OnSome, ◌*◌};
 ghost use Rattle.phys_mem.specs.MaskedMemory.{seen};
 ghost use Rattle.page_desc.specs.DescriptorBytes.{kinds_in};
+ghost use Rattle.nk_body.specs.BooksTouched.{LeavesBooks};
 ghost use Rattle.nk_body.specs.NestedRecord.{HoldsBooks, books_in};
 ghost use Rattle.cpu_step.specs.Turns.{enters_body};
 ghost use Rattle.gate_state.specs.MachineOf.{IsStanding, IsAtBody, IsInGates};
-ghost use Rattle.gate_state.specs.MachineSteps.{called_in, move_of};
+ghost use Rattle.gate_state.specs.MachineSteps.{call_in, called_in, move_of, verdict_in};
 ghost use Rattle.gate_state.specs.SafeStates.{IsSafe};
 ghost use Rattle.gate_state.specs.WholeMachine.{is_rest, known_of, served_whole};
 ghost use Rattle.gate_state.specs.WindowLeft.{left};
@@ -35,11 +36,15 @@ impl<'i> Model for NestedMachine<'i> {
 }
 
 impl<'i> NestedMachine<'i> {
-    /// The body: the call that the registers hold is served, and the exit gate is next, with fewer turns until WP is set.
+    /// The body: the call that the registers hold is served, and the exit gate is next, with fewer turns until WP is set. A
+    /// call that breaks a rule leaves every byte of memory, the books in it.
     pub fn serve(self) -> (GateMachine<'i>, Called)
         requires turns { self.state.turns < 4294967296 }
         ensures next { known_of result.0 ≡ served_whole (known_of self.entry) }
         ensures called { result.1 ≡ called_in self.entry.state }
+        ensures refused { OnSome (verdict_in self.entry.state) (result.0.real ≡ self.entry.real) }
+        ensures leaves { LeavesBooks self.entry.state.ledger.book (call_in self.entry.state.processor.regs) self.entry.real
+            result.0.real }
         ensures body { enters_body self.entry.state.processor ≡ true }
         ensures safe { IsSafe self.entry.opening self.entry.state }
         ensures at_body { IsStanding IsAtBody self.entry.opening self.entry.state }
@@ -101,6 +106,7 @@ impl<'i> NestedMachine<'i> {
     /// Memory and books, at the end of a run.
     pub fn finish(self) -> Finished
         ensures memory { seen result.mem ≡ self.entry.state.memory }
+        ensures real { result.mem ≡ self.entry.real }
         ensures size { length result.mem ≡ 4096 * self.entry.opening.frames }
         ensures kinds { kinds_in result.mem ≡ self.entry.state.kinds }
         ensures root { result.kernel.root ≡ self.entry.state.processor.control.root }

@@ -164,6 +164,7 @@ impl<'i> OuterMachine<'i> {
     /// Memory and books, at the end of a run.
     pub fn finish(self) -> Finished
         ensures memory { seen result.mem ≡ self.entry.state.memory }
+        ensures real { result.mem ≡ self.entry.real }
         ensures size { length result.mem ≡ 4096 * self.entry.opening.frames }
         ensures kinds { kinds_in result.mem ≡ self.entry.state.kinds }
         ensures root { result.kernel.root ≡ self.entry.state.processor.control.root }

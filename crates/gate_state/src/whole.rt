@@ -1,6 +1,6 @@
 //! What the three states share: the machine with the opening of its run.
 
-ghost use Rattle.std.specs.Prelude.{◌≡◌, ℕ, ◌+◌, ◌<◌, ◌≤◌, ◌^◌, true, false, slice_get, IfSome, Some, None, length, ◌*◌};
+ghost use Rattle.std.specs.Prelude.{◌≡◌, ℕ, ◌+◌, ◌<◌, ◌≤◌, ◌^◌, true, false, slice_get, IfSome, OnSome, Some, None, length, ◌*◌};
 ghost use Rattle.irq_plan.specs.PlannedEvents.{IsPlannable};
 ghost use Rattle.nk_bits.specs.Accesses.{wp_of};
 ghost use Rattle.cpu_step.specs.FramesTouched.{StaysOutside, turn_touched};
@@ -8,10 +8,11 @@ ghost use Rattle.cpu_step.specs.Processor.{IsSound};
 ghost use Rattle.cpu_step.specs.Turns.{enters_body};
 ghost use Rattle.phys_mem.specs.MaskedMemory.{seen};
 ghost use Rattle.page_desc.specs.DescriptorBytes.{kinds_in};
+ghost use Rattle.nk_body.specs.BooksTouched.{LeavesBooks};
 ghost use Rattle.nk_body.specs.NestedRecord.{HoldsBooks, books_in};
 ghost use Rattle.gate_state.specs.EventMoves.{IfTaken, IsBodyBy};
 ghost use Rattle.gate_state.specs.MachineOf.{IsStanding, IsAtBody, IsInGates, IsOuter};
-ghost use Rattle.gate_state.specs.MachineSteps.{after_event, after_turn, answered_with, call_in, called_in, move_by, move_of, next, seen_by, served, shown_by_turn, step_by, turn_of, waits};
+ghost use Rattle.gate_state.specs.MachineSteps.{after_event, after_turn, answered_with, call_in, called_in, move_by, move_of, next, seen_by, served, shown_by_turn, step_by, turn_of, verdict_in, waits};
 ghost use Rattle.gate_state.specs.QuietSteps.{IsHurried};
 ghost use Rattle.gate_state.specs.SafeStates.{IsSafe, TakesTurn};
 ghost use Rattle.gate_state.specs.WholeMachine.{is_rest, known_of, next_whole, served_whole, stepped_whole, touched_by_move};
@@ -189,6 +190,8 @@ impl<'i> Whole<'i> {
         requires turns { self.old.state.turns < 4294967296 }
         ensures served { known_of self.new ≡ served_whole (known_of self.old) }
         ensures called { result ≡ called_in self.old.state }
+        ensures refused { OnSome (verdict_in self.old.state) (self.new.real ≡ self.old.real) }
+        ensures leaves { LeavesBooks self.old.state.ledger.book (call_in self.old.state.processor.regs) self.old.real self.new.real }
     {
         steps_law();
         mask_law();
@@ -323,6 +326,7 @@ impl<'i> Whole<'i> {
     /// Memory and books.
     pub fn finish(self) -> Finished
         ensures memory { seen result.mem ≡ self.entry.state.memory }
+        ensures real { result.mem ≡ self.entry.real }
         ensures size { length result.mem ≡ 4096 * self.entry.opening.frames }
         ensures kinds { kinds_in result.mem ≡ self.entry.state.kinds }
         ensures root { result.kernel.root ≡ self.entry.state.processor.control.root }

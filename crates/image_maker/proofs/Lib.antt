@@ -1,4 +1,5 @@
 pub mod ImagePlaces
+pub mod MadeBytes
 pub mod MadeCode
 pub mod MadeFields
 pub mod MadeImages

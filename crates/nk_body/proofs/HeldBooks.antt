@@ -23,7 +23,7 @@ use Rattle.nk_body.specs.CallLeft.{IsCalled, left_in, memory_left}
 use Rattle.nk_body.specs.CallMade.{IsMade, KeepsForm, left_by}
 use Rattle.nk_body.specs.CallRules.{IsSourceOf, Sourced, wants, written_unless}
 use Rattle.nk_body.specs.KindsKept.{is_settled}
-use Rattle.nk_body.specs.NestedRecord.{AreBooks, Books, HoldsBooks, Ledger, Nested, OwnState, books_in, handler_in, nested_by}
+use Rattle.nk_body.specs.NestedRecord.{AreBooks, Books, HasFixedFrames, HoldsBooks, Ledger, Nested, OwnState, books_in, handler_in, nested_by}
 use Rattle.nk_body.specs.CallLaws.{CallLaws, CallLeavesLaws}
 use Rattle.nk_body.proofs.HandlerStores.{Places, handler_stores}
 
@@ -100,12 +100,27 @@ module _ (laws : HeldLaws) (own : OwnState) (m : List ℕ) (held : HoldsBooks ow
   pub stores_holds : HoldsTables own.frames own.root (stored m ws)
   stores_holds = all.2
 
-  pub stores_others : (p : ℕ) → 0x1A000 ≤ p → p < 0x40000 → byte_at (stored m ws) p ≡ byte_at m p
-  stores_others p low high =
-      let hidden : kind_of (kinds_in m) (p / 4096) ≡ Hidden = held.hidden (p / 4096) (book_place own.frames p low high) in
+  pub stores_books : (p : ℕ) → is_book_frame own.frames (p / 4096) ≡ true → byte_at (stored m ws) p ≡ byte_at m p
+  stores_books p is_book =
+      let hidden : kind_of (kinds_in m) (p / 4096) ≡ Hidden = held.hidden (p / 4096) is_book in
       laws.memory.byte_elsewhere m ws p
       (All-weaker (λ (w : ℕ × ℕ). is_hidden (kind_of (kinds_in m) (w.0 / 4096)) ≡ false) (λ (w : ℕ × ℕ). w.0 ≢ p)
       (λ w is same. false≢true (sym is ∙ ap (λ q. is_hidden (kind_of (kinds_in m) (q / 4096))) same ∙ ap is_hidden hidden)) ws shown)
+
+  pub stores_others : (p : ℕ) → 0x1A000 ≤ p → p < 0x40000 → byte_at (stored m ws) p ≡ byte_at m p
+  stores_others p low high = stores_books p (book_place own.frames p low high)
+
+-- frames of kinds that stay where they are settled
+pub fixed_stays : (kinds after : List Kind)
+    → ((f : ℕ) → is_settled (kind_of kinds f) ≡ true → kind_of after f ≡ kind_of kinds f)
+    → HasFixedFrames kinds → HasFixedFrames after
+fixed_stays kinds after stays fixed = record {
+  descriptors = stays 0 (ap is_settled fixed.descriptors) ∙ fixed.descriptors;
+  gates = stays 1 (ap is_settled fixed.gates) ∙ fixed.gates;
+  handler = stays 2 (ap is_settled fixed.handler) ∙ fixed.handler;
+  traps = stays 3 (ap is_settled fixed.traps) ∙ fixed.traps;
+  stack = stays 4 (ap is_settled fixed.stack) ∙ fixed.stack;
+}
 
 -- memory holds the books after a call
 pub held_after : LeftLaws → (own after : OwnState) (m later : List ℕ) (call : CallWords) (source : Sourced) (rule : Option Rule)
@@ -124,10 +139,13 @@ held_after laws own after m later call source rule held sourced first third made
     let memory : seen later ≡ memory_left ks own.root ledger (seen m) call source =
     made.memory ∙ ap (λ r. written_unless r (nested_by (books_in own m) (seen m)) call source (seen m)) made.judged in
     let count : length (kinds_in later) ≡ length ks = ap length kinds ∙ laws.leaves.count ks own.root ledger (seen m) call source in
+    let stays : (f : ℕ) → is_settled (kind_of ks f) ≡ true → kind_of (kinds_in later) f ≡ kind_of ks f =
+    λ f settled. ap (λ l. kind_of l f) kinds ∙ laws.leaves.settled ks own.root f ledger (seen m) call source called settled in
     record {
       books = record {
         described = made.described;
         least = omega (arith, count, held.books.least);
+        fixed = fixed_stays ks (kinds_in later) stays held.books.fixed;
         trap = made.trap ∙ ap (λ (n : Nested). n.trap) by
             ∙ sym (ap (λ (n : Nested). n.trap) (laws.call.nested ks own.root ledger (seen m) call source called)) ∙ ap handler_in (sym memory);
         kept = made.keeps;
@@ -135,7 +153,7 @@ held_after laws own after m later call source rule held sourced first third made
       stored = form.stored;
       hidden = λ f is.
           let was : kind_of ks f ≡ Hidden = held.hidden f (sym (ap (λ n. is_book_frame n f) frames) ∙ is) in
-          ap (λ l. kind_of l f) kinds ∙ laws.leaves.settled ks own.root f ledger (seen m) call source called (ap is_settled was) ∙ was;
+          stays f (ap is_settled was) ∙ was;
       regions = form.regions;
       log = form.log;
     }
@@ -162,6 +180,9 @@ module _ (laws : HeldLaws) (ledger : LedgerLaws) (own : OwnState) (m : List ℕ)
 
   pub handler_holds : HoldsDescriptors own.frames (stored m slot_stores)
   handler_holds = (stores_holds laws own m held slot_stores slot_free slot_shown).stored
+
+  pub handler_books : (p : ℕ) → is_book_frame own.frames (p / 4096) ≡ true → byte_at (stored m slot_stores) p ≡ byte_at m p
+  handler_books = stores_books laws own m held slot_stores slot_free slot_shown
 
   pub handler_ledger : StandsLedger own m (stored m slot_stores)
   handler_ledger =

@@ -11,6 +11,7 @@ pub mod KeptLedgers
 pub mod RegionStores
 pub mod HeldBooks
 pub mod RegionsHeld
+pub mod BooksLeft
 pub mod RegionsMade
 pub mod GuardedStays
 pub mod PagesMade
@@ -32,3 +33,4 @@ pub mod BesidePages
 pub mod CallsBeside
 pub mod OpeningBeside
 mod RefutedLedgers
+mod RefutedHeldBooks

@@ -23,7 +23,7 @@ use Rattle.region_book.specs.RegionLaws.{HeldRegionsLaws}
 use Rattle.write_log.specs.LogBytes.{DiffersInLog, HoldsLog, LogCounts}
 use Rattle.write_log.specs.LogLaws.{HeldLogLaws}
 use Rattle.nk_body.specs.CallMade.{KeepsForm}
-use Rattle.nk_body.specs.NestedRecord.{HoldsBooks, IsLedgerKept, Ledger, OwnState, books_in, handler_in}
+use Rattle.nk_body.specs.NestedRecord.{HasFixedFrames, HoldsBooks, IsLedgerKept, Ledger, OwnState, books_in, handler_in}
 use Rattle.nk_body.specs.SourceWords.{opening_ledger}
 
 -- where they lie
@@ -144,13 +144,26 @@ module _ (frames : ℕ) (index : RegionIndex) (counts : LogCounts) (m with_regio
       log.unseen with_regions later (omega (arith, holds.size, holds.least, first.size)) second
       ∙ region.unseen m with_regions (omega (arith, holds.size, holds.least)) first
 
+-- the nested area's frames have the opening's kinds
+pub opened_fixed : (b : List ℕ) (frames : ℕ) → 512 ≤ frames
+    → ((f : ℕ) → f < frames → kind_of (kinds b frames) f ≡ kind_at b frames f)
+    → kind_at b frames 0 ≡ Fixed → kind_at b frames 1 ≡ Fixed → kind_at b frames 2 ≡ Fixed → kind_at b frames 3 ≡ Trap
+    → kind_at b frames 4 ≡ Fixed → HasFixedFrames (kinds b frames)
+opened_fixed b frames least each descriptors gates handler traps stack = record {
+  descriptors = each 0 (omega (arith, least)) ∙ descriptors;
+  gates = each 1 (omega (arith, least)) ∙ gates;
+  handler = each 2 (omega (arith, least)) ∙ handler;
+  traps = each 3 (omega (arith, least)) ∙ traps;
+  stack = each 4 (omega (arith, least)) ∙ stack;
+}
+
 -- the opening's memory holds the books, with descriptors of the opening's kinds in it
 pub opened_books : (b m later : List ℕ) (frames : ℕ) (own : OwnState) → 512 ≤ frames → seen later ≡ m
     → length (kinds b frames) ≡ frames → ((f : ℕ) → f < frames → kind_of (kinds b frames) f ≡ kind_at b frames f)
-    → HoldsSoundTables (kinds b frames) 5 m → IsLedgerKept (kinds b frames) opening_ledger
+    → HasFixedFrames (kinds b frames) → HoldsSoundTables (kinds b frames) 5 m → IsLedgerKept (kinds b frames) opening_ledger
     → kinds_in later ≡ kinds b frames → AreCounted (descriptors_in later) (entry_in m) → own.frames ≡ frames → own.root ≡ 5
     → own.trap ≡ handler_in (seen later) → (books_in own later).ledger ≡ opening_ledger → KeepsForm own later → HoldsBooks own later
-opened_books b m later frames own least sees count each sound kept are counted size root trap ledger form =
+opened_books b m later frames own least sees count each fixed sound kept are counted size root trap ledger form =
     let every : length (kinds_in later) ≡ frames = ap length are ∙ count in
     record {
       books = record {
@@ -159,6 +172,7 @@ opened_books b m later frames own least sees count each sound kept are counted s
           counted = subst (λ n. AreCounted (descriptors_in later) (entry_in n)) (sym sees) counted;
         };
         least = omega (arith, every, least);
+        fixed = subst HasFixedFrames (sym are) fixed;
         trap = trap;
         kept = subst (λ (it : List Kind × Ledger). IsLedgerKept it.0 it.1) (λ i. (sym are i, sym ledger i)) kept;
       };

@@ -1,12 +1,20 @@
--- Ledgers that aren't kept.
-use Rattle.std.proofs.Common.{◌≡◌, ◌≢◌, ℕ, ◌<◌, ◌≤◌, List, ◌∷◌, All, subst, arith}
+-- Ledgers that aren't kept, books that aren't held, and calls that change a book that they don't touch.
+use Rattle.std.proofs.Common.{◌≡◌, ◌≢◌, ℕ, ◌/◌, ◌<◌, ◌≤◌, ◌&&◌, List, ◌∷◌, length, All, sym, ap, subst, ◌∙◌, arith}
+use Rattle.std.specs.Prelude.{Some, ◌==◌}
+use Rattle.std.proofs.lemmas.Bool.{false≢true}
 use Rattle.std.proofs.lemmas.List.Elements.{All-head}
+use Rattle.nk_bits.specs.declared.call.CallWords.{CallWords}
 use Rattle.nk_bits.specs.declared.kind.Kind.{Kind}
-use Rattle.nk_bits.specs.declared.kind.Kind.TheVariants.{Guarded}
-use Rattle.nk_bits.specs.Kinds.{kind_of}
-use Rattle.region_book.specs.RegionRecords.{Region}
+use Rattle.nk_bits.specs.declared.kind.Kind.TheVariants.{Data, Fixed, Guarded}
+use Rattle.nk_bits.specs.Kinds.{is_data, is_storable, kind_of}
+use Rattle.phys_mem.specs.MaskedMemory.{is_book_frame}
+use Rattle.phys_mem.specs.Memory.{byte_at}
+use Rattle.page_desc.specs.DescriptorBytes.{kinds_in}
+use Rattle.policy_book.specs.PolicyRules.{is_logged}
+use Rattle.region_book.specs.RegionRecords.{Book, Region, region_of}
 use Rattle.write_log.specs.LogRecords.{log_size}
-use Rattle.nk_body.specs.NestedRecord.{IsLedgerKept, Ledger}
+use Rattle.nk_body.specs.BooksTouched.{LeavesBooks, touches_descriptors, touches_regions}
+use Rattle.nk_body.specs.NestedRecord.{HoldsBooks, IsLedgerKept, Ledger, OwnState}
 
 -- a region in a frame that isn't guarded
 unguarded_region : (kinds : List Kind) (ledger : Ledger) (r : Region) (f : ℕ) (regions : List Region) (frames : List ℕ)
@@ -28,3 +36,49 @@ unguarded_pool kinds ledger f least most other kept = other (kept.pool f least m
 -- a log of one byte too many
 long_log : (kinds : List Kind) (ledger : Ledger) → log_size ledger.log ≡ 65537 → IsLedgerKept kinds ledger → ⊥
 long_log kinds ledger size kept = let most = kept.log in omega (arith, size)
+
+-- the frame of the interrupt descriptor table, that of the gates, the handler slot's or the nested kernel's stack is data
+module _ (own : OwnState) (m : List ℕ) (held : HoldsBooks own m) where
+  data_at_0 : kind_of (kinds_in m) 0 ≡ Data → ⊥
+  data_at_0 is = false≢true (sym (ap is_data held.books.fixed.descriptors) ∙ ap is_data is)
+
+  data_at_1 : kind_of (kinds_in m) 1 ≡ Data → ⊥
+  data_at_1 is = false≢true (sym (ap is_data held.books.fixed.gates) ∙ ap is_data is)
+
+  data_at_2 : kind_of (kinds_in m) 2 ≡ Data → ⊥
+  data_at_2 is = false≢true (sym (ap is_data held.books.fixed.handler) ∙ ap is_data is)
+
+  data_at_4 : kind_of (kinds_in m) 4 ≡ Data → ⊥
+  data_at_4 is = false≢true (sym (ap is_data held.books.fixed.stack) ∙ ap is_data is)
+
+  -- the trap stack is data, or fixed
+  data_at_3 : kind_of (kinds_in m) 3 ≡ Data → ⊥
+  data_at_3 is = false≢true (sym (ap is_data held.books.fixed.traps) ∙ ap is_data is)
+
+  fixed_at_3 : kind_of (kinds_in m) 3 ≡ Fixed → ⊥
+  fixed_at_3 is = false≢true (sym (ap is_storable is) ∙ ap is_storable held.books.fixed.traps)
+
+module _ (book : Book) (call : CallWords) (m later : List ℕ) (leaves : LeavesBooks book call m later) where
+  -- call 5, which loads a root, changes the first descriptor of 512
+  root_in_descriptors : call.number ≡ 5 → length m ≡ 2097152 → byte_at later 0x40000 ≢ byte_at m 0x40000 → ⊥
+  unfolding is_book_frame
+  root_in_descriptors number size other =
+      other (leaves.descriptors (ap touches_descriptors number) 0x40000 (omega arith) (ap (λ n. is_book_frame (n / 4096) 64) size))
+
+  -- call 3, which writes an entry, changes the first slot, and call 2 a written bit
+  entry_in_slots : call.number ≡ 3 → byte_at later 0x3C000 ≢ byte_at m 0x3C000 → ⊥
+  entry_in_slots number other = other (leaves.regions (ap touches_regions number) 0x3C000 (omega arith) (omega arith))
+
+  table_in_bits : call.number ≡ 2 → byte_at later 0x2A000 ≢ byte_at m 0x2A000 → ⊥
+  table_in_bits number other = other (leaves.regions (ap touches_regions number) 0x2A000 (omega arith) (omega arith))
+
+  -- call 1, which sets the handler, changes the log
+  handler_in_log : call.number ≡ 1 → byte_at later 0x1A008 ≢ byte_at m 0x1A008 → ⊥
+  handler_in_log number other =
+      other (leaves.log (ap (λ n. n == 9 && is_logged (region_of book call.a)) number) 0x1A008 (omega arith) (omega arith))
+
+  -- and so does a write in a region that is write-once
+  once_in_log : (r : Region) → call.number ≡ 9 → region_of book call.a ≡ Some r → r.policy ≡ 1
+      → byte_at later 0x1A008 ≢ byte_at m 0x1A008 → ⊥
+  once_in_log r number found once other =
+      other (leaves.log ((λ i. number i == 9 && is_logged (found i)) ∙ ap (λ p. p == 4) once) 0x1A008 (omega arith) (omega arith))

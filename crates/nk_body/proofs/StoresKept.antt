@@ -73,6 +73,7 @@ pub books_stay : (laws : StoringLaws) (books : Books) (m : List ℕ) (ws : List 
 books_stay laws books m ws are places = record {
   described = laws.tables.described books.frames books.root m ws are.described (unguarded laws books.frames.kinds ws places);
   least = are.least;
+  fixed = are.fixed;
   trap = are.trap ∙ sym (handler_stays laws books.frames.kinds ws places m are.described.sound.handler);
   kept = are.kept;
 }

@@ -1,6 +1,7 @@
 -- What a reader must believe.
 pub mod NestedRecord
 pub mod CallRules
+pub mod BooksTouched
 pub mod CallLeft
 pub mod KindsKept
 pub mod SourceWords

@@ -3,9 +3,9 @@ use Rattle.std.specs.Prelude.{◌≡◌, ◌≤◌, ◌<◌, ℕ, ◌+◌, ◌*�
 use Rattle.phys_mem.specs.MaskedMemory.{is_book_frame, seen}
 use Rattle.phys_mem.specs.Memory.{byte_at, number_at}
 use Rattle.nk_bits.specs.declared.kind.Kind.{Kind}
-use Rattle.nk_bits.specs.declared.kind.Kind.TheVariants.{Guarded, Hidden}
+use Rattle.nk_bits.specs.declared.kind.Kind.TheVariants.{Fixed, Guarded, Hidden, Trap}
 use Rattle.nk_bits.specs.Kinds.{is_guarded, kind_of}
-use Rattle.nk_bits.specs.KernelLayout.{pool_end, pool_frame}
+use Rattle.nk_bits.specs.KernelLayout.{gate_text, handler_slot, idt_and_tss, nested_stack, pool_end, pool_frame, trap_stack}
 use Rattle.page_desc.specs.FrameDescriptors.{Descriptors}
 use Rattle.page_desc.specs.DescriptorBytes.{HoldsDescriptors, descriptors_in, kinds_in}
 use Rattle.page_desc.specs.PageTables.{AreDescribed, Tables, tables_in}
@@ -52,6 +52,16 @@ pub record IsLedgerKept (kinds : List Kind) (ledger : Ledger) : Type 0 where
   pub pool : (f : ℕ) → pool_frame ≤ f → f < pool_end → kind_of kinds f ≡ Guarded
   pub log : log_size ledger.log ≤ 65536
 
+-- the nested area's frames that hold no page table have the kinds that they begin with: the interrupt descriptor table
+-- with the task-state segment, the gates' text, the handler slot and the nested kernel's stack are fixed, and the trap stack
+-- is Trap
+pub record HasFixedFrames (kinds : List Kind) : Type 0 where
+  pub descriptors : kind_of kinds idt_and_tss ≡ Fixed
+  pub gates : kind_of kinds gate_text ≡ Fixed
+  pub handler : kind_of kinds handler_slot ≡ Fixed
+  pub traps : kind_of kinds trap_stack ≡ Trap
+  pub stack : kind_of kinds nested_stack ≡ Fixed
+
 -- the books of the nested kernel, as plain data
 pub record Books : Type 0 where
   pub frames : Descriptors
@@ -64,10 +74,12 @@ abbrev pub nested_by : Books → List ℕ → Nested
 nested_by books m = nested_in books.frames.kinds books.root books.ledger m
 
 -- books and memory stand for one record: the descriptors are those of memory's tables, which are sound, of at least 512
--- frames; memory holds the handler's address; and the ledger is sound, its regions in guarded frames
+-- frames, of which the nested area's have their kinds; memory holds the handler's address; and the ledger is sound, its
+-- regions in guarded frames
 pub record AreBooks (books : Books) (m : List ℕ) : Type 0 where
   pub described : AreDescribed books.frames books.root m
   pub least : 512 ≤ length books.frames.kinds
+  pub fixed : HasFixedFrames books.frames.kinds
   pub trap : books.trap ≡ handler_in m
   pub kept : IsLedgerKept books.frames.kinds books.ledger
 

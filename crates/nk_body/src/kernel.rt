@@ -1,6 +1,6 @@
 //! The nested kernel's books, and the calls on them.
 
-ghost use Rattle.std.specs.Prelude.{◌≡◌, ◌≢◌, ◌<◌, ◌^◌, false, length, IfOk, None, OnOk, Some};
+ghost use Rattle.std.specs.Prelude.{◌≡◌, ◌≢◌, ◌<◌, ◌^◌, false, length, IfOk, None, OnErr, OnOk, OnSome, Some};
 ghost use Rattle.phys_mem.specs.MaskedMemory.{seen};
 ghost use Rattle.phys_mem.specs.Memory.{entry_in};
 ghost use Rattle.boot_map.specs.Division.{IsLayout};
@@ -14,8 +14,9 @@ ghost use Rattle.policy_book.specs.PolicyRules.{bounds_of};
 ghost use Rattle.region_book.specs.RegionCalls.{fits_in};
 ghost use Rattle.region_book.specs.RegionRecords.{region_of};
 ghost use Rattle.nk_body.specs.NestedRecord.{HoldsBooks, books_in, handler_in, nested_held};
+ghost use Rattle.nk_body.specs.BooksTouched.{LeavesBooks};
 ghost use Rattle.nk_body.specs.CallMade.{IsMade, KeepsForm};
-ghost use Rattle.nk_body.specs.CallRules.{Bytes, IsSourceOf, Sourced, after_call, answer_to, flushes, memory_after_call, answered_place, stand_of, value_by, wants};
+ghost use Rattle.nk_body.specs.CallRules.{Bytes, IsSourceOf, Sourced, after_call, answer_to, flushes, memory_after_call, answered_place, stand_of, value_by, verdict, wants};
 ghost use Rattle.nk_body.specs.SourceWords.{opening_ledger, sourced_of};
 
 use crate::laws::{call_law, call_leaves_law, opening_sound_law};
@@ -133,7 +134,7 @@ impl Kernel {
         }
     }
 
-    /// Makes a call, for which these bytes were read.
+    /// Makes a call, for which these bytes were read. One that breaks a rule leaves kernel and memory as they were.
     pub fn serve(&mut self, mem: &mut PhysMem, call: &CallWords, source: Source) -> Answer
         requires books { HoldsBooks self.old mem.old }
         requires source { IsSourceOf (wants (books_in self.old mem.old).ledger.book call.now) (sourced_of source) }
@@ -143,6 +144,9 @@ impl Kernel {
             (stand_of (nested_held self.old mem.old) call.now (seen mem.old)) }
         ensures memory { seen mem.new ≡ memory_after_call (nested_held self.old mem.old) call.now (sourced_of source.entry) (seen mem.old) }
         ensures books { HoldsBooks self.new mem.new }
+        ensures refused { OnSome (verdict (nested_held self.old mem.old) call.now (sourced_of source.entry))
+            ((self.new ≡ self.old) × (mem.new ≡ mem.old)) }
+        ensures leaves { LeavesBooks (books_in self.old mem.old).ledger.book call.now mem.old mem.new }
     {
         call_law();
         call_leaves_law();
@@ -166,6 +170,8 @@ impl Kernel {
         ensures made { IsMade (books_in self.old mem.old) (seen mem.old) call.now (sourced_of source.entry) (rule_of result) (books_in self.new mem.new) (seen mem.new) }
         ensures frames { self.new.frames ≡ self.old.frames }
         ensures form { KeepsForm self.new mem.new }
+        ensures refused { OnErr result ((self.new ≡ self.old) × (mem.new ≡ mem.old)) }
+        ensures leaves { LeavesBooks (books_in self.old mem.old).ledger.book call.now mem.old mem.new }
         ensures shows { IfOk result (λ it. (it.value ≡ value_by (nested_held self.old mem.old) call.now)
             × (it.place ≡ answered_place (nested_held self.old mem.old) call.now)) }
     {
@@ -190,6 +196,8 @@ impl Kernel {
         ensures made { (source : Sourced) → IsMade (books_in self.old mem.old) (seen mem.old) call.now source (rule_of result) (books_in self.new mem.new) (seen mem.new) }
         ensures frames { self.new.frames ≡ self.old.frames }
         ensures form { KeepsForm self.new mem.new }
+        ensures refused { OnErr result ((self.new ≡ self.old) × (mem.new ≡ mem.old)) }
+        ensures leaves { LeavesBooks (books_in self.old mem.old).ledger.book call.now mem.old mem.new }
         ensures shows { IfOk result (λ it. (it.value ≡ 0) × (it.place ≡ None)) }
     {
         page_tables_law();
@@ -211,6 +219,8 @@ impl Kernel {
         ensures made { (source : Sourced) → IsMade (books_in self.old mem.old) (seen mem.old) call.now source (rule_of result) (books_in self.new mem.new) (seen mem.new) }
         ensures frames { self.new.frames ≡ self.old.frames }
         ensures form { KeepsForm self.new mem.new }
+        ensures refused { OnErr result ((self.new ≡ self.old) × (mem.new ≡ mem.old)) }
+        ensures leaves { LeavesBooks (books_in self.old mem.old).ledger.book call.now mem.old mem.new }
         ensures shows { IfOk result (λ it. (it.value ≡ 0) × (it.place ≡ None)) }
     {
         accepted_law();
@@ -228,6 +238,8 @@ impl Kernel {
         ensures made { (source : Sourced) → IsMade (books_in self.old mem.old) (seen mem.old) call.now source (rule_of result) (books_in self.new mem.new) (seen mem.new) }
         ensures frames { self.new.frames ≡ self.old.frames }
         ensures form { KeepsForm self.new mem.new }
+        ensures refused { OnErr result ((self.new ≡ self.old) × (mem.new ≡ mem.old)) }
+        ensures leaves { LeavesBooks (books_in self.old mem.old).ledger.book call.now mem.old mem.new }
         ensures shows { IfOk result (λ it. (it.value ≡ 0) × (it.place ≡ None)) }
     {
         held_regions_law();
@@ -244,6 +256,8 @@ impl Kernel {
         ensures made { (source : Sourced) → IsMade (books_in self.old mem.old) (seen mem.old) call.now source (rule_of result) (books_in self.new mem.new) (seen mem.new) }
         ensures frames { self.new.frames ≡ self.old.frames }
         ensures form { KeepsForm self.new mem.new }
+        ensures refused { OnErr result ((self.new ≡ self.old) × (mem.new ≡ mem.old)) }
+        ensures leaves { LeavesBooks (books_in self.old mem.old).ledger.book call.now mem.old mem.new }
         ensures shows { IfOk result (λ it. (it.value ≡ 0) × (it.place ≡ None)) }
     {
         accepted_law();
@@ -261,6 +275,8 @@ impl Kernel {
         ensures made { (source : Sourced) → IsMade (books_in self.old mem.old) (seen mem.old) call.now source (rule_of result) (books_in self.new mem.new) (seen mem.new) }
         ensures frames { self.new.frames ≡ self.old.frames }
         ensures form { KeepsForm self.new mem.new }
+        ensures refused { OnErr result ((self.new ≡ self.old) × (mem.new ≡ mem.old)) }
+        ensures leaves { LeavesBooks (books_in self.old mem.old).ledger.book call.now mem.old mem.new }
         ensures shows { IfOk result (λ it. (it.value ≡ 0) × (it.place ≡ None)) }
     {
         let _frames = mem.frames();
@@ -278,6 +294,8 @@ impl Kernel {
         ensures made { (source : Sourced) → IsMade (books_in self.old mem.old) (seen mem.old) call.now source (rule_of result) (books_in self.new mem.new) (seen mem.new) }
         ensures frames { self.new.frames ≡ self.old.frames }
         ensures form { KeepsForm self.new mem.new }
+        ensures refused { OnErr result ((self.new ≡ self.old) × (mem.new ≡ mem.old)) }
+        ensures leaves { LeavesBooks (books_in self.old mem.old).ledger.book call.now mem.old mem.new }
         ensures shows { IfOk result (λ it. (it.value ≡ (books_in self.old mem.old).ledger.book.next) × (it.place ≡ None)) }
     {
         page_tables_law();
@@ -307,6 +325,8 @@ impl Kernel {
         ensures made { (source : Sourced) → IsMade (books_in self.old mem.old) (seen mem.old) call.now source (rule_of result) (books_in self.new mem.new) (seen mem.new) }
         ensures frames { self.new.frames ≡ self.old.frames }
         ensures form { KeepsForm self.new mem.new }
+        ensures refused { OnErr result ((self.new ≡ self.old) × (mem.new ≡ mem.old)) }
+        ensures leaves { LeavesBooks (books_in self.old mem.old).ledger.book call.now mem.old mem.new }
         ensures shows { IfOk result (λ it. (it.value ≡ (books_in self.old mem.old).ledger.book.next)
             × (it.place ≡ answered_place (nested_held self.old mem.old) call.now)) }
     {
@@ -329,6 +349,8 @@ impl Kernel {
         ensures made { (source : Sourced) → IsMade (books_in self.old mem.old) (seen mem.old) call.now source (rule_of result) (books_in self.new mem.new) (seen mem.new) }
         ensures frames { self.new.frames ≡ self.old.frames }
         ensures form { KeepsForm self.new mem.new }
+        ensures refused { OnErr result ((self.new ≡ self.old) × (mem.new ≡ mem.old)) }
+        ensures leaves { LeavesBooks (books_in self.old mem.old).ledger.book call.now mem.old mem.new }
         ensures shows { IfOk result (λ it. (it.value ≡ 0) × (it.place ≡ None)) }
     {
         stored_law();
@@ -353,6 +375,8 @@ impl Kernel {
         ensures made { IsMade (books_in self.old mem.old) (seen mem.old) call.now (sourced_of source.entry) (rule_of result) (books_in self.new mem.new) (seen mem.new) }
         ensures frames { self.new.frames ≡ self.old.frames }
         ensures form { KeepsForm self.new mem.new }
+        ensures refused { OnErr result ((self.new ≡ self.old) × (mem.new ≡ mem.old)) }
+        ensures leaves { LeavesBooks (books_in self.old mem.old).ledger.book call.now mem.old mem.new }
         ensures shows { IfOk result (λ it. (it.value ≡ 0) × (it.place ≡ None)) }
     {
         match source {
@@ -388,6 +412,8 @@ impl Kernel {
         ensures made { IsMade (books_in self.old mem.old) (seen mem.old) call.now (Bytes bytes.now) (rule_of result) (books_in self.new mem.new) (seen mem.new) }
         ensures frames { self.new.frames ≡ self.old.frames }
         ensures form { KeepsForm self.new mem.new }
+        ensures refused { OnErr result ((self.new ≡ self.old) × (mem.new ≡ mem.old)) }
+        ensures leaves { LeavesBooks (books_in self.old mem.old).ledger.book call.now mem.old mem.new }
         ensures shows { IfOk result (λ it. (it.value ≡ 0) × (it.place ≡ None)) }
     {
         page_tables_law();

@@ -2,4 +2,6 @@ pub mod Passed
 pub mod MovedOut
 pub mod Places
 pub mod InReads
+pub mod HeldBytes
 pub mod RefutedShelves
+mod RefutedCounts

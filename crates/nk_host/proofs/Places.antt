@@ -8,7 +8,7 @@ use Rattle.std.proofs.lemmas.Slice.Eq.{bytes_eq-Decides}
 use Rattle.nk_host.specs.FaultCounts.{raised, NeverFalls, OnlyAt}
 use Rattle.nk_host.specs.ShelfInMemory.{NamedFile, Stock, at_place, name_place, file_of, count_of, with_fault, read_fails, after_read}
 
-abbrev no_file : NamedFile
+abbrev pub no_file : NamedFile
 no_file = record { name = []; bytes = [] }
 
 -- the first place in the images is the first place whose image passes

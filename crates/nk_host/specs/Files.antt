@@ -14,9 +14,9 @@ IsLonger files name most = IsSomeAnd (files name) (λ file. most < length file)
 abbrev pub IsFileOfBytes : List ℕ → Type 0
 IsFileOfBytes file = (i : ℕ) → slice_index file i < 256
 
--- the file of the name, where one is held, is made of bytes
-abbrev pub HoldsBytes : (List ℕ → Option (List ℕ)) → List ℕ → Type 0
-HoldsBytes files name = IfSome (files name) IsFileOfBytes
+-- so is each file that is held
+abbrev pub AreFilesOfBytes : (List ℕ → Option (List ℕ)) → Type 0
+AreFilesOfBytes files = (name : List ℕ) → IfSome (files name) IsFileOfBytes
 
 -- a file of so many bytes is held under the name
 abbrev pub HasSize : (List ℕ → Option (List ℕ)) → List ℕ → ℕ → Type 0

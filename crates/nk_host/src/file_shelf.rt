@@ -1,5 +1,5 @@
 //! The machine's files.
-ghost use Rattle.std.specs.Prelude.{◌≡◌, ◌≢◌, ◌↔◌, ◌≤◌, IfOk, IfSome};
+ghost use Rattle.std.specs.Prelude.{◌≡◌, ◌≢◌, ◌↔◌, ◌≤◌, IfOk, IfSome, length, vec_len};
 ghost use Rattle.nk_host.specs.FaultCounts.{RoseTo, raised};
 ghost use Rattle.nk_host.specs.Streams.{StandsAt};
 
@@ -194,8 +194,15 @@ impl<R: Files> Shelf for FileShelf<'_, R> {
 
     ghost wants = { λ s. s.wants };
 
-    /// A file that can't be opened or read is a fault, a directory and an interrupted read too.
-    fn fetch(&mut self, alloc: Global, name: &str, most: u64) -> Result<Vec<u8>, FetchFault> {
+    /// A file that can't be opened or read is a fault, a directory and an interrupted read too. Any other
+    /// answer leaves the count of faults.
+    fn fetch(&mut self, alloc: Global, name: &str, most: u64) -> Result<Vec<u8>, FetchFault>
+        ensures never_falls { self.old.faults ≤ self.new.faults }
+        ensures counts_stay { result ≢ Err FetchFault.Failed → self.new.faults ≡ self.old.faults }
+        ensures failed { result ≡ Err FetchFault.Failed → RoseTo self.old.faults self.new.faults }
+        ensures wants_stand { self.old.wants ≤ self.new.wants }
+        ensures at_most { IfOk result (λ bytes. vec_len bytes ≤ most) }
+    {
         let Ok(file) = fs::open(self.rt, name) else {
             self.count_fault();
             return Err(FetchFault::Failed);
@@ -207,21 +214,35 @@ impl<R: Files> Shelf for FileShelf<'_, R> {
     }
 
     /// Opens the file anew. One that can't be opened is a fault, and so are a directory and what has no
-    /// length, as a pipe.
-    fn size(&mut self, alloc: Global, name: &str, most: u64) -> Result<u64, FetchFault> {
+    /// length, as a pipe. Any other answer leaves the count of faults.
+    fn size(&mut self, alloc: Global, name: &str, most: u64) -> Result<u64, FetchFault>
+        ensures never_falls { self.old.faults ≤ self.new.faults }
+        ensures counts_stay { result ≢ Err FetchFault.Failed → self.new.faults ≡ self.old.faults }
+        ensures failed { result ≡ Err FetchFault.Failed → RoseTo self.old.faults self.new.faults }
+        ensures wants_stand { self.old.wants ≤ self.new.wants }
+        ensures wanted { result ≡ Err FetchFault.Memory → RoseTo self.old.wants self.new.wants }
+        ensures at_most { IfOk result (λ size. size ≤ most) }
+    {
         at_most(self.length(alloc, name), most)
     }
 
     /// Reads the file where the piece stands, without what is before it. One that can't be opened or read
     /// is a fault, and so are a directory, an interrupted read, and a file that ends before the piece
-    /// does.
+    /// does. Any other answer leaves the count of faults.
     fn piece(
         &mut self,
         alloc: Global,
         name: &str,
         at: u64,
         into: &mut [u8],
-    ) -> Result<(), PieceFault> {
+    ) -> Result<(), PieceFault>
+        ensures never_falls { self.old.faults ≤ self.new.faults }
+        ensures counts_stay { result ≢ Err PieceFault.Failed → self.new.faults ≡ self.old.faults }
+        ensures failed { result ≡ Err PieceFault.Failed → RoseTo self.old.faults self.new.faults }
+        ensures wants_stand { self.old.wants ≤ self.new.wants }
+        ensures wanted { result ≡ Err PieceFault.Memory → RoseTo self.old.wants self.new.wants }
+        ensures len { length into.new ≡ length into.old }
+    {
         self.fill(alloc, name, at, into)
     }
 }

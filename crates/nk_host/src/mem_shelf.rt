@@ -1,7 +1,7 @@
 //! A shelf in memory.
 ghost use Rattle.std.specs.Prelude.{◌≡◌, ◌≢◌, ℕ, ◌+◌, ◌≤◌, ◌<◌, ◌↔◌, List, [], map, length, take, drop, replicate, Option, IfOk, OnOk, IfErr, IsTrue, IsFalse, Some, slice_set, position, ◌-◌, ◌^◌, vec_len};
 ghost use Rattle.std.specs.Option.{option_copied};
-ghost use Rattle.nk_host.specs.Files.{HasSize, HoldsBytes, IsFile, IsFileOfBytes, IsLonger, IsPiece, IsWithin};
+ghost use Rattle.nk_host.specs.Files.{AreFilesOfBytes, HasSize, IsFile, IsFileOfBytes, IsLonger, IsPiece, IsWithin};
 ghost use Rattle.std.specs.Str.{bytes_eq};
 ghost use Rattle.std.specs.String.{string_bytes};
 ghost use Rattle.nk_host.specs.Attempts.{is_due};
@@ -65,6 +65,15 @@ fn no_faults(alloc: Global, len: usize) -> Result<Vec<u64>, NoMemory>
 fn are_bytes(file: &[u8])
     ensures { IsFileOfBytes file.now }
 {}
+
+/// Each file is made of bytes.
+fn are_files_of_bytes(held: &[(String, Vec<u8>)])
+    ensures { AreFilesOfBytes (file_of (named_files held.now)) }
+{
+    for file in held {
+        are_bytes(&file.1);
+    }
+}
 
 /// A copy of the file, where it has at most `most` bytes.
 fn copy_of(alloc: Global, file: &[u8], most: u64) -> Result<Vec<u8>, FetchFault>
@@ -153,17 +162,14 @@ impl MemShelf {
 
     fn file(&self, name: &str) -> Option<&[u8]>
         ensures held { option_copied result ≡ file_of self.now.files name.now }
-        ensures bytes { HoldsBytes (file_of self.now.files) name.now }
     {
         let place = place_of_name(&self.held, name)?;
-        let file: &[u8] = &self.held[place].1;
-        are_bytes(file);
-        Some(file)
+        Some(&self.held[place].1)
     }
 
     fn fetch_next(&mut self, alloc: Global, name: &str, most: u64) -> Result<Vec<u8>, FetchFault>
         ensures after { self.new ≡ after_read self.old name.now }
-        ensures bytes { HoldsBytes (file_of self.old.files) name.now }
+        ensures bytes { AreFilesOfBytes (file_of self.old.files) }
         ensures failed { result ≡ Err FetchFault.Failed ↔ IsTrue (read_fails self.old name.now) }
         ensures longer { result ≡ Err FetchFault.Longer
             ↔ IsFalse (read_fails self.old name.now) × IsLonger (file_of self.old.files) name.now most }
@@ -174,6 +180,7 @@ impl MemShelf {
         ensures one_each { IsTrue (read_fails self.old name.now) → length self.old.files ≡ length self.old.counts }
         ensures fits { IsTrue (read_fails self.old name.now) → count_of self.old name.now ≤ 2 ^ 64 - 1 }
     {
+        are_files_of_bytes(&self.held);
         let due = self.begin();
         match self.file(name) {
             Some(file) if !due => copy_of(alloc, file, most),
@@ -186,7 +193,7 @@ impl MemShelf {
 
     fn size_next(&mut self, name: &str, most: u64) -> Result<u64, FetchFault>
         ensures after { self.new ≡ after_read self.old name.now }
-        ensures bytes { HoldsBytes (file_of self.old.files) name.now }
+        ensures bytes { AreFilesOfBytes (file_of self.old.files) }
         ensures failed { result ≡ Err FetchFault.Failed ↔ IsTrue (read_fails self.old name.now) }
         ensures longer { result ≡ Err FetchFault.Longer
             ↔ IsFalse (read_fails self.old name.now) × IsLonger (file_of self.old.files) name.now most }
@@ -198,6 +205,7 @@ impl MemShelf {
         ensures one_each { IsTrue (read_fails self.old name.now) → length self.old.files ≡ length self.old.counts }
         ensures fits { IsTrue (read_fails self.old name.now) → count_of self.old name.now ≤ 2 ^ 64 - 1 }
     {
+        are_files_of_bytes(&self.held);
         let due = self.begin();
         match self.file(name) {
             Some(file) if !due => size_of(file, most),
@@ -255,7 +263,7 @@ impl Shelf for MemShelf {
     /// longer, or it is given, or there is no memory for it.
     fn fetch(&mut self, alloc: Global, name: &str, most: u64) -> Result<Vec<u8>, FetchFault>
         ensures files_stay { Some (file_of self.new.files) ≡ Some (file_of self.old.files) }
-        ensures bytes { HoldsBytes (file_of self.old.files) name.now }
+        ensures bytes { AreFilesOfBytes (file_of self.old.files) }
         ensures never_falls { NeverFalls (count_of self.old) (count_of self.new) }
         ensures only_at { OnlyAt (file_of self.old.files) (count_of self.old) (count_of self.new) name.now }
         ensures counts_stay { result ≢ Err FetchFault.Failed → count_of self.new ≡ count_of self.old }
@@ -278,7 +286,7 @@ impl Shelf for MemShelf {
     /// longer, or its length is given. It takes no memory.
     fn size(&mut self, _alloc: Global, name: &str, most: u64) -> Result<u64, FetchFault>
         ensures files_stay { Some (file_of self.new.files) ≡ Some (file_of self.old.files) }
-        ensures bytes { HoldsBytes (file_of self.old.files) name.now }
+        ensures bytes { AreFilesOfBytes (file_of self.old.files) }
         ensures never_falls { NeverFalls (count_of self.old) (count_of self.new) }
         ensures only_at { OnlyAt (file_of self.old.files) (count_of self.old) (count_of self.new) name.now }
         ensures counts_stay { result ≢ Err FetchFault.Failed → count_of self.new ≡ count_of self.old }

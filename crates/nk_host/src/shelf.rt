@@ -1,7 +1,7 @@
 //! Files under names.
-ghost use Rattle.std.specs.Prelude.{◌≡◌, ◌≢◌, ℕ, ◌≤◌, List, length, Option, IfOk, OnOk, vec_len};
+ghost use Rattle.std.specs.Prelude.{◌≡◌, ℕ, ◌≤◌, List, length, Option, IfOk, OnOk, vec_len};
 ghost use Rattle.nk_host.specs.FaultCounts.{NeverFalls, OnlyAt, Rose, RoseTo};
-ghost use Rattle.nk_host.specs.Files.{HasSize, HoldsBytes, IsFile, IsLonger, IsPiece, IsWithin};
+ghost use Rattle.nk_host.specs.Files.{AreFilesOfBytes, HasSize, IsFile, IsLonger, IsPiece, IsWithin};
 ghost use Rattle.nk_host.specs.Told.{IfTold};
 
 use crate::{FetchFault, PieceFault};
@@ -23,14 +23,13 @@ pub trait Shelf {
     fn fetch(&mut self, alloc: Global, name: &str, most: u64) -> Result<Vec<u8>, FetchFault>
         ensures files_stay { files self.new ≡ files self.old }
 
-        // What is told is bytes, whatever the fetch answers.
-        ensures bytes { IfTold (files self.old) (λ held. HoldsBytes held name.now) }
+        // What is told is bytes, of every name and whatever the fetch answers.
+        ensures bytes { IfTold (files self.old) AreFilesOfBytes }
 
         // The counts.
         ensures never_falls { NeverFalls (faults self.old) (faults self.new) }
         ensures only_at { IfTold (files self.old)
             (λ held. OnlyAt held (faults self.old) (faults self.new) name.now) }
-        ensures counts_stay { result ≢ Err FetchFault.Failed → faults self.new ≡ faults self.old }
         ensures failed { result ≡ Err FetchFault.Failed → Rose (faults self.old) (faults self.new) name.now }
         ensures wants_stand { wants self.old ≤ wants self.new }
 
@@ -45,14 +44,13 @@ pub trait Shelf {
     fn size(&mut self, alloc: Global, name: &str, most: u64) -> Result<u64, FetchFault>
         ensures files_stay { files self.new ≡ files self.old }
 
-        // What is told is bytes, whatever the size answers.
-        ensures bytes { IfTold (files self.old) (λ held. HoldsBytes held name.now) }
+        // What is told is bytes, of every name and whatever the size answers.
+        ensures bytes { IfTold (files self.old) AreFilesOfBytes }
 
         // The counts.
         ensures never_falls { NeverFalls (faults self.old) (faults self.new) }
         ensures only_at { IfTold (files self.old)
             (λ held. OnlyAt held (faults self.old) (faults self.new) name.now) }
-        ensures counts_stay { result ≢ Err FetchFault.Failed → faults self.new ≡ faults self.old }
         ensures failed { result ≡ Err FetchFault.Failed → Rose (faults self.old) (faults self.new) name.now }
         ensures wants_stand { wants self.old ≤ wants self.new }
         ensures wanted { result ≡ Err FetchFault.Memory → RoseTo (wants self.old) (wants self.new) }
@@ -80,7 +78,6 @@ pub trait Shelf {
         ensures never_falls { NeverFalls (faults self.old) (faults self.new) }
         ensures only_at { IfTold (files self.old)
             (λ held. OnlyAt held (faults self.old) (faults self.new) name.now) }
-        ensures counts_stay { result ≢ Err PieceFault.Failed → faults self.new ≡ faults self.old }
         ensures failed { result ≡ Err PieceFault.Failed → Rose (faults self.old) (faults self.new) name.now }
         ensures wants_stand { wants self.old ≤ wants self.new }
         ensures wanted { result ≡ Err PieceFault.Memory → RoseTo (wants self.old) (wants self.new) }

@@ -8,7 +8,7 @@ use Rattle.nk_bits.specs.Kinds.{kind_of}
 use Rattle.irq_plan.specs.declared.event.Event.{Event}
 use Rattle.irq_plan.specs.PlannedEvents.{IsPlan}
 use Rattle.elf_image.specs.Pages.{byte_of, is_executable, page_count, pages_of}
-use Rattle.boot_map.specs.Division.{division_of, pages_start}
+use Rattle.boot_map.specs.Division.{IsLayout, division_of, pages_start}
 use Rattle.boot_map.specs.KernelSlot.{IsCodePage}
 use Rattle.boot_map.specs.Opening.{division_byte}
 use Rattle.boot_map.specs.OpeningKinds.{kinds}
@@ -23,6 +23,7 @@ use Rattle.gate_state.specs.MachineSteps.{state}
 use Rattle.code_modules.specs.JoinAnswers.{part_first, part_last}
 use Rattle.code_modules.specs.JoinedImage.{IsJoined, is_page_in, part_touches}
 use Rattle.code_modules.specs.JoinedParts.{CodeModule, JoinedPart, modules_behind}
+use Rattle.nk_run.specs.Clauses.{IsSafeRun}
 use Rattle.nk_run.specs.JoinedRuns.{IsCodeByte, KeepsCode}
 use Rattle.nk_run.proofs.JournalOpening.{is_opening}
 
@@ -76,16 +77,17 @@ module _ (kinds_hold : OpeningKindsLaws) (bytes_hold : OpeningBytesLaws) (leaf_h
             now ∙ sym first ∙ loaded ∙ ap (λ n. byte_of b (4096 * n + va % 4096)) page_is ∙ ap (byte_of b) whole ∙ is;
       }
 
-  pub code_kept : ((o : Opening) (input : List ℕ) (plan : List Event) (k : ℕ) → IsAdmitted o → IsPlan plan
-      → IsGuarded o (state plan (opening_state o input) k))
+  pub code_kept : ((o : Opening) (input : List ℕ) (plan : List Event) → IsAdmitted o → IsPlan plan → IsSafeRun plan o input)
       → (b : List ℕ) (modules : List CodeModule) (file : List ℕ) → IsJoined b modules file
+      → ((o : Opening) → o.image ≡ file → IsLayout o.image (division_of o.image o.frames) → IsAdmitted o)
       → KeepsCode (modules_behind b modules) file
-  code_kept guarded b modules file joined o input plan step same admitted in_form i k part listed within =
+  code_kept safe b modules file joined admits o input plan step same layout in_form i k part listed within =
       let va : ℕ = part.address + k in
+      let admitted : IsAdmitted o = admits o same layout in
       let runs : is_executable o.image (va / 4096) ≡ true =
       ap (λ f. is_executable f (va / 4096)) same ∙ joined.loaded.executable (va / 4096)
       ∙ or_right (is_executable b (va / 4096)) (is_page_in (modules_behind b modules) (va / 4096))
       (listed_page (modules_behind b modules) i (va / 4096) part listed (touched part k within)) in
       code_byte o (state plan (opening_state o input) step) va (slice_index part.bytes k) admitted
-      (guarded o input plan step admitted in_form) runs
+      ((safe o input plan admitted in_form).guarded step) runs
       (ap (λ f. byte_of f va) same ∙ joined.loaded.module_bytes i k part listed within)

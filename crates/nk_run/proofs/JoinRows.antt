@@ -3,30 +3,31 @@ use Rattle.std.proofs.Common.{◌≡◌, ℕ, ◌+◌, ◌<◌, List, [], ◌∷
 use Rattle.std.specs.Prelude.{MatchResult, option_map, slice_get}
 use Rattle.std.proofs.Math.Seq.{take-suc, take-suc-set, take_all}
 use Rattle.std.proofs.lemmas.List.{get_or-map, length-map}
+use Rattle.std.proofs.lemmas.List.Elements.{All-cons, All-nil}
 use Rattle.std.proofs.lemmas.Option.{slice_get_cases}
-use Rattle.std.specs.List.{range_with_len}
+use Rattle.std.specs.List.{All, range_with_len}
 use Rattle.nk_host.specs.FaultCounts.{NeverFalls}
+use Rattle.nk_host.specs.Files.{AreFilesOfBytes, IsFileOfBytes}
 use Rattle.nk_host.specs.Told.{IfTold}
 use Rattle.elf_image.specs.Rows.{first_fault}
 use Rattle.code_modules.specs.declared.fault.JoinFault.{JoinFault}
 use Rattle.code_modules.specs.declared.fault.JoinFault.TheVariants as join
 use Rattle.code_modules.specs.JoinAnswers.{IsFaultOf, join_answer, modules_with}
 use Rattle.code_modules.specs.JoinedImage.{IsJoined}
-use Rattle.code_modules.specs.JoinedParts.{CodeModule, modules_behind}
+use Rattle.code_modules.specs.JoinedParts.{CodeModule}
 use Rattle.code_modules.specs.ModuleList.{Listed, list_of}
 use Rattle.nk_run.specs.declared.command_line.Role.TheVariants.{Image, Module, ModuleList}
-use Rattle.nk_run.specs.Clauses.{HasJoined}
-use Rattle.nk_run.specs.CommandLine.{Command, Scan, Map, Run, Replay, Make, Work, Join, Audit, Assemble, Listing, command_of, roles_of}
-use Rattle.nk_run.specs.JoinedRuns.{KeepsCode}
+use Rattle.nk_run.specs.Clauses.{HasJoined, IsWholeJoin}
+use Rattle.nk_run.specs.CommandLine.{Command, Scan, Map, Run, Replay, Make, Work, Join, Audit, Assemble, Listing, command_of, name_in, roles_of}
 use Rattle.nk_run.specs.Outcome.{Answer, Check, Verdict, checks_of, ends, file_in, file_joined, first_verdict, join_in, joinable, list_checks, listed_in, module_checks, module_fetches, module_held, modules_in, modules_named, outcome, passes, test, unless_ended, well_listed}
-use Rattle.nk_run.specs.Replies.{CommandSays, EndsOwn, IsOwn, IsWant, StopsIn}
+use Rattle.nk_run.specs.Replies.{CommandSays, EndsOwn, IsOwn, IsWant, ReadsBytes, StopsIn}
 use Rattle.nk_run.specs.declared.status.Status.{Status}
 use Rattle.nk_run.specs.Statuses.{status_number}
 use Rattle.nk_run.specs.Witness.{Change, Files, ShelfState}
 use Rattle.nk_run.proofs.Checks.{first_verdict-append}
 use Rattle.nk_run.proofs.ModuleFetches.{named_stops}
 use Rattle.nk_run.proofs.Rows.{all_says, both_pass, outcome_says, own_large, own_zero, row_passed, row_says, stops_after, stops_longer, wants_says}
-use Rattle.nk_run.proofs.SafeRuns.{no_fault}
+use Rattle.nk_run.proofs.SafeRuns.{held_bytes, no_fault}
 use Rattle.nk_run.proofs.Told.{if_told, told_at}
 
 -- modules by their guards and their bytes
@@ -215,27 +216,41 @@ checked_join files words passed =
       file = joined_whole _ (unless_first _ whole.1);
     }
 
+-- the modules are made of bytes, where the files that are told are
+modules_of_bytes : (files : Files) → AreFilesOfBytes files → (listed : List Listed)
+    → All (λ m. IsFileOfBytes m.bytes) (map (module_held files) listed)
+modules_of_bytes files told [] = All-nil (λ (m : CodeModule). IsFileOfBytes m.bytes)
+modules_of_bytes files told (it ∷ later) =
+    All-cons (λ (m : CodeModule). IsFileOfBytes m.bytes) (module_held files it) (map (module_held files) later)
+    (held_bytes (files it.name) (told it.name)) (modules_of_bytes files told later)
+
 -- where the checks of a join pass, its file has all that was joined, and nothing else
 pub joined_where_join : ((b : List ℕ) (modules : List CodeModule) (file : List ℕ) → first_fault b ≡ None → 0 < length modules
     → join_answer b modules ≡ Ok file → IsJoined b modules file)
+    → ((b : List ℕ) (modules : List CodeModule) (file : List ℕ) → IsFileOfBytes b → All (λ m. IsFileOfBytes m.bytes) modules
+    → join_answer b modules ≡ Ok file → IsFileOfBytes file)
     → ((bytes : List ℕ) (modules : List Listed) → list_of bytes ≡ Ok modules → 0 < length modules)
-    → ((b : List ℕ) (modules : List CodeModule) (file : List ℕ) → IsJoined b modules file → KeepsCode (modules_behind b modules) file)
-    → (words : List (List ℕ)) (files : Files) (command : Command) → HasJoined command words files
-joined_where_join law some code words files Scan = tt
-joined_where_join law some code words files (Map frames va) = tt
-joined_where_join law some code words files (Run steps frames) = tt
-joined_where_join law some code words files (Replay frames) = tt
-joined_where_join law some code words files (Audit frames id) = tt
-joined_where_join law some code words files Assemble = tt
-joined_where_join law some code words files (Listing address count) = tt
-joined_where_join law some code words files (Make number) = tt
-joined_where_join law some code words files (Work number) = tt
-joined_where_join law some code words files Join = λ passed.
+    → ((b : List ℕ) (modules : List CodeModule) (file : List ℕ) → IsJoined b modules file → IsFileOfBytes file
+    → IsWholeJoin b modules file)
+    → (words : List (List ℕ)) (files : Files) (command : Command) → ReadsBytes command (Some files)
+    → HasJoined command words files
+joined_where_join law of_bytes some whole words files Scan told = tt
+joined_where_join law of_bytes some whole words files (Map frames va) told = tt
+joined_where_join law of_bytes some whole words files (Run steps frames) told = tt
+joined_where_join law of_bytes some whole words files (Replay frames) told = tt
+joined_where_join law of_bytes some whole words files (Audit frames id) told = tt
+joined_where_join law of_bytes some whole words files Assemble told = tt
+joined_where_join law of_bytes some whole words files (Listing address count) told = tt
+joined_where_join law of_bytes some whole words files (Make number) told = tt
+joined_where_join law of_bytes some whole words files (Work number) told = tt
+joined_where_join law of_bytes some whole words files Join told = λ passed.
     let it = checked_join files words passed in
+    let image : List ℕ = file_in files words Image in
+    let modules : List CodeModule = modules_in files words in
+    let file : List ℕ = file_joined (join_in files words) in
     let named = some (file_in files words ModuleList) (modules_named files words) it.listed in
-    let joined = law (file_in files words Image) (modules_in files words) (file_joined (join_in files words)) it.formed
+    let joined = law image modules file it.formed
     (omega (arith, named, length-map (modules_named files words) (module_held files))) it.file in
-    record {
-      joined = joined;
-      kept = code (file_in files words Image) (modules_in files words) (file_joined (join_in files words)) joined;
-    }
+    whole image modules file joined
+    (of_bytes image modules file (held_bytes (files (name_in words Image)) (told (name_in words Image)))
+    (modules_of_bytes files told (modules_named files words)) it.file)

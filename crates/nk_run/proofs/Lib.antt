@@ -17,6 +17,8 @@ pub mod Runs
 pub mod RunEnds
 pub mod JournalOutcomes
 pub mod SafeRuns
+pub mod AdmittedImages
+pub mod WorkBounds
 pub mod JoinRows
 pub mod StepTexts
 pub mod StepEnds
@@ -40,3 +42,5 @@ mod WorkedAudits
 mod RefutedPromises
 mod RefutedReplays
 mod RefutedOutcomes
+mod BuiltPremises
+mod RefutedFiles

@@ -406,13 +406,13 @@ module _ (seen : Witness) (status : ℕ) (text : List ℕ) (result : ℕ) where
   done says written =
       if_told seen.shelf.before.files _ (λ files e wanted none. done_with files wanted (faultless none files e says written))
 
--- what is told of the image that a run reads is bytes
-read_bytes : (seen : Witness) → IfSome (command_of seen.words) (λ command. ReadsBytes command seen.words seen.shelf.before.files)
+-- what is told where a run or a join reads it is bytes
+read_bytes : (seen : Witness) → IfSome (command_of seen.words) (λ command. ReadsBytes command seen.shelf.before.files)
     → (files : Files) → seen.shelf.before.files ≡ Some files → (command : Command) → command_of seen.words ≡ Some command
-    → ReadsBytes command seen.words (Some files)
+    → ReadsBytes command (Some files)
 read_bytes seen bytes files e command asked =
-    let P : Option Command → Type 0 = λ o. IfSome o (λ command. ReadsBytes command seen.words seen.shelf.before.files) in
-    subst (ReadsBytes command seen.words) e (subst P asked bytes)
+    let P : Option Command → Type 0 = λ o. IfSome o (λ command. ReadsBytes command seen.shelf.before.files) in
+    subst (ReadsBytes command) e (subst P asked bytes)
 
 -- what holds of each command, where files are told
 of_command : (seen : Witness) (P : Command → Files → Type 0)
@@ -423,10 +423,10 @@ of_command seen P law =
 
 pub promised : (seen : Witness) (result : ℕ)
     → ((words : List (List ℕ)) (files : Files) (command : Command) → HasEnd command words files)
-    → ((words : List (List ℕ)) (files : Files) (command : Command) → command_of words ≡ Some command → ReadsBytes command words (Some files) → HasSafeRun command words files)
-    → ((words : List (List ℕ)) (files : Files) (command : Command) → command_of words ≡ Some command → ReadsBytes command words (Some files) → HasJournal command words files)
-    → ((words : List (List ℕ)) (files : Files) (command : Command) → HasJoined command words files)
-    → IfSome (command_of seen.words) (λ command. ReadsBytes command seen.words seen.shelf.before.files)
+    → ((words : List (List ℕ)) (files : Files) (command : Command) → command_of words ≡ Some command → ReadsBytes command (Some files) → HasSafeRun command words files)
+    → ((words : List (List ℕ)) (files : Files) (command : Command) → command_of words ≡ Some command → ReadsBytes command (Some files) → HasJournal command words files)
+    → ((words : List (List ℕ)) (files : Files) (command : Command) → ReadsBytes command (Some files) → HasJoined command words files)
+    → IfSome (command_of seen.words) (λ command. ReadsBytes command seen.shelf.before.files)
     → IsAnswered seen result → Promises seen result
 promised seen result ended law again joined bytes r = record {
   status_range = status_range seen r.status r.text result r.says r.written;
@@ -448,5 +448,6 @@ promised seen result ended law again joined bytes r = record {
       (λ files e command asked. law seen.words files command asked (read_bytes seen bytes files e command asked));
   run_replayed = of_command seen (λ command files. HasJournal command seen.words files)
       (λ files e command asked. again seen.words files command asked (read_bytes seen bytes files e command asked));
-  image_joined = of_command seen (λ command files. HasJoined command seen.words files) (λ files e command asked. joined seen.words files command);
+  image_joined = of_command seen (λ command files. HasJoined command seen.words files)
+      (λ files e command asked. joined seen.words files command (read_bytes seen bytes files e command asked));
 }

@@ -1,15 +1,20 @@
 -- What the top call doesn't promise, each named by the sentence that it guards.
-use Rattle.std.proofs.Common.{◌≡◌, ◌≢◌, ℕ, List, ◌++◌, None, Some, Option, inl, inr, refl, sym, subst, ◌∙◌, arith}
-use Rattle.std.specs.Prelude.{IfSome, MatchOption, ◌⊎◌, ⊤}
+use Rattle.std.proofs.Common.{◌≡◌, ◌≢◌, ℕ, List, [], ◌++◌, None, Some, Option, inl, inr, refl, sym, subst, ◌∙◌, arith}
+use Rattle.std.specs.Prelude.{IfSome, MatchOption, ◌⊎◌, ⊤, slice_index}
 use Rattle.std.specs.Io.KnownBytes.{Appends}
 use Rattle.nk_host.specs.FaultCounts.{RoseTo}
 use Rattle.byte_scanner.specs.declared.encoding.Found.{Found}
 use Rattle.byte_scanner.specs.FirstFound.{first_found}
+use Rattle.gate_state.specs.MachineOpening.{opening_state}
+use Rattle.gate_state.specs.MachineSteps.{state}
+use Rattle.gate_state.specs.SafeStates.{IsSafe}
+use Rattle.image_maker.specs.MadeImage.{image_of_number}
 use Rattle.nk_run.specs.declared.command_line.Role.{Role}
-use Rattle.nk_run.specs.Clauses.{HasJoined, IsFaultless, IsOutside, IsUnread, MaySay, NameRose, Promises, SinkRose, TookAll, TookPrefix}
-use Rattle.nk_run.specs.CommandLine.{Command, Scan, Join, IsAsked, command_of}
+use Rattle.nk_run.specs.declared.command_line.Role.TheVariants.{Image}
+use Rattle.nk_run.specs.Clauses.{HasJoined, HasSafeRun, IsFaultless, IsOutside, IsUnread, IsWholeJoin, MaySay, NameRose, Promises, SinkRose, TookAll, TookPrefix}
+use Rattle.nk_run.specs.CommandLine.{Command, Scan, Join, Work, IsAsked, command_of}
 use Rattle.nk_run.specs.Lines.{no_memory_line, unread_line}
-use Rattle.nk_run.specs.Outcome.{Answer, checks_of, first_verdict, outcome, passes, text_of}
+use Rattle.nk_run.specs.Outcome.{Answer, checks_of, file_in, first_verdict, modules_in, outcome, passes, text_of}
 use Rattle.nk_run.specs.Witness.{Files, Witness}
 use Rattle.nk_run.proofs.Told.{told_at}
 
@@ -116,13 +121,39 @@ module _ (seen : Witness) where
         | inr took ↦ other (appended answer.text before after began ended took)
       ]
 
-  -- a file that holds a protected encoding isn't what a join comes to whose checks pass
-  unclean_join : (status : ℕ) (files : Files) (found : Found) → seen.shelf.before.files ≡ Some files
-      → command_of seen.words ≡ Some Join → first_verdict (checks_of Join files seen.words) ≡ passes
-      → first_found (text_of Join files seen.words) ≡ Some found → Promises seen status → ⊥
-  unclean_join status files found told asked passed stands it =
+  -- what a join comes to whose checks pass
+  whole_join : (status : ℕ) (files : Files) → seen.shelf.before.files ≡ Some files → command_of seen.words ≡ Some Join
+      → first_verdict (checks_of Join files seen.words) ≡ passes → Promises seen status
+      → IsWholeJoin (file_in files seen.words Image) (modules_in files seen.words) (text_of Join files seen.words)
+  whole_join status files told asked passed it =
       let P : Option Command → Type 0 = λ c. IfSome c (λ command. HasJoined command seen.words files) in
       let Q : Files → Type 0 = λ held. IfSome (command_of seen.words) (λ command. HasJoined command seen.words held) in
       let whole : HasJoined Join seen.words files =
       subst P asked (told_at seen.shelf.before.files Q files told it.image_joined) in
-      let clean = (whole passed).joined.clean in cc
+      whole passed
+
+  -- isn't a file that holds a protected encoding
+  unclean_join : (status : ℕ) (files : Files) (found : Found) → seen.shelf.before.files ≡ Some files
+      → command_of seen.words ≡ Some Join → first_verdict (checks_of Join files seen.words) ≡ passes
+      → first_found (text_of Join files seen.words) ≡ Some found → Promises seen status → ⊥
+  unclean_join status files found told asked passed stands it =
+      let clean = (whole_join status files told asked passed it).joined.clean in cc
+
+  -- nor one with an element that is no byte
+  joined_256 : (status i : ℕ) (files : Files) → seen.shelf.before.files ≡ Some files
+      → command_of seen.words ≡ Some Join → first_verdict (checks_of Join files seen.words) ≡ passes
+      → slice_index (text_of Join files seen.words) i ≡ 256 → Promises seen status → ⊥
+  joined_256 status i files told asked passed is it =
+      let small = (whole_join status files told asked passed it).bytes i in omega (arith, small, is)
+
+  -- a run of a made image with a state that isn't safe isn't that of `work`
+  unsafe_work : (status number k : ℕ) (files : Files) → seen.shelf.before.files ≡ Some files
+      → command_of seen.words ≡ Some (Work number)
+      → (IsSafe (record { image = image_of_number number; frames = 4096 })
+      (state [] (opening_state (record { image = image_of_number number; frames = 4096 }) []) k) → ⊥) → Promises seen status → ⊥
+  unsafe_work status number k files told asked unsafe it =
+      let P : Option Command → Type 0 = λ c. IfSome c (λ command. HasSafeRun command seen.words files) in
+      let Q : Files → Type 0 = λ held. IfSome (command_of seen.words) (λ command. HasSafeRun command seen.words held) in
+      let run : HasSafeRun (Work number) seen.words files =
+      subst P asked (told_at seen.shelf.before.files Q files told it.run_safe) in
+      unsafe (run.safe k)

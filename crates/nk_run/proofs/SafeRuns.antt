@@ -11,11 +11,12 @@ use Rattle.byte_scanner.specs.FirstFound.{first_found}
 use Rattle.byte_scanner.specs.ImageCode.{code_at}
 use Rattle.byte_scanner.specs.LeastPlace.{IsNowhere}
 use Rattle.irq_plan.specs.declared.event.Event.{Event}
-use Rattle.irq_plan.specs.PlanFile.{plan_of}
+use Rattle.irq_plan.specs.PlanFile.{plan_of, read_from}
 use Rattle.irq_plan.specs.PlannedEvents.{IsPlan}
 use Rattle.text_lines.specs.Numerals.{numeral}
 use Rattle.gate_state.specs.GuardedStates.{IsAdmitted}
 use Rattle.gate_state.specs.MachineStates.{Opening}
+use Rattle.image_maker.specs.MadeImage.{image_of_number}
 use Rattle.std.specs.Option.{option_map}
 use Rattle.nk_run.specs.declared.command_line.Role.TheVariants.{Image, Input, Plan}
 use Rattle.nk_run.specs.Clauses.{HasJournal, HasSafeRun, IsGoodImage, IsSafeRun}
@@ -50,7 +51,7 @@ bounded_by low high n f e =
     none_some : (b : ℕ) → None ≡ Some b → ⊥
     none_some b h = cc
 
-spelled_within : (low high : ℕ) (word : List ℕ) (f : ℕ) → decimal_within low high word ≡ Some f → (low ≤ f) × (f ≤ high)
+pub spelled_within : (low high : ℕ) (word : List ℕ) (f : ℕ) → decimal_within low high word ≡ Some f → (low ≤ f) × (f ≤ high)
 spelled_within low high word f e = chosen (is_numeral 10 word && is_least word) _ e
   where
     chosen : (b : Bool) (n : ℕ) → (if b then bounded low high n else None) ≡ Some f → (low ≤ f) × (f ≤ high)
@@ -171,9 +172,14 @@ held_within (Some b) e =
     chosen false answer h e = cc
 
 -- the bytes of a file, where one is held
-held_bytes : (file : Option (List ℕ)) → IfSome file IsFileOfBytes → IsFileOfBytes (unwrap_or file [])
+pub held_bytes : (file : Option (List ℕ)) → IfSome file IsFileOfBytes → IsFileOfBytes (unwrap_or file [])
 held_bytes None bytes = λ i. lit< tt
 held_bytes (Some b) bytes = bytes
+
+-- a plan of no line has no event
+nothing_planned : plan_of [] ≡ Ok []
+unfolding plan_of read_from
+nothing_planned = refl
 
 -- what the checks of a run admit: the image, whose opening has room, and a plan in form
 record IsChecked (files : Files) (words : List (List ℕ)) (frames : ℕ) : Type 0 where
@@ -213,23 +219,26 @@ module _ (pages_hold : (b : List ℕ) → first_fault b ≡ None → IsPageList 
       }
 
   pub safe_where_run : ((o : Opening) (input : List ℕ) (plan : List Event) → IsAdmitted o → IsPlan plan → IsSafeRun plan o input)
-      → (words : List (List ℕ)) (files : Files) (command : Command) → command_of words ≡ Some command → ReadsBytes command words (Some files)
+      → ((words : List (List ℕ)) (number : ℕ) → command_of words ≡ Some (Work number)
+      → IsAdmitted (record { image = image_of_number number; frames = 4096 }))
+      → (words : List (List ℕ)) (files : Files) (command : Command) → command_of words ≡ Some command → ReadsBytes command (Some files)
       → HasSafeRun command words files
-  safe_where_run law words files Scan asked bytes = tt
-  safe_where_run law words files (Map frames va) asked bytes = tt
-  safe_where_run law words files (Replay frames) asked bytes = tt
-  safe_where_run law words files (Audit frames id) asked bytes = tt
-  safe_where_run law words files Assemble asked bytes = tt
-  safe_where_run law words files (Listing address count) asked bytes = tt
-  safe_where_run law words files (Make number) asked bytes = tt
-  safe_where_run law words files (Work number) asked bytes = tt
-  safe_where_run law words files Join asked bytes = tt
-  safe_where_run law words files (Run steps frames) asked bytes = λ passed.
-      let it = checked_run words files steps frames (run_within words steps frames asked) (held_bytes (files (name_in words Image)) bytes) passed in
+  safe_where_run law made words files Scan asked bytes = tt
+  safe_where_run law made words files (Map frames va) asked bytes = tt
+  safe_where_run law made words files (Replay frames) asked bytes = tt
+  safe_where_run law made words files (Audit frames id) asked bytes = tt
+  safe_where_run law made words files Assemble asked bytes = tt
+  safe_where_run law made words files (Listing address count) asked bytes = tt
+  safe_where_run law made words files (Make number) asked bytes = tt
+  safe_where_run law made words files Join asked bytes = tt
+  safe_where_run law made words files (Work number) asked bytes =
+      law (record { image = image_of_number number; frames = 4096 }) [] [] (made words number asked) (plan_holds [] [] nothing_planned)
+  safe_where_run law made words files (Run steps frames) asked bytes = λ passed.
+      let it = checked_run words files steps frames (run_within words steps frames asked) (held_bytes (files (name_in words Image)) (bytes (name_in words Image))) passed in
       law (opening_in files words frames) (file_in files words Input) (events_in (plan_of (file_in files words Plan))) it.admitted it.planned_are
 
   pub replayed_where_run : ((o : Opening) (input : List ℕ) (plan : List Event) (steps : ℕ) → IsAdmitted o → IsPlan plan → steps ≤ 4294967296 → IsReplayedRun o input plan steps)
-      → (words : List (List ℕ)) (files : Files) (command : Command) → command_of words ≡ Some command → ReadsBytes command words (Some files)
+      → (words : List (List ℕ)) (files : Files) (command : Command) → command_of words ≡ Some command → ReadsBytes command (Some files)
       → HasJournal command words files
   replayed_where_run law words files Scan asked bytes = tt
   replayed_where_run law words files (Map frames va) asked bytes = tt
@@ -242,7 +251,7 @@ module _ (pages_hold : (b : List ℕ) → first_fault b ≡ None → IsPageList 
   replayed_where_run law words files Join asked bytes = tt
   replayed_where_run law words files (Run steps frames) asked bytes = λ passed.
       let within = run_within words steps frames asked in
-      let it = checked_run words files steps frames within (held_bytes (files (name_in words Image)) bytes) passed in
+      let it = checked_run words files steps frames within (held_bytes (files (name_in words Image)) (bytes (name_in words Image))) passed in
       journal_of (opening_in files words frames) (file_in files words Input) (events_in (plan_of (file_in files words Plan))) steps
       it.good it.admitted.layout.room
       (law (opening_in files words frames) (file_in files words Input) (events_in (plan_of (file_in files words Plan))) steps it.admitted it.planned_are within.turns)

@@ -4,6 +4,7 @@ use Rattle.std.specs.Prelude.{◌≡◌, ℕ, ◌/◌, ◌≤◌, true, ◌⊎�
 use Rattle.std.specs.List.{All}
 use Rattle.std.specs.Io.KnownBytes.{Appends}
 use Rattle.nk_host.specs.FaultCounts.{Rose, RoseTo}
+use Rattle.nk_host.specs.Files.{IsFileOfBytes}
 use Rattle.nk_host.specs.Taken.{AppendsPrefix}
 use Rattle.nk_host.specs.Told.{IfTold}
 use Rattle.elf_image.specs.Pages.{is_executable}
@@ -11,7 +12,8 @@ use Rattle.elf_image.specs.Rows.{first_fault}
 use Rattle.byte_scanner.specs.FirstFound.{first_found}
 use Rattle.irq_plan.specs.declared.event.Event.{Event}
 use Rattle.irq_plan.specs.PlanFile.{plan_of}
-use Rattle.boot_map.specs.Division.{need}
+use Rattle.irq_plan.specs.PlannedEvents.{IsPlan}
+use Rattle.boot_map.specs.Division.{IsLayout, division_of, need}
 use Rattle.gate_state.specs.AnyVector.{DeliversAny}
 use Rattle.gate_state.specs.GateCalls.{IsCalledBack, IsCalledThrough, IsCalling}
 use Rattle.gate_state.specs.GuardedStates.{IsGuarded}
@@ -237,11 +239,13 @@ pub record IsSafeRun (plan : List Event) (o : Opening) (input : List ℕ) : Type
   -- of turns in a row that each begin with WP clear there are at most eleven
   pub window : IsShortWindow plan (opening_state o input)
 
--- where the checks of a run pass, the run is safe
+-- where the checks of a run pass, the run is safe; so is that of a made image
 abbrev pub HasSafeRun : Command → List (List ℕ) → Files → Type 0
 HasSafeRun (Run steps frames) words files =
     first_verdict (checks_of (Run steps frames) files words) ≡ passes
     → IsSafeRun (events_in (plan_of (file_in files words Plan))) (opening_in files words frames) (file_in files words Input)
+HasSafeRun (Work number) words files =
+    IsSafeRun [] (record { image = image_of_number number; frames = 4096 }) []
 HasSafeRun _ words files = ⊤
 
 -- where the checks of a run pass, its text is a journal of it
@@ -262,10 +266,18 @@ HasEnd (Work number) words files =
     EndsAfter (run_length 2000000 [] first) 2000000 [] first
 HasEnd _ words files = ⊤
 
--- the file loads the image, the modules and a directory of them, and holds no protected encoding; and in every state of
--- every run of it the modules' bytes stand in the frames of their pages
+-- every run of a file is safe: from each opening of it that has room, with any input, under any plan
+abbrev pub RunsSafely : List ℕ → Type 0
+RunsSafely file =
+    (o : Opening) (input : List ℕ) (plan : List Event) → o.image ≡ file
+    → IsLayout o.image (division_of o.image o.frames) → IsPlan plan → IsSafeRun plan o input
+
+-- the file loads the image, the modules and a directory of them, holds no protected encoding, and is made of bytes; every
+-- run of it is safe, and in each of its states the modules' bytes stand in the frames of their pages
 pub record IsWholeJoin (b : List ℕ) (modules : List CodeModule) (file : List ℕ) : Type 0 where
   pub joined : IsJoined b modules file
+  pub bytes : IsFileOfBytes file
+  pub safe : RunsSafely file
   pub kept : KeepsCode (modules_behind b modules) file
 
 -- where the checks of a join pass, its text is such a file
@@ -301,9 +313,9 @@ pub record Promises (seen : Witness) (status : ℕ) : Type 0 where
   pub done : IsDone seen status
   -- the run whose text is written goes on to the first state at which it ends
   pub run_ends : WhereAsked HasEnd seen
-  -- it is safe in each of its states
+  -- it is safe in each of its states, that of a made image too
   pub run_safe : WhereAsked HasSafeRun seen
   -- and its text is a journal: `replay` of it finds each line right, and shows the run's closing section
   pub run_replayed : WhereAsked HasJournal seen
-  -- the joined image has all that was joined and nothing else, and its runs keep it
+  -- the joined image has all that was joined and nothing else, and its runs are safe and keep it
   pub image_joined : WhereAsked HasJoined seen

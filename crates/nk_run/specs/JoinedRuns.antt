@@ -3,8 +3,8 @@ use Rattle.std.specs.Prelude.{◌≡◌, ℕ, ◌+◌, ◌*◌, ◌/◌, ◌%◌
 use Rattle.phys_mem.specs.Memory.{byte_at}
 use Rattle.irq_plan.specs.declared.event.Event.{Event}
 use Rattle.irq_plan.specs.PlannedEvents.{IsPlan}
+use Rattle.boot_map.specs.Division.{IsLayout, division_of}
 use Rattle.boot_map.specs.KernelSlot.{IsCodePage}
-use Rattle.gate_state.specs.GuardedStates.{IsAdmitted}
 use Rattle.gate_state.specs.MachineOpening.{opening_state}
 use Rattle.gate_state.specs.MachineStates.{Opening}
 use Rattle.gate_state.specs.MachineSteps.{state}
@@ -22,8 +22,9 @@ HoldsCode o modules m =
     (i k : ℕ) (part : JoinedPart) → slice_get modules i ≡ Some part → k < part.memory_size
     → IsCodeByte o m (part.address + k) (slice_index part.bytes k)
 
--- and in every state of every run of the file: from each opening of it that is admitted, with any input, under any plan
+-- and in every state of every run of the file: from each opening of it that has room, with any input, under any plan
 abbrev pub KeepsCode : List JoinedPart → List ℕ → Type 0
 KeepsCode modules file =
-    (o : Opening) (input : List ℕ) (plan : List Event) (k : ℕ) → o.image ≡ file → IsAdmitted o → IsPlan plan
+    (o : Opening) (input : List ℕ) (plan : List Event) (k : ℕ) → o.image ≡ file
+    → IsLayout o.image (division_of o.image o.frames) → IsPlan plan
     → HoldsCode o modules (state plan (opening_state o input) k).memory

@@ -4,7 +4,7 @@ use Rattle.std.specs.List.{list_any}
 use Rattle.nk_bits.specs.declared.leaf.Leaf.{Leaf}
 use Rattle.irq_plan.specs.declared.event.Event.{Event}
 use Rattle.nk_host.specs.FaultCounts.{RoseTo}
-use Rattle.nk_host.specs.Files.{HoldsBytes}
+use Rattle.nk_host.specs.Files.{AreFilesOfBytes}
 use Rattle.nk_host.specs.Told.{IfTold}
 use Rattle.elf_image.specs.Pages.{is_executable}
 use Rattle.byte_scanner.specs.FirstFound.{first_found}
@@ -20,7 +20,7 @@ use Rattle.image_maker.specs.MadeImage.{image_of_number}
 use Rattle.nk_run.specs.declared.command_line.Role.{Role}
 use Rattle.nk_run.specs.declared.command_line.Role.TheVariants.{Image, Input, Plan, Journal, ModuleList, Module, Text}
 use Rattle.nk_run.specs.declared.count.Tally.{Tally}
-use Rattle.nk_run.specs.CommandLine.{Command, Replay, Run, Scan, command_of, name_in}
+use Rattle.nk_run.specs.CommandLine.{Command, Join, Replay, Run, Scan, command_of}
 use Rattle.nk_run.specs.Lines.{no_memory_line, unread_line, usage_line, walk_line}
 use Rattle.nk_run.specs.Witness.{Change, Files, ShelfState, SinkState, Witness}
 use Rattle.nk_run.specs.Outcome.{Check, Verdict, checks_of, ends, decided, file_in, first_verdict, opened, outcome, passes, IsReached}
@@ -94,14 +94,15 @@ pub record IsAnswered (seen : Witness) (result : ℕ) : Type 0 where
   pub written : IsWritten seen.sink status text result
   pub files_stay : AreKept seen
 
--- where files are told, what is told of the file of a role is bytes
-abbrev pub TellsBytes : List (List ℕ) → Option Files → Role → Type 0
-TellsBytes words told role = IfTold told (λ files. HoldsBytes files (name_in words role))
+-- where files are told, they are made of bytes
+abbrev pub TellsBytes : Option Files → Type 0
+TellsBytes told = IfTold told AreFilesOfBytes
 
--- and so it is of the image that a run reads
-abbrev pub ReadsBytes : Command → List (List ℕ) → Option Files → Type 0
-ReadsBytes (Run steps frames) words told = TellsBytes words told Image
-ReadsBytes _ words told = ⊤
+-- and so it is where a run or a join reads them
+abbrev pub ReadsBytes : Command → Option Files → Type 0
+ReadsBytes (Run steps frames) told = TellsBytes told
+ReadsBytes Join told = TellsBytes told
+ReadsBytes _ told = ⊤
 
 -- The first steps of a command: a reply with which it stops before its work begins.
 

@@ -45,7 +45,7 @@ pub(crate) fn answer<S: Shelf, O: Sink>(
 ) -> Status
     ghost names: { List (List ℕ) }
     requires { names ≡ map string_bytes words.now }
-    ensures bytes { IfSome (command_of names) (λ command. ReadsBytes command names (S.files shelf.old)) }
+    ensures bytes { IfSome (command_of names) (λ command. ReadsBytes command (S.files shelf.old)) }
     ensures answered { IsAnswered (record {
       words = names;
       shelf = shelf_change S.files S.faults S.wants shelf.old shelf.new;

@@ -1,7 +1,6 @@
 //! The fetch of a file, and the checks on the image, which every command on files makes first.
 ghost use Rattle.std.specs.Prelude.{◌≡◌, ◌≤◌, ℕ, List, None, Some, IfOk, MatchOption, MatchResult};
 ghost use Rattle.nk_host.specs.FaultCounts.{NeverFalls};
-ghost use Rattle.nk_host.specs.Files.{HoldsBytes};
 ghost use Rattle.nk_host.specs.Told.{IfTold};
 ghost use Rattle.elf_image.specs.Rows.{first_fault};
 ghost use Rattle.byte_scanner.specs.FirstFound.{first_found};
@@ -51,7 +50,7 @@ pub(crate) fn fetch<S: Shelf>(
     requires { IsNameOf words (S.files shelf.old) role name.text.now }
     ensures files_stay { S.files shelf.new ≡ S.files shelf.old }
     ensures never_falls { NeverFalls (S.faults shelf.old) (S.faults shelf.new) }
-    ensures bytes { IfTold (S.files shelf.old) (λ files. HoldsBytes files name.entry.text.now) }
+    ensures bytes { TellsBytes (S.files shelf.old) }
     ensures fetched { MatchResult result
         (λ bytes. IfTold (S.files shelf.old) (λ files.
         (files name.entry.text.now ≡ Some bytes.items)
@@ -178,7 +177,7 @@ pub(crate) fn open<S: Shelf>(
     requires { Names words Role.Image name }
     ensures files_stay { S.files shelf.new ≡ S.files shelf.old }
     ensures never_falls { NeverFalls (S.faults shelf.old) (S.faults shelf.new) }
-    ensures bytes { TellsBytes words (S.files shelf.old) Role.Image }
+    ensures bytes { TellsBytes (S.files shelf.old) }
     ensures clean { IfOk result (λ image. first_found image ≡ None) }
     ensures opened { MatchResult result
         (λ image. IfTold (S.files shelf.old) (λ files. (image ≡ file_in files words Role.Image)

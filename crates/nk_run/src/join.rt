@@ -12,7 +12,7 @@ ghost use Rattle.nk_run.specs.Witness.{shelf_change, sink_change};
 ghost use Rattle.nk_run.specs.Outcome.{file_in, first_verdict, joinable, list_checks, listing_checks, module_checks, module_fetches, module_held, modules_in, modules_named, outcome, passes, well_listed};
 ghost use Rattle.nk_run.specs.ReplyText.{line_bytes};
 ghost use Rattle.nk_run.specs.Statuses.{status_number};
-ghost use Rattle.nk_run.specs.Replies.{CommandSays, EndsOwn, IsAnswered, RefusesBy, Stops, StopsIn};
+ghost use Rattle.nk_run.specs.Replies.{CommandSays, EndsOwn, IsAnswered, RefusesBy, Stops, StopsIn, TellsBytes};
 
 use crate::command_line::{FileName, JoinFiles, Role};
 use crate::image::{fetch, open, protected};
@@ -88,6 +88,7 @@ fn open_listed<S: Shelf>(
     requires { NamesJoin words files }
     ensures files_stay { S.files shelf.new ≡ S.files shelf.old }
     ensures never_falls { NeverFalls (S.faults shelf.old) (S.faults shelf.new) }
+    ensures bytes { TellsBytes (S.files shelf.old) }
     ensures opened { MatchResult result
         (λ listed. (first_found listed.image ≡ None)
         × IfTold (S.files shelf.old) (λ files. (listed.image ≡ file_in files words Role.Image)
@@ -144,6 +145,7 @@ fn hold<S: Shelf>(alloc: Global, files: JoinFiles<'_>, shelf: &mut S) -> Result<
     ghost words: { List (List ℕ) }
     requires { NamesJoin words files }
     ensures files_stay { S.files shelf.new ≡ S.files shelf.old }
+    ensures bytes { TellsBytes (S.files shelf.old) }
     ensures count { IfOk result (λ held. length held.modules.items ≡ length held.listed.list) }
     ensures held { MatchResult result
         (λ held. (first_found held.listed.image ≡ None)
@@ -225,6 +227,7 @@ fn make_joined<S: Shelf>(
     requires asked { command_of words ≡ Some Join }
     requires named { NamesJoin words files }
     ensures files_stay { S.files shelf.new ≡ S.files shelf.old }
+    ensures bytes { TellsBytes (S.files shelf.old) }
     ensures made { MatchResult result
         (λ file. IfTold (S.files shelf.old) (λ files. outcome words files ≡ Some (record { status = 0; text = file.items })))
         (λ reply. CommandSays words (shelf_change S.files S.faults S.wants shelf.old shelf.new)
@@ -251,7 +254,8 @@ pub(crate) fn join<S: Shelf, O: Sink>(
     ghost words: { List (List ℕ) }
     requires asked { command_of words ≡ Some Join }
     requires named { NamesJoin words files }
-    ensures { IsAnswered (record {
+    ensures bytes { TellsBytes (S.files shelf.old) }
+    ensures answered { IsAnswered (record {
       words = words;
       shelf = shelf_change S.files S.faults S.wants shelf.old shelf.new;
       sink = sink_change O.taken O.faults sink.old sink.new;

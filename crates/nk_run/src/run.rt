@@ -44,7 +44,7 @@ fn hold<S: Shelf>(alloc: Global, files: RunFiles<'_>, shelf: &mut S) -> Result<H
     ghost words: { List (List ℕ) }
     requires { NamesRun words files }
     ensures files_stay { S.files shelf.new ≡ S.files shelf.old }
-    ensures bytes { TellsBytes words (S.files shelf.old) Role.Image }
+    ensures bytes { TellsBytes (S.files shelf.old) }
     ensures held { MatchResult result
         (λ held. (first_found held.image ≡ None)
         × IfTold (S.files shelf.old) (λ files. (held.image ≡ file_in files words Role.Image)
@@ -78,7 +78,7 @@ pub(crate) fn make_ready<S: Shelf>(
     requires named { NamesRun words files }
     requires bounds { IsBounded (Run steps frames) }
     ensures files_stay { S.files shelf.new ≡ S.files shelf.old }
-    ensures bytes { TellsBytes words (S.files shelf.old) Role.Image }
+    ensures bytes { TellsBytes (S.files shelf.old) }
     ensures ready { MatchResult result
         (λ it. IsReady words (S.files shelf.old) steps frames it.opened.image it.opened.layout
         it.outside.input.items it.outside.plan)
@@ -110,7 +110,7 @@ pub(crate) fn run<S: Shelf, O: Sink>(
     requires asked { command_of words ≡ Some (Run steps frames) }
     requires named { NamesRun words files }
     requires bounds { IsBounded (Run steps frames) }
-    ensures bytes { TellsBytes words (S.files shelf.old) Role.Image }
+    ensures bytes { TellsBytes (S.files shelf.old) }
     ensures answered { IsAnswered (record {
       words = words;
       shelf = shelf_change S.files S.faults S.wants shelf.old shelf.new;

@@ -11,6 +11,7 @@ mod journals;
 mod long_files;
 mod made;
 mod maps;
+mod policies;
 mod regions;
 mod run;
 mod scans;

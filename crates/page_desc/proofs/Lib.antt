@@ -19,6 +19,7 @@ pub mod PageTableStores
 pub mod PageTableValues
 pub mod RecordWalk
 mod RefutedDescriptors
+mod RefutedCounts
 mod RefutedEntries
 mod RefutedTables
 pub mod ReplacedCounts

@@ -3,7 +3,7 @@ use Rattle.std.proofs.Common.{◌≡◌, ◌≢◌, ℕ, ◌+◌, ◌≤◌, Boo
 use Rattle.std.specs.Prelude.{not, ◌&&◌, ◌==◌, nat_lt, IfSome, None, Option, Some}
 use Rattle.std.specs.Bool.{then_some}
 use Rattle.std.specs.Option.{option_map}
-use Rattle.std.proofs.lemmas.Bool.{eqb-true, ltb-false, ne_eqb}
+use Rattle.std.proofs.lemmas.Bool.{eqb-true, false≢true, ltb-false, ne_eqb}
 use Rattle.std.proofs.lemmas.Option.{same_Some}
 use Rattle.nk_bits.specs.declared.rule.Rule.{Rule}
 use Rattle.nk_bits.specs.declared.rule.Rule.TheVariants.{BadRegion, LogFull, NoWrite, NotAtEnd, OutOfBounds, WrittenOnce}
@@ -11,7 +11,7 @@ use Rattle.region_book.specs.declared.regions.ShownRegion.{ShownRegion}
 use Rattle.region_book.specs.RegionCalls.{else_rule, fits_region}
 use Rattle.region_book.specs.RegionRecords.{Region, is_written_in, shown_region}
 use Rattle.write_log.specs.LogRecords.{LogRecord, log_size, logged, room_of}
-use Rattle.policy_book.specs.PolicyRules.{bounds_of, first_rule, log_by, policy_of, policy_rule}
+use Rattle.policy_book.specs.PolicyRules.{bounds_of, first_rule, is_logged, log_by, policy_of, policy_rule}
 
 -- the rule by what is tested: a byte of the range was written, the offset isn't the tail, and the log is too full
 abbrev rule_by : ℕ → Bool → Bool → Bool → Option Rule
@@ -104,6 +104,11 @@ module _ (log : List LogRecord) (offset count : ℕ) where
       logged log id offset bytes ≡ log_by log o offset bytes
   logged_is None id bytes none four same = let no : Some BadRegion ≡ None = none in cc
   logged_is (Some r) id bytes none four same = rw (← four) (ap (λ id. logged log id offset bytes) (sym same))
+
+  -- a region of policy 4 is one whose writes are recorded
+  pub not_unlogged : (o : Option Region) → NoneBroken o → IfSome o (λ r. true ≡ (r.policy == 4)) → is_logged o ≡ false → ⊥
+  not_unlogged None none four off = let no : Some BadRegion ≡ None = none in cc
+  not_unlogged (Some r) none four off = false≢true (sym off ∙ sym four)
 
 pub size_logged : (log : List LogRecord) (id offset : ℕ) (bytes : List ℕ) → log_size (logged log id offset bytes) ≡ log_size log + (24 + length bytes)
 unfolding log_size

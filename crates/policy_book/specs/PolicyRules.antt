@@ -1,5 +1,5 @@
 -- Writing in a region: which rule a write breaks first, and what an accepted one makes of book, log and memory.
-use Rattle.std.specs.Prelude.{ℕ, ◌+◌, not, ◌&&◌, ◌==◌, nat_lt, if◌then◌else◌, List, [], Option, None, Some}
+use Rattle.std.specs.Prelude.{ℕ, ◌+◌, Bool, false, not, ◌&&◌, ◌==◌, nat_lt, if◌then◌else◌, List, [], Option, None, Some}
 use Rattle.nk_bits.specs.declared.rule.Rule.{Rule}
 use Rattle.nk_bits.specs.declared.rule.Rule.TheVariants.{BadRegion, LogFull, NoWrite, NotAtEnd, OutOfBounds, WrittenOnce}
 use Rattle.region_book.specs.RegionCalls.{else_rule, fits_region}
@@ -39,6 +39,11 @@ book_by book (Some r) offset count = with_region book (marked r offset count)
 
 abbrev pub book_written : Book → ℕ → ℕ → ℕ → Book
 book_written book id offset count = book_by book (region_of book id) offset count
+
+-- the region's writes are recorded: its policy is 4, write-log
+abbrev pub is_logged : Option Region → Bool
+is_logged None = false
+is_logged (Some r) = r.policy == 4
 
 -- the log: a write in a region of policy 4 is recorded
 abbrev pub log_by : List LogRecord → Option Region → ℕ → List ℕ → List LogRecord

@@ -5,7 +5,7 @@ ghost use Rattle.std.specs.Option.{option_map};
 ghost use Rattle.phys_mem.specs.MaskedMemory.{is_book_frame, seen};
 ghost use Rattle.phys_mem.specs.Memory.{byte_at, stored};
 ghost use Rattle.nk_bits.specs.Rules.{rule_of};
-ghost use Rattle.policy_book.specs.PolicyRules.{book_written, log_written, policy_of, stores_written, write_rule};
+ghost use Rattle.policy_book.specs.PolicyRules.{book_written, is_logged, log_written, policy_of, stores_written, write_rule};
 ghost use Rattle.region_book.specs.RegionBytes.{HoldsRegions, book_in};
 ghost use Rattle.region_book.specs.RegionCalls.{fits_in};
 ghost use Rattle.region_book.specs.RegionRecords.{IsBook, byte_place, region_of, shown_region};
@@ -55,6 +55,8 @@ pub fn write(
     ensures held { HoldsRegions regions.new mem.new }
     ensures held_log { HoldsLog log.new mem.new }
     ensures descriptors { (p : ℕ) → 0x40000 ≤ p → is_book_frame (length mem.old / 4096) (p / 4096) ≡ true
+        → byte_at mem.new p ≡ byte_at mem.old p }
+    ensures unlogged { is_logged (region_of (book_in regions.old mem.old) id) ≡ false → (p : ℕ) → 0x1A000 ≤ p → p < 0x2A000
         → byte_at mem.new p ≡ byte_at mem.old p }
     ensures size { length mem.new ≡ length mem.old }
     ensures sound { IsBook (book_in regions.new mem.new) }
@@ -143,6 +145,8 @@ fn put(regions: &mut Regions, log: &mut Log, mem: &mut PhysMem, id: u64, offset:
     ensures held_log { HoldsLog log.new mem.new }
     ensures descriptors { (p : ℕ) → 0x40000 ≤ p → is_book_frame (length mem.old / 4096) (p / 4096) ≡ true
         → byte_at mem.new p ≡ byte_at mem.old p }
+    ensures unlogged { is_logged (region_of (book_in regions.old mem.old) id) ≡ false → (p : ℕ) → 0x1A000 ≤ p → p < 0x2A000
+        → byte_at mem.new p ≡ byte_at mem.old p }
     ensures size { length mem.new ≡ length mem.old }
     ensures sound { IsBook (book_in regions.new mem.new) }
 {
@@ -169,6 +173,7 @@ fn mark(regions: &mut Regions, log: &Log, mem: &mut PhysMem, id: u64, offset: u3
     ensures held_log { HoldsLog log.now mem.new }
     ensures descriptors { (p : ℕ) → 0x40000 ≤ p → is_book_frame (length mem.old / 4096) (p / 4096) ≡ true
         → byte_at mem.new p ≡ byte_at mem.old p }
+    ensures logs { (p : ℕ) → 0x1A000 ≤ p → p < 0x2A000 → byte_at mem.new p ≡ byte_at mem.old p }
     ensures size { length mem.new ≡ length mem.old }
     ensures sound { IsBook (book_in regions.new mem.new) }
 {

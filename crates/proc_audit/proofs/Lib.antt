@@ -4,3 +4,4 @@ pub mod ChainLaws
 pub mod ChainSteps
 pub mod WorkedProcesses
 mod RefutedProcesses
+mod RefutedLaws

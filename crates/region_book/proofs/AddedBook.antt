@@ -1,11 +1,12 @@
 -- The book after a row was put in, by its rows and bits.
 use Rattle.std.proofs.Common.{◌≡◌, ℕ, ◌+◌, ◌-◌, ◌*◌, ◌<◌, ◌≤◌, true, false, not, ◌&&◌, List, [], ◌∷◌, ◌++◌, length, arith, sym, ap, ◌∙◌, subst}
+use Rattle.std.specs.Prelude.{if◌then◌else◌}
 use Rattle.std.proofs.lemmas.List.{length-map}
 use Rattle.region_book.specs.declared.row.Row.{Row}
 use Rattle.region_book.specs.RegionCalls.{with_one_more, is_range_taken}
 use Rattle.nk_bits.specs.KernelLayout.{pool_start}
 use Rattle.region_book.specs.RegionRecords.{Book}
-use Rattle.region_book.specs.RegionRows.{IsHeld, AreRowsKept, bit_in, book_of, first_bit, in_run, region_of_row, region_at}
+use Rattle.region_book.specs.RegionRows.{IsHeld, AreRowsKept, bit_in, book_of, first_bit, in_run, pages_of_row, region_of_row, region_at}
 use Rattle.region_book.proofs.BookBits.{added_regions}
 use Rattle.region_book.proofs.KeptRows.{IsNew, each_apart, held_more, kept_added, new_held}
 use Rattle.region_book.proofs.PoolPlaces.{taken_by_rows}
@@ -36,10 +37,11 @@ module _ (rows : List Row) (bits : List ℕ) (next declared : ℕ) (now : Book)
   row_held = held_more (declared + pages) 128 row pages_within (new_held rows declared pages row new)
 
   module _ (after : List ℕ) (after_rows : List Row) (after_is : after_rows ≡ rows ++ row ∷ []) where
-    pub added_kept : length now.regions < 256 → length after ≡ 73728 → AreRowsKept after_rows after (declared + pages)
-    added_kept few long =
+    pub added_kept : row.slot ≡ (if row.pooled then 0 else declared) → pages_of_row row ≡ pages →
+        length now.regions < 256 → length after ≡ 73728 → AreRowsKept after_rows after (declared + pages)
+    added_kept number counted few long =
         subst (λ rs. AreRowsKept rs after (declared + pages)) (sym after_is)
-        (kept_added rows bits after declared pages row kept new
+        (kept_added rows bits after declared pages row kept new number counted
         (omega (
           arith,
           few,

@@ -5,8 +5,9 @@ use Rattle.std.proofs.lemmas.List.{get_or_past}
 use Rattle.std.proofs.Math.Nat.{zero-div}
 use Rattle.phys_mem.specs.Memory.{byte_at}
 use Rattle.region_book.specs.RegionBytes.{HoldsRegions, RegionIndex, bits_in}
-use Rattle.region_book.specs.RegionRows.{bit_in, bit_of}
+use Rattle.region_book.specs.RegionRows.{AreNumbered, bit_in, bit_of}
 use Rattle.region_book.proofs.BitBytes.{bits_byte, bits_length}
+use Rattle.region_book.proofs.NumberedRows.{none_numbered}
 
 no_bit : (i : ℕ) → bit_of 0 i ≡ false
 no_bit i = ap (λ n. n % 2 == 1) (zero-div (2 ^ i))
@@ -34,6 +35,7 @@ module _ (m : List ℕ) (size : 0x40000 ≤ length m)
           count = omega arith;
           room = bits_length m (omega (arith, size));
           most = omega (arith, no_page);
+          numbers = subst (AreNumbered []) (sym no_page) none_numbered;
           held = λ k d below. absurd (omega (arith, below));
           apart = λ i j d low below. absurd (omega (arith, below));
         };

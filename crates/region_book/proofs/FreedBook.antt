@@ -1,16 +1,17 @@
 -- The book after a region was let go, by its rows and bits.
 use Rattle.std.proofs.Common.{◌≡◌, ℕ, Bool, true, false, not, ◌==◌, List, refl, sym, ap, ◌∙◌, subst}
-use Rattle.std.specs.Prelude.{IsSome, Option, Some, None, filter}
+use Rattle.std.specs.Prelude.{IfSome, IsSome, Option, Some, None, filter}
 use Rattle.nk_bits.specs.declared.rule.Rule.TheVariants.{BadRegion, NotAllocated}
 use Rattle.region_book.specs.declared.row.Row.{Row}
 use Rattle.region_book.specs.RegionCalls.{else_rule, free_rule, free_rule_of, freed}
 use Rattle.region_book.specs.RegionRecords.{Book, IsBook, Region, region_of}
 use Rattle.region_book.specs.RegionRows.{book_of, region_at}
+use Rattle.region_book.proofs.Found.{for_some}
 use Rattle.region_book.proofs.ListEdits.{map_filter}
 use Rattle.region_book.proofs.SoundBooks.{removed_sound}
 
 -- where no rule is broken, the region is live and of the pool
-free_rule_none : (o : Option Region) → free_rule_of o ≡ None → (r : Region) × (o ≡ Some r) × (r.pooled ≡ true)
+pub free_rule_none : (o : Option Region) → free_rule_of o ≡ None → (r : Region) × (o ≡ Some r) × (r.pooled ≡ true)
 free_rule_none None none = let no : Some BadRegion ≡ None = none in cc
 free_rule_none (Some r) none = (r, refl, go r.pooled none)
   where
@@ -30,6 +31,11 @@ pub freed_live : (now : Book) (id : ℕ) → free_rule now id ≡ None → IsSom
 freed_live now id none =
     let live = free_rule_none (region_of now id) none in
     subst IsSome (sym live.1) refl
+
+pub freed_pooled : (now : Book) (id : ℕ) → free_rule now id ≡ None → IfSome (region_of now id) (λ r. r.pooled ≡ true)
+freed_pooled now id none =
+    let live = free_rule_none (region_of now id) none in
+    for_some (region_of now id) live.0 (λ r. r.pooled ≡ true) live.1 live.2
 
 pub freed_sound : (now : Book) (id : ℕ) → IsBook now → free_rule now id ≡ None → IsBook (freed now id)
 freed_sound now id sound none =

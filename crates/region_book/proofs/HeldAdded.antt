@@ -1,5 +1,6 @@
 -- Regions in memory after the row of a new one was put into a slot that was free.
-use Rattle.std.proofs.Common.{◌≡◌, ◌≢◌, ℕ, ◌+◌, ◌-◌, ◌*◌, ◌<◌, ◌≤◌, Bool, true, false, not, ◌&&◌, ◌||◌, ◌==◌, List, [], ◌∷◌, ◌++◌, length, map, arith, refl, sym, ap, ◌∙◌, subst, slice_index_or}
+use Rattle.std.proofs.Common.{◌≡◌, ◌≢◌, ◌⊎◌, ℕ, ◌+◌, ◌-◌, ◌*◌, ◌<◌, ◌≤◌, Bool, true, false, not, ◌&&◌, ◌||◌, ◌==◌, List, [], ◌∷◌, ◌++◌, length, map, arith, refl, sym, ap, ◌∙◌, subst, inl, inr, slice_index_or}
+use Rattle.std.specs.Prelude.{if◌then◌else◌}
 use Rattle.std.specs.List.{list_any}
 use Rattle.std.proofs.lemmas.Bool.{eqb-false, false_from_ne_true, false≢true, or_parts}
 use Rattle.std.proofs.lemmas.List.{get_or-map, length-map, map_push}
@@ -7,13 +8,15 @@ use Rattle.std.proofs.lemmas.List.Elements.{All-push}
 use Rattle.std.proofs.lemmas.List.Folds.{list_any-append, list_any_none}
 use Rattle.std.proofs.lemmas.List.Quantifiers.{all_pairs_push}
 use Rattle.region_book.specs.declared.row.Row.{Row}
-use Rattle.region_book.specs.RegionBytes.{HasRowForm, HoldsRegions, RegionIndex, bits_in, book_in, row_in}
+use Rattle.region_book.specs.RegionBytes.{HasRowForm, HoldsRegions, KeepsSlots, RegionIndex, bits_in, book_in, row_in}
 use Rattle.region_book.specs.RegionCalls.{with_one_more, is_range_taken}
 use Rattle.nk_bits.specs.KernelLayout.{pool_start}
-use Rattle.region_book.specs.RegionRows.{AreApart, bit_in, first_bit, in_run, region_of_row, region_at}
+use Rattle.region_book.specs.RegionRecords.{IsBook}
+use Rattle.region_book.specs.RegionRows.{AreApart, bit_in, first_bit, in_run, pages_of_row, region_of_row, region_at}
 use Rattle.region_book.specs.SlotChanges.{DiffersInSlot}
 use Rattle.region_book.proofs.AddedBook.{added_is, added_kept, new}
 use Rattle.region_book.proofs.KeptRows.{each_apart}
+use Rattle.region_book.proofs.KeptSlots.{WasInUse, slots_kept, was_in_use}
 use Rattle.region_book.proofs.LeftSlots.{LeavesSlots, form_left, left_by_slot, not_in, row_left, zero_left}
 use Rattle.region_book.proofs.ListEdits.{map_agree}
 use Rattle.region_book.proofs.RunTests.{any_more, runs_apart}
@@ -97,14 +100,25 @@ module _ (index : RegionIndex) (m n : List ℕ) (held : HoldsRegions index m) (s
       (row_left s m n left (slice_index_or index.slots j d) (apart j d below)) ∙ run)
       (held.bits k (ap (λ bits. bit_in bits k) (sym bits_same) ∙ is)))
 
-  pub held_added : length index.slots < 256 → HasRowForm n s →
-      HoldsRegions (grown index s pages) n
-  held_added few form = record {
+  -- the regions before it keep their slots, and it has an identifier to come
+  pub added_keeps : IsBook (book_in index m) → row.id ≡ index.next → KeepsSlots index m (grown index s pages) n
+  added_keeps book named =
+      slots_kept index m book (grown index s pages) n
+      (All-push (λ t. WasInUse index.slots m n t ⊎ (index.next ≤ (row_in n t).id)) index.slots s
+      (λ k d below.
+      let same : row_in n (slice_index_or index.slots k d) ≡ row_in m (slice_index_or index.slots k d) =
+      row_left s m n left (slice_index_or index.slots k d) (apart k d below) in
+      inl (was_in_use index.slots m n k d below (ap (λ (r : Row). r.id) same) (ap (λ (r : Row). r.slot) same)))
+      (inr (omega (arith, named, ap (λ (r : Row). r.id) row_is))))
+
+  pub held_added : row.slot ≡ (if row.pooled then 0 else index.declared) → pages_of_row row ≡ pages →
+      length index.slots < 256 → HasRowForm n s → HoldsRegions (grown index s pages) n
+  held_added number counted few form = record {
     size = omega (arith, held.size, left.size);
     slots = All-push (λ t. t < 256) index.slots s held.slots small;
     once = all_pairs_push (λ a b. a ≢ b) index.slots s held.once apart;
     kept = added_kept (map (row_in m) index.slots) (bits_in m) index.next index.declared (book_in index m) refl row pages
-        held.kept size pooled paged most (bits_in n) (map (row_in n) (index.slots ++ s ∷ [])) rows_added
+        held.kept size pooled paged most (bits_in n) (map (row_in n) (index.slots ++ s ∷ [])) rows_added number counted
         (omega (arith, few, length-map index.slots (row_in m), length-map (map (row_in m) index.slots) (region_at (bits_in m))))
         (ap length bits_same ∙ held.kept.room);
     rows = All-push (HasRowForm n) index.slots s

@@ -7,10 +7,11 @@ use Rattle.std.proofs.lemmas.Grind.{get_or_default_zero}
 use Rattle.std.proofs.lemmas.List.{set-get_or}
 use Rattle.std.proofs.lemmas.List.Folds.{list_any_at}
 use Rattle.region_book.specs.declared.row.Row.{Row}
-use Rattle.region_book.specs.RegionBytes.{HasRowForm, HoldsRegions, RegionIndex, bits_in, book_in, row_in}
+use Rattle.region_book.specs.RegionBytes.{HasRowForm, HoldsRegions, KeepsSlots, RegionIndex, bits_in, book_in, row_in}
 use Rattle.region_book.specs.RegionRecords.{IsBook, marked, region_of, with_region}
 use Rattle.region_book.specs.RegionRows.{AreRowsKept, bit_in, book_of, first_bit, in_run, moved, row_of}
 use Rattle.region_book.proofs.KeptRows.{kept_moved}
+use Rattle.region_book.proofs.KeptSlots.{slots_kept, was_in_use}
 use Rattle.region_book.proofs.LeftSlots.{LeavesSlots, form_left, not_in, row_left, zero_left}
 use Rattle.region_book.proofs.ListEdits.{map_set_agree}
 use Rattle.region_book.proofs.MarkedBook.{marked_book, marked_is}
@@ -86,6 +87,23 @@ module _ (index : RegionIndex) (m n : List ℕ) (held : HoldsRegions index m) (i
           (held.free t p small none below);
       bits = bits_of_rows fits;
     }
+
+    marked_row : (t : ℕ) → ((row_in n t).id ≡ (row_in m t).id) × ((row_in n t).slot ≡ (row_in m t).slot)
+    marked_row t =
+        elim (cases_eq t s) [
+          | inl is ↦
+              subst (λ u. ((row_in n u).id ≡ (row_in m u).id) × ((row_in n u).slot ≡ (row_in m u).slot)) (sym is)
+              (ap (λ (row : Row). row.id) row_is, ap (λ (row : Row). row.slot) row_is)
+          | inr apart ↦
+              let same : row_in n t ≡ row_in m t = row_left s m n left t apart in
+              (ap (λ (row : Row). row.id) same, ap (λ (row : Row). row.slot) same)
+        ]
+
+    pub marked_keeps : IsBook (book_in index m) → KeepsSlots index m index n
+    marked_keeps book =
+        slots_kept index m book index n (λ k d below.
+        let same = marked_row (slice_index_or index.slots k d) in
+        inl (was_in_use index.slots m n k d below same.0 same.1))
 
     module _ (id : ℕ)
         (located : (d : Row) → row_of (map (row_in m) index.slots) id ≡ Some (slice_index_or (map (row_in m) index.slots) i d))

@@ -1,6 +1,6 @@
 -- Regions in memory after the slot and the bits of one of them were made 0.
 use Rattle.std.proofs.Common.{◌≡◌, ◌≢◌, ◌⊎◌, ℕ, ◌+◌, ◌<◌, ◌≤◌, Bool, true, false, not, ◌&&◌, ◌==◌, List, length, map, arith, refl, sym, ap, ◌∙◌, subst, inl, inr, slice_index, slice_index_or}
-use Rattle.std.specs.Prelude.{AllPairs, filter}
+use Rattle.std.specs.Prelude.{All, AllPairs, filter}
 use Rattle.std.specs.List.{list_any, remove}
 use Rattle.std.proofs.lemmas.Bool.{and_from, and_parts, cases_eq, cases_order, eq-eqb, false_from_ne_true, false≢true, ne_eqb}
 use Rattle.std.proofs.lemmas.Grind.{get_or_default_zero}
@@ -9,13 +9,14 @@ use Rattle.std.proofs.lemmas.List.Elements.{All-filter, filter_passes}
 use Rattle.std.proofs.lemmas.List.Kept.{AllPairs-filter}
 use Rattle.phys_mem.specs.Memory.{byte_at}
 use Rattle.region_book.specs.declared.row.Row.{Row}
-use Rattle.region_book.specs.RegionBytes.{HasRowForm, HoldsRegions, RegionIndex, bits_in, book_in, row_in, slot_place}
+use Rattle.region_book.specs.RegionBytes.{HasRowForm, HoldsRegions, KeepsSlots, RegionIndex, bits_in, book_in, row_in, slot_place}
 use Rattle.region_book.specs.RegionCalls.{freed}
-use Rattle.region_book.specs.RegionRecords.{IsBook, Region}
+use Rattle.region_book.specs.RegionRecords.{IsBook}
 use Rattle.region_book.specs.RegionRows.{AreApart, AreRowsKept, bit_in, book_of, first_bit, in_run, region_at}
 use Rattle.region_book.proofs.BookBits.{region_elsewhere}
 use Rattle.region_book.proofs.FreedBook.{freed_is}
 use Rattle.region_book.proofs.KeptRows.{kept_removed}
+use Rattle.region_book.proofs.KeptSlots.{WasInUse, slots_kept, slots_rise, was_in_use}
 use Rattle.region_book.proofs.LeftSlots.{LeavesSlots, form_left, row_left, zero_left}
 use Rattle.region_book.proofs.ListEdits.{map_agree, map_filter, place_of_key}
 use Rattle.region_book.proofs.RunTests.{all_kept, any_filtered, any_more, outside_run, removed_by_key}
@@ -39,25 +40,8 @@ module _ (index : RegionIndex) (m n : List ℕ) (held : HoldsRegions index m) (b
       slice_index_or (map (row_in m) index.slots) k e ≡ row_in m (slice_index_or index.slots k d)
   row_at_place k d e below = get_or-map (row_in m) index.slots k d e below
 
-  -- identifiers rise along the slots
-  id_at : (k d : ℕ) (e : Region) → k < length index.slots →
-      (slice_index_or (book_in index m).regions k e).id ≡ (row_in m (slice_index_or index.slots k d)).id
-  id_at k d e below =
-      ap (λ (r : Region). r.id)
-      (get_or-map (region_at (bits_in m)) (map (row_in m) index.slots) k (row_in m d) e
-      (omega (arith, below, length-map index.slots (row_in m)))
-      ∙ ap (region_at (bits_in m)) (row_at_place k d (row_in m d) below))
-
   rising : AllPairs (λ a b. (row_in m a).id < (row_in m b).id) index.slots
-  rising a b d low below =
-      let e : Region = region_at (bits_in m) (row_in m d) in
-      let short : b < length (book_in index m).regions = omega (
-        arith,
-        below,
-        length-map index.slots (row_in m),
-        length-map (map (row_in m) index.slots) (region_at (bits_in m)),
-      ) in
-      omega (arith, book.rising a b e low short, id_at a d e (omega (arith, low, below)), id_at b d e below)
+  rising = slots_rise index m book
 
   other_place : (j d : ℕ) → j < length index.slots → slice_index_or index.slots j d ≢ s →
       is_other id (row_in m (slice_index_or index.slots j d)) ≡ true
@@ -142,16 +126,43 @@ module _ (index : RegionIndex) (m n : List ℕ) (held : HoldsRegions index m) (b
       ∙ ap (λ regions. record (book_in index m) { regions = regions }) regions_kept
       ∙ freed_is (map (row_in m) index.slots) (bits_in m) index.next index.declared (book_in index m) id refl
 
-  pub held_removed : length (bits_in n) ≡ 73728 → ((p : ℕ) → p < 64 → byte_at n (slot_place s + p) ≡ 0) →
+  -- the row alone goes, and lies in the pool
+  gone : (row_in m s).pooled ≡ true → All (λ row. is_other id row ≡ false → row.pooled ≡ true) (map (row_in m) index.slots)
+  gone pooled j d below out =
+      let within : j < length index.slots = omega (arith, below, length-map index.slots (row_in m)) in
+      let here : slice_index_or (map (row_in m) index.slots) j d ≡ row_in m (slice_index_or index.slots j s) =
+      row_at_place j s d within in
+      elim (cases_eq (slice_index_or index.slots j s) s) [
+        | inl is ↦ ap (λ (row : Row). row.pooled) (here ∙ ap (row_in m) is) ∙ pooled
+        | inr apart ↦ absurd (false≢true (sym out ∙ ap (is_other id) here ∙ other_place j s within apart))
+      ]
+
+  pub removed_keeps : KeepsSlots index m (record index { slots = filter (λ t. is_other id (row_in m t)) index.slots }) n
+  removed_keeps =
+      slots_kept index m book (record index { slots = filter (λ t. is_other id (row_in m t)) index.slots }) n
+      (all_kept (λ t. is_other id (row_in m t)) (λ t. WasInUse index.slots m n t ⊎ (index.next ≤ (row_in n t).id)) index.slots
+      (λ k d below stays.
+      let same : row_in n (slice_index_or index.slots k d) ≡ row_in m (slice_index_or index.slots k d) =
+      row_left s m n left (slice_index_or index.slots k d) (not_here (slice_index_or index.slots k d) stays) in
+      inl (was_in_use index.slots m n k d below (ap (λ (row : Row). row.id) same) (ap (λ (row : Row). row.slot) same))))
+
+  pub held_removed : (row_in m s).pooled ≡ true → length (bits_in n) ≡ 73728 → ((p : ℕ) → p < 64 → byte_at n (slot_place s + p) ≡ 0) →
       HoldsRegions (record index { slots = filter (λ t. is_other id (row_in m t)) index.slots }) n
-  held_removed long zero =
-      let kept = kept_removed (map (row_in m) index.slots) (bits_in m) index.declared held.kept (is_other id) in
+  held_removed pooled long zero =
+      let kept = kept_removed (map (row_in m) index.slots) (bits_in m) index.declared held.kept (is_other id) (gone pooled) in
       record {
         size = omega (arith, held.size, left.size);
         slots = All-filter (λ t. is_other id (row_in m t)) (λ t. t < 256) index.slots held.slots;
         once = AllPairs-filter (λ a b. a ≢ b) (λ t. is_other id (row_in m t)) index.slots held.once;
         kept = subst (λ rows. AreRowsKept rows (bits_in n) index.declared) (sym rows_removed)
-            (record { count = kept.count; room = long; most = kept.most; held = kept.held; apart = kept.apart });
+            (record {
+              count = kept.count;
+              room = long;
+              most = kept.most;
+              numbers = kept.numbers;
+              held = kept.held;
+              apart = kept.apart;
+            });
         rows = all_kept (λ t. is_other id (row_in m t)) (HasRowForm n) index.slots
             (λ k d below stays. form_left s m n left _ (not_here _ stays) (held.rows k d below));
         free = λ t p small none below. elim (cases_eq t s) [

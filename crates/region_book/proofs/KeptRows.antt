@@ -10,9 +10,10 @@ use Rattle.std.proofs.lemmas.List.Quantifiers.{all_pairs_push}
 use Rattle.std.proofs.lemmas.List.Sums.{count_by-le-length, length-filter}
 use Rattle.region_book.specs.declared.row.Row.{Row}
 use Rattle.nk_bits.specs.KernelLayout.{pool_start}
-use Rattle.region_book.specs.RegionRows.{AreApart, IsHeld, AreRowsKept, first_bit, moved, row_meets}
+use Rattle.region_book.specs.RegionRows.{AreApart, IsHeld, AreRowsKept, first_bit, moved, pages_of_row, row_meets}
 use Rattle.region_book.proofs.Found.{none_any}
 use Rattle.region_book.proofs.ListEdits.{pairs_set}
+use Rattle.region_book.proofs.NumberedRows.{added_numbered, left_numbered, moved_numbered}
 
 -- more slots hold it too
 pub held_more : (slots more : ℕ) (row : Row) → slots ≤ more → IsHeld slots row → IsHeld more row
@@ -37,17 +38,20 @@ module _ (rows : List Row) (bits : List ℕ) (declared : ℕ) (kept : AreRowsKep
         count = omega (arith, kept.count, length-set rows i (moved row tail));
         room = long;
         most = kept.most;
+        numbers = moved_numbered rows declared i tail row within is kept.numbers;
         held = All-set (IsHeld declared) rows i (moved row tail)
             (record { size = held.size; pooled = held.pooled; declared = held.declared }) kept.held;
         apart = pairs_set AreApart rows i row (moved row tail) within is kept.apart (λ z apart. apart)
             (λ z apart. apart);
       }
 
-  pub kept_removed : (p : Row → Bool) → AreRowsKept (filter p rows) bits declared
-  kept_removed p = record {
+  pub kept_removed : (p : Row → Bool) → All (λ row. p row ≡ false → row.pooled ≡ true) rows
+      → AreRowsKept (filter p rows) bits declared
+  kept_removed p gone = record {
     count = omega (arith, kept.count, length-filter p rows, count_by-le-length p rows);
     room = kept.room;
     most = kept.most;
+    numbers = left_numbered p rows declared gone kept.numbers;
     held = All-filter p (IsHeld declared) rows kept.held;
     apart = AllPairs-filter AreApart p rows kept.apart;
   }
@@ -136,12 +140,13 @@ module _ (rows : List Row) (bits after : List ℕ) (declared pages : ℕ) (row :
       new_apart declared pages (slice_index_or rows k d) row (kept.held k d below) rows new
       (λ pooled. none_any (row_meets row.size (row.first - pool_start)) rows (new.pooled pooled).2 k d below)
 
-  pub kept_added : length rows < 256 → declared + pages ≤ 128 → length after ≡ 73728 →
-      AreRowsKept (rows ++ row ∷ []) after (declared + pages)
-  kept_added few most long = record {
+  pub kept_added : row.slot ≡ (if row.pooled then 0 else declared) → pages_of_row row ≡ pages → length rows < 256 →
+      declared + pages ≤ 128 → length after ≡ 73728 → AreRowsKept (rows ++ row ∷ []) after (declared + pages)
+  kept_added number counted few most long = record {
     count = omega (arith, few, length_push rows row);
     room = long;
     most = most;
+    numbers = added_numbered rows declared pages row number counted kept.numbers;
     held = All-push (IsHeld (declared + pages)) rows row
         (All-weaker (IsHeld declared) (IsHeld (declared + pages))
         (λ old held. held_more declared (declared + pages) old (omega arith) held) rows kept.held)

@@ -14,15 +14,20 @@ pub mod HeldAdded
 pub mod HeldMarked
 pub mod HeldRemoved
 pub mod KeptRows
+pub mod KeptSlots
 pub mod LeftSlots
 pub mod ListEdits
 pub mod MarkedBook
 pub mod MarkedSlot
+pub mod NumberedBooks
+pub mod NumberedRows
 pub mod OnceFrames
 pub mod PageRanges
 pub mod PoolPlaces
 pub mod PoolRegions
 pub mod RefutedBooks
+pub mod RefutedRows
+mod RefutedSlots
 pub mod RegionReads
 pub mod RegionsKept
 pub mod RemovedSlot

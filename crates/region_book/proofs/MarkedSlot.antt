@@ -3,12 +3,12 @@ use Rattle.std.proofs.Common.{◌≡◌, ℕ, ◌+◌, ◌<◌, ◌≤◌, ◌||
 use Rattle.std.specs.Prelude.{IfSome, Some}
 use Rattle.region_book.specs.declared.row.Row.{Row}
 use Rattle.region_book.specs.BitChanges.{DiffersInBits}
-use Rattle.region_book.specs.RegionBytes.{HasRowForm, HoldsRegions, RegionIndex, bits_in, book_in, row_in}
+use Rattle.region_book.specs.RegionBytes.{HasRowForm, HoldsRegions, KeepsSlots, RegionIndex, bits_in, book_in, row_in}
 use Rattle.region_book.specs.RegionRecords.{IsBook, marked, region_of, with_region}
 use Rattle.region_book.specs.RegionRows.{bit_in, first_bit, in_run, moved, row_of}
 use Rattle.region_book.specs.SlotChanges.{DiffersInSlot}
 use Rattle.region_book.proofs.BitBytes.{bits_length}
-use Rattle.region_book.proofs.HeldMarked.{held_marked, marked_in, marked_sound_in}
+use Rattle.region_book.proofs.HeldMarked.{held_marked, marked_in, marked_keeps, marked_sound_in}
 use Rattle.region_book.proofs.LeftSlots.{LeavesSlots, form_of_bits, left_by_both, row_of_bits}
 use Rattle.region_book.proofs.SlotFound.{range_in}
 use Rattle.region_book.proofs.SlotRows.{bits_of_slot}
@@ -39,6 +39,9 @@ module _ (index : RegionIndex) (m o n : List ℕ) (held : HoldsRegions index m) 
   held_now form =
       held_marked index m n held i s within at left offset count moved_is each long
       (range_in index m held i s within at id located offset count fits) (λ was. form (form_of_bits m o bits s was))
+
+  pub slots_now : IsBook (book_in index m) → KeepsSlots index m index n
+  slots_now book = marked_keeps index m n held i s within at left offset count moved_is each long book
 
   pub marked_now : IsBook (book_in index m) →
       IfSome (region_of (book_in index m) id) (λ r. book_in index n ≡ with_region (book_in index m) (marked r offset count))

@@ -45,7 +45,33 @@ pub two_regions_have_no_identifier_in_common : (one other : Region) (next declar
 two_regions_have_no_identifier_in_common one other next declared same book =
     let less : one.id < other.id = book.rising 0 1 one (omega arith) (omega arith) in omega (arith, same, less)
 
+pub next_identifier_is_not_255 : IsBook (record { regions = []; next = 255; declared = 0 }) → ⊥
+next_identifier_is_not_255 book = let least = book.next in omega (arith, least)
+
+pub no_257_regions_live : (book : Book) → length book.regions ≡ 257 → IsBook book → ⊥
+no_257_regions_live book many is = omega (arith, many, is.count)
+
+pub what_is_no_region_stands_in_no_book : (r : Region) (declared : ℕ) → r.policy ≡ 5 →
+    IsBook (record { regions = r ∷ []; next = 257; declared = declared }) → ⊥
+what_is_no_region_stands_in_no_book r declared five book =
+    let most = (book.each 0 r (omega arith)).policy.1 in omega (arith, five, most)
+
 module _ (next : ℕ) (r : Region) (is : IsRegion next r) where
+  pub identifier_255_is_no_region's : r.id ≡ 255 → ⊥
+  identifier_255_is_no_region's low = let least = is.least in omega (arith, low, least)
+
+  pub no_region_is_empty : r.size ≡ 0 → ⊥
+  no_region_is_empty none = let some = is.size.0 in omega (arith, none, some)
+
+  pub no_region_has_65537_bytes : r.size ≡ 65537 → ⊥
+  no_region_has_65537_bytes many = let most = is.size.1 in omega (arith, many, most)
+
+  pub one_frame_holds_no_4097_bytes : r.place ≡ 0 → r.size ≡ 4097 → length r.frames ≡ 1 → ⊥
+  one_frame_holds_no_4097_bytes first size frames = let held = is.held in omega (arith, first, size, frames, held)
+
+  pub policy_0_is_no_region's : r.policy ≡ 0 → ⊥
+  policy_0_is_no_region's zero = let least = is.policy.0 in omega (arith, zero, least)
+
   pub identifier_to_come_is_no_region's : r.id ≡ next → ⊥
   identifier_to_come_is_no_region's same = let below = is.below in omega (arith, same, below)
 

@@ -28,7 +28,7 @@ module _ (index : RegionIndex) (m n : List ℕ) (held : HoldsRegions index m) (s
   slot_same : (s : ℕ) → s < 256 → IsSameSlot s m n
   slot_same s below p low high = same p (omega (arith, low)) (omega (arith, high, below))
 
-  each_same : All (λ s. row_in n s ≡ row_in m s) index.slots
+  pub each_same : All (λ s. row_in n s ≡ row_in m s) index.slots
   each_same k d below = row_stays m n _ (slot_same _ (held.slots k d below))
 
   rows_same : map (row_in n) index.slots ≡ map (row_in m) index.slots

@@ -1,19 +1,20 @@
 -- Regions in memory after the bits of one of them were cleared, then its slot, and then it left the order.
-use Rattle.std.proofs.Common.{◌≡◌, ℕ, ◌+◌, ◌<◌, not, ◌&&◌, List, length, map, arith, sym, ap, ◌∙◌, subst, slice_index, slice_index_or}
-use Rattle.std.specs.Prelude.{Some}
+use Rattle.std.proofs.Common.{◌≡◌, ℕ, ◌+◌, ◌<◌, true, not, ◌&&◌, List, length, map, arith, sym, ap, ◌∙◌, subst, slice_index, slice_index_or}
+use Rattle.std.specs.Prelude.{IfSome, Some}
 use Rattle.std.specs.List.{remove}
 use Rattle.phys_mem.specs.Memory.{byte_at}
 use Rattle.region_book.specs.declared.row.Row.{Row}
 use Rattle.region_book.specs.BitChanges.{DiffersInBits}
-use Rattle.region_book.specs.RegionBytes.{HoldsRegions, RegionIndex, bits_in, book_in, row_in, slot_place}
+use Rattle.region_book.specs.RegionBytes.{HoldsRegions, KeepsSlots, RegionIndex, bits_in, book_in, row_in, slot_place}
 use Rattle.region_book.specs.RegionCalls.{freed}
-use Rattle.region_book.specs.RegionRecords.{IsBook}
-use Rattle.region_book.specs.RegionRows.{bit_in, first_bit, in_run, row_of}
+use Rattle.region_book.specs.RegionRecords.{IsBook, region_of}
+use Rattle.region_book.specs.RegionRows.{bit_in, first_bit, in_run, region_at, row_of}
 use Rattle.region_book.specs.SlotChanges.{DiffersInSlot}
 use Rattle.region_book.proofs.BitBytes.{bits_length}
-use Rattle.region_book.proofs.HeldRemoved.{freed_in, held_removed, slots_removed}
+use Rattle.region_book.proofs.Found.{of_some}
+use Rattle.region_book.proofs.HeldRemoved.{freed_in, held_removed, removed_keeps, slots_removed}
 use Rattle.region_book.proofs.LeftSlots.{LeavesSlots, left_by_both}
-use Rattle.region_book.proofs.SlotFound.{named_in}
+use Rattle.region_book.proofs.SlotFound.{found_in, named_in}
 use Rattle.region_book.proofs.SlotRows.{bits_of_slot}
 
 module _ (index : RegionIndex) (m o n : List ℕ) (held : HoldsRegions index m) (book : IsBook (book_in index m))
@@ -38,9 +39,20 @@ module _ (index : RegionIndex) (m o n : List ℕ) (held : HoldsRegions index m) 
       (slots_are ∙ slots_removed index m n held book i s id within at (named_in index m held i s within at id located) left each)
       ∙ freed_in index m n held book i s id within at (named_in index m held i s within at id located) left each
 
-  pub held_freed : ((p : ℕ) → p < 64 → byte_at n (slot_place s + p) ≡ 0) → HoldsRegions (record index { slots = slots }) n
-  held_freed zero =
+  pub slots_freed : KeepsSlots index m (record index { slots = slots }) n
+  slots_freed =
+      subst (λ list. KeepsSlots index m (record index { slots = list }) n)
+      (sym (slots_are ∙ slots_removed index m n held book i s id within at (named_in index m held i s within at id located) left each))
+      (removed_keeps index m n held book i s id within at (named_in index m held i s within at id located) left each)
+
+  pooled_here : IfSome (region_of (book_in index m) id) (λ r. r.pooled ≡ true) → (row_in m s).pooled ≡ true
+  pooled_here pooled =
+      of_some (region_of (book_in index m) id) (region_at (bits_in m) (row_in m s)) (λ r. r.pooled ≡ true)
+      (found_in index m held i s within at id located) pooled
+
+  pub held_freed : IfSome (region_of (book_in index m) id) (λ r. r.pooled ≡ true) → ((p : ℕ) → p < 64 → byte_at n (slot_place s + p) ≡ 0) → HoldsRegions (record index { slots = slots }) n
+  held_freed pooled zero =
       subst (λ list. HoldsRegions (record index { slots = list }) n)
       (sym (slots_are ∙ slots_removed index m n held book i s id within at (named_in index m held i s within at id located) left each))
       (held_removed index m n held book i s id within at (named_in index m held i s within at id located) left each
-      (bits_length n (omega (arith, held.size, left.size))) zero)
+      (pooled_here pooled) (bits_length n (omega (arith, held.size, left.size))) zero)

@@ -7,9 +7,9 @@ use Rattle.std.proofs.lemmas.List.Elements.{All-cons, All-nil}
 use Rattle.phys_mem.specs.MaskedMemory.{is_book_frame, masked, seen}
 use Rattle.phys_mem.specs.Memory.{byte_at, stored}
 use Rattle.region_book.specs.declared.row.Row.{Row}
-use Rattle.region_book.specs.RegionBytes.{HoldsRegions, RegionIndex, book_in}
+use Rattle.region_book.specs.RegionBytes.{HoldsRegions, RegionIndex, book_in, row_in}
 use Rattle.region_book.specs.RegionRows.{row_place, row_stores}
-use Rattle.region_book.proofs.RegionsKept.{book_same, held_same}
+use Rattle.region_book.proofs.RegionsKept.{book_same, each_same, held_same}
 
 -- a store of a row's bytes is at one of its places
 row_stores_at : (P : ℕ → Type 0) (row : Row) (offset : ℕ) (bytes : List ℕ) →
@@ -68,6 +68,9 @@ module _ (before after : List ℕ) (size : length after ≡ length before)
 
   pub book_stays : (index : RegionIndex) → HoldsRegions index before → book_in index after ≡ book_in index before
   book_stays index held = book_same index before after held size regions_stay
+
+  pub rows_stay : (index : RegionIndex) → HoldsRegions index before → All (λ s. row_in after s ≡ row_in before s) index.slots
+  rows_stay index held = each_same index before after held size regions_stay
 
   pub held_stays : (index : RegionIndex) → HoldsRegions index before → HoldsRegions index after
   held_stays index held = held_same index before after held size regions_stay

@@ -60,13 +60,21 @@ module _ (book : Book) (sound : IsBook book) where
         }
 
   -- the region of an identifier is the only one
-  only_region : (id : ℕ) (r : Region) → region_of book id ≡ Some r →
+  pub only_region : (id : ℕ) (r : Region) → region_of book id ≡ Some r →
       All (λ other. other.id ≡ id → other ≡ r) book.regions
   only_region id r found k d below same =
       let place = found_place (λ x. x.id == id) book.regions r found in
       let here : place.0 ≡ k = place_of_key (λ x. x.id) book.regions sound.rising place.0 k d place.1 below
       (ap (λ x. x.id) (place.2 d) ∙ eqb-true r.id id place.3 ∙ sym same) in
       sym (ap (λ j. slice_index_or book.regions j d) here) ∙ place.2 d
+
+  -- a region of the pool has no declared page
+  pub pages_let_go : (id : ℕ) (r : Region) → region_of book id ≡ Some r → r.pooled ≡ true →
+      All (λ x. not (x.id == id) ≡ false → pages_of_region x ≡ 0) book.regions
+  pages_let_go id r found pooled k d below out =
+      let is = only_region id r found k d below
+      (eqb-true _ id (not-false ((slice_index_or book.regions k d).id == id) out)) in
+      ap pages_of_region is ∙ ap (λ b. if b then 0 else length r.frames) pooled
 
   pub removed_sound : (id : ℕ) (r : Region) → region_of book id ≡ Some r → r.pooled ≡ true → IsBook (freed book id)
   removed_sound id r found pooled = record {
@@ -80,15 +88,10 @@ module _ (book : Book) (sound : IsBook book) where
     each = All-filter (λ x. not (x.id == id)) (IsRegion book.next) book.regions sound.each;
     rising = AllPairs-filter (λ one other. one.id < other.id) (λ x. not (x.id == id)) book.regions sound.rising;
     apart = AllPairs-filter IsApart (λ x. not (x.id == id)) book.regions sound.apart;
-    pages = sound.pages ∙ sym (sum_filter (λ x. not (x.id == id)) pages_of_region book.regions none);
+    pages = sound.pages
+        ∙ sym (sum_filter (λ x. not (x.id == id)) pages_of_region book.regions (pages_let_go id r found pooled));
     most = sound.most;
   }
-    where
-      none : All (λ x. not (x.id == id) ≡ false → pages_of_region x ≡ 0) book.regions
-      none k d below out =
-          let is = only_region id r found k d below
-          (eqb-true _ id (not-false ((slice_index_or book.regions k d).id == id) out)) in
-          ap pages_of_region is ∙ ap (λ b. if b then 0 else length r.frames) pooled
 
   -- a new region
   pub added_sound : (r : Region) (pages : ℕ) → length book.regions < 256 → r.id ≡ book.next →

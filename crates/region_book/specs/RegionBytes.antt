@@ -3,7 +3,8 @@
 --
 -- A slot has the identifier in eight bytes, 0 where it holds no region, the first linear address in eight, the size and the
 -- tail in four each, the policy, 1 where the region lies in the pool, the number of pages that were declared before it in two
--- bytes, four that are 0, and its frames in two bytes each, 0 where there is none or the region lies in the pool.
+-- bytes, 0 where it lies in the pool, four that are 0, and its frames in two bytes each, 0 where there is none or the region
+-- lies in the pool.
 --
 -- The pool's 65,536 bytes have the first bits, and 4,096 more belong to each page that was declared, in order. Bit b is bit
 -- b mod 8 of byte b / 8.
@@ -63,6 +64,12 @@ pub record HoldsRegions (index : RegionIndex) (m : List ℕ) : Type 0 where
   pub free : (s p : ℕ) → s < 256 → list_any (λ t. t == s) index.slots ≡ false → p < 64 → byte_at m (slot_place s + p) ≡ 0
   pub bits : (k : ℕ) → bit_in (bits_in m) k ≡ true
       → list_any (λ s. in_run (first_bit (row_in m s)) (row_in m s).size k) index.slots ≡ true
+
+-- a region that lives before a change and after it stands in the same slot, and its first page has the same number
+abbrev pub KeepsSlots : RegionIndex → List ℕ → RegionIndex → List ℕ → Type 0
+KeepsSlots before m after n =
+    All (λ s. All (λ t. (row_in n t).id ≡ (row_in m s).id → (t ≡ s) × ((row_in n t).slot ≡ (row_in m s).slot)) after.slots)
+    before.slots
 
 -- two memories of one size differ in no byte but those of the regions' slots and bits
 pub record DiffersInRegions (before after : List ℕ) : Type 0 where

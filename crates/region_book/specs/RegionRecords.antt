@@ -1,5 +1,5 @@
 -- Protected regions, as plain data: what each is, where its bytes stand, and what a sound book of them is.
-use Rattle.std.specs.Prelude.{◌≡◌, ◌≢◌, ◌⊎◌, ◌<◌, ◌≤◌, ℕ, ◌+◌, ◌-◌, ◌*◌, ◌/◌, ◌%◌, Bool, true, false, ◌&&◌, ◌||◌, ◌==◌, nat_le, nat_lt, if◌then◌else◌, List, [], ◌∷◌, length, map, slice_index, slice_index_or, Option, All, AllPairs}
+use Rattle.std.specs.Prelude.{◌≡◌, ◌≢◌, ◌⊎◌, ◌<◌, ◌≤◌, ℕ, ◌+◌, ◌-◌, ◌*◌, ◌/◌, ◌%◌, Bool, true, false, ◌&&◌, ◌||◌, ◌==◌, nat_le, nat_lt, if◌then◌else◌, List, [], ◌∷◌, length, map, filter, slice_index, slice_index_or, Option, All, AllPairs}
 use Rattle.std.specs.List.{find, list_any, range_with_len, sum_by}
 use Rattle.nk_bits.specs.KernelLayout.{pool_end, pool_frame, pool_start}
 use Rattle.region_book.specs.declared.regions.ShownRegion.{ShownRegion}
@@ -85,6 +85,10 @@ pub record IsApart (one other : Region) : Type 0 where
 -- the pages of a region that was declared
 abbrev pub pages_of_region : Region → ℕ
 pages_of_region r = if r.pooled then 0 else length r.frames
+
+-- how many pages were declared before an identifier was given
+abbrev pub declared_before : Book → ℕ → ℕ
+declared_before book id = sum_by pages_of_region (filter (λ r. nat_lt r.id id) book.regions)
 
 -- a sound book: identifiers from 256 on rise and are below the next one, at most 256 regions live, they lie apart, and the
 -- pages that were declared are those of the regions, at most 128

@@ -1,6 +1,6 @@
 -- The bits, and what the rows of the book stand for.
-use Rattle.std.specs.Prelude.{◌≡◌, ◌⊎◌, ◌≤◌, ℕ, ◌+◌, ◌-◌, ◌*◌, ◌/◌, ◌%◌, ◌^◌, Bool, true, false, ◌&&◌, ◌==◌, nat_le, nat_lt, if◌then◌else◌, List, [], ◌∷◌, length, map, replicate, take, slice_index, Option, All, AllPairs}
-use Rattle.std.specs.List.{find, range_with_len}
+use Rattle.std.specs.Prelude.{◌≡◌, ◌⊎◌, ◌≤◌, ℕ, ◌+◌, ◌-◌, ◌*◌, ◌/◌, ◌%◌, ◌^◌, Bool, true, false, ◌&&◌, ◌==◌, nat_le, nat_lt, if◌then◌else◌, List, [], ◌∷◌, length, map, replicate, take, slice_get, slice_index, Option, Some, All, AllPairs}
+use Rattle.std.specs.List.{find, range_with_len, sum_by}
 use Rattle.region_book.specs.declared.row.Row.{Row}
 use Rattle.region_book.specs.RegionCalls.{meets}
 use Rattle.nk_bits.specs.KernelLayout.{pool_frame, pool_start}
@@ -93,11 +93,23 @@ pub record IsHeld (slots : ℕ) (row : Row) : Type 0 where
 abbrev pub AreApart : Row → Row → Type 0
 AreApart one other = (first_bit one + one.size ≤ first_bit other) ⊎ (first_bit other + other.size ≤ first_bit one)
 
--- at most 256 rows, each with bits of its own
+-- the pages of a row that was declared
+abbrev pub pages_of_row : Row → ℕ
+pages_of_row row = if row.pooled then 0 else row.size / 4096
+
+-- the pages of all rows are numbered from 0 on, row by row: a row has the number of its first page, and 0 where it lies in the
+-- pool; and there are so many
+pub record AreNumbered (rows : List Row) (declared : ℕ) : Type 0 where
+  pub each : (i : ℕ) (row : Row) → slice_get rows i ≡ Some row
+      → row.slot ≡ (if row.pooled then 0 else sum_by pages_of_row (take i rows))
+  pub pages : sum_by pages_of_row rows ≡ declared
+
+-- at most 256 rows, their pages numbered in order, each with bits of its own
 pub record AreRowsKept (rows : List Row) (bits : List ℕ) (declared : ℕ) : Type 0 where
   pub count : length rows ≤ 256
   pub room : length bits ≡ 73728
   pub most : declared ≤ 128
+  pub numbers : AreNumbered rows declared
   pub held : All (IsHeld declared) rows
   pub apart : AllPairs AreApart rows
 

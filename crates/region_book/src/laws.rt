@@ -1,7 +1,7 @@
 //! What follows from the definitions for those who say what a call on regions leaves: each byte of a live region has a place
-//! of its own, and the frames of a declaration stand once and become guarded.
+//! of its own, the frames of a declaration stand once and become guarded, and its pages keep their numbers.
 
-ghost use Rattle.region_book.specs.RegionLaws.{ApartLaws, DeclaredLaws, HeldRegionsLaws};
+ghost use Rattle.region_book.specs.RegionLaws.{ApartLaws, DeclaredLaws, HeldRegionsLaws, NumberedLaws};
 
 use phys_mem::{mask_law, memory_law};
 
@@ -26,3 +26,9 @@ pub fn held_regions_law()
 {
     mask_law();
 }
+
+/// Declared pages are numbered from 0 on in the order in which they were declared: the book gives the number of each region's
+/// first page, and no call on regions changes it.
+pub fn numbered_law()
+    ensures { NumberedLaws }
+{}

@@ -23,5 +23,5 @@ mod regions;
 // What follows from the definitions.
 mod laws;
 
-pub use laws::{apart_law, declared_law, held_regions_law};
+pub use laws::{apart_law, declared_law, held_regions_law, numbered_law};
 pub use regions::{Granted, Regions, ShownRegion};

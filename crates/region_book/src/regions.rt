@@ -1,6 +1,6 @@
 //! The book of regions, and the calls on it.
 
-ghost use Rattle.std.specs.Prelude.{◌≡◌, ◌⊎◌, ◌<◌, ◌≤◌, ℕ, ◌+◌, ◌-◌, ◌*◌, ◌/◌, ◌^◌, ◌==◌, ◌&&◌, ◌||◌, not, filter, nat_le, nat_lt, slice_index_or, slice_set, All, IfNone, IfOk, IfSome, IsSome, List, Bool, OnErr, OnOk, Some, None, [], length, option_map, replicate, slice_get, slice_index, false, true, map, take};
+ghost use Rattle.std.specs.Prelude.{if◌then◌else◌, ◌≡◌, ◌⊎◌, ◌<◌, ◌≤◌, ℕ, ◌+◌, ◌-◌, ◌*◌, ◌/◌, ◌^◌, ◌==◌, ◌&&◌, ◌||◌, not, filter, nat_le, nat_lt, slice_index_or, slice_set, All, IfNone, IfOk, IfSome, IsSome, List, Bool, OnErr, OnOk, Some, None, [], length, option_map, replicate, slice_get, slice_index, false, true, map, take};
 ghost use Rattle.phys_mem.specs.MaskedMemory.{is_book_frame, seen};
 ghost use Rattle.phys_mem.specs.Memory.{byte_at, entry_in, stored};
 ghost use Rattle.nk_bits.specs.Kinds.{is_data, kind_of};
@@ -11,8 +11,8 @@ ghost use Rattle.nk_bits.specs.KernelLayout.{pool_start};
 ghost use Rattle.region_book.specs.RegionRecords.{Book, IsBook, byte_place, is_written_in, marked, region_of, region_stores, shown_region, with_region};
 ghost use Rattle.region_book.specs.declared.row.Row.{Row};
 ghost use Rattle.region_book.specs.SlotChanges.{DiffersInSlot, IsStorableRow};
-ghost use Rattle.region_book.specs.RegionBytes.{DiffersInRegions, HasRowForm, HoldsRegions, book_in, row_in};
-ghost use Rattle.region_book.specs.RegionRows.{IsHeld, moved, region_of_row, region_with, row_of};
+ghost use Rattle.region_book.specs.RegionBytes.{DiffersInRegions, HasRowForm, HoldsRegions, KeepsSlots, book_in, row_in};
+ghost use Rattle.region_book.specs.RegionRows.{IsHeld, moved, pages_of_row, region_of_row, region_with, row_of};
 
 use crate::bits::{any_set, clear_run, set_run};
 use crate::laws::held_regions_law;
@@ -205,6 +205,7 @@ impl Regions {
         ensures memory { IfSome (region_of (book_in self.old mem.old) id)
             (λ r. seen mem.new ≡ stored (seen mem.old) (region_stores r offset bytes.now)) }
         ensures held { HoldsRegions self.new mem.new }
+        ensures keeps { KeepsSlots self.old mem.old self.new mem.new }
         ensures others { (p : ℕ) → is_book_frame (length mem.old / 4096) (p / 4096) ≡ true → (p < 0x2A000) ⊎ (0x40000 ≤ p)
             → byte_at mem.new p ≡ byte_at mem.old p }
         ensures size { length mem.new ≡ length mem.old }
@@ -225,6 +226,7 @@ impl Regions {
         ensures marked { IfSome (region_of (book_in self.now mem.old) id)
             (λ r. book_in self.now mem.new ≡ with_region (book_in self.now mem.old) (marked r offset count)) }
         ensures held { HoldsRegions self.now mem.new }
+        ensures keeps { KeepsSlots self.now mem.old self.now mem.new }
         ensures elsewhere { DiffersInRegions mem.old mem.new }
         ensures book { IsBook (book_in self.now mem.new) }
     {
@@ -263,6 +265,7 @@ impl Regions {
         ensures stays { frames.new ≡ frames.old }
         ensures described { HoldsDescriptors frames.new mem.new }
         ensures held { HoldsRegions self.new mem.new }
+        ensures keeps { KeepsSlots self.old mem.old self.new mem.new }
         ensures unseen { seen mem.new ≡ seen mem.old }
         ensures others { (p : ℕ) → p < 0x2A000 → byte_at mem.new p ≡ byte_at mem.old p }
         ensures size { length mem.new ≡ length mem.old }
@@ -332,6 +335,7 @@ impl Regions {
         ensures memory { IfOk result (λ it. seen mem.new ≡ stored (seen mem.old)
             (region_stores (pool_region (book_in self.old mem.old) size policy (it.place - pool_start)) 0 (replicate size 0))) }
         ensures held { HoldsRegions self.new mem.new }
+        ensures keeps { KeepsSlots self.old mem.old self.new mem.new }
         ensures others { (p : ℕ) → is_book_frame (length mem.old / 4096) (p / 4096) ≡ true → (p < 0x2A000) ⊎ (0x40000 ≤ p)
             → byte_at mem.new p ≡ byte_at mem.old p }
         ensures size { length mem.new ≡ length mem.old }
@@ -392,7 +396,8 @@ impl Regions {
         requires within { place + size ≤ 65536 }
         ensures region { (book : Book) → book.next ≡ self.now.next → region_of_row result ≡ pool_region book size policy place }
         ensures first { result.first ≡ pool_start + place }
-        ensures row { (result.size ≡ size) × (result.pooled ≡ true) }
+        ensures id { result.id ≡ self.now.next }
+        ensures row { (result.size ≡ size) × (result.pooled ≡ true) × (result.slot ≡ 0) }
         ensures held { IsHeld 128 result }
         ensures storable { IsStorableRow result }
     {
@@ -411,6 +416,8 @@ impl Regions {
     /// Makes a row that of the youngest region, with no byte written.
     fn admit(&mut self, mem: &mut PhysMem, row: Row, pages: u32)
         requires held { HoldsRegions self.old mem.old }
+        requires book { IsBook (book_in self.old mem.old) }
+        requires id { row.id ≡ self.old.next }
         requires next { self.old.next < 2 ^ 63 }
         requires count { length self.old.slots < 256 }
         requires most { self.old.declared + pages ≤ 128 }
@@ -418,9 +425,12 @@ impl Regions {
         requires pooled { row.pooled ≡ true → (pool_start ≤ row.first) × (row.first + row.size ≤ pool_start + 65536)
             × (is_range_taken (book_in self.old mem.old).regions row.size (row.first - pool_start) ≡ false) }
         requires declared { row.pooled ≡ false → (row.size ≡ 4096 * pages) × (row.slot ≡ self.old.declared) }
+        requires number { row.slot ≡ (if row.pooled then 0 else self.old.declared) }
+        requires pages { pages_of_row row ≡ pages }
         requires storable { IsStorableRow row }
         ensures added { book_in self.new mem.new ≡ with_one_more (book_in self.old mem.old) (region_of_row row) pages }
         ensures held { HoldsRegions self.new mem.new }
+        ensures keeps { KeepsSlots self.old mem.old self.new mem.new }
         ensures elsewhere { DiffersInRegions mem.old mem.new }
     {
         let slot = self.slots.add();
@@ -437,6 +447,7 @@ impl Regions {
         ensures refused { OnErr result ((self.new ≡ self.old) × (mem.new ≡ mem.old)) }
         ensures freed { OnOk result (book_in self.new mem.new ≡ freed (book_in self.old mem.old) id) }
         ensures held { HoldsRegions self.new mem.new }
+        ensures keeps { KeepsSlots self.old mem.old self.new mem.new }
         ensures elsewhere { DiffersInRegions mem.old mem.new }
         ensures book { IsBook (book_in self.new mem.new) }
     {
@@ -449,13 +460,15 @@ impl Regions {
         }
     }
 
-    /// Lets a region go.
+    /// Lets a region of the pool go.
     fn remove(&mut self, mem: &mut PhysMem, id: u64)
         requires held { HoldsRegions self.old mem.old }
         requires book { IsBook (book_in self.old mem.old) }
         requires live { IsSome (region_of (book_in self.old mem.old) id) }
+        requires pooled { IfSome (region_of (book_in self.old mem.old) id) (λ r. r.pooled ≡ true) }
         ensures freed { book_in self.new mem.new ≡ freed (book_in self.old mem.old) id }
         ensures held { HoldsRegions self.new mem.new }
+        ensures keeps { KeepsSlots self.old mem.old self.new mem.new }
         ensures elsewhere { DiffersInRegions mem.old mem.new }
     {
         let i = self.live_at(mem, id);

@@ -26,7 +26,7 @@ pub(crate) struct Row {
     pub tail: u32,
     pub policy: u8,
     pub pooled: bool,
-    /// Of a declared region, how many pages were declared before it.
+    /// Of a declared region, how many pages were declared before it; 0 of one of the pool.
     pub slot: u32,
     /// Of a declared region, its frames in order.
     pub frames: [u16; 16],

@@ -9,11 +9,14 @@ pub mod TakenUp
 pub mod HeldBooks
 pub mod LedgerLines
 mod WorkedLines
+mod WorkedSections
 pub mod CountedLists
 pub mod ToldRecords
 pub mod AuditParts
 pub mod WorkedAudits
 mod RefutedAudits
+mod RefutedListings
 pub mod FaultNames
 pub mod CodeRuns
 pub mod ListedCode
+pub mod ListingProofs

@@ -22,21 +22,21 @@ pub same_line : (at : ℕ) (run shown : List ℕ) (found : Decoded) → shown �
     → found_line at shown found ≡ found_line at run (decoded_of run)
 same_line at run shown found is says = λ i. found_line at (is i) (says i)
 
-some_listed : (b : List ℕ) (at count : ℕ) → 0 < length (code_run b at 15)
+pub some_listed : (b : List ℕ) (at count : ℕ) → 0 < length (code_run b at 15)
     → code_listing b at (suc count) ≡ lines_behind b at count (code_run b at 15)
 unfolding code_listing
 some_listed b at count some =
     cond-false (length (code_run b at 15) == 0) [] (lines_behind b at count (code_run b at 15))
     (ne_eqb (length (code_run b at 15)) 0 (λ none. omega (arith, some, none)))
 
-none_listed : (b : List ℕ) (at count : ℕ) → length (code_run b at 15) ≡ 0 → code_listing b at count ≡ []
+pub none_listed : (b : List ℕ) (at count : ℕ) → length (code_run b at 15) ≡ 0 → code_listing b at count ≡ []
 unfolding code_listing
 none_listed b at zero none = refl
 none_listed b at (suc count) none =
     cond-true (length (code_run b at 15) == 0) [] (lines_behind b at count (code_run b at 15))
     (eq-eqb (length (code_run b at 15)) 0 none)
 
-nothing_listed : (b : List ℕ) (at : ℕ) → code_listing b at 0 ≡ []
+pub nothing_listed : (b : List ℕ) (at : ℕ) → code_listing b at 0 ≡ []
 unfolding code_listing
 nothing_listed b at = refl
 

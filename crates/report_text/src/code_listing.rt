@@ -8,6 +8,7 @@ ghost use Rattle.elf_image.specs.Pages.{is_executable};
 ghost use Rattle.byte_scanner.specs.ImageCode.{code_at};
 ghost use Rattle.x86_decode.specs.Decoding.{Decodes};
 ghost use Rattle.report_text.specs.CodeBounds.{LiesInHome};
+ghost use Rattle.report_text.specs.CodeListingLaws.{CodeListingLaws};
 ghost use Rattle.report_text.specs.ListingLines.{code_line, code_run, found_line, found_size, code_listing};
 
 use crate::words::{put, put_16, put_bytes};
@@ -15,7 +16,7 @@ use arrayvec::ArrayVec;
 use asm_text::{print, text_law};
 use elf_image::Image;
 use nk_host::{Sink, SinkFault, put_all};
-use x86_decode::{Decoded, decode};
+use x86_decode::{Decoded, decode, decoding_law};
 
 /// The most bytes of an instruction.
 const LONGEST: usize = 15;
@@ -146,4 +147,12 @@ pub fn list<O: Sink>(sink: &mut O, image: &Image, address: u64, count: u32) -> R
         at += found_size(&found);
     }
     Ok(())
+}
+
+/// Each line of the listing of a file of bytes shows what the relation of bytes and instructions allows of the code at its
+/// address, and the listing is the only text that does.
+pub fn code_listing_law()
+    ensures { CodeListingLaws }
+{
+    decoding_law();
 }

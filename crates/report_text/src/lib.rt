@@ -35,7 +35,7 @@ mod code_listing;
 
 pub use call_lines::called;
 pub use closing::section;
-pub use code_listing::list;
+pub use code_listing::{code_listing_law, list};
 pub use counts::{RunCounts, summary};
 pub use region_audit::audit;
 pub use run_lines::{console, delivery, ending};

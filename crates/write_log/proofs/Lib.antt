@@ -7,3 +7,4 @@ mod WorkedLog
 pub mod StandingBytes
 pub mod WorkedLogBytes
 mod RefutedLogs
+mod RefutedCounts

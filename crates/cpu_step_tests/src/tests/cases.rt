@@ -11,6 +11,7 @@ use irq_plan::What;
 use nk_bits::{Leaf, Rights, Upper, canonical};
 use phys_mem::PhysMem;
 use std::alloc::Global;
+use x86_regs::RSP;
 
 /// One turn: where it begins, the code from addresses 0 and 6000 on, and what the turn leaves.
 pub(super) type Row = (Start, &'static [u8], Leaves);
@@ -72,6 +73,47 @@ pub(super) fn first_other(
         }
     }
     None
+}
+
+/// The index of the first code at the user's address 6008 of which the turn behind an IRETQ to there leaves something else.
+pub(super) fn first_other_behind_iretq(
+    alloc: Global,
+    leaves: &Leaves,
+    codes: &[&[u8]],
+) -> Option<usize> {
+    for (index, code) in codes.iter().enumerate() {
+        if !is_turn_right_behind_iretq(alloc, code, leaves) {
+            return Some(index);
+        }
+    }
+    None
+}
+
+/// Whether an IRETQ of the supervisor goes to the code at the user's address 6008, and the turn there leaves this.
+fn is_turn_right_behind_iretq(alloc: Global, code: &[u8], leaves: &Leaves) -> bool {
+    let mut now = begun(&Start::Supervisor);
+    let Ok(mut mem) = memory(alloc) else {
+        return false;
+    };
+    put(&mut mem, 0x8000, b"\x48\xCF");
+    put(&mut mem, 0x8008, code);
+    store_run(&mut mem, 0x9800, &[0x6008, 0x1B, 0x202, 0x7900, 0x23]);
+    let Ok(mut cpu) = cpu(alloc, &now) else {
+        return false;
+    };
+    let entered = Leaves::Changed(
+        0x6008,
+        &[
+            Change::Register(RSP, 0x7900),
+            Change::Flags(0x202),
+            Change::Cpl(3),
+            Change::Ss(0x23),
+        ],
+    );
+    if !turns(&mut cpu, &mut mem, &mut now, &entered) {
+        return false;
+    }
+    turns(&mut cpu, &mut mem, &mut now, leaves)
 }
 
 /// Whether a turn leaves this; not for want of memory.

@@ -218,3 +218,11 @@ fn first_of_the_wrong_rows_is_found(rt: HostRuntime) {
         Some(2)
     );
 }
+
+/// MOV RAX, C0220F, in whose constant a MOV to CR0 stands, is one instruction of seven bytes; from its fourth byte on
+/// there is that MOV.
+#[test]
+fn a_load_of_cr0_within_a_constant(rt: HostRuntime) {
+    assert!(rt; is_right(b"48 C7 C0 0F 22 C0 00 = MOV 64 r0 imm C0220F"));
+    assert!(rt; is_right(b"0F 22 C0 = MOVTC 64 - r0"));
+}

@@ -23,6 +23,18 @@ static MADE: [Case; 3] = [
     (&["make", "100"], &[], Fetch(1), 0, Any),
 ];
 
+/// The first instruction of the first image is listed: MOV RBX, the image's second page.
+static LISTED: [Case; 2] = [
+    (&MAKE, &[], Fetch(1), 0, Any),
+    (
+        &["list", NAME, "ffffffff80000000", "1"],
+        &[(NAME, Written)],
+        No,
+        0,
+        Text("ffffffff80000000 48c7c300100080 mov.64 r3 value ffffffff80001000\n"),
+    ),
+];
+
 /// A made image goes out in pieces.
 static PIECES: [Case; 5] = [
     (&MAKE, &[], Fetch(1), 0, Any),
@@ -134,6 +146,7 @@ static NUMBERS: [&[&str]; 20] = [
 fn made_images_are_as_worked_out(rt: HostRuntime) -> Result<(), Fail> {
     let tables = [
         Cases(&MADE),
+        Cases(&LISTED),
         Cases(&PIECES),
         Cases(&SUMMED),
         Cases(&COUNTED),

@@ -1,6 +1,10 @@
 use Rattle.image_maker.specs.MadeImage.{image_of_number}
+use Rattle.image_maker.proofs.MadeBytes.{made_bytes}
 use Rattle.image_maker.proofs.MadeImages.{made_direct, made_formed, made_free, made_nowhere, made_room, made_user}
 use Rattle.image_maker.proofs.laws.made_image_law.Goals as goal
+
+pub returns-clause-bytes : goal.returns-clause-bytes
+returns-clause-bytes c = made_bytes
 
 pub returns-clause-formed : goal.returns-clause-formed
 returns-clause-formed c = made_formed (record { file = c.written_law.ensures.file; program = c.written_law.ensures.program })

@@ -3,8 +3,8 @@ use Rattle.nk_run.proofs.JoinRows.{joined_says}
 use Rattle.nk_run.proofs.Texts.{put_written}
 use Rattle.nk_run.proofs.join.join.Goals as goal
 
-pub returns-in-Ok : goal.returns-in-Ok
-returns-in-Ok g c = record {
+pub returns-in-Ok-clause-answered : goal.returns-in-Ok-clause-answered
+returns-in-Ok-clause-answered g c = record {
   status = 0;
   text = c.in-Ok.file.items;
   says = inr (joined_says _ c.requires.1.1.0 _ _ c.in-Ok.ensures.made);
@@ -13,8 +13,8 @@ returns-in-Ok g c = record {
   files_stay = c.make_joined.ensures.files_stay;
 }
 
-pub returns-in-Err : goal.returns-in-Err
-returns-in-Err g c = record {
+pub returns-in-Err-clause-answered : goal.returns-in-Err-clause-answered
+returns-in-Err-clause-answered g c = record {
   status = _;
   text = _;
   says = inr c.in-Err.ensures.made;

@@ -4,7 +4,7 @@ use Rattle.region_book.specs.RegionRecords.{IsBook, region_of}
 use Rattle.write_log.specs.LogBytes.{log_in}
 use Rattle.write_log.specs.LogRecords.{logged, room_of}
 use Rattle.policy_book.proofs.FoundRegions.{has_id}
-use Rattle.policy_book.proofs.Writes.{logged_is, none_fits, none_has_room}
+use Rattle.policy_book.proofs.Writes.{logged_is, none_fits, none_has_room, not_unlogged}
 use Rattle.policy_book.proofs.policy.put.Goals as goal
 
 pub mark-requires-clause-fits : goal.mark-requires-clause-fits
@@ -26,3 +26,8 @@ returns-then-logged-clause-log c =
 
 pub returns-then-logged-clause-sound : goal.returns-then-logged-clause-sound
 returns-then-logged-clause-sound c = subst IsBook (sym c.note.ensures.book) c.mark.ensures.sound
+
+pub returns-then-logged-clause-unlogged : goal.returns-then-logged-clause-unlogged
+returns-then-logged-clause-unlogged c = λ off. absurd
+    (not_unlogged (log_in c.args.log.now c.args.mem.now) c.args.offset (length c.args.bytes.now)
+    (region_of (book_in c.args.regions.now c.args.mem.now) c.args.id) c.requires.judged c.if-logged.ensures off)

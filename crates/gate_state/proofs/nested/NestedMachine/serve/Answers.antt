@@ -1,6 +1,9 @@
-use Rattle.std.proofs.Common.{ap, ◌∙◌}
+use Rattle.std.proofs.Common.{◌≡◌, ap, subst, ◌∙◌}
+use Rattle.std.specs.Prelude.{OnSome}
 use Rattle.nk_bits.specs.Accesses.{wp_of}
 use Rattle.cpu_step.specs.Turns.{enters_body}
+use Rattle.nk_body.specs.BooksTouched.{LeavesBooks}
+use Rattle.gate_state.specs.MachineSteps.{call_in, verdict_in}
 use Rattle.gate_state.specs.WholeMachine.{HeldState, WholeState, known_of, served_whole}
 use Rattle.gate_state.proofs.BodyKept.{body_stands}
 use Rattle.gate_state.proofs.WholeLemmas.{served_behind, served_clear}
@@ -25,3 +28,13 @@ invariant_of-result c =
       ap (λ (w : WholeState). wp_of w.state.processor.control.cr0) served ∙ served_clear s (body_stands s.processor c.self.invariant).1,
       ap (λ (w : WholeState). enters_body w.state.processor) served ∙ served_behind s,
     )
+
+pub returns-clause-refused : goal.returns-clause-refused
+returns-clause-refused c =
+    subst (λ (w : HeldState). OnSome (verdict_in w.state) (c.serve-called.new.self.real ≡ w.real))
+    (c.deref_mut.ensures.value ∙ c.self.view_is) c.serve-called.ensures.refused
+
+pub returns-clause-leaves : goal.returns-clause-leaves
+returns-clause-leaves c =
+    subst (λ (w : HeldState). LeavesBooks w.state.ledger.book (call_in w.state.processor.regs) w.real c.serve-called.new.self.real)
+    (c.deref_mut.ensures.value ∙ c.self.view_is) c.serve-called.ensures.leaves

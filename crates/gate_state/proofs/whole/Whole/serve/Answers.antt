@@ -1,18 +1,22 @@
 use Rattle.std.proofs.Common.{◌≡◌, ℕ, ◌≤◌, refl, sym, ap, subst, ◌∙◌, arith, true}
-use Rattle.std.specs.Prelude.{IfSome, Option, vec_capacity}
+use Rattle.std.specs.Prelude.{IfSome, OnSome, Option, vec_capacity}
+use Rattle.std.proofs.lemmas.Option.{IfSome_then}
 use Rattle.phys_mem.specs.MaskedMemory.{seen}
+use Rattle.nk_bits.specs.declared.call.CallWords.{CallWords}
+use Rattle.nk_bits.specs.declared.rule.Rule.{Rule}
 use Rattle.nk_bits.specs.Translations.{Translations}
 use Rattle.cpu_step.specs.Turns.{enters_body}
+use Rattle.nk_body.specs.BooksTouched.{LeavesBooks}
 use Rattle.nk_body.specs.NestedRecord.{books_in}
 use Rattle.nk_body.specs.CallRules.{IsSourceOf, Sourced, bytes_read, wants}
 use Rattle.nk_body.specs.SourceWords.{sourced_of}
 use Rattle.gate_state.specs.MachineStates.{MachineState, Opening}
-use Rattle.gate_state.specs.MachineSteps.{call_in, called_in, source_of, took_by}
+use Rattle.gate_state.specs.MachineSteps.{call_in, called_in, source_of, took_by, verdict_in}
 use Rattle.gate_state.specs.SourceBytes.{source_through}
 use Rattle.gate_state.specs.WholeMachine.{HeldState, known_of, served_whole}
 use Rattle.gate_state.proofs.SourceReads.{source_is}
 use Rattle.gate_state.proofs.SourceWants.{wants_most}
-use Rattle.gate_state.proofs.WholeLemmas.{answer_now, root_stays, served_is, served_whole_is, sound_is, source_now, source_seen, state_by, tlb_seen}
+use Rattle.gate_state.proofs.WholeLemmas.{answer_now, root_stays, served_is, served_whole_is, sound_is, source_now, source_seen, state_by, tlb_seen, verdict_now}
 use Rattle.gate_state.proofs.whole.Whole.serve.Goals as goal
 
 pub take_source-took-requires-clause-sound : goal.take_source-took-requires-clause-sound
@@ -117,3 +121,31 @@ returns-clause-called c =
     c.serve-answer.ensures.answer c.serve-answer.ensures.nested c.serve-answer.ensures.memory c.root.ensures c.answer_with.ensures in
     let call = c.call_in-call.ensures ∙ ap call_in c.regs.ensures in
     (λ i. record { call = call i; source = took i; answer = answer i }) ∙ ap (λ (w : HeldState). called_in w.state) c.self.view_is
+
+pub returns-clause-refused : goal.returns-clause-refused
+returns-clause-refused c =
+    let o : Opening = record { image = c.self.inside.image.now; frames = c.self.inside.layout.now.frames } in
+    let s : MachineState = state_by c.self.inside.cpu c.self.inside.mem c.self.inside.kernel c.self.inside.turns c.self.inside.taken in
+    let read : Sourced = source_through s.memory s.processor.control.root s.processor.tlb c.call_in-call.result.c c.wants-wanted.result in
+    let alike = source_seen c.mask_law.ensures.length o s c.self.inside.kernel c.self.inside.mem c.self.invariant.0
+    (λ m va count. c.steps_law.ensures.masked_source o s m va count c.self.invariant.0.admitted c.self.invariant.0.guarded) c.call_in-call.result.c c.wants-wanted.result in
+    let is : sourced_of c.sourced-source.result ≡ read =
+    c.sourced-source.ensures _ c.take_source-took.ensures.took (c.deref.ensures.value ∙ c.take_source-took.ensures.bytes) ∙ alike in
+    let kept = c.take_source-took.ensures.cpu
+    ∙ ap (λ (tlb : Translations). record s.processor { tlb = tlb })
+    (tlb_seen c.mask_law.ensures.length o s c.self.inside.kernel c.self.inside.mem c.self.invariant.0
+    (λ m va count. c.steps_law.ensures.masked_source o s m va count c.self.invariant.0.admitted c.self.invariant.0.guarded) c.call_in-call.result.c c.wants-wanted.result) in
+    let verdict_is = verdict_now s (books_in c.self.inside.kernel c.self.inside.mem) (books_in c.serve-answer.new.self c.serve-answer.new.mem) (seen c.serve-answer.new.mem)
+    c.call_in-call.result c.wants-wanted.result (sourced_of c.sourced-source.result) c.serve-answer.result c.root.result c.take_source-took.new.cpu c.answer_with.new.cpu
+    refl c.self.invariant.0.root refl (c.call_in-call.ensures ∙ ap call_in c.regs.ensures) c.wants-wanted.ensures is kept
+    c.serve-answer.ensures.answer c.serve-answer.ensures.nested c.serve-answer.ensures.memory c.root.ensures c.answer_with.ensures in
+    subst (λ (w : HeldState). OnSome (verdict_in w.state) (c.serve-answer.new.mem ≡ w.real)) c.self.view_is
+    (subst (λ (v : Option Rule). OnSome v (c.serve-answer.new.mem ≡ c.self.inside.mem)) verdict_is
+    (IfSome_then _ c.serve-answer.ensures.refused (λ rule same. same.1)))
+
+pub returns-clause-leaves : goal.returns-clause-leaves
+returns-clause-leaves c =
+    let s : MachineState = state_by c.self.inside.cpu c.self.inside.mem c.self.inside.kernel c.self.inside.turns c.self.inside.taken in
+    subst (λ (w : HeldState). LeavesBooks w.state.ledger.book (call_in w.state.processor.regs) w.real c.serve-answer.new.mem) c.self.view_is
+    (subst (λ (call : CallWords). LeavesBooks s.ledger.book call c.self.inside.mem c.serve-answer.new.mem)
+    (c.call_in-call.ensures ∙ ap call_in c.regs.ensures) c.serve-answer.ensures.leaves)

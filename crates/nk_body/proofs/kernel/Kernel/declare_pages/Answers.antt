@@ -1,4 +1,4 @@
-use Rattle.std.proofs.Common.{◌≡◌, ◌/◌, List, ℕ, length, sym, ap, subst, ◌∙◌}
+use Rattle.std.proofs.Common.{◌≡◌, ◌/◌, List, ℕ, length, sym, ap, subst, ◌∙◌, refl}
 use Rattle.std.specs.Prelude.{IfSome, OnOk, slice_index}
 use Rattle.nk_bits.specs.Kinds.{is_data}
 use Rattle.nk_bits.specs.Rules.{rule_of}
@@ -14,6 +14,8 @@ use Rattle.nk_body.proofs.CallsMade.{books_of, held_before, made_as, own_of}
 use Rattle.nk_body.proofs.HeldBooks.{tables_of}
 use Rattle.nk_body.proofs.PagesMade.{pages_made, seen_map}
 use Rattle.nk_body.proofs.RegionsHeld.{err_with}
+use Rattle.nk_body.proofs.BooksLeft.{err_as, own_stands, pages_leave}
+use Rattle.nk_body.specs.BooksTouched.{touches_descriptors, touches_regions}
 use Rattle.nk_body.proofs.kernel.Kernel.declare_pages.Goals.{in-Err, in-Ok}
 use Rattle.nk_body.proofs.kernel.Kernel.declare_pages.Goals as goal
 
@@ -68,3 +70,22 @@ returns-clause-form c =
     let log = c.held_log_law.ensures.agree before.log m c.declare.new.mem held.log c.declare.ensures.size
     (λ p low high. c.declare.ensures.others p high) in
     record { stored = c.declare.ensures.described; regions = c.declare.ensures.held; log = log.1 }
+
+pub returns-clause-refused : goal.returns-clause-refused
+returns-clause-refused c =
+    let same : rule_of c.match-declare.result ≡ rule_of c.declare.result =
+    elim c.match-declare.branch [
+      | in-Ok w ↦ ap rule_of w.result-is ∙ sym (ap rule_of w.in-Ok.is)
+      | in-Err w ↦ ap rule_of w.result-is ∙ sym (ap rule_of w.in-Err.is)
+    ] in
+    err_as _ c.declare.result c.match-declare.result same
+    (err_with (λ same. (
+      own_stands c.self.inside.tables c.self.inside.tables c.self.inside.trap c.self.inside.regions c.declare.new.self c.self.inside.log c.self.inside.log
+          c.args.self.now c.self.view_is refl same.0 refl,
+      same.1,
+    )) c.declare.result c.declare.ensures.refused)
+
+pub returns-clause-leaves : goal.returns-clause-leaves
+returns-clause-leaves c =
+    pages_leave (books_in c.args.self.now c.args.mem.now).ledger.book c.args.call.now c.args.mem.now c.declare.new.mem (ap touches_descriptors c.requires.number)
+    (ap touches_regions c.requires.number) c.declare.ensures.others

@@ -1,14 +1,17 @@
-use Rattle.std.proofs.Common.{◌≡◌, sym, ap, ◌∙◌}
+use Rattle.std.proofs.Common.{◌≡◌, sym, ap, ◌∙◌, refl}
 use Rattle.nk_bits.specs.Rules.{rule_of}
 use Rattle.phys_mem.specs.MaskedMemory.{seen}
 use Rattle.page_desc.specs.DescriptorBytes.{descriptors_in}
 use Rattle.region_book.specs.RegionBytes.{book_in}
 use Rattle.write_log.specs.LogBytes.{log_in}
-use Rattle.nk_body.specs.NestedRecord.{HoldsBooks, OwnState}
+use Rattle.nk_body.specs.NestedRecord.{HoldsBooks, OwnState, books_in}
 use Rattle.nk_body.proofs.GuardedStays.{declared_stays}
 use Rattle.nk_body.proofs.CallNumbers.{made_is, number_2, verdict_is, written_2}
 use Rattle.nk_body.proofs.CallsMade.{held_before, made_as, own_of, on_ok, tables_made, with_ledger}
 use Rattle.nk_body.proofs.HeldBooks.{LedgerLaws, tables_form, tables_ledger, unchanged}
+use Rattle.nk_body.proofs.BooksLeft.{err_as, own_stands, tables_leave}
+use Rattle.nk_body.specs.BooksTouched.{touches_descriptors}
+use Rattle.nk_body.proofs.RegionsHeld.{err_with}
 use Rattle.nk_body.proofs.kernel.Kernel.declare_table.Goals.{in-Err, in-Ok}
 use Rattle.nk_body.proofs.kernel.Kernel.declare_table.Goals as goal
 
@@ -43,3 +46,22 @@ returns-clause-form c =
     let held : HoldsBooks before c.args.mem.now = held_before before c.args.self.now c.args.mem.now c.self.view_is c.requires.books in
     let laws : LedgerLaws = record { regions = c.held_regions_law.ensures; log = c.held_log_law.ensures } in
     tables_form laws before c.declare_table.new.self c.args.mem.now c.declare_table.new.mem held c.declare_table.ensures.frames c.declare_table.ensures.books c.declare_table.ensures.others
+
+pub returns-clause-refused : goal.returns-clause-refused
+returns-clause-refused c =
+    let same : rule_of c.match-declare_table.result ≡ rule_of c.declare_table.result =
+    elim c.match-declare_table.branch [
+      | in-Ok w ↦ ap rule_of w.result-is ∙ sym (ap rule_of w.in-Ok.is)
+      | in-Err w ↦ ap rule_of w.result-is ∙ sym (ap rule_of w.in-Err.is)
+    ] in
+    err_as _ c.declare_table.result c.match-declare_table.result same
+    (err_with (λ same. (
+      own_stands c.self.inside.tables c.declare_table.new.self c.self.inside.trap c.self.inside.regions c.self.inside.regions c.self.inside.log c.self.inside.log
+          c.args.self.now c.self.view_is same.0 refl refl,
+      same.1,
+    )) c.declare_table.result c.declare_table.ensures.refused)
+
+pub returns-clause-leaves : goal.returns-clause-leaves
+returns-clause-leaves c =
+    tables_leave (books_in c.args.self.now c.args.mem.now).ledger.book c.args.call.now c.args.mem.now c.declare_table.new.mem (ap touches_descriptors c.requires.number)
+    c.declare_table.ensures.others

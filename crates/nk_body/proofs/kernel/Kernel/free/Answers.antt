@@ -1,4 +1,4 @@
-use Rattle.std.proofs.Common.{◌≡◌, List, ℕ, sym, ap, subst, ◌∙◌}
+use Rattle.std.proofs.Common.{◌≡◌, List, ℕ, sym, ap, subst, ◌∙◌, refl}
 use Rattle.nk_bits.specs.Rules.{rule_of}
 use Rattle.phys_mem.specs.MaskedMemory.{seen}
 use Rattle.page_desc.specs.DescriptorBytes.{descriptors_in}
@@ -10,6 +10,8 @@ use Rattle.nk_body.specs.NestedRecord.{HoldsBooks, OwnState, books_in}
 use Rattle.nk_body.proofs.CallsMade.{books_of, held_before, made_as, own_of}
 use Rattle.nk_body.proofs.RegionsHeld.{beside_stands, err_with}
 use Rattle.nk_body.proofs.RegionsMade.{free_made}
+use Rattle.nk_body.proofs.BooksLeft.{err_as, own_stands, pool_leaves}
+use Rattle.nk_body.specs.BooksTouched.{touches_regions}
 use Rattle.nk_body.proofs.kernel.Kernel.free.Goals.{in-Err, in-Ok}
 use Rattle.nk_body.proofs.kernel.Kernel.free.Goals as goal
 
@@ -41,3 +43,22 @@ returns-clause-form c =
     let stands = beside_stands before c.args.mem.now c.free.new.mem held c.free.ensures.elsewhere.size c.stored_law.ensures
     c.held_log_law.ensures (λ p is. c.free.ensures.elsewhere.elsewhere p) in
     record { stored = stands.stored; regions = c.free.ensures.held; log = stands.counts }
+
+pub returns-clause-refused : goal.returns-clause-refused
+returns-clause-refused c =
+    let same : rule_of c.match-free.result ≡ rule_of c.free.result =
+    elim c.match-free.branch [
+      | in-Ok w ↦ ap rule_of w.result-is ∙ sym (ap rule_of w.in-Ok.is)
+      | in-Err w ↦ ap rule_of w.result-is ∙ sym (ap rule_of w.in-Err.is)
+    ] in
+    err_as _ c.free.result c.match-free.result same
+    (err_with (λ same. (
+      own_stands c.self.inside.tables c.self.inside.tables c.self.inside.trap c.self.inside.regions c.free.new.self c.self.inside.log c.self.inside.log
+          c.args.self.now c.self.view_is refl same.0 refl,
+      same.1,
+    )) c.free.result c.free.ensures.refused)
+
+pub returns-clause-leaves : goal.returns-clause-leaves
+returns-clause-leaves c =
+    pool_leaves (books_in c.args.self.now c.args.mem.now).ledger.book c.args.call.now c.args.mem.now c.free.new.mem (ap touches_regions c.requires.number)
+    (λ p is. c.free.ensures.elsewhere.elsewhere p)

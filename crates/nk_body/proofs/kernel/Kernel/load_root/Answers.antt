@@ -5,10 +5,11 @@ use Rattle.page_desc.specs.DescriptorBytes.{descriptors_in}
 use Rattle.vmmu.specs.declared.tables.Tables4.{Tables4}
 use Rattle.region_book.specs.RegionBytes.{book_in}
 use Rattle.write_log.specs.LogBytes.{log_in}
-use Rattle.nk_body.specs.NestedRecord.{HoldsBooks, OwnState}
+use Rattle.nk_body.specs.NestedRecord.{HoldsBooks, OwnState, books_in}
 use Rattle.nk_body.proofs.CallNumbers.{made_is, number_5, verdict_is, written_5}
 use Rattle.nk_body.proofs.CallsMade.{held_before, made_as, own_of, on_ok, tables_made}
 use Rattle.nk_body.proofs.RegionsHeld.{err_with}
+use Rattle.nk_body.proofs.BooksLeft.{err_as, leaves_all, own_stands}
 use Rattle.nk_body.proofs.kernel.Kernel.load_root.Goals.{in-Err, in-Ok}
 use Rattle.nk_body.proofs.kernel.Kernel.load_root.Goals as goal
 
@@ -29,3 +30,20 @@ returns-clause-made c source =
     (c.load_root.ensures.judged ∙ sym (verdict_is _ _ _ ∙ number_5 c.args.call.now.number _ _ _ _ _ _ _ _ _ _ c.requires.number))
     (err_with (λ same. (refl, ap (λ (t : Tables4). t.root) same, refl)) c.load_root.result c.load_root.ensures.refused)
     (on_ok c.load_root.result refl) c.load_root.ensures.root (on_ok c.load_root.result refl) c.load_root.ensures.books.described (λ none f is. is))
+
+pub returns-clause-refused : goal.returns-clause-refused
+returns-clause-refused c =
+    let same : rule_of c.match-load_root.result ≡ rule_of c.load_root.result =
+    elim c.match-load_root.branch [
+      | in-Ok w ↦ ap rule_of w.result-is ∙ sym (ap rule_of w.in-Ok.is)
+      | in-Err w ↦ ap rule_of w.result-is ∙ sym (ap rule_of w.in-Err.is)
+    ] in
+    err_as _ c.load_root.result c.match-load_root.result same
+    (err_with (λ same. (
+      own_stands c.self.inside.tables c.load_root.new.self c.self.inside.trap c.self.inside.regions c.self.inside.regions c.self.inside.log c.self.inside.log
+          c.args.self.now c.self.view_is same refl refl,
+      refl,
+    )) c.load_root.result c.load_root.ensures.refused)
+
+pub returns-clause-leaves : goal.returns-clause-leaves
+returns-clause-leaves c = leaves_all (books_in c.args.self.now c.args.mem.now).ledger.book c.args.call.now c.args.mem.now c.args.mem.now refl

@@ -1,4 +1,7 @@
+use Rattle.std.proofs.Common.{refl}
+use Rattle.nk_body.specs.NestedRecord.{books_in}
 use Rattle.nk_body.specs.SourceWords.{sourced_of}
+use Rattle.nk_body.proofs.BooksLeft.{err_on, leaves_all}
 use Rattle.nk_body.proofs.kernel.Kernel.make.Goals as goal
 
 pub returns-in-1-clause-made : goal.returns-in-1-clause-made
@@ -24,3 +27,9 @@ returns-in-7-clause-made c = c.allocate.ensures.made (sourced_of c.args.source)
 
 pub returns-in-8-clause-made : goal.returns-in-8-clause-made
 returns-in-8-clause-made c = c.free.ensures.made (sourced_of c.args.source)
+
+pub returns-in_default-clause-leaves : goal.returns-in_default-clause-leaves
+returns-in_default-clause-leaves c = leaves_all (books_in c.args.self.now c.args.mem.now).ledger.book c.args.call.now c.args.mem.now c.args.mem.now refl
+
+pub returns-in_default-clause-refused : goal.returns-in_default-clause-refused
+returns-in_default-clause-refused c = err_on c.refuse_number.result (refl, refl)

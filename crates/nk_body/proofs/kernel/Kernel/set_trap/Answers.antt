@@ -6,9 +6,11 @@ use Rattle.nk_body.specs.CallMade.{IsMade, KeepsForm}
 use Rattle.region_book.specs.RegionBytes.{book_in}
 use Rattle.write_log.specs.LogBytes.{log_in}
 use Rattle.nk_body.specs.NestedRecord.{HoldsBooks, OwnState, books_in}
-use Rattle.nk_body.proofs.HeldBooks.{HeldLaws, LedgerLaws, StandsLedger, handler_described, handler_holds, handler_ledger, handler_seen_after}
+use Rattle.nk_body.proofs.HeldBooks.{HeldLaws, LedgerLaws, StandsLedger, handler_described, handler_holds, handler_ledger, handler_seen_after, handler_books}
 use Rattle.nk_body.proofs.CallsMade.{books_of, held_before, made_as, own_of, trap_made, trap_refused, with_ledger}
 use Rattle.nk_body.proofs.HandlerStores.{handler_stores}
+use Rattle.nk_body.proofs.BooksLeft.{handler_leaves, leaves_all}
+use Rattle.nk_body.specs.BooksTouched.{LeavesBooks}
 use Rattle.nk_body.proofs.kernel.Kernel.set_trap.Goals as goal
 
 pub returns-then-not-canonical-clause-made : goal.returns-then-not-canonical-clause-made
@@ -51,3 +53,18 @@ returns-clause-form c =
       regions = ledger.regions;
       log = ledger.counts;
     })
+
+pub returns-then-not-canonical-clause-leaves : goal.returns-then-not-canonical-clause-leaves
+returns-then-not-canonical-clause-leaves c =
+    leaves_all (books_in c.args.self.now c.args.mem.now).ledger.book c.args.call.now c.args.mem.now c.args.mem.now refl
+
+pub returns-clause-leaves : goal.returns-clause-leaves
+returns-clause-leaves c =
+    let m : List ℕ = c.args.mem.now in
+    let before : OwnState = own_of c.self.inside.tables c.self.inside.trap c.self.inside.regions c.self.inside.log in
+    let held : HoldsBooks before m = held_before before c.args.self.now m c.self.view_is c.requires.books in
+    let laws : HeldLaws = record { tables = c.held_tables_law.ensures; memory = c.memory_law.ensures } in
+    let ledger_laws : LedgerLaws = record { regions = c.held_regions_law.ensures; log = c.held_log_law.ensures } in
+    subst (LeavesBooks (books_in c.args.self.now c.args.mem.now).ledger.book c.args.call.now m) (sym c.store64.ensures.stored)
+    (handler_leaves (books_in c.args.self.now c.args.mem.now).ledger.book c.args.call.now m _ before held
+    (handler_books laws ledger_laws before m held c.args.call.now.a c.memory_law.ensures.places))

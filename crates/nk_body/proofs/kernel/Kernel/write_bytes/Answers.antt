@@ -1,4 +1,4 @@
-use Rattle.std.proofs.Common.{◌≡◌, ℕ, ◌+◌, ◌*◌, ◌≤◌, List, sym, ap, subst, ◌∙◌}
+use Rattle.std.proofs.Common.{◌≡◌, ℕ, ◌+◌, ◌*◌, ◌≤◌, List, sym, ap, subst, ◌∙◌, refl}
 use Rattle.std.specs.Prelude.{All, IfSome}
 use Rattle.nk_bits.specs.Rules.{rule_of}
 use Rattle.page_desc.specs.DescriptorBytes.{descriptors_in}
@@ -13,6 +13,8 @@ use Rattle.nk_body.specs.NestedRecord.{HoldsBooks, OwnState, books_in}
 use Rattle.nk_body.proofs.CallsMade.{books_of, held_before, made_as, own_of}
 use Rattle.nk_body.proofs.RegionsHeld.{descriptors_stand, err_with, frames_apart}
 use Rattle.nk_body.proofs.RegionsMade.{frames_within, write_made}
+use Rattle.nk_body.proofs.BooksLeft.{err_as, own_stands, write_leaves}
+use Rattle.nk_body.specs.BooksTouched.{LeavesBooks}
 use Rattle.nk_body.proofs.kernel.Kernel.write_bytes.Goals.{in-Err, in-Ok}
 use Rattle.nk_body.proofs.kernel.Kernel.write_bytes.Goals as goal
 
@@ -58,3 +60,25 @@ returns-clause-form c =
     let stands = descriptors_stand before c.args.mem.now c.write.new.mem held c.write.ensures.size c.stored_law.ensures
     c.write.ensures.descriptors in
     record { stored = stands.1; regions = c.write.ensures.held; log = c.write.ensures.held_log }
+
+pub returns-clause-refused : goal.returns-clause-refused
+returns-clause-refused c =
+    let same : rule_of c.match-write.result ≡ rule_of c.write.result =
+    elim c.match-write.branch [
+      | in-Ok w ↦ ap rule_of w.result-is ∙ sym (ap rule_of w.in-Ok.is)
+      | in-Err w ↦ ap rule_of w.result-is ∙ sym (ap rule_of w.in-Err.is)
+    ] in
+    err_as _ c.write.result c.match-write.result same
+    (err_with (λ same. (
+      own_stands c.self.inside.tables c.self.inside.tables c.self.inside.trap c.self.inside.regions c.write.new.regions c.self.inside.log c.write.new.log
+          c.args.self.now c.self.view_is refl same.0 same.1,
+      same.2,
+    )) c.write.result c.write.ensures.refused)
+
+pub returns-clause-leaves : goal.returns-clause-leaves
+returns-clause-leaves c =
+    let before : OwnState = own_of c.self.inside.tables c.self.inside.trap c.self.inside.regions c.self.inside.log in
+    subst (λ (own : OwnState). LeavesBooks (books_in own c.args.mem.now).ledger.book c.args.call.now c.args.mem.now c.write.new.mem)
+    c.self.view_is
+    (write_leaves (books_in before c.args.mem.now).ledger.book c.args.call.now c.args.mem.now c.write.new.mem c.requires.number
+    c.write.ensures.descriptors c.write.ensures.unlogged)

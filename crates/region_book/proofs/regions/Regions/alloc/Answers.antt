@@ -1,13 +1,15 @@
 use Rattle.std.proofs.Common.{◌≡◌, ◌-◌, ◌<◌, false, arith, refl, sym, ap, ◌∙◌, subst, length, map}
-use Rattle.std.specs.Prelude.{Some}
+use Rattle.std.specs.Prelude.{Some, if◌then◌else◌}
 use Rattle.std.proofs.lemmas.List.{length-map}
 use Rattle.region_book.specs.RegionBytes.{bits_in, book_in, row_in}
 use Rattle.region_book.specs.RegionCalls.{with_one_more, is_range_taken, pool_region}
 use Rattle.nk_bits.specs.KernelLayout.{pool_start}
 use Rattle.region_book.specs.RegionRecords.{Book, IsBook, Region}
 use Rattle.region_book.specs.RegionRows.{region_of_row, region_at}
+use Rattle.region_book.proofs.KeptSlots.{kept_behind, slots_as_they_were}
+use Rattle.region_book.proofs.NumberedRows.{pages_pooled}
 use Rattle.region_book.proofs.PoolRegions.{pool_added, pool_aside, pool_places, room_free, zeros_are}
-use Rattle.region_book.proofs.SeenStores.{book_stays, held_stays}
+use Rattle.region_book.proofs.SeenStores.{book_stays, held_stays, rows_stay}
 use Rattle.region_book.proofs.regions.Regions.alloc.Goals as goal
 
 pub put_zeros-requires-clause-memory : goal.put_zeros-requires-clause-memory
@@ -43,6 +45,19 @@ admit-requires-clause-pooled c = λ pooled.
           ∙ ap (λ size. is_range_taken (book_in c.args.self.now c.args.mem.now).regions size c.in-Ok.place) c.pool_row-row.ensures.row.0
           ∙ free,
     )
+
+pub admit-requires-clause-book : goal.admit-requires-clause-book
+admit-requires-clause-book c =
+    subst IsBook (sym (book_stays c.args.mem.now c.put_zeros.new.mem c.put_zeros.ensures.length c.put_zeros.ensures.others
+    c.args.self.now c.requires.held)) c.requires.book
+
+pub admit-requires-clause-number : goal.admit-requires-clause-number
+admit-requires-clause-number c =
+    c.pool_row-row.ensures.row.2
+    ∙ sym (ap (λ b. if b then 0 else c.args.self.now.declared) c.pool_row-row.ensures.row.1)
+
+pub admit-requires-clause-pages : goal.admit-requires-clause-pages
+admit-requires-clause-pages c = pages_pooled c.pool_row-row.result c.pool_row-row.ensures.row.1
 
 -- the book that admit leaves is that of the memory before, with the region of the pool behind
 book_after : (c : goal.After-admit) → book_in c.admit.new.self c.admit.new.mem ≡ with_one_more (book_in c.args.self.now c.args.mem.now)
@@ -80,6 +95,15 @@ returns-in-Ok-clause-memory c =
     _ _ c.pool_row-row.ensures.held c.pool_row-row.ensures.row.0
     (c.pool_row-row.ensures.region (book_in c.args.self.now c.args.mem.now) refl) (omega (arith, c.pool_row-row.ensures.first))
     c.put_zeros.ensures.seen
+
+pub returns-in-Ok-clause-keeps : goal.returns-in-Ok-clause-keeps
+returns-in-Ok-clause-keeps c =
+    kept_behind c.args.self.now c.admit.new.self c.args.mem.now c.put_zeros.new.mem c.admit.new.mem
+    (rows_stay c.args.mem.now c.put_zeros.new.mem c.put_zeros.ensures.length c.put_zeros.ensures.others c.args.self.now
+    c.requires.held) c.admit.ensures.keeps
+
+pub returns-in-Err-clause-keeps : goal.returns-in-Err-clause-keeps
+returns-in-Err-clause-keeps c = slots_as_they_were c.args.self.now c.args.mem.now c.requires.book
 
 pub returns-in-Ok-clause-book : goal.returns-in-Ok-clause-book
 returns-in-Ok-clause-book c =

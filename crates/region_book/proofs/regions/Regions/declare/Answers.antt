@@ -1,4 +1,5 @@
 use Rattle.std.proofs.Common.{◌≡◌, ◌<◌, ap, arith, refl, inl, inr, length, length-take-le, map, subst, sym, take, ◌∙◌}
+use Rattle.std.specs.Prelude.{if◌then◌else◌}
 use Rattle.std.proofs.lemmas.List.{length-map}
 use Rattle.page_desc.specs.DescriptorBytes.{kinds_in}
 use Rattle.region_book.specs.RegionBytes.{bits_in, book_in, row_in}
@@ -7,6 +8,9 @@ use Rattle.region_book.specs.RegionRecords.{IsBook, Region}
 use Rattle.region_book.specs.RegionRows.{region_of_row, region_at}
 use Rattle.region_book.proofs.DeclaredRegions.{page_added}
 use Rattle.region_book.proofs.Found.{for_some}
+use Rattle.region_book.proofs.KeptSlots.{kept_behind, slots_as_they_were}
+use Rattle.region_book.proofs.NumberedRows.{pages_declared}
+use Rattle.region_book.proofs.RegionsKept.{each_same}
 use Rattle.region_book.proofs.regions.Regions.declare.Goals as goal
 
 -- slots and bits hold the same book once the frames are guarded
@@ -14,6 +18,21 @@ pub admit-requires-clause-held : goal.admit-requires-clause-held
 admit-requires-clause-held c =
     (c.held_regions_law.ensures.agree c.args.self.now c.args.mem.now c.guard.new.mem c.requires.held
     c.guard.ensures.elsewhere.size (λ p low high. c.guard.ensures.elsewhere.elsewhere p (inl high))).1
+
+pub admit-requires-clause-book : goal.admit-requires-clause-book
+admit-requires-clause-book c =
+    subst IsBook (sym (c.held_regions_law.ensures.agree c.args.self.now c.args.mem.now c.guard.new.mem c.requires.held
+    c.guard.ensures.elsewhere.size (λ p low high. c.guard.ensures.elsewhere.elsewhere p (inl high))).0) c.requires.book
+
+pub admit-requires-clause-number : goal.admit-requires-clause-number
+admit-requires-clause-number c =
+    c.page_row-row.ensures.row.2
+    ∙ sym (ap (λ b. if b then 0 else c.args.self.now.declared) c.page_row-row.ensures.row.1)
+
+pub admit-requires-clause-pages : goal.admit-requires-clause-pages
+admit-requires-clause-pages c =
+    pages_declared c.page_row-row.result c.in-Ok.pages.count c.page_row-row.ensures.row.1
+    (omega (arith, c.page_row-row.ensures.row.0, c.in-Ok.ensures.size))
 
 count_is : (c : goal.After-admit) → length (take c.in-Ok.pages.count c.in-Ok.pages.frames) ≡ c.in-Ok.pages.count
 count_is c = length-take-le c.in-Ok.pages.count c.in-Ok.pages.frames (omega (arith, c.in-Ok.ensures.size))
@@ -53,6 +72,15 @@ returns-in-Ok-clause-unseen c =
     (omega (arith, c.requires.held.size, c.guard.ensures.elsewhere.size)) c.admit.ensures.elsewhere
     ∙ c.stored_law.ensures.unseen c.args.frames.now c.args.mem.now c.guard.new.mem c.requires.described
     c.guard.ensures.elsewhere
+
+pub returns-in-Ok-clause-keeps : goal.returns-in-Ok-clause-keeps
+returns-in-Ok-clause-keeps c =
+    kept_behind c.args.self.now c.admit.new.self c.args.mem.now c.guard.new.mem c.admit.new.mem
+    (each_same c.args.self.now c.args.mem.now c.guard.new.mem c.requires.held c.guard.ensures.elsewhere.size
+    (λ p low high. c.guard.ensures.elsewhere.elsewhere p (inl high))) c.admit.ensures.keeps
+
+pub returns-in-Err-clause-keeps : goal.returns-in-Err-clause-keeps
+returns-in-Err-clause-keeps c = slots_as_they_were c.args.self.now c.args.mem.now c.requires.book
 
 pub returns-in-Ok-clause-book : goal.returns-in-Ok-clause-book
 returns-in-Ok-clause-book c =

@@ -3,8 +3,9 @@ use Rattle.std.specs.Prelude.{IfSome, IsSome}
 use Rattle.phys_mem.specs.MaskedMemory.{is_book_frame, seen}
 use Rattle.region_book.specs.RegionBytes.{book_in}
 use Rattle.region_book.specs.RegionRecords.{IsBook, marked, region_of, with_region}
+use Rattle.region_book.proofs.KeptSlots.{kept_behind}
 use Rattle.region_book.proofs.RegionReads.{byte_aside, byte_fits, bytes_within, stores_are}
-use Rattle.region_book.proofs.SeenStores.{book_stays, held_stays}
+use Rattle.region_book.proofs.SeenStores.{book_stays, held_stays, rows_stay}
 use Rattle.region_book.proofs.regions.Regions.mark.Goals as goal
 
 pub put-requires-clause-memory : goal.put-requires-clause-memory
@@ -48,6 +49,12 @@ returns-clause-marked c =
     subst (λ book. IfSome (region_of book c.args.id)
     (λ r. book_in c.args.self.now c.mark_range.new.mem ≡ with_region book
     (marked r c.args.offset (length c.args.bytes.now)))) same c.mark_range.ensures.marked
+
+pub returns-clause-keeps : goal.returns-clause-keeps
+returns-clause-keeps c =
+    kept_behind c.args.self.now c.args.self.now c.args.mem.now c.put.new.mem c.mark_range.new.mem
+    (rows_stay c.args.mem.now c.put.new.mem c.put.ensures.length c.put.ensures.others c.args.self.now c.requires.held)
+    c.mark_range.ensures.keeps
 
 pub returns-clause-memory : goal.returns-clause-memory
 returns-clause-memory c =
