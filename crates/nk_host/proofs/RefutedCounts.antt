@@ -35,8 +35,8 @@ fallen it = let stands : 5 ≤ 4 = it [] in omega (arith, stands)
 
 -- a count that rose for another name that is held
 another_rose : OnlyAt (λ _. Some []) (λ _. 5) (λ _. 6) (1 ∷ []) → ⊥
-another_rose it = let same : 6 ≡ 5 = it [] tt (λ e. cc) in omega (arith, same)
+another_rose it = let same : 6 ≡ 5 = it [] refl (λ e. cc) in omega (arith, same)
 
 -- what is told is said of what is told
-told : IfTold (Some 5) (λ n. n ≡ 6) → ⊥
+told : IfTold {A = ℕ} (Some 5) (λ n. n ≡ 6) → ⊥
 told it = let same : 5 ≡ 6 = it in omega (arith, same)
