@@ -18,7 +18,7 @@ build_loop() {
         mkdir "$work/$1"
         cd "$work/$1"
         gcc -c -DLOOP="$2" -o loop.o "$bench/loops.S"
-        ld -static -nostdlib -z max-page-size=4096 -z noexecstack -T "$top/examples/outer/outer.ld" -o image loop.o
+        ld -static -nostdlib -z max-page-size=4096 -z noexecstack -T "$bench/flat.ld" -o image loop.o
         objcopy -O binary image flat
         gcc -c -Wa,-I. -o rom.o "$bench/boot_rom.S"
         objcopy -O binary -j .text rom.o rom

@@ -68,7 +68,7 @@ link_image() { # NAME
         cd "$work/$1"
         $CC -c -o start.obj "$programs/start.S"
         ld -static -no-pie -nostdlib -z max-page-size=4096 -z noexecstack --build-id=none --gc-sections --strip-all \
-                -T "$top/examples/outer/outer.ld" -o image start.obj ./*.o
+                -T "$bench/flat.ld" -o image start.obj ./*.o
         objcopy -O binary image flat
         $CC -c -Wa,-I. -o rom.obj "$programs/boot_rom.S"
         objcopy -O binary -j .text rom.obj rom

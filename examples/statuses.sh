@@ -50,8 +50,8 @@ expect 0 'missing 4' map "$image" 512 0
 expect 0 'end steps' run "$image" /dev/null /dev/null 0 512
 expect 0 'root 5' replay "$image" 512 /dev/null
 expect 1 'image 1 Short 0' scan /dev/null
-expect 1 'protected ffffffff80000013 0f22c0' scan "$top/examples/images/refused.elf"
-expect 1 'protected ffffffff80000013 0f22c0' run "$top/examples/images/refused.elf" /dev/null /dev/null 1 512
+expect 1 'protected ffffffff80000113 0f22c0' scan "$top/examples/images/refused.elf"
+expect 1 'protected ffffffff80000113 0f22c0' run "$top/examples/images/refused.elf" /dev/null /dev/null 1 512
 expect 2 "$usage"
 expect 2 "$usage" scan
 expect 3 'unread image' scan "$work/none"

@@ -63,17 +63,17 @@ ENTRIES = (
      "the frame is no page table"),
 )
 
-# In 512 frames 71 to 73 have the direct map's tables (docs/MACHINE.md, 3), which 512 leaves fill.
+# In 512 frames 75 to 77 have the direct map's tables (docs/MACHINE.md, 3), which 512 leaves fill.
 DIRECT = (
-    ("k 3 47 0 48027 0 - 0 -", "write entry 0 of the level 3 table in frame 71, addresses ffff800000000000 to "
-     f"ffff80003fffffff below root 5: 48027, a link to frame 72, {LINK}"),
-    ("k 3 48 1 0 0 - 0 -", "write entry 1 of the level 2 table in frame 72, addresses ffff800000200000 to "
+    ("k 3 4b 0 4c027 0 - 0 -", "write entry 0 of the level 3 table in frame 75, addresses ffff800000000000 to "
+     f"ffff80003fffffff below root 5: 4c027, a link to frame 76, {LINK}"),
+    ("k 3 4c 1 0 0 - 0 -", "write entry 1 of the level 2 table in frame 76, addresses ffff800000200000 to "
      f"ffff8000003fffff below root 5: {NONE}"),
-    ("k 3 49 1ff 0 0 - 0 -", "write entry 511 of the level 1 table in frame 73, page ffff8000001ff000 below root 5: "
+    ("k 3 4d 1ff 0 0 - 0 -", "write entry 511 of the level 1 table in frame 77, page ffff8000001ff000 below root 5: "
      f"{NONE}"),
     ("k 3 5 100 0 0 - 0 -", "write entry 256 of the level 4 table in frame 5 (opening root), addresses "
      f"ffff800000000000 to ffff807fffffffff below root 5: {NONE}"),
-    ("k 3 49 1ff 0 0 - 0 -", f"write entry 511 of the level 1 table in frame 73, below no root: {NONE}"),
+    ("k 3 4d 1ff 0 0 - 0 -", f"write entry 511 of the level 1 table in frame 77, below no root: {NONE}"),
 )
 
 

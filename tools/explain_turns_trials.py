@@ -11,49 +11,49 @@ from page_tree import Tree, form_faults, list_of, rows_of, section_of
 
 TEXT = """c 68
 c 0a
-k 1 ffffffff80000010 0 0 0 - 0 -
-i 14 2 ffffffff80000050 0000000000001000
+k 1 ffffffff80000110 0 0 0 - 0 -
+i 14 2 ffffffff80000150 0000000000001000
 c 21
-i 47 - ffffffff80000062 -
-i 33 - ffffffff80000062 -
+i 47 - ffffffff80000162 -
+i 33 - ffffffff80000162 -
 k 7 10 1 0 0 - 256 ffffff8000010000
 k 9 100 0 7000 2 ! 22 -
-k 9 100 0 ffffffff80001048 2 4142 0 -
-i 13 17a ffffffff80000064 -
+k 9 100 0 ffffffff800012c0 2 4142 0 -
+i 13 17a ffffffff80000164 -
 end halted
 turns 13
 root 5
-trap ffffffff80000010
+trap ffffffff80000110
 """
 NONE, REST = "0" * 16, "flags 0000000000000002 rax 0000000000000000 cr4 0000000000100020"
 BODY, ZEROS = "nested 0 ffffff800000101b - call", f"c {NONE} d {NONE}; rip ffffff800000101d"
 # INT 2F returns behind itself, and so does its RIP; that of INT with a gate that forbids it, of a fault, and of an
 # interrupt is where it stood.
-STEPS = f"""0 outer 0 ffffffff80000000 90 nop.64 - - 0
-1 outer 0 ffffffff80000040 e6e9 out.8 value r0 e9; console 68
-2 outer 0 ffffffff80000042 e6e9 out.8 value r0 e9; console 0a
-3 {BODY} 1 set-handler a ffffffff80000010 b {NONE} {ZEROS}; mem 0000000000002000 1000008000; accepted 0
-4 outer 0 ffffffff80000050 c604250010000000 mov.8 [-,-,1,1000] value 0; rip ffffff80000010b0; cr2 0000000000001000; \
+STEPS = f"""0 outer 0 ffffffff800000f0 90 nop.64 - - 0
+1 outer 0 ffffffff80000140 e6e9 out.8 value r0 e9; console 68
+2 outer 0 ffffffff80000142 e6e9 out.8 value r0 e9; console 0a
+3 {BODY} 1 set-handler a ffffffff80000110 b {NONE} {ZEROS}; mem 0000000000002000 1000008000; accepted 0
+4 outer 0 ffffffff80000150 c604250010000000 mov.8 [-,-,1,1000] value 0; rip ffffff80000010b0; cr2 0000000000001000; \
 deliver 14 #PF code 2 (absent write supervisor data) cr2 0000000000001000
-5 outer 0 ffffffff80000010 e6e9 out.8 value r0 e9; console 21
-6 outer 0 ffffffff80000060 - event irq 33
-6 outer 0 ffffffff80000060 cd2f int.64 - value 2f; rip ffffff80000011b8; deliver 47 interrupt
-7 outer 3 ffffffff80000062 - interrupt 33; rip ffffff8000001148; cpl 0; deliver 33 interrupt
+5 outer 0 ffffffff80000110 e6e9 out.8 value r0 e9; console 21
+6 outer 0 ffffffff80000160 - event irq 33
+6 outer 0 ffffffff80000160 cd2f int.64 - value 2f; rip ffffff80000011b8; deliver 47 interrupt
+7 outer 3 ffffffff80000162 - interrupt 33; rip ffffff8000001148; cpl 0; deliver 33 interrupt
 8 {BODY} 7 allocate a 0000000000000010 b 0000000000000001 {ZEROS}; r9 0000000000000100; accepted 256; \
 place ffffff8000010000
 9 {BODY} 9 write a 0000000000000100 b {NONE} c 0000000000007000 d 0000000000000002; r9 0000000000000016; \
 refused 22 BadSource; source unreadable
-10 {BODY} 9 write a 0000000000000100 b {NONE} c ffffffff80001048 d 0000000000000002; mem 000000000000a000 4142; \
+10 {BODY} 9 write a 0000000000000100 b {NONE} c ffffffff800012c0 d 0000000000000002; mem 000000000000a000 4142; \
 accepted 0
-11 outer 3 ffffffff80000064 cd2f int.64 - value 2f; deliver 13 #GP code 17a (selector 47 idt)
-12 outer 0 ffffffff80000008 f4 hlt.64 - - 0; halted
+11 outer 3 ffffffff80000164 cd2f int.64 - value 2f; deliver 13 #GP code 17a (selector 47 idt)
+12 outer 0 ffffffff80000100 f4 hlt.64 - - 0; halted
 """.splitlines()
 CALLS = [it for it in STEPS if " call " in it]
 END = "end halted\nturns 13\n"
 
 
 def trace(first, steps, end=END):
-    return "\n".join([f"state turn {first} outer cpl 0 rip ffffffff80000000 {REST}", *steps, end])
+    return "\n".join([f"state turn {first} outer cpl 0 rip ffffffff800000f0 {REST}", *steps, end])
 
 
 WHOLE = trace(0, STEPS)
@@ -63,13 +63,13 @@ PART = trace(4, STEPS[4:9], "end to\nturns 8\n")
 # What is said of each line of the text, with its turns in the whole trace.
 SAID = (
     ("lines 1 to 2", "turns 1 to 2", 'console "h\\n"'),
-    ("line 3", "turn 3", "call 1, set the trap handler to ffffffff80000010 (trap_handler, code): accepted"),
+    ("line 3", "turn 3", "call 1, set the trap handler to ffffffff80000110 (trap_handler, code): accepted"),
     ("line 4", "turn 4", "delivery of vector 14, #PF, page fault, error code 2: bits W/R, no translation for a write "
-     "at CPL 0; RIP ffffffff80000050 (kernel_main+0x10, code); CR2 0000000000001000 (the lower half)"),
+     "at CPL 0; RIP ffffffff80000150 (kernel_main+0x10, code); CR2 0000000000001000 (the lower half)"),
     ("line 5", "turn 5", 'console "!"'),
-    ("line 6", "turn 6", "delivery of vector 47, an interrupt or INT 47, no error code; RIP ffffffff80000062 "
+    ("line 6", "turn 6", "delivery of vector 47, an interrupt or INT 47, no error code; RIP ffffffff80000162 "
      "(kernel_main+0x22, code)"),
-    ("line 7", "turn 7", "delivery of vector 33, an interrupt or INT 33, no error code; RIP ffffffff80000062 "
+    ("line 7", "turn 7", "delivery of vector 33, an interrupt or INT 33, no error code; RIP ffffffff80000162 "
      "(kernel_main+0x22, code)"),
     ("line 8", "turn 8", "call 7, allocate 16 bytes, write-once: accepted, region 256 at ffffff8000010000 "
      "(pool, byte 0)"),
@@ -77,13 +77,13 @@ SAID = (
      "0000000000007000 (the lower half), whose bytes could not be read: refused by rule 22, BadSource: a byte of the "
      "source can't be read"),
     ("line 10", "turn 10", "call 9, write 2 bytes in region 256 (write-once, 16 bytes) from offset 0 on, source "
-     "ffffffff80001048 (greeting, constants) (2 bytes, 4142): accepted"),
+     "ffffffff800012c0 (greeting, constants) (2 bytes, 4142): accepted"),
     ("line 11", "turn 11", "delivery of vector 13, #GP, general protection, error code 17a: the gate of vector 47; "
-     "RIP ffffffff80000064 (kernel_main+0x24, code)"),
+     "RIP ffffffff80000164 (kernel_main+0x24, code)"),
     ("line 12", "turn 13", "the run ended: halted, and nothing was left to wake the processor"),
     ("line 13", None, "13 turns were taken"),
     ("line 14", None, "the root page table is frame 5 (opening root)"),
-    ("line 15", None, "the trap handler is ffffffff80000010 (trap_handler, code)"))
+    ("line 15", None, "the trap handler is ffffffff80000110 (trap_handler, code)"))
 OWNERS = (("kernel_main", "6", "46.2 %"), ("gates, body", "4", "30.8 %"), ("_start", "1", "7.7 %"),
           ("halt", "1", "7.7 %"), ("trap_handler", "1", "7.7 %"))
 
@@ -174,8 +174,8 @@ def try_owners(folder):
 
 def try_doubt(folder):
     """Where a part stands at several places no line gets a turn; the turns that others took may leave one place."""
-    step = "outer 0 ffffffff80000040 e6e9 out.8 value r0 e9; console 61"
-    text = "c 61\n" * 4 + "end halted\nturns {}\nroot 5\ntrap ffffffff80000010\n"
+    step = "outer 0 ffffffff80000140 e6e9 out.8 value r0 e9; console 61"
+    text = "c 61\n" * 4 + "end halted\nturns {}\nroot 5\ntrap ffffffff80000110\n"
     part = trace(5, [f"5 {step}", f"6 {step}"], "end to\nturns 7\n")
     told = Told(folder, part, text.format(20))
     compare("three places", (0, "trace: what the trace shows stands at 3 places of the text, so no line gets its turn",
@@ -193,9 +193,9 @@ def try_doubt(folder):
 WRONG = (
     ("another byte", WHOLE.replace("console 21", "console 22"), TEXT,
      "line 5 of the text is 'c 21', and at turn 5 the trace has 'c 22'"),
-    ("another argument", WHOLE.replace("a ffffffff80000010", "a ffffffff80000011"), TEXT,
-     "line 3 of the text is 'k 1 ffffffff80000010 0 0 0 .. 0 -', and at turn 3 the trace has "
-     "'k 1 ffffffff80000011 0 0 0 .. 0 -'"),
+    ("another argument", WHOLE.replace("a ffffffff80000110", "a ffffffff80000111"), TEXT,
+     "line 3 of the text is 'k 1 ffffffff80000110 0 0 0 .. 0 -', and at turn 3 the trace has "
+     "'k 1 ffffffff80000111 0 0 0 .. 0 -'"),
     ("another answer", WHOLE.replace("refused 22 BadSource; source", "refused 24 WrittenOnce; source"), TEXT,
      "line 9 of the text is 'k 9 100 0 7000 2 ! 22 -', and at turn 9 the trace has 'k 9 100 0 7000 2 ! 24 -'"),
     ("a source that was read", WHOLE.replace("; source unreadable", ""), TEXT,
@@ -203,18 +203,18 @@ WRONG = (
     ("another place", WHOLE.replace("place ffffff8000010000", "place ffffff8000010010"), TEXT,
      "line 8 of the text is 'k 7 10 1 0 0 .. 256 ffffff8000010000', and at turn 8 the trace has "
      "'k 7 10 1 0 0 .. 256 ffffff8000010010'"),
-    ("another RIP", WHOLE.replace("ffffffff80000060 cd2f", "ffffffff80000061 cd2f"), TEXT,
-     "line 6 of the text is 'i 47 - ffffffff80000062 -', and at turn 6 the trace has "
-     "'i 47 - ffffffff80000063 -'"),
+    ("another RIP", WHOLE.replace("ffffffff80000160 cd2f", "ffffffff80000161 cd2f"), TEXT,
+     "line 6 of the text is 'i 47 - ffffffff80000162 -', and at turn 6 the trace has "
+     "'i 47 - ffffffff80000163 -'"),
     ("another CR2", WHOLE.replace("data) cr2 0000000000001000", "data) cr2 0000000000001008"), TEXT,
-     "line 4 of the text is 'i 14 2 ffffffff80000050 0000000000001000', and at turn 4 the trace has "
-     "'i 14 2 ffffffff80000050 0000000000001008'"),
+     "line 4 of the text is 'i 14 2 ffffffff80000150 0000000000001000', and at turn 4 the trace has "
+     "'i 14 2 ffffffff80000150 0000000000001008'"),
     ("a line more", WHOLE, TEXT.replace("c 0a\n", ""),
-     "line 2 of the text is 'k 1 ffffffff80000010 0 0 0 .. 0 -', and at turn 2 the trace has 'c 0a'"),
-    ("a last line more", WHOLE, TEXT.replace("i 13 17a ffffffff80000064 -\n", ""),
-     "at turn 11 the trace has 'i 13 17a ffffffff80000064 -', and the text has no line for it"),
+     "line 2 of the text is 'k 1 ffffffff80000110 0 0 0 .. 0 -', and at turn 2 the trace has 'c 0a'"),
+    ("a last line more", WHOLE, TEXT.replace("i 13 17a ffffffff80000164 -\n", ""),
+     "at turn 11 the trace has 'i 13 17a ffffffff80000164 -', and the text has no line for it"),
     ("a last line less", WHOLE.replace("; deliver 13 #GP code 17a (selector 47 idt)", ""), TEXT,
-     "line 11 of the text is 'i 13 17a ffffffff80000064 -', and the trace doesn't have it"),
+     "line 11 of the text is 'i 13 17a ffffffff80000164 -', and the trace doesn't have it"),
     ("more turns", WHOLE.replace("turns 13", "turns 14"), TEXT,
      "the trace ends behind 14 turns, and the text's run behind 13"),
     ("a run that halts before", WHOLE, TEXT.replace("turns 13", "turns 14"),
@@ -285,8 +285,8 @@ def try_page(folder):
             [it.attributes["title"] for it in section_of(tree, "run").all("a")])
     compare("what the page says of turns", True, "Each event has the turn at which it came" in
             section_of(tree, "run").words())
-    alike = [f"{it} outer 0 ffffffff80000040 - interrupt 33; deliver 33 interrupt" for it in range(9)]
-    Told(folder, trace(0, alike, "end steps\nturns 9\n"), "i 33 - ffffffff80000040 -\n" * 9 + "end steps\nturns 9\n",
+    alike = [f"{it} outer 0 ffffffff80000140 - interrupt 33; deliver 33 interrupt" for it in range(9)]
+    Told(folder, trace(0, alike, "end steps\nturns 9\n"), "i 33 - ffffffff80000140 -\n" * 9 + "end steps\nturns 9\n",
          words=("--html", folder / "page"))
     tree = Tree((folder / "page").read_text(encoding="utf-8"))
     compare("a group's turns", True, list_of(tree, "events")[0].startswith("lines 1 to 9, turns 0 to 8: vector 33, 9 "))

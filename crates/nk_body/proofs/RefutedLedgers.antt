@@ -14,7 +14,7 @@ use Rattle.policy_book.specs.PolicyRules.{is_logged}
 use Rattle.region_book.specs.RegionRecords.{Book, Region, region_of}
 use Rattle.write_log.specs.LogRecords.{log_size}
 use Rattle.nk_body.specs.BooksTouched.{LeavesBooks, touches_descriptors, touches_regions}
-use Rattle.nk_body.specs.NestedRecord.{HoldsBooks, IsLedgerKept, Ledger, OwnState}
+use Rattle.nk_body.specs.NestedRecord.{AreBooks, Books, HasFixedFrames, HoldsBooks, IsLedgerKept, Ledger, OwnState}
 
 -- a region in a frame that isn't guarded
 unguarded_region : (kinds : List Kind) (ledger : Ledger) (r : Region) (f : ℕ) (regions : List Region) (frames : List ℕ)
@@ -38,25 +38,32 @@ long_log : (kinds : List Kind) (ledger : Ledger) → log_size ledger.log ≡ 655
 long_log kinds ledger size kept = let most = kept.log in omega (arith, size)
 
 -- the frame of the interrupt descriptor table, that of the gates, the handler slot's or the nested kernel's stack is data
-module _ (own : OwnState) (m : List ℕ) (held : HoldsBooks own m) where
-  data_at_0 : kind_of (kinds_in m) 0 ≡ Data → ⊥
-  data_at_0 is = false≢true (sym (ap is_data held.books.fixed.descriptors) ∙ ap is_data is)
+module _ (kinds : List Kind) (has : HasFixedFrames kinds) where
+  data_at_0 : kind_of kinds 0 ≡ Data → ⊥
+  data_at_0 is = false≢true (sym (ap is_data has.descriptors) ∙ ap is_data is)
 
-  data_at_1 : kind_of (kinds_in m) 1 ≡ Data → ⊥
-  data_at_1 is = false≢true (sym (ap is_data held.books.fixed.gates) ∙ ap is_data is)
+  data_at_1 : kind_of kinds 1 ≡ Data → ⊥
+  data_at_1 is = false≢true (sym (ap is_data has.gates) ∙ ap is_data is)
 
-  data_at_2 : kind_of (kinds_in m) 2 ≡ Data → ⊥
-  data_at_2 is = false≢true (sym (ap is_data held.books.fixed.handler) ∙ ap is_data is)
+  data_at_2 : kind_of kinds 2 ≡ Data → ⊥
+  data_at_2 is = false≢true (sym (ap is_data has.handler) ∙ ap is_data is)
 
-  data_at_4 : kind_of (kinds_in m) 4 ≡ Data → ⊥
-  data_at_4 is = false≢true (sym (ap is_data held.books.fixed.stack) ∙ ap is_data is)
+  data_at_4 : kind_of kinds 4 ≡ Data → ⊥
+  data_at_4 is = false≢true (sym (ap is_data has.stack) ∙ ap is_data is)
 
   -- the trap stack is data, or fixed
-  data_at_3 : kind_of (kinds_in m) 3 ≡ Data → ⊥
-  data_at_3 is = false≢true (sym (ap is_data held.books.fixed.traps) ∙ ap is_data is)
+  data_at_3 : kind_of kinds 3 ≡ Data → ⊥
+  data_at_3 is = false≢true (sym (ap is_data has.traps) ∙ ap is_data is)
 
-  fixed_at_3 : kind_of (kinds_in m) 3 ≡ Fixed → ⊥
-  fixed_at_3 is = false≢true (sym (ap is_storable is) ∙ ap is_storable held.books.fixed.traps)
+  fixed_at_3 : kind_of kinds 3 ≡ Fixed → ⊥
+  fixed_at_3 is = false≢true (sym (ap is_storable is) ∙ ap is_storable has.traps)
+
+-- books over such kinds aren't those of memory, and no memory holds them
+data_books : (books : Books) (m : List ℕ) → kind_of books.frames.kinds 0 ≡ Data → AreBooks books m → ⊥
+data_books books m is are = data_at_0 books.frames.kinds are.fixed is
+
+data_held : (own : OwnState) (m : List ℕ) → kind_of (kinds_in m) 3 ≡ Data → HoldsBooks own m → ⊥
+data_held own m is holds = data_at_3 (kinds_in m) holds.books.fixed is
 
 module _ (book : Book) (call : CallWords) (m later : List ℕ) (leaves : LeavesBooks book call m later) where
   -- call 5, which loads a root, changes the first descriptor of 512

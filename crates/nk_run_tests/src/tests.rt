@@ -383,13 +383,20 @@ static ADJACENT: [Case; 3] = [
 /// What is loaded of the compiled kernel's file.
 const COMPILED: [(usize, &[u8]); 4] = [
     (0, &compiled::HEADERS),
-    (0x1000, &compiled::CODE),
-    (0x2000, &compiled::CONSTANTS),
-    (0x3000, &compiled::DATA),
+    (0xf0, &compiled::CODE),
+    (0x278, &compiled::CONSTANTS),
+    (0x2d0, &compiled::DATA),
 ];
 
-/// What gcc and ld built from examples/outer is admitted, with code, constants and data on pages of their own.
-static BUILT: [Case; 1] = [(&SCAN, &[(NAME, Placed(&COMPILED))], No, 0, Text(ADMITTED))];
+/// What gcc and ld built of examples/outer is admitted: code, constants and data stand on one page of the file, and in
+/// memory on pages of their own, the first byte of code within its page.
+static BUILT: [Case; 1] = [(
+    &SCAN,
+    &[(NAME, Placed(&COMPILED))],
+    No,
+    0,
+    Text("admitted entry ffffffff800000f0 pages 1\n"),
+)];
 
 #[test]
 fn scans_are_as_worked_out(rt: HostRuntime) -> Result<(), Fail> {

@@ -1,5 +1,5 @@
-/* Three loadable segments, each on pages of its own, from the kernel's link address on: code (read, execute), constants (read)
- * and data (read, write), the last with memory that the file doesn't fill. The headers themselves are not loaded. */
+/* Three segments, each on pages of its own that stand in the file as in memory, from the link address on: so what
+ * objcopy makes of it flat is the program as it is loaded. A kernel's image is linked by outer/outer.ld. */
 OUTPUT_FORMAT(elf64-x86-64)
 ENTRY(_start)
 
