@@ -1,7 +1,7 @@
 //! What the laws on guarded states leave no room for. Each function calls a law, and says of each of its clauses what
 //! it refuses: a clause that is dropped, or that asks for more, is missed here.
 
-ghost use Rattle.std.specs.Prelude.{◌≡◌, ◌≢◌, ◌⊎◌, ℕ, ◌/◌, ◌<◌, ◌≤◌, List, false, true};
+ghost use Rattle.std.specs.Prelude.{◌≡◌, ◌≢◌, ◌⊎◌, ℕ, ◌-◌, ◌/◌, ◌^◌, ◌<◌, ◌≤◌, List, None, Some, false, true};
 ghost use Rattle.irq_plan.specs.declared.event.Event.{Event};
 ghost use Rattle.irq_plan.specs.declared.event.What.{What};
 ghost use Rattle.nk_bits.specs.Accesses.{wp_of};
@@ -15,7 +15,8 @@ ghost use Rattle.boot_map.specs.KernelSlot.{IsNamedIn};
 ghost use Rattle.page_walk.specs.MemoryAccess.{view_of};
 ghost use Rattle.cpu_step.specs.EventsTaken.{event_taken};
 ghost use Rattle.cpu_step.specs.InstructionFetch.{instruction_at};
-ghost use Rattle.cpu_step.specs.Processor.{Processor};
+ghost use Rattle.x86_alu.specs.SignedNumbers.{bit};
+ghost use Rattle.cpu_step.specs.Processor.{Processor, highest_pending};
 ghost use Rattle.cpu_step.specs.TurnStores.{turn_stores};
 ghost use Rattle.cpu_step.specs.Turns.{enters_body, turned};
 ghost use Rattle.gate_state.specs.GuardedStates.{IsAdmitted, IsGuarded};
@@ -25,7 +26,7 @@ ghost use Rattle.gate_state.specs.SafeStates.{TakesTurn};
 ghost use Rattle.gate_state.specs.SourceBytes.{source_read};
 ghost use Rattle.gate_state.specs.WindowLeft.{ComesNearer, left};
 
-use gate_state::{entry_forms_law, hidden_law, masked_law, window_law};
+use gate_state::{entry_forms_law, hidden_law, highest_pending_law, masked_law, window_law};
 
 /// Over memory as it is, the books in it, a turn from a guarded state ends no otherwise than over the state's, shows
 /// and stores nothing else, and changes no byte of the books; nor is another instruction fetched, another event taken,
@@ -109,4 +110,18 @@ pub fn formless_entry()
         → has_leaf_form (entry_in s.memory f i) ≡ false → ⊥ }
 {
     entry_forms_law();
+}
+
+/// Of sixteen pending vectors none is passed over: where none is told, none waits, and what is told is the greatest.
+pub fn another_pending_vector()
+    ensures passed_over { (pending vector : ℕ) → pending < 2 ^ 16 → highest_pending pending ≡ None
+        → bit pending (vector - 32) ≡ true → ⊥ }
+    ensures least { (pending : ℕ) → pending < 2 ^ 16 → highest_pending pending ≡ Some 31 → ⊥ }
+    ensures most { (pending : ℕ) → pending < 2 ^ 16 → highest_pending pending ≡ Some 48 → ⊥ }
+    ensures waits { (pending vector : ℕ) → pending < 2 ^ 16 → highest_pending pending ≡ Some vector
+        → bit pending (vector - 32) ≡ false → ⊥ }
+    ensures above { (pending vector other : ℕ) → pending < 2 ^ 16 → highest_pending pending ≡ Some vector
+        → vector < other → bit pending (other - 32) ≡ true → ⊥ }
+{
+    highest_pending_law();
 }

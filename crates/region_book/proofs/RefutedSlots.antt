@@ -1,13 +1,15 @@
 -- Memories that don't hold regions, and rows that aren't kept, each named by the sentence that it guards.
 use Rattle.std.proofs.Common.{◌≡◌, ◌≢◌, ◌+◌, ◌*◌, ◌%◌, ◌<◌, ◌≤◌, ◌==◌, ℕ, true, false, if◌then◌else◌, List, take, length, inl, inr, sym, ◌∙◌, arith}
-use Rattle.std.specs.Prelude.{All, AllPairs, Some, map, slice_get}
+use Rattle.std.specs.Prelude.{All, AllPairs, None, Some, map, slice_get}
 use Rattle.std.specs.List.{list_any, sum_by}
 use Rattle.std.proofs.lemmas.Bool.{false≢true}
 use Rattle.nk_bits.specs.KernelLayout.{pool_start}
 use Rattle.phys_mem.specs.Memory.{byte_at, number_at}
 use Rattle.region_book.specs.declared.row.Row.{Row}
-use Rattle.region_book.specs.RegionBytes.{HasRowForm, HoldsRegions, RegionIndex, bits_in, row_in, slot_place}
-use Rattle.region_book.specs.RegionRecords.{IsApart, IsEachOnce, Region}
+use Rattle.region_book.specs.RegionBytes.{HasRowForm, HoldsRegions, RegionIndex, bits_in, book_in, row_in, slot_place}
+use Rattle.region_book.specs.RegionCalls.{free_rule, freed, with_one_more}
+use Rattle.region_book.specs.RegionLaws.{NumberedLaws}
+use Rattle.region_book.specs.RegionRecords.{Book, IsApart, IsBook, IsEachOnce, Region, declared_before, marked, region_of, with_region}
 use Rattle.region_book.specs.RegionRows.{AreApart, AreNumbered, AreRowsKept, IsHeld, bit_in, first_bit, in_run, pages_of_row}
 
 -- a row of too many bytes; one that begins before the pool, or ends past it; and declared pages that are not whole, or that
@@ -101,3 +103,24 @@ module _ (index : RegionIndex) (m : List ℕ) (it : HoldsRegions index m) where
   bit_of_no_region : (k : ℕ) → bit_in (bits_in m) k ≡ true
       → list_any (λ s. in_run (first_bit (row_in m s)) (row_in m s).size k) index.slots ≡ false → ⊥
   bit_of_no_region k set none = false≢true (sym none ∙ it.bits k set)
+
+-- what the laws on numbers of pages leave no room for: a slot that has another number than the pages declared before it, and
+-- a call that renumbers
+module _ (it : NumberedLaws) where
+  misnumbered : (index : RegionIndex) (m : List ℕ) → HoldsRegions index m → IsBook (book_in index m)
+      → (All (λ s. (row_in m s).slot
+      ≡ (if (row_in m s).pooled then 0 else declared_before (book_in index m) (row_in m s).id)) index.slots → ⊥) → ⊥
+  misnumbered index m held book none = none (it.number index m held book)
+
+  renumbered_by_one_more : (book : Book) (r : Region) (pages id : ℕ) → id ≤ r.id
+      → declared_before (with_one_more book r pages) id ≢ declared_before book id → ⊥
+  renumbered_by_one_more book r pages id before other = other (it.added book r pages id before)
+
+  renumbered_by_one_less : (book : Book) (id later : ℕ) → IsBook book → free_rule book id ≡ None
+      → declared_before (freed book id) later ≢ declared_before book later → ⊥
+  renumbered_by_one_less book id later sound freed_by other = other (it.let_go book id later sound freed_by)
+
+  renumbered_by_a_write : (book : Book) (id later offset count : ℕ) (r : Region) → IsBook book → region_of book id ≡ Some r
+      → declared_before (with_region book (marked r offset count)) later ≢ declared_before book later → ⊥
+  renumbered_by_a_write book id later offset count r sound found other =
+      other (it.written book id later offset count r sound found)

@@ -14,7 +14,7 @@ use Rattle.x86_decode.specs.Decoding.{Decodes}
 use Rattle.x86_decode.specs.Reader.{decoded_of}
 use Rattle.x86_decode.specs.Spelling.{AreBytes}
 use Rattle.x86_decode.specs.SpellingLaws.{DecodingLaws}
-use Rattle.report_text.specs.CodeListingLaws.{BeginsListing, EndsListing, IsListing}
+use Rattle.report_text.specs.CodeListingLaws.{IsListing}
 use Rattle.report_text.specs.ListingLines.{byte_before, code_listing, code_run, found_line, found_size}
 use Rattle.report_text.proofs.ListedCode.{none_listed, nothing_listed, some_listed, some_run}
 

@@ -6,6 +6,7 @@ use Rattle.page_desc.specs.DescriptorBytes.{descriptors_in, kinds_in}
 use Rattle.phys_mem.specs.MaskedMemory.{seen}
 use Rattle.region_book.specs.RegionCalls.{with_one_more, pages_rule, frames_from, guarded, page_region}
 use Rattle.region_book.specs.RegionBytes.{book_in}
+use Rattle.vmmu.specs.declared.tables.Tables4.{Tables4}
 use Rattle.write_log.specs.LogBytes.{log_in}
 use Rattle.write_log.specs.LogRecords.{LogRecord}
 use Rattle.nk_body.specs.declared.call.Call.TheVariants.{DeclarePages}
@@ -78,10 +79,12 @@ returns-clause-refused c =
       | in-Ok w ↦ ap rule_of w.result-is ∙ sym (ap rule_of w.in-Ok.is)
       | in-Err w ↦ ap rule_of w.result-is ∙ sym (ap rule_of w.in-Err.is)
     ] in
+    let after : Tables4 = record { frames = c.declare.new.frames; root = c.self.inside.tables.root } in
+    let stays : after ≡ c.self.inside.tables = λ i. record { frames = c.declare.ensures.stays i; root = c.self.inside.tables.root } in
     err_as _ c.declare.result c.match-declare.result same
     (err_with (λ same. (
-      own_stands c.self.inside.tables c.self.inside.tables c.self.inside.trap c.self.inside.regions c.declare.new.self c.self.inside.log c.self.inside.log
-          c.args.self.now c.self.view_is refl same.0 refl,
+      own_stands c.self.inside.tables after c.self.inside.trap c.self.inside.regions c.declare.new.self c.self.inside.log c.self.inside.log
+          c.args.self.now c.self.view_is stays same.0 refl,
       same.1,
     )) c.declare.result c.declare.ensures.refused)
 
