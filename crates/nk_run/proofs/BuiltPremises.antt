@@ -1,13 +1,18 @@
 -- Premises of the top call's promises, built at concrete values, and answers that the promises then refuse: a promise
 -- whose premise nothing meets says nothing.
-use Rattle.std.proofs.Common.{◌≡◌, ◌≢◌, ◌≤◌, ◌⊎◌, ℕ, List, [], ◌∷◌, None, Some, codes, lit≤, refl, inl, inr, arith}
+use Rattle.std.proofs.Common.{◌≡◌, ◌≢◌, ◌≤◌, ◌⊎◌, ℕ, if◌then◌else◌, List, [], ◌∷◌, length, None, Some, codes, lit≤, refl, inl, inr, arith}
+use Rattle.std.specs.Str.{bytes_eq}
 use Rattle.nk_host.specs.FaultCounts.{RoseTo}
+use Rattle.elf_image.specs.Rows.{first_fault}
+use Rattle.byte_scanner.specs.FirstFound.{first_found}
+use Rattle.boot_map.specs.Division.{need}
+use Rattle.image_maker.specs.MadeImage.{image_of_number}
 use Rattle.irq_plan.specs.PlanFile.{plan_of, read_from}
 use Rattle.asm_text.specs.AssembledText.{code_from}
 use Rattle.code_modules.specs.ModuleList.{list_from, list_of}
 use Rattle.nk_run.specs.declared.command_line.Role.{Role}
-use Rattle.nk_run.specs.Clauses.{IsFaultless, IsGoodList, IsGoodPlan, IsGoodText, NameRose, Promises, SinkRose}
-use Rattle.nk_run.specs.CommandLine.{Make, command_of}
+use Rattle.nk_run.specs.Clauses.{IsDoable, IsFaultless, IsGoodImage, IsGoodList, IsGoodPlan, IsGoodText, NameRose, Promises, SinkRose}
+use Rattle.nk_run.specs.CommandLine.{Make, Run, command_of}
 use Rattle.nk_run.specs.Witness.{Files, Witness}
 
 -- counts of five, of faults of every name and of the sink, that stay; and a count of wants before and after
@@ -86,3 +91,19 @@ empty_text = record { within = lit≤ tt; coded = refl }
 list_of_one_module : IsGoodList (codes "pack a\n")
 unfolding list_of list_from
 list_of_one_module = record { within = lit≤ tt; formed = refl }
+
+-- a made image is good by what holds of each, and so its run can be done, without input and plan
+module _ (number : ℕ) (within : length (image_of_number number) ≤ 67108864)
+    (formed : first_fault (image_of_number number) ≡ None) (clean : first_found (image_of_number number) ≡ None)
+    (room : need (image_of_number number) 4096 ≤ 4096) where
+  good_image : IsGoodImage (image_of_number number)
+  good_image = record { within = within; formed = formed; clean = clean }
+
+  abbrev held : Files
+  held name = if bytes_eq name (codes "a") then Some (image_of_number number) else Some []
+
+  abbrev asked : List (List ℕ)
+  asked = codes "run" ∷ codes "a" ∷ codes "b" ∷ codes "c" ∷ codes "0" ∷ codes "4096" ∷ []
+
+  run_can_be_done : IsDoable (Run 0 4096) asked held
+  run_can_be_done = ((good_image, room), (lit≤ tt, empty_plan))

@@ -142,7 +142,8 @@ returns-clause-refused c =
     c.serve-answer.ensures.answer c.serve-answer.ensures.nested c.serve-answer.ensures.memory c.root.ensures c.answer_with.ensures in
     subst (λ (w : HeldState). OnSome (verdict_in w.state) (c.serve-answer.new.mem ≡ w.real)) c.self.view_is
     (subst (λ (v : Option Rule). OnSome v (c.serve-answer.new.mem ≡ c.self.inside.mem)) verdict_is
-    (IfSome_then _ c.serve-answer.ensures.refused (λ rule same. same.1)))
+    (IfSome_then _ c.serve-answer.ensures.refused
+    (λ rule (same : (c.serve-answer.new.self ≡ c.self.inside.kernel) × (c.serve-answer.new.mem ≡ c.self.inside.mem)). same.1)))
 
 pub returns-clause-leaves : goal.returns-clause-leaves
 returns-clause-leaves c =
