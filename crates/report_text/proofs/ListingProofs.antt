@@ -55,8 +55,7 @@ module _ (b : List ℕ) (bytes : (i : ℕ) → slice_index b i < 256) where
 
   no_run : (run : List ℕ) → (length run == 0) ≡ true → run ≡ []
   no_run [] none = refl
-  no_run (byte ∷ run) none =
-      let zero : 1 + length run ≡ 0 = eqb-true (length (byte ∷ run)) 0 none in absurd (omega (arith, zero))
+  no_run (byte ∷ run) none = absurd (omega (arith, eqb-true (length (byte ∷ run)) 0 none))
 
   stands_some : (run : List ℕ) → (run ≡ [] → ⊥) → 0 < length run
   stands_some [] some = absurd (some refl)
