@@ -1,6 +1,6 @@
 -- The whole machine after each kind of step, from what the parts say.
 use Rattle.std.proofs.Common.{◌≡◌, ℕ, ◌+◌, ◌*◌, ◌/◌, Bool, true, false, List, length, refl, sym, ap, subst, ◌∙◌, arith}
-use Rattle.std.specs.Prelude.{Option, None, Some, not, ◌==◌, ◌&&◌}
+use Rattle.std.specs.Prelude.{OnSome, Option, None, Some, not, ◌==◌, ◌&&◌}
 use Rattle.std.proofs.lemmas.Bool.{and_right}
 use Rattle.nk_bits.specs.declared.call.Answer.{Answer}
 use Rattle.nk_bits.specs.declared.call.CallWords.{CallWords}
@@ -165,6 +165,11 @@ module _ (keep : KeepLength) (o : Opening) (was : Processor) (m : List ℕ) (own
     kept = still.1;
     root = whole.root ∙ sym (ap (λ (nk : Nested). nk.tables.root) (ap nested_of turn_is ∙ same));
   }
+
+-- of two facts that are said where there is a value, the second
+pub second_on : {A : Type 0} (P Q : Type 0) (v : Option A) → OnSome v (P × Q) → OnSome v Q
+second_on P Q None both = tt
+second_on P Q (Some a) both = both.1
 
 -- the state after the body
 module _ (s : MachineState) (books after : Books) (m : List ℕ) (call : CallWords) (place : ℕ) (asked_for : Option ℕ) (source : Sourced) (answer : Answer)

@@ -2,6 +2,7 @@
 use Rattle.std.proofs.Common.{◌≡◌, ℕ, zero, suc, ◌+◌, ◌-◌, ◌/◌, ◌<◌, ◌≤◌, ◌==◌, true, List, [], ◌∷◌, ◌++◌, length, Option, Some, None, find, inl, inr, refl, sym, ap, ◌∙◌, arith, lit<}
 use Rattle.std.specs.Prelude.{IfSome, slice_index}
 use Rattle.std.proofs.lemmas.Bool.{cases_Bool, cond_both, eqb-true}
+use Rattle.std.proofs.lemmas.List.{nil_from_length}
 use Rattle.std.proofs.lemmas.List.Elements.{All-cons, All-nil}
 use Rattle.elf_image.specs.declared.program_header.ProgramHeader.{ProgramHeader}
 use Rattle.elf_image.specs.Elf.{segments}
@@ -54,9 +55,7 @@ module _ (b : List ℕ) (bytes : (i : ℕ) → slice_index b i < 256) where
   run_few at (suc most) = byte_few (code_at b at) (code_run b (at + 1) most) most (run_few (at + 1) most)
 
   no_run : (run : List ℕ) → (length run == 0) ≡ true → run ≡ []
-  no_run [] none = refl
-  no_run (byte ∷ run) none =
-      let zero : 1 + length run ≡ 0 = eqb-true (length (byte ∷ run)) 0 none in absurd (omega (arith, zero))
+  no_run run none = nil_from_length run (eqb-true (length run) 0 none)
 
   stands_some : (run : List ℕ) → (run ≡ [] → ⊥) → 0 < length run
   stands_some [] some = absurd (some refl)

@@ -1,6 +1,5 @@
 use Rattle.std.proofs.Common.{◌≡◌, ℕ, ◌≤◌, refl, sym, ap, subst, ◌∙◌, arith, true}
 use Rattle.std.specs.Prelude.{IfSome, OnSome, Option, vec_capacity}
-use Rattle.std.proofs.lemmas.Option.{IfSome_then}
 use Rattle.phys_mem.specs.MaskedMemory.{seen}
 use Rattle.nk_bits.specs.declared.call.CallWords.{CallWords}
 use Rattle.nk_bits.specs.declared.rule.Rule.{Rule}
@@ -17,7 +16,7 @@ use Rattle.gate_state.specs.SourceBytes.{source_through}
 use Rattle.gate_state.specs.WholeMachine.{HeldState, known_of, served_whole}
 use Rattle.gate_state.proofs.SourceReads.{source_is}
 use Rattle.gate_state.proofs.SourceWants.{wants_most}
-use Rattle.gate_state.proofs.WholeLemmas.{answer_now, root_stays, served_is, served_whole_is, sound_is, source_now, source_seen, state_by, tlb_seen, verdict_now}
+use Rattle.gate_state.proofs.WholeLemmas.{answer_now, root_stays, second_on, served_is, served_whole_is, sound_is, source_now, source_seen, state_by, tlb_seen, verdict_now}
 use Rattle.gate_state.proofs.whole.Whole.serve.Goals as goal
 
 pub take_source-took-requires-clause-sound : goal.take_source-took-requires-clause-sound
@@ -142,8 +141,7 @@ returns-clause-refused c =
     c.serve-answer.ensures.answer c.serve-answer.ensures.nested c.serve-answer.ensures.memory c.root.ensures c.answer_with.ensures in
     subst (λ (w : HeldState). OnSome (verdict_in w.state) (c.serve-answer.new.mem ≡ w.real)) c.self.view_is
     (subst (λ (v : Option Rule). OnSome v (c.serve-answer.new.mem ≡ c.self.inside.mem)) verdict_is
-    (IfSome_then _ c.serve-answer.ensures.refused
-    (λ rule (same : (c.serve-answer.new.self ≡ c.self.inside.kernel) × (c.serve-answer.new.mem ≡ c.self.inside.mem)). same.1)))
+    (second_on _ (c.serve-answer.new.mem ≡ c.self.inside.mem) _ c.serve-answer.ensures.refused))
 
 pub returns-clause-leaves : goal.returns-clause-leaves
 returns-clause-leaves c =
