@@ -79,8 +79,8 @@ module _ (b : List ℕ) (modules : List CodeModule) (file : List ℕ) (it : IsWh
   unjoined none = none it.joined
 
   lost_byte : (o : Opening) (input : List ℕ) (plan : List Event) (step i k : ℕ) (part : JoinedPart) → o.image ≡ file
-      → IsLayout o.image (division_of o.image o.frames) → IsPlan plan
-      → slice_get (modules_behind b modules) i ≡ Some part → k < part.memory_size
+      → IsLayout o.image (division_of o.image o.frames) → IsPlan plan → slice_get (modules_behind b modules) i ≡ Some part
+      → k < part.memory_size
       → (IsCodeByte o (state plan (opening_state o input) step).memory (part.address + k) (slice_index part.bytes k) → ⊥) → ⊥
   lost_byte o input plan step i k part is room planned listed within none =
       none (it.kept o input plan step is room planned i k part listed within)
