@@ -282,7 +282,8 @@ fn encodings_are_found_where_they_stand(rt: HostRuntime) {
     }
 }
 
-/// A text of 4,098 bytes whose last three are a MOV to CR0, over a page's border; one byte shorter it has none.
+/// A text of 4,098 bytes whose last three are a MOV to CR0, over a page's border. The zeros behind one of 4,097 bytes
+/// complete an SGDT, which isn't protected.
 #[test]
 fn an_encoding_ends_a_text_of_a_page_and_two_bytes(rt: HostRuntime) {
     let load = (4095, 3, 0xC0_22_0F);
@@ -293,5 +294,5 @@ fn an_encoding_ends_a_text_of_a_page_and_two_bytes(rt: HostRuntime) {
     };
     assert!(rt; is_found_in_text(rt.alloc(), 4098, load, Some(found)));
     assert!(rt; !is_found_in_text(rt.alloc(), 4098, load, None));
-    assert!(rt; is_found_in_text(rt.alloc(), 4097, (4095, 2, 0x22_0F), None));
+    assert!(rt; is_found_in_text(rt.alloc(), 4097, (4095, 2, 0x01_0F), None));
 }
