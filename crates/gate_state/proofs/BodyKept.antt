@@ -4,7 +4,6 @@ use Rattle.std.proofs.Common.{◌≡◌, ℕ, ◌+◌, ◌/◌, ◌≤◌, Bool,
 use Rattle.std.specs.Prelude.{IfSome, Option, None, Some, not, ◌==◌, if◌then◌else◌}
 use Rattle.std.proofs.lemmas.Bool.{and_parts, eqb-true, false≢true}
 use Rattle.nk_bits.specs.declared.call.Answer.{Answer}
-use Rattle.nk_bits.specs.declared.call.CallWords.{CallWords}
 use Rattle.nk_bits.specs.declared.kind.Kind.{Kind}
 use Rattle.nk_bits.specs.declared.kind.Kind.TheVariants.{Code, Fixed, Guarded}
 use Rattle.nk_bits.specs.declared.leaf.Leaf.{Leaf}
@@ -18,6 +17,7 @@ use Rattle.boot_map.specs.KernelSlot.{IsWrittenInSlot, is_slot_table, slot_leaf}
 use Rattle.boot_map.specs.OpeningKinds.{kinds}
 use Rattle.boot_map.specs.Parts.{part_at}
 use Rattle.page_desc.specs.PageTables.{is_unchanging}
+use Rattle.nk_body.specs.declared.call.Call.{Call}
 use Rattle.nk_body.specs.CallLeft.{IsCalled, memory_left}
 use Rattle.nk_body.specs.CallRules.{Sourced}
 use Rattle.nk_body.specs.KindsKept.{is_reserved, is_settled}
@@ -29,8 +29,9 @@ use Rattle.cpu_step.specs.Processor.{Processor}
 use Rattle.cpu_step.specs.Turns.{enters_body, is_at_body}
 use Rattle.gate_state.specs.GuardedStates.{AreKinds, IsAdmitted, IsGuarded, KeepsOpeningBytes}
 use Rattle.gate_state.specs.MachineStates.{MachineState, Opening, nested_of}
-use Rattle.gate_state.specs.MachineSteps.{after_reading, answer_in, answered_with, call_in, nested_after, served, source_of, wanted, with_place}
+use Rattle.gate_state.specs.MachineSteps.{after_reading, answer_in, answered_with, asked_in, call_in, nested_after, served, source_of, wanted, with_place}
 use Rattle.gate_state.specs.RespectedKinds.{respecting}
+use Rattle.gate_state.specs.SourceBytes.{source_place}
 use Rattle.gate_state.proofs.LooseLeaves.{written_loose}
 use Rattle.gate_state.proofs.LowerLaws.{LowerLaws}
 use Rattle.gate_state.proofs.RegisterBounds.{registers_at, registers_with}
@@ -79,8 +80,8 @@ placed_registers regs None are = registers_at regs (record regs { general = with
 placed_registers regs (Some place) are = registers_with regs rdx place (omega arith) are
 
 module _ (laws : LowerLaws) (o : Opening) (admitted : IsAdmitted o) (s : MachineState) (guarded : IsGuarded o s) where
-  abbrev call : CallWords
-  call = call_in s.processor.regs
+  abbrev call : Call
+  call = asked_in s
 
   abbrev source : Sourced
   source = source_of s
@@ -96,9 +97,8 @@ module _ (laws : LowerLaws) (o : Opening) (admitted : IsAdmitted o) (s : Machine
   called = record {
     sound = guarded.tables;
     keeps = guarded.ledger;
-    sourced = source_is s.memory root guarded.memory.are_bytes s.processor.tlb call.c (wanted s);
-    first = guarded.control.registers.bounds 6;
-    third = guarded.control.registers.bounds 1;
+    sourced = source_is s.memory root guarded.memory.are_bytes s.processor.tlb (source_place call) (wanted s);
+    wide = laws.call.wide (call_in s.processor.regs) (guarded.control.registers.bounds 6) (guarded.control.registers.bounds 1);
   }
 
   -- kinds: what the slot's writable leaves name may be stored to still
@@ -133,7 +133,7 @@ module _ (laws : LowerLaws) (o : Opening) (admitted : IsAdmitted o) (s : Machine
     size = laws.call_leaves.length s.kinds root s.ledger s.memory call source called ∙ guarded.memory.size;
     are_bytes =
         laws.call_leaves.are_bytes s.kinds root s.ledger s.memory call source called
-        (source_bytes s.memory root guarded.memory.are_bytes s.processor.tlb call.c (wanted s)) guarded.memory.are_bytes;
+        (source_bytes s.memory root guarded.memory.are_bytes s.processor.tlb (source_place call) (wanted s)) guarded.memory.are_bytes;
     bytes = λ place kept beside.
         let same : kind_of after.tables.kinds (place / 4096) ≡ kind_of s.kinds (place / 4096) =
         laws.call_leaves.reserved s.kinds root (place / 4096) s.ledger s.memory call source called
@@ -177,7 +177,7 @@ body_guarded laws o admitted s enters guarded =
     let stands = body_stands s.processor enters in
     let named : ℕ = (nested_after s).tables.root in
     let runs : s.processor.halted ≡ false = (guarded.window stands.1).stands.runs in
-    let may : IsCalled s.kinds s.processor.control.root s.ledger s.memory (call_in s.processor.regs) (source_of s) =
+    let may : IsCalled s.kinds s.processor.control.root s.ledger s.memory (asked_in s) (source_of s) =
     called laws o admitted s guarded in
     record {
       control = record {
@@ -191,10 +191,10 @@ body_guarded laws o admitted s enters guarded =
         pending = guarded.control.pending;
       };
       kinds = kinds_kept laws o admitted s guarded;
-      tables = laws.call.sound s.kinds s.processor.control.root s.ledger s.memory (call_in s.processor.regs) (source_of s) may;
+      tables = laws.call.sound s.kinds s.processor.control.root s.ledger s.memory (asked_in s) (source_of s) may;
       memory = memory_kept laws o admitted s guarded;
-      ledger = laws.call.kept s.kinds s.processor.control.root s.ledger s.memory (call_in s.processor.regs) (source_of s) may;
-      next = next_kept _ s.ledger.book.next s.turns (laws.call_leaves.next s.kinds s.processor.control.root s.ledger s.memory (call_in s.processor.regs) (source_of s)) guarded.next;
+      ledger = laws.call.kept s.kinds s.processor.control.root s.ledger s.memory (asked_in s) (source_of s) may;
+      next = next_kept _ s.ledger.book.next s.turns (laws.call_leaves.next s.kinds s.processor.control.root s.ledger s.memory (asked_in s) (source_of s)) guarded.next;
       translations = pass_kept laws o admitted s guarded (answer_in s).flush refl;
       window = λ clear. answered_point (after_reading s).processor (answer_in s) named stands.0 runs;
     }
@@ -207,5 +207,5 @@ pub body_serves : LowerLaws → (o : Opening) (s : MachineState) → IsAdmitted 
     → nested_of (served s) ≡ nested_after s
 unfolding served
 body_serves laws o s admitted guarded =
-    laws.call.nested s.kinds s.processor.control.root s.ledger s.memory (call_in s.processor.regs) (source_of s)
+    laws.call.nested s.kinds s.processor.control.root s.ledger s.memory (asked_in s) (source_of s)
     (called laws o admitted s guarded)

@@ -11,7 +11,7 @@ use Rattle.cpu_step.specs.Processor.{Processor}
 use Rattle.cpu_step.specs.Turns.{enters_body, is_at_body}
 use Rattle.gate_state.specs.GuardedStates.{IsGuarded}
 use Rattle.gate_state.specs.MachineStates.{MachineState, Opening}
-use Rattle.gate_state.specs.MachineSteps.{answer_in, call_in, served, source_of, with_place}
+use Rattle.gate_state.specs.MachineSteps.{answer_in, asked_in, call_in, served, source_of, with_place}
 use Rattle.gate_state.proofs.LowerLaws.{LowerLaws}
 use Rattle.gate_state.proofs.CallThroughStages.{IsAt, IsGoing, Rereading, Serving}
 use Rattle.gate_state.proofs.CallThroughTurn.{IsStanding}
@@ -74,11 +74,11 @@ module _ (laws : LowerLaws) (o : Opening)
           record {
             value = λ few.
                 let small : answer.value < 2 ^ 64 =
-                laws.call_leaves.value t.kinds p.control.root t.ledger t.memory (call_in p.regs) (source_of t) few in
+                laws.call_leaves.value t.kinds p.control.root t.ledger t.memory (asked_in t) (source_of t) few in
                 placed_other general answer.place 9 (λ e. absurd (omega arith)) ∙ held ∙ omega arith;
             place =
                 placed_there general answer.place count
-                (laws.call_leaves.place t.kinds p.control.root t.ledger t.memory (call_in p.regs) (source_of t));
+                (laws.call_leaves.place t.kinds p.control.root t.ledger t.memory (asked_in t) (source_of t));
           },
           placed_other general answer.place 10 (λ e. absurd (omega arith))
               ∙ register_other p.regs.general 9 answer.value 10 (λ e. absurd (omega arith)),

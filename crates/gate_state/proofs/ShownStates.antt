@@ -1,16 +1,17 @@
 -- What a step from a guarded state shows, and the call of one.
 use Rattle.std.proofs.Common.{ℕ, ◌^◌, ◌<◌, List, arith}
-use Rattle.nk_bits.specs.declared.call.CallWords.{CallWords}
 use Rattle.irq_plan.specs.declared.event.Event.{Event}
+use Rattle.nk_body.specs.declared.call.Call.{Call}
 use Rattle.nk_body.specs.CallRules.{Sourced}
 use Rattle.x86_regs.specs.EffectsKept.{AreRegisters}
 use Rattle.gate_state.specs.declared.moves.Move.{Move}
 use Rattle.gate_state.specs.declared.moves.Move.TheVariants as move
 use Rattle.gate_state.specs.GuardedStates.{IsGuarded}
 use Rattle.gate_state.specs.MachineStates.{MachineState, Opening}
-use Rattle.gate_state.specs.MachineSteps.{call_in, move_of, seen_by, shown_by_turn, source_of, turn_of, wanted}
+use Rattle.gate_state.specs.MachineSteps.{asked_in, move_of, seen_by, shown_by_turn, source_of, turn_of, wanted}
 use Rattle.gate_state.specs.SafeStates.{TakesTurn}
 use Rattle.gate_state.specs.ShownSteps.{IsShown, IsShownCall}
+use Rattle.gate_state.specs.SourceBytes.{source_place}
 use Rattle.gate_state.proofs.LowerLaws.{LowerLaws}
 use Rattle.gate_state.proofs.RunsSafe.{IsMove, move_is, resting, serving, taking, turning}
 use Rattle.gate_state.proofs.SourceReads.{source_bytes}
@@ -31,7 +32,7 @@ module _ (plan : List Event) (s : MachineState)
 pub call_shown : LowerLaws → (o : Opening) (s : MachineState) → IsGuarded o s → s.turns < 2 ^ 62 → IsShownCall s
 call_shown laws o s guarded few =
     let root : ℕ = s.processor.control.root in
-    let call : CallWords = call_in s.processor.regs in
+    let call : Call = asked_in s in
     let source : Sourced = source_of s in
     let registers : AreRegisters s.processor.regs = guarded.control.registers in
     record {
@@ -40,7 +41,7 @@ call_shown laws o s guarded few =
       b = registers.bounds 2;
       c = registers.bounds 1;
       d = registers.bounds 8;
-      source = source_bytes s.memory root guarded.memory.are_bytes s.processor.tlb call.c (wanted s);
+      source = source_bytes s.memory root guarded.memory.are_bytes s.processor.tlb (source_place call) (wanted s);
       value = laws.call_leaves.value s.kinds root s.ledger s.memory call source (omega (arith, guarded.next, few));
       place = laws.call_leaves.place s.kinds root s.ledger s.memory call source;
     }

@@ -1,12 +1,13 @@
 -- A call takes at most as many bytes as a region has, 65,536.
 use Rattle.std.proofs.Common.{◌≡◌, ℕ, ◌+◌, ◌≤◌, Bool, true, false, List, [], ◌∷◌, All, refl, arith}
-use Rattle.std.specs.Prelude.{IfSome, Option, None, Some, ◌&&◌, ◌==◌, nat_le, if◌then◌else◌}
+use Rattle.std.specs.Prelude.{IfSome, Option, None, Some, ◌==◌, nat_le, if◌then◌else◌}
 use Rattle.std.specs.List.{find}
 use Rattle.std.proofs.lemmas.Bool.{and_parts, false≢true, leb-true}
 use Rattle.std.proofs.lemmas.List.Elements.{All-head, All-tail}
-use Rattle.nk_bits.specs.declared.call.CallWords.{CallWords}
 use Rattle.region_book.specs.RegionCalls.{fits_in, fits_region}
 use Rattle.region_book.specs.RegionRecords.{Book, IsBook, IsRegion, Region, region_of}
+use Rattle.nk_body.specs.declared.call.Call.{Call}
+use Rattle.nk_body.specs.declared.call.Call.TheVariants.{Write}
 use Rattle.nk_body.specs.CallRules.{wants}
 
 -- what holds of each region holds of the one that is found
@@ -29,15 +30,14 @@ fits_most next offset count (Some r) is fits =
     let most : r.size ≤ 65536 = is.size.1 in
     omega arith
 
-pub wants_most : (book : Book) (call : CallWords) (room : ℕ) → IsBook book → 65536 ≤ room
+pub wants_most : (book : Book) (call : Call) (room : ℕ) → IsBook book → 65536 ≤ room
     → IfSome (wants book call) (λ count. count ≤ room)
-wants_most book call room is roomy = choice (call.number == 9 && fits_in book call.a call.b call.d) refl
+wants_most book (Write id offset place n) room is roomy = choice (fits_in book id offset n) refl
   where
-    choice : (b : Bool) → (call.number == 9 && fits_in book call.a call.b call.d) ≡ b
-        → IfSome (if b then Some call.d else None) (λ count. count ≤ room)
+    choice : (b : Bool) → fits_in book id offset n ≡ b → IfSome (if b then Some n else None) (λ count. count ≤ room)
     choice true fits =
-        let most : call.d ≤ 65536 = fits_most book.next call.b call.d (region_of book call.a)
-        (found_holds (IsRegion book.next) (λ r. r.id == call.a) book.regions is.each)
-        (and_parts (call.number == 9) (fits_in book call.a call.b call.d) fits).1 in
+        let most : n ≤ 65536 = fits_most book.next offset n (region_of book id)
+        (found_holds (IsRegion book.next) (λ r. r.id == id) book.regions is.each) fits in
         omega arith
     choice false none = tt
+wants_most book _ room is roomy = tt

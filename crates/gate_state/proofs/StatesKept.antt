@@ -28,10 +28,11 @@ use Rattle.gate_state.specs.AnyVector.{DeliversAny}
 use Rattle.gate_state.specs.GateWindow.{IsGatePoint}
 use Rattle.gate_state.specs.GuardedStates.{AreKinds, IsAdmitted, IsGuarded, KeepsOpeningBytes}
 use Rattle.gate_state.specs.MachineStates.{MachineState, Opening, nested_of}
-use Rattle.gate_state.specs.MachineSteps.{after_event, after_reading, after_turn, call_in, shown_by_turn, turn_of, wanted}
+use Rattle.gate_state.specs.MachineSteps.{after_event, after_reading, after_turn, asked_in, shown_by_turn, turn_of, wanted}
 use Rattle.gate_state.specs.RespectedKinds.{leads, respecting, respects}
 use Rattle.gate_state.specs.SafeStates.{IsSafe, TakesTurn}
 use Rattle.gate_state.specs.ShownSteps.{IsShown}
+use Rattle.gate_state.specs.SourceBytes.{source_place}
 use Rattle.gate_state.proofs.LowerLaws.{LowerLaws}
 use Rattle.gate_state.proofs.Ready.{IsReady, Kept}
 use Rattle.gate_state.proofs.Scene.{SceneLaws}
@@ -179,7 +180,7 @@ module _ (laws : LowerLaws) (o : Opening) (admitted : IsAdmitted o) where
   -- other translations
   pub reading_pass : (s : MachineState) → IsGuarded o s → AllPass (respecting o s.kinds) (after_reading s).processor.tlb
   reading_pass s guarded =
-      source_keeps laws.kept (respecting o s.kinds) s.memory s.processor.control (walked_in s guarded) s.processor.tlb (call_in s.processor.regs).c (wanted s) guarded.translations
+      source_keeps laws.kept (respecting o s.kinds) s.memory s.processor.control (walked_in s guarded) s.processor.tlb (source_place (asked_in s)) (wanted s) guarded.translations
 
   -- the processor is sound
   pub guarded_sound : (s : MachineState) → IsGuarded o s → IsSound (length s.memory) s.processor

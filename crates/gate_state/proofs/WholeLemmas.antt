@@ -12,6 +12,7 @@ use Rattle.phys_mem.specs.MaskedMemory.{is_book_frame, masked, seen}
 use Rattle.phys_mem.specs.Memory.{byte_at}
 use Rattle.page_desc.specs.DescriptorBytes.{kinds_in}
 use Rattle.nk_body.specs.NestedRecord.{AreBooks, Books, HoldsBooks, Nested, OwnState, books_in, nested_by, nested_in}
+use Rattle.nk_body.specs.Calls.{call_of}
 use Rattle.nk_body.specs.CallRules.{Sourced, after_call, answer_to, memory_after_call, stand_of, verdict, wants}
 use Rattle.cpu_step.specs.declared.stepped.Stepped.{Stepped}
 use Rattle.cpu_step.specs.EventsTaken.{event_taken}
@@ -20,8 +21,8 @@ use Rattle.cpu_step.specs.Turns.{Turned, enters_body, turned}
 use Rattle.gate_state.specs.declared.moves.Move.{Move}
 use Rattle.gate_state.specs.GuardedStates.{IsGuarded}
 use Rattle.gate_state.specs.MachineStates.{MachineState, Opening, nested_of}
-use Rattle.gate_state.specs.MachineSteps.{after_event, after_reading, after_turn, answer_in, answered_with, call_in, move_of, nested_after, next, next_by, served, source_of, turn_of, verdict_in, wanted}
-use Rattle.gate_state.specs.SourceBytes.{SourceRead, source_through, source_read, source_with, tlb_by}
+use Rattle.gate_state.specs.MachineSteps.{after_event, after_reading, after_turn, answer_in, answered_with, asked_in, call_in, move_of, nested_after, next, next_by, served, source_of, turn_of, verdict_in, wanted}
+use Rattle.gate_state.specs.SourceBytes.{SourceRead, source_place, source_through, source_read, source_with, tlb_by}
 use Rattle.gate_state.specs.WholeMachine.{IsWhole}
 
 -- the step by the move
@@ -171,44 +172,51 @@ second_on P Q None both = tt
 second_on P Q (Some a) both = both.1
 
 -- the state after the body
-module _ (s : MachineState) (books after : Books) (m : List ℕ) (call : CallWords) (asked_for : Option ℕ) (source : Sourced) (answer : Answer) (root : ℕ)
-    (read p : Processor)
+module _ (s : MachineState) (books after : Books) (m : List ℕ) (call : CallWords) (place : ℕ) (asked_for : Option ℕ) (source : Sourced) (answer : Answer)
+    (root : ℕ) (read p : Processor)
     (kinds_are : books.frames.kinds ≡ s.kinds) (root_is : books.root ≡ s.processor.control.root) (ledger_is : books.ledger ≡ s.ledger)
-    (call_is : call ≡ call_in s.processor.regs) (wanted_is : asked_for ≡ wants books.ledger.book call)
-    (source_is : source ≡ source_through s.memory s.processor.control.root s.processor.tlb call.c asked_for)
-    (read_is : read ≡ record s.processor { tlb = tlb_by s.memory s.processor.control.root s.processor.tlb call.c asked_for })
-    (answer_is : answer ≡ answer_to (nested_by books s.memory) call source)
-    (record_is : nested_by after m ≡ after_call (nested_by books s.memory) call source (stand_of (nested_by books s.memory) call s.memory))
-    (memory_is : m ≡ memory_after_call (nested_by books s.memory) call source s.memory)
+    (call_is : call ≡ call_in s.processor.regs) (place_is : place ≡ source_place (call_of call))
+    (wanted_is : asked_for ≡ wants books.ledger.book (call_of call))
+    (source_is : source ≡ source_through s.memory s.processor.control.root s.processor.tlb place asked_for)
+    (read_is : read ≡ record s.processor { tlb = tlb_by s.memory s.processor.control.root s.processor.tlb place asked_for })
+    (answer_is : answer ≡ answer_to (nested_by books s.memory) (call_of call) source)
+    (record_is : nested_by after m ≡ after_call (nested_by books s.memory) (call_of call) source (stand_of (nested_by books s.memory) (call_of call) s.memory))
+    (memory_is : m ≡ memory_after_call (nested_by books s.memory) (call_of call) source s.memory)
     (root_after : root ≡ after.root) (processor_is : p ≡ answered_with answer root read) where
   before : nested_by books s.memory ≡ nested_of s
   before = λ i. nested_in (kinds_are i) (root_is i) (ledger_is i) s.memory
 
+  asked_now : call_of call ≡ asked_in s
+  asked_now = ap call_of call_is
+
+  place_now : place ≡ source_place (asked_in s)
+  place_now = place_is ∙ ap source_place asked_now
+
   wanted_now : asked_for ≡ wanted s
-  wanted_now = wanted_is ∙ (λ i. wants (ledger_is i).book (call_is i))
+  wanted_now = wanted_is ∙ (λ i. wants (ledger_is i).book (asked_now i))
 
   pub source_now : source ≡ source_of s
-  source_now = source_is ∙ (λ i. source_through s.memory s.processor.control.root s.processor.tlb (call_is i).c (wanted_now i))
+  source_now = source_is ∙ (λ i. source_through s.memory s.processor.control.root s.processor.tlb (place_now i) (wanted_now i))
 
   read_now : read ≡ (after_reading s).processor
   read_now =
       read_is
-      ∙ (λ i. record s.processor { tlb = tlb_by s.memory s.processor.control.root s.processor.tlb (call_is i).c (wanted_now i) })
+      ∙ (λ i. record s.processor { tlb = tlb_by s.memory s.processor.control.root s.processor.tlb (place_now i) (wanted_now i) })
 
-  pub verdict_now : verdict (nested_by books s.memory) call source ≡ verdict_in s
-  verdict_now = λ i. verdict (before i) (call_is i) (source_now i)
+  pub verdict_now : verdict (nested_by books s.memory) (call_of call) source ≡ verdict_in s
+  verdict_now = λ i. verdict (before i) (asked_now i) (source_now i)
 
   pub answer_now : answer ≡ answer_in s
-  answer_now = answer_is ∙ (λ i. answer_to (before i) (call_is i) (source_now i))
+  answer_now = answer_is ∙ (λ i. answer_to (before i) (asked_now i) (source_now i))
 
   record_now : nested_by after m ≡ nested_after s
-  record_now = record_is ∙ (λ i. after_call (before i) (call_is i) (source_now i) (stand_of (before i) (call_is i) s.memory))
+  record_now = record_is ∙ (λ i. after_call (before i) (asked_now i) (source_now i) (stand_of (before i) (asked_now i) s.memory))
 
   pub served_is : record s { processor = p; memory = m; kinds = after.frames.kinds; ledger = after.ledger; turns = s.turns + 1 } ≡ served s
   unfolding served
   served_is =
-      let memory_now : m ≡ memory_after_call (nested_of s) (call_in s.processor.regs) (source_of s) s.memory =
-      memory_is ∙ (λ i. memory_after_call (before i) (call_is i) (source_now i) s.memory) in
+      let memory_now : m ≡ memory_after_call (nested_of s) (asked_in s) (source_of s) s.memory =
+      memory_is ∙ (λ i. memory_after_call (before i) (asked_now i) (source_now i) s.memory) in
       let root_now : root ≡ (nested_after s).tables.root = root_after ∙ ap (λ (nk : Nested). nk.tables.root) record_now in
       let kinds_now : after.frames.kinds ≡ (nested_after s).tables.kinds = ap (λ (nk : Nested). nk.tables.kinds) record_now in
       let ledger_now : after.ledger ≡ (nested_after s).ledger = ap (λ (nk : Nested). nk.ledger) record_now in

@@ -15,6 +15,8 @@ use Rattle.cpu_step.specs.EventsTaken.{event_taken}
 use Rattle.cpu_step.specs.Processor.{Processor, deliverable}
 use Rattle.cpu_step.specs.Turns.{Turned, enters_body, turned}
 use Rattle.nk_body.specs.NestedRecord.{Nested}
+use Rattle.nk_body.specs.declared.call.Call.{Call}
+use Rattle.nk_body.specs.Calls.{call_of}
 use Rattle.nk_body.specs.CallRules.{Bytes, NotTaken, Sourced, Unreadable, after_call, answer_to, made, memory_after_call, stand_of, verdict, wants}
 use Rattle.gate_state.specs.declared.moves.Move.{Move}
 use Rattle.gate_state.specs.declared.moves.Move.TheVariants as move
@@ -26,7 +28,7 @@ use Rattle.gate_state.specs.declared.seen.Step.TheVariants as step
 use Rattle.gate_state.specs.declared.seen.Took.{Took}
 use Rattle.gate_state.specs.declared.seen.Took.TheVariants as took
 use Rattle.gate_state.specs.MachineStates.{MachineState, nested_of}
-use Rattle.gate_state.specs.SourceBytes.{source_through, tlb_by}
+use Rattle.gate_state.specs.SourceBytes.{source_place, source_through, tlb_by}
 
 -- the processor is halted, and no pending vector wakes it
 abbrev pub waits : Processor → Bool
@@ -44,7 +46,7 @@ abbrev pub move_of : List Event → MachineState → Move
 move_of plan s =
     if enters_body s.processor then move.Serve else move_by (slice_get plan s.taken) s.turns s.processor
 
--- the call that the registers hold at the body's place: its number in RDI, its arguments in RSI, RDX, RCX and R8
+-- the words that the registers hold at the body's place: the number in RDI, the arguments in RSI, RDX, RCX and R8
 abbrev pub call_in : Regs → CallWords
 call_in regs = record {
   number = slice_index regs.general rdi;
@@ -68,39 +70,43 @@ answered_with answer root p = record p {
   tlb = if answer.flush then flushed else p.tlb;
 }
 
--- how many bytes the call of a state takes, its source, and the translations once it was read
+-- the call of a state
+abbrev pub asked_in : MachineState → Call
+asked_in s = call_of (call_in s.processor.regs)
+
+-- how many bytes it takes, its source, and the translations once that was read
 abbrev pub wanted : MachineState → Option ℕ
-wanted s = wants s.ledger.book (call_in s.processor.regs)
+wanted s = wants s.ledger.book (asked_in s)
 
 abbrev pub source_of : MachineState → Sourced
-source_of s = source_through s.memory s.processor.control.root s.processor.tlb (call_in s.processor.regs).c (wanted s)
+source_of s = source_through s.memory s.processor.control.root s.processor.tlb (source_place (asked_in s)) (wanted s)
 
 abbrev pub after_reading : MachineState → MachineState
 after_reading s = record s {
   processor = record s.processor {
-    tlb = tlb_by s.memory s.processor.control.root s.processor.tlb (call_in s.processor.regs).c (wanted s);
+    tlb = tlb_by s.memory s.processor.control.root s.processor.tlb (source_place (asked_in s)) (wanted s);
   };
 }
 
--- what a call that is accepted carries beside its words: its source, and the bytes of the frames that it declares
+-- a call that is accepted, with its source, and the bytes of the frames that it declares
 pub record Made : Type 0 where
-  pub call : CallWords
+  pub call : Call
   pub source : Sourced
   pub stand : ℕ → ℕ → ℕ
 
--- the call of a state, read from registers and memory
+-- with what is read for it
 abbrev pub made_in : MachineState → Made
 made_in s = record {
-  call = call_in s.processor.regs;
+  call = asked_in s;
   source = source_of s;
-  stand = stand_of (nested_of s) (call_in s.processor.regs) s.memory;
+  stand = stand_of (nested_of s) (asked_in s) s.memory;
 }
 
 abbrev pub verdict_in : MachineState → Option Rule
-verdict_in s = verdict (nested_of s) (call_in s.processor.regs) (source_of s)
+verdict_in s = verdict (nested_of s) (asked_in s) (source_of s)
 
 abbrev pub answer_in : MachineState → Answer
-answer_in s = answer_to (nested_of s) (call_in s.processor.regs) (source_of s)
+answer_in s = answer_to (nested_of s) (asked_in s) (source_of s)
 
 -- the record once the call of a state is made
 abbrev pub nested_after : MachineState → Nested
@@ -110,7 +116,7 @@ nested_after s = after_call (nested_of s) (made_in s).call (made_in s).source (m
 unfoldable pub served : MachineState → MachineState
 served s = record s {
   processor = answered_with (answer_in s) (nested_after s).tables.root (after_reading s).processor;
-  memory = memory_after_call (nested_of s) (call_in s.processor.regs) (source_of s) s.memory;
+  memory = memory_after_call (nested_of s) (asked_in s) (source_of s) s.memory;
   kinds = (nested_after s).tables.kinds;
   ledger = (nested_after s).ledger;
   turns = s.turns + 1;

@@ -7,6 +7,8 @@ use Rattle.nk_bits.specs.Accesses.{place_in}
 use Rattle.nk_bits.specs.Paging.{is_canonical, page_of}
 use Rattle.nk_bits.specs.Translations.{Translations, faulted, tlb_after, translation}
 use Rattle.phys_mem.specs.Memory.{byte_at, entry_in}
+use Rattle.nk_body.specs.declared.call.Call.{Call}
+use Rattle.nk_body.specs.declared.call.Call.TheVariants.{Write}
 use Rattle.nk_body.specs.CallRules.{Sourced, Bytes, NotTaken, Unreadable}
 
 -- the bytes that were read, where each could be, and the translations afterwards
@@ -55,6 +57,11 @@ source_read m root tlb va zero = record { bytes = Some []; tlb = tlb }
 source_read m root tlb va (suc n) =
     let after = source_tlb m root tlb va in
     read_on (source_byte m root tlb va) after (source_read m root after (va + 1) n)
+
+-- the address of the first byte of a call's source; no other call has one
+abbrev pub source_place : Call → ℕ
+source_place (Write region offset place count) = place
+source_place _ = 0
 
 -- the source of a call that takes so many bytes from an address, if it takes any
 abbrev pub source_with : Option (List ℕ) → Sourced

@@ -7,7 +7,7 @@ ghost use Rattle.nk_body.specs.BooksTouched.{LeavesBooks};
 ghost use Rattle.nk_body.specs.NestedRecord.{HoldsBooks, books_in};
 ghost use Rattle.cpu_step.specs.Turns.{enters_body};
 ghost use Rattle.gate_state.specs.MachineOf.{IsStanding, IsAtBody, IsInGates};
-ghost use Rattle.gate_state.specs.MachineSteps.{call_in, called_in, move_of, verdict_in};
+ghost use Rattle.gate_state.specs.MachineSteps.{asked_in, called_in, move_of, verdict_in};
 ghost use Rattle.gate_state.specs.SafeStates.{IsSafe};
 ghost use Rattle.gate_state.specs.WholeMachine.{is_rest, known_of, served_whole};
 ghost use Rattle.gate_state.specs.WindowLeft.{left};
@@ -43,7 +43,7 @@ impl<'i> NestedMachine<'i> {
         ensures next { known_of result.0 ≡ served_whole (known_of self.entry) }
         ensures called { result.1 ≡ called_in self.entry.state }
         ensures refused { OnSome (verdict_in self.entry.state) (result.0.real ≡ self.entry.real) }
-        ensures leaves { LeavesBooks self.entry.state.ledger.book (call_in self.entry.state.processor.regs) self.entry.real
+        ensures leaves { LeavesBooks self.entry.state.ledger.book (asked_in self.entry.state) self.entry.real
             result.0.real }
         ensures body { enters_body self.entry.state.processor ≡ true }
         ensures safe { IsSafe self.entry.opening self.entry.state }

@@ -7,17 +7,28 @@ ghost use Rattle.nk_bits.specs.Paging.{is_canonical, page_of};
 ghost use Rattle.nk_bits.specs.Translations.{IsAccessible, NamesFramesIn, tlb_after, translation};
 ghost use Rattle.cpu_step.specs.Processor.{IsSound};
 ghost use Rattle.nk_body.specs.CallRules.{Sourced, bytes_read};
+ghost use Rattle.nk_body.specs.Calls.{call_of};
 ghost use Rattle.nk_body.specs.SourceWords.{sourced_of};
 ghost use Rattle.gate_state.specs.MachineSteps.{took_by};
-ghost use Rattle.gate_state.specs.SourceBytes.{byte_through, kept_by, source_through, source_byte, source_read, source_tlb, tlb_by};
+ghost use Rattle.gate_state.specs.SourceBytes.{byte_through, kept_by, source_place, source_through, source_byte, source_read, source_tlb, tlb_by};
 
 use crate::seen::Took;
 use cpu_step::Cpu;
 use mem_access::translate;
-use nk_bits::{Leaf, canonical, named_law};
-use nk_body::Source;
+use nk_bits::{CallWords, Leaf, canonical, named_law};
+use nk_body::{Call, Source, call_of};
 use phys_mem::PhysMem;
 use tlb_model::Tlb;
+
+/// The address of the first byte that a call takes, if it takes any.
+pub(crate) fn source_place(words: &CallWords) -> u64
+    ensures { result ≡ source_place (call_of words.now) }
+{
+    match call_of(words) {
+        Call::Write { source, .. } => source,
+        _ => 0,
+    }
+}
 
 /// Reads what a call takes from an address on, if it takes any; all else stays but what is kept of walks.
 pub(crate) fn take_source(

@@ -12,7 +12,7 @@ ghost use Rattle.nk_body.specs.BooksTouched.{LeavesBooks};
 ghost use Rattle.nk_body.specs.NestedRecord.{HoldsBooks, books_in};
 ghost use Rattle.gate_state.specs.EventMoves.{IfTaken, IsBodyBy};
 ghost use Rattle.gate_state.specs.MachineOf.{IsStanding, IsAtBody, IsInGates, IsOuter};
-ghost use Rattle.gate_state.specs.MachineSteps.{after_event, after_turn, answered_with, call_in, called_in, move_by, move_of, next, seen_by, served, shown_by_turn, step_by, turn_of, verdict_in, waits};
+ghost use Rattle.gate_state.specs.MachineSteps.{after_event, after_turn, answered_with, asked_in, call_in, called_in, move_by, move_of, next, seen_by, served, shown_by_turn, step_by, turn_of, verdict_in, waits};
 ghost use Rattle.gate_state.specs.QuietSteps.{IsHurried};
 ghost use Rattle.gate_state.specs.SafeStates.{IsSafe, TakesTurn};
 ghost use Rattle.gate_state.specs.WholeMachine.{is_rest, known_of, next_whole, served_whole, stepped_whole, touched_by_move};
@@ -21,7 +21,7 @@ ghost use Rattle.gate_state.specs.WindowLeft.{ComesNearer, left};
 use crate::laws::{steps_law, window_law};
 use crate::moves::Move;
 use crate::seen::{Called, Seen, Step};
-use crate::source::{sourced, take_source};
+use crate::source::{source_place, sourced, take_source};
 use crate::turns_left::left;
 use boot_map::Layout;
 use cpu_step::{Cpu, Stepped, Touched};
@@ -191,13 +191,14 @@ impl<'i> Whole<'i> {
         ensures served { known_of self.new ≡ served_whole (known_of self.old) }
         ensures called { result ≡ called_in self.old.state }
         ensures refused { OnSome (verdict_in self.old.state) (self.new.real ≡ self.old.real) }
-        ensures leaves { LeavesBooks self.old.state.ledger.book (call_in self.old.state.processor.regs) self.old.real self.new.real }
+        ensures leaves { LeavesBooks self.old.state.ledger.book (asked_in self.old.state) self.old.real self.new.real }
     {
         steps_law();
         mask_law();
         let call = call_in(self.cpu.regs());
         let wanted = self.kernel.wants(&self.mem, &call);
-        let took = take_source(&mut self.cpu, &self.mem, call.c, wanted, &mut self.source);
+        let place = source_place(&call);
+        let took = take_source(&mut self.cpu, &self.mem, place, wanted, &mut self.source);
         let source = sourced(took, &self.source);
         let answer = self.kernel.serve(&mut self.mem, &call, source);
         answer_with(&mut self.cpu, &answer, self.kernel.root());

@@ -113,7 +113,8 @@ process_record processes p b k =
     else if k == 16 then script_words 7 32 4 0 0
     else script_words 9 (256 + p) 0 0xFFFFFFFF80001000 32
 
--- record n of the script: first set_trap with the step to the next record; then 18 of each process; else zeros
+-- record n of the script: first the call that makes the step to the next record the handler; then 18 of each process; else
+-- zeros
 unfoldable pub script_record : ℕ → ℕ → ScriptRecord
 script_record processes n =
     if n == 0 then script_words 1 0xFFFFFFFF8000002D 0 0 0

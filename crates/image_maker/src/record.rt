@@ -6,19 +6,7 @@ ghost use Rattle.image_maker.specs.MadeImage.{code_leaf, data_leaf, declare, mad
 ghost use Rattle.image_maker.specs.MadeWords.{as_script};
 
 use crate::layout::{ENTRIES, PAGE_SIZE, leaf_table};
-
-/// The numbers of the calls.
-pub const SET_TRAP: u64 = 1;
-
-pub const DECLARE_TABLE: u64 = 2;
-
-pub const WRITE_ENTRY: u64 = 3;
-
-pub const LOAD_ROOT: u64 = 5;
-
-pub const ALLOCATE: u64 = 7;
-
-pub const WRITE: u64 = 9;
+use nk_body::{DECLARE_TABLE, WRITE_ENTRY};
 
 /// P, R/W, U/S and A: the low bits of an entry that names a table.
 const LINK: u64 = 0x27;

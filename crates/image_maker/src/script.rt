@@ -9,10 +9,10 @@ use crate::layout::{
     first_frame, user_frame,
 };
 use crate::record::{
-    ALLOCATE, LOAD_ROOT, SET_TRAP, ScriptRecord, WRITE, code_leaf, data_leaf, declare, link,
-    protect, words, write_entry,
+    ScriptRecord, code_leaf, data_leaf, declare, link, protect, words, write_entry,
 };
 use elf_image::number_byte;
+use nk_body::{ALLOCATE, LOAD_ROOT, SET_HANDLER, WRITE};
 
 /// The linear address in the text of the step to the next record, to which a trap comes back.
 const NEXT_RECORD: u64 = TEXT_ADDRESS + 45;
@@ -64,7 +64,7 @@ fn script_record(processes: u64, number: u64) -> ScriptRecord
     ensures { as_script result ≡ script_record processes number }
 {
     if number == 0 {
-        words(SET_TRAP, NEXT_RECORD, 0, 0, 0)
+        words(SET_HANDLER, NEXT_RECORD, 0, 0, 0)
     } else if number <= PROCESS_RECORDS * processes {
         let process = (number - 1) / PROCESS_RECORDS;
         let step = (number - 1) % PROCESS_RECORDS;

@@ -3,7 +3,6 @@ use Rattle.std.proofs.Common.{◌≡◌, ◌≢◌, ◌⊎◌, ℕ, suc, ◌+◌
 use Rattle.std.specs.Prelude.{All, Option, None, Some, if◌then◌else◌, ◌==◌, ◌||◌}
 use Rattle.std.proofs.lemmas.Bool.{cases_Bool, cases_lt, eqb-true, false≢true}
 use Rattle.std.proofs.lemmas.List.Elements.{All-weaker}
-use Rattle.nk_bits.specs.declared.call.CallWords.{CallWords}
 use Rattle.nk_bits.specs.declared.kind.Kind.{Kind}
 use Rattle.nk_bits.specs.declared.kind.Kind.TheVariants.{Data, Code, Table, Fixed, Trap, Guarded, Hidden}
 use Rattle.nk_bits.specs.declared.rule.Rule.{Rule}
@@ -13,18 +12,19 @@ use Rattle.page_desc.specs.FrameCounts.{loose_in}
 use Rattle.page_desc.specs.PageTables.{loose_of}
 use Rattle.policy_book.specs.PolicyRules.{stores_written}
 use Rattle.region_book.specs.RegionCalls.{guarded}
+use Rattle.nk_body.specs.declared.call.Call.{Call}
+use Rattle.nk_body.specs.declared.call.Call.TheVariants.{Allocate, DeclarePages, DeclareTable, Free, LoadRoot, NoCall, RemoveTable, SetHandler, Write, WriteEntry}
 use Rattle.nk_body.specs.CallLeft.{IsCalled, left_in, memory_left}
 use Rattle.nk_body.specs.CallRules.{Sourced, bytes_read, made, made_unless, mapped_by, stand_of, verdict, with_pages, with_pool, accepted_memory, written_unless, zeros_of}
 use Rattle.nk_body.specs.KindsKept.{is_reserved, is_settled}
 use Rattle.nk_body.specs.NestedRecord.{Ledger, Nested, nested_in}
-use Rattle.nk_body.proofs.CallFacts.{pool_stores, write_facts, write_guarded, zeros_small}
-use Rattle.nk_body.proofs.CallNumbers.{accepted_by, made_is, number_1, number_2, number_3, number_4, number_5, number_6, number_7, number_8, number_9, written_1, written_2, written_3, written_4, written_5, written_6, written_7, written_8, written_9}
+use Rattle.nk_body.proofs.CallFacts.{write_facts, zeros_small}
 use Rattle.nk_body.proofs.GuardedFrames.{among, kind_guarded}
 use Rattle.nk_body.proofs.LowerLaws.{LowerLaws}
 use Rattle.nk_body.proofs.NumbersLeft.{number_same}
 use Rattle.nk_body.proofs.RegionFrames.{InGuarded, in_memory}
 use Rattle.nk_body.proofs.RegionRules.{alloc_facts, declare_facts}
-use Rattle.nk_body.proofs.RegionStores.{written_bytes}
+use Rattle.nk_body.proofs.RegionStores.{written_bytes, written_guarded, zeros_guarded}
 use Rattle.nk_body.proofs.TableChanges.{IsTablesLeft, declared_left, handler_left, nothing_left, removed_left, written_left}
 
 -- kinds and bytes before and after
@@ -106,59 +106,47 @@ pages_left kinds m source fs inside free none = record {
     none_there : (f : ℕ) → 1 ≤ loose_in kinds (entry_in m) f → loose_in kinds (entry_in m) f ≡ 0 → ⊥
     none_there f some none_is = absurd (omega (arith, some, none_is))
 
-module _ (laws : LowerLaws) (kinds : List Kind) (root : ℕ) (ledger : Ledger) (m : List ℕ) (call : CallWords) (source : Sourced)
-    (is_called : IsCalled kinds root ledger m call source) where
+module _ (laws : LowerLaws) (kinds : List Kind) (root : ℕ) (ledger : Ledger) (m : List ℕ) where
   abbrev nk : Nested
   nk = nested_in kinds root ledger m
 
-  abbrev stand : ℕ → ℕ → ℕ
-  stand = stand_of nk call m
-
-  both : (after : Nested) (later : List ℕ) → made nk call source stand ≡ after → accepted_memory nk call source m ≡ later
-      → IsLeft kinds after.tables.kinds m later source → IsLeft kinds (made nk call source stand).tables.kinds m (accepted_memory nk call source m) source
-  both after later makes writes is =
-      subst (λ (it : Nested × List ℕ). IsLeft kinds it.0.tables.kinds m it.1 source) (λ i. (sym makes i, sym writes i)) is
-
-  tables : (after : List Kind) (later : List ℕ) → IsTablesLeft kinds after m later → IsLeft kinds after m later source
-  tables after later left = from_tables kinds after m later source left
-
-  made_left : verdict nk call source ≡ None → IsLeft kinds (made nk call source stand).tables.kinds m (accepted_memory nk call source m) source
-  made_left none =
-      let n : ℕ = call.number in
-      accepted_by (IsLeft kinds (made nk call source stand).tables.kinds m (accepted_memory nk call source m) source) nk call source none
-      (λ is. both _ _ (made_is nk call source stand ∙ number_1 n _ _ _ _ _ _ _ _ _ _ is) (written_1 nk call source m is)
-      (tables _ _ (handler_left laws kinds root m is_called.sound call.a)))
-      (λ is rule. both _ _ (made_is nk call source stand ∙ number_2 n _ _ _ _ _ _ _ _ _ _ is) (written_2 nk call source m is)
-      (tables _ _ (declared_left laws kinds root m is_called.sound call.a call.b (laws.accepted.declared nk.tables call.a call.b rule))))
-      (λ is rule. both _ _ (made_is nk call source stand ∙ number_3 n _ _ _ _ _ _ _ _ _ _ is) (written_3 nk call source m is)
-      (tables _ _ (written_left laws kinds root m is_called.sound call.a call.b call.c (laws.accepted.written nk.tables call.a call.b call.c rule))))
-      (λ is rule. both _ _ (made_is nk call source stand ∙ number_4 n _ _ _ _ _ _ _ _ _ _ is) (written_4 nk call source m is)
-      (tables _ _ (removed_left laws kinds root m is_called.sound call.a (laws.accepted.removed nk.tables call.a rule))))
-      (λ is rule. both _ _ (made_is nk call source stand ∙ number_5 n _ _ _ _ _ _ _ _ _ _ is) (written_5 nk call source m is)
-      (tables _ _ (nothing_left laws kinds root m is_called.sound)))
-      (λ is rule. let facts = declare_facts ledger.book kinds (loose_of nk.tables) (mapped_by nk) call.a call.b call.c rule in
-      both _ _ (made_is nk call source stand ∙ number_6 n _ _ _ _ _ _ _ _ _ _ is ∙ ap (with_pages nk call stand) facts.1) (written_6 nk call source m is)
+  made_left : (call : Call) (source : Sourced) → IsCalled kinds root ledger m call source → verdict nk call source ≡ None
+      → IsLeft kinds (made nk call source (stand_of nk call m)).tables.kinds m (accepted_memory nk call source m) source
+  made_left (SetHandler address) source is rule = from_tables kinds _ m _ source (handler_left laws kinds root m is.sound address)
+  made_left (DeclareTable level frame) source is rule =
+      from_tables kinds _ m _ source (declared_left laws kinds root m is.sound level frame (laws.accepted.declared nk.tables level frame rule))
+  made_left (WriteEntry table index value) source is rule =
+      from_tables kinds _ m _ source (written_left laws kinds root m is.sound table index value (laws.accepted.written nk.tables table index value rule))
+  made_left (RemoveTable frame) source is rule =
+      from_tables kinds _ m _ source (removed_left laws kinds root m is.sound frame (laws.accepted.removed nk.tables frame rule))
+  made_left (LoadRoot frame) source is rule = from_tables kinds _ m _ source (nothing_left laws kinds root m is.sound)
+  made_left (DeclarePages address size policy) source is rule =
+      let facts = declare_facts ledger.book kinds (loose_of nk.tables) (mapped_by nk) address size policy rule in
+      subst (λ o. IsLeft kinds (with_pages nk address size policy (stand_of nk (DeclarePages address size policy) m) o).tables.kinds m m source) (sym facts.1)
       (pages_left kinds m source facts.0 (free_inside kinds facts.0 facts.2.free) facts.2.free
-      (λ k d below. sym (laws.store.loose kinds root m _ is_called.sound) ∙ facts.2.none k d below)))
-      (λ is rule. let facts = alloc_facts ledger.book call.a call.b rule in
-      both _ _ (made_is nk call source stand ∙ number_7 n _ _ _ _ _ _ _ _ _ _ is ∙ ap (with_pool nk call) facts.place.1)
-      (written_7 nk call source m is ∙ ap (λ (o : Option ℕ). stored m (zeros_of nk call o)) facts.place.1)
-      (guarded_left laws kinds m source (zeros_of nk call (Some facts.place.0)) (pool_stores kinds ledger is_called.keeps call facts.place.0 facts facts.place.1 nk refl)
-      (λ small. zeros_small nk call (Some facts.place.0))))
-      (λ is rule. both _ _ (made_is nk call source stand ∙ number_8 n _ _ _ _ _ _ _ _ _ _ is) (written_8 nk call source m is)
-      (tables _ _ (nothing_left laws kinds root m is_called.sound)))
-      (λ is rule. both _ _ (made_is nk call source stand ∙ number_9 n _ _ _ _ _ _ _ _ _ _ is) (written_9 nk call source m is)
-      (guarded_left laws kinds m source (stores_written ledger.book call.a call.b (bytes_read source))
-      (write_guarded kinds ledger is_called.keeps call source (write_facts nk call source is is_called.sourced rule))
-      (written_bytes (λ b. b < 256) ledger call.a call.b (bytes_read source))))
+      (λ k d below. sym (laws.store.loose kinds root m _ is.sound) ∙ facts.2.none k d below))
+  made_left (Allocate size policy) source is rule =
+      let facts = alloc_facts ledger.book size policy rule in
+      subst (λ (o : Option ℕ). IsLeft kinds (with_pool nk size policy o).tables.kinds m (stored m (zeros_of nk size policy o)) source) (sym facts.place.1)
+      (guarded_left laws kinds m source (zeros_of nk size policy (Some facts.place.0))
+      (zeros_guarded kinds ledger is.keeps size policy facts.place.0 facts facts.place.1)
+      (λ small. zeros_small nk size policy (Some facts.place.0)))
+  made_left (Free region) source is rule = from_tables kinds _ m _ source (nothing_left laws kinds root m is.sound)
+  made_left (Write region offset place count) source is rule =
+      let facts = write_facts nk region offset place count source is.sourced rule in
+      guarded_left laws kinds m source (stores_written ledger.book region offset (bytes_read source))
+      (written_guarded kinds ledger is.keeps region offset (bytes_read source) facts.region facts.found facts.range)
+      (written_bytes (λ b. b < 256) ledger region offset (bytes_read source))
+  made_left NoCall source is rule = cc
 
-  pub call_left : IsLeft kinds (left_in kinds root ledger m call source).tables.kinds m (memory_left kinds root ledger m call source) source
-  call_left = by_verdict (verdict nk call source) refl
+  pub call_left : (call : Call) (source : Sourced) → IsCalled kinds root ledger m call source
+      → IsLeft kinds (left_in kinds root ledger m call source).tables.kinds m (memory_left kinds root ledger m call source) source
+  call_left call source is = by_verdict (verdict nk call source) refl
     where
       by_verdict : (v : Option Rule) → verdict nk call source ≡ v
-          → IsLeft kinds (made_unless v nk call source stand).tables.kinds m (written_unless v nk call source m) source
-      by_verdict None none = made_left none
-      by_verdict (Some rule) is = tables kinds m (nothing_left laws kinds root m is_called.sound)
+          → IsLeft kinds (made_unless v nk call source (stand_of nk call m)).tables.kinds m (written_unless v nk call source m) source
+      by_verdict None none = made_left call source is none
+      by_verdict (Some rule) broken = from_tables kinds kinds m m source (nothing_left laws kinds root m is.sound)
 
 -- the entries of a frame of a settled kind other than the handler's
 pub entries_left : (kinds after : List Kind) (m later : List ℕ) (f i : ℕ) (source : Sourced) → IsLeft kinds after m later source

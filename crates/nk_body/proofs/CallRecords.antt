@@ -1,11 +1,10 @@
 -- Memory after a call stands for the record that the call makes, whose tables are sound and whose regions lie in guarded
 -- frames.
 use Rattle.std.proofs.Common.{◌≡◌, ◌≢◌, ◌⊎◌, ℕ, ◌+◌, ◌*◌, ◌/◌, ◌^◌, ◌<◌, ◌≤◌, Bool, true, false, List, length, arith, refl, sym, ap, subst, ◌∙◌, inl, inr}
-use Rattle.std.specs.Prelude.{All, Option, None, Some, ◌&&◌, ◌==◌, nat_lt, if◌then◌else◌}
+use Rattle.std.specs.Prelude.{All, Option, None, Some, ◌&&◌, nat_lt, if◌then◌else◌}
 use Rattle.std.proofs.lemmas.Bool.{cases_lt, false≢true}
 use Rattle.std.proofs.lemmas.List.Elements.{All-weaker}
 use Rattle.std.proofs.Math.Nat.{mod-eq_of_lt}
-use Rattle.nk_bits.specs.declared.call.CallWords.{CallWords}
 use Rattle.nk_bits.specs.declared.kind.Kind.{Kind}
 use Rattle.nk_bits.specs.declared.kind.Kind.TheVariants.{Data, Fixed, Guarded}
 use Rattle.nk_bits.specs.declared.rule.Rule.{Rule}
@@ -13,16 +12,17 @@ use Rattle.nk_bits.specs.Kinds.{is_data, is_guarded, kind_of, level_of}
 use Rattle.phys_mem.specs.Memory.{byte_at, frame_zeroed, number_at, stored, stores}
 use Rattle.page_desc.specs.PageTables.{HoldsSoundTables, Tables, loose_of, tables_in}
 use Rattle.policy_book.specs.PolicyRules.{stores_written}
-use Rattle.region_book.specs.RegionCalls.{guarded}
+use Rattle.region_book.specs.RegionCalls.{alloc_rule, guarded, room}
 use Rattle.region_book.specs.RegionRecords.{IsEachOnce, region_of}
 use Rattle.vmmu.specs.AcceptedCalls.{IsDeclarable, IsRemovable, IsWritable}
 use Rattle.vmmu.specs.TableCalls.{declare_rule, declared, entry_rule, entry_written, memory_declared, memory_removed, memory_written, remove_rule, removed, root_loaded, root_rule}
-use Rattle.nk_body.specs.CallLeft.{IsCalled, left_in, memory_left}
-use Rattle.nk_body.specs.CallRules.{Sourced, bytes_read, bytes_standing, frames_of_call, made, made_unless, mapped_by, puts, stand_of, verdict, with_free, with_pages, with_pool, with_write, accepted_memory, written_unless, zeros_of}
+use Rattle.nk_body.specs.declared.call.Call.{Call}
+use Rattle.nk_body.specs.declared.call.Call.TheVariants.{Allocate, DeclarePages, DeclareTable, Free, LoadRoot, NoCall, RemoveTable, SetHandler, Write, WriteEntry}
+use Rattle.nk_body.specs.CallLeft.{IsCalled, IsWide, left_in, memory_left}
+use Rattle.nk_body.specs.CallRules.{IsSourceOf, Sourced, bytes_read, bytes_standing, declaring_rule, frames_of_pages, made, wants, made_unless, mapped_by, puts, stand_of, verdict, with_pages, with_pool, accepted_memory, written_unless, zeros_of}
 use Rattle.nk_body.specs.NestedRecord.{IsLedgerKept, Ledger, Nested, handler_in, held_bytes, nested_in}
 use Rattle.nk_body.proofs.CallChanges.{free_inside}
-use Rattle.nk_body.proofs.CallFacts.{pool_stores, write_facts, write_guarded}
-use Rattle.nk_body.proofs.CallNumbers.{accepted_by, declaring_rule, made_is, number_1, number_2, number_3, number_4, number_5, number_6, number_7, number_8, number_9, written_1, written_2, written_3, written_4, written_5, written_6, written_7, written_8, written_9}
+use Rattle.nk_body.proofs.CallFacts.{write_facts}
 use Rattle.nk_body.proofs.GuardedFrames.{among, frames_count, guarded_sound, kind_guarded}
 use Rattle.nk_body.proofs.HandlerStores.{handler_stores}
 use Rattle.nk_body.proofs.HeldBytes.{held_stored}
@@ -31,6 +31,7 @@ use Rattle.nk_body.proofs.LowerLaws.{LowerLaws}
 use Rattle.nk_body.proofs.NumbersLeft.{number_same}
 use Rattle.nk_body.proofs.RegionFrames.{InGuarded, handler_aside, in_memory, unguarded}
 use Rattle.nk_body.proofs.RegionRules.{alloc_facts, declare_facts, free_facts}
+use Rattle.nk_body.proofs.RegionStores.{written_guarded, zeros_guarded}
 use Rattle.nk_body.proofs.TableChanges.{IsTablesLeft, declared_left, handler_left, held_left, kept_left, nothing_left, removed_left, written_left}
 
 fixed_data : Fixed ≡ Data → ⊥
@@ -55,25 +56,19 @@ held_guarded kinds m fs stand inside stands = λ i f o. at f o i
         ∙ by_bool (among f fs) (nat_lt o 4096) (kind_of kinds f) (byte_at m (4096 * f + o))
         ∙ ap (λ s. if among f fs then s else (if is_guarded (kind_of kinds f) && nat_lt o 4096 then byte_at m (4096 * f + o) else 0)) (sym (stands f o))
 
-stand_is : (nk : Nested) (call : CallWords) (m : List ℕ) (fs : List ℕ) → call.number ≡ 6 → frames_of_call nk call ≡ Some fs
-    → (f o : ℕ) → stand_of nk call m f o ≡ (if among f fs && nat_lt o 4096 then byte_at m (4096 * f + o) else 0)
-unfolding stand_of
-stand_is nk call m fs number found f o = λ i. if number i == 6 then bytes_standing m (found i) f o else 0
+-- what stood in the frames of pages that are declared
+stand_is : (nk : Nested) (address size policy : ℕ) (m : List ℕ) (fs : List ℕ) → frames_of_pages nk address size ≡ Some fs
+    → (f o : ℕ) → stand_of nk (DeclarePages address size policy) m f o ≡ (if among f fs && nat_lt o 4096 then byte_at m (4096 * f + o) else 0)
+stand_is nk address size policy m fs found f o = ap (λ x. bytes_standing m x f o) found
 
 -- what a call on page tables leaves
 abbrev Stands : Tables → List ℕ → Type 0
 Stands after m = (tables_in after.kinds after.root m ≡ after) × HoldsSoundTables after.kinds after.root m
 
-module _ (laws : LowerLaws) (kinds : List Kind) (root : ℕ) (ledger : Ledger) (m : List ℕ) (call : CallWords) (source : Sourced)
-    (is_called : IsCalled kinds root ledger m call source) where
+module _ (laws : LowerLaws) (kinds : List Kind) (root : ℕ) (ledger : Ledger) (m : List ℕ) (sound : HoldsSoundTables kinds root m)
+    (kept : IsLedgerKept kinds ledger) where
   abbrev nk : Nested
   nk = nested_in kinds root ledger m
-
-  abbrev stand : ℕ → ℕ → ℕ
-  stand = stand_of nk call m
-
-  sound : HoldsSoundTables kinds root m
-  sound = is_called.sound
 
   -- the record, sound tables and a sound ledger, of kinds, root, ledger and memory
   pub record IsMet (after : Nested) (later : List ℕ) : Type 0 where
@@ -81,18 +76,13 @@ module _ (laws : LowerLaws) (kinds : List Kind) (root : ℕ) (ledger : Ledger) (
     pub holds : HoldsSoundTables after.tables.kinds after.tables.root later
     pub keeps : IsLedgerKept after.tables.kinds after.ledger
 
-  both : (after : Nested) (later : List ℕ) → made nk call source stand ≡ after → accepted_memory nk call source m ≡ later → IsMet after later
-      → IsMet (made nk call source stand) (accepted_memory nk call source m)
-  both after later makes writes is =
-      subst (λ (it : Nested × List ℕ). IsMet it.0 it.1) (λ i. (sym makes i, sym writes i)) is
-
   -- tables that stand, and the handler's address as it was
   tables_met : (after : Tables) (later : List ℕ) → Stands after later → handler_in later ≡ handler_in m → IsTablesLeft kinds after.kinds m later
       → IsMet (record nk { tables = after }) later
   tables_met after later stands handler left = record {
     nested = λ i. record { tables = stands.0 i; trap = handler i; held = held_left kinds after.kinds m later left sound.handler i; ledger = ledger };
     holds = stands.1;
-    keeps = kept_left kinds after.kinds m later left ledger is_called.keeps;
+    keeps = kept_left kinds after.kinds m later left ledger kept;
   }
 
   -- the bytes of the handler slot are no table's
@@ -125,20 +115,20 @@ module _ (laws : LowerLaws) (kinds : List Kind) (root : ℕ) (ledger : Ledger) (
       let none : level_of (kind_of kinds frame) ≡ 0 = ap (λ n. level_of (kind_of kinds n)) same ∙ ap level_of sound.handler in
       absurd (omega (arith, level, none))
 
-  trap_met : IsMet (record nk { trap = call.a }) (stored m (stores 8 0x2000 call.a))
+  trap_met : (address : ℕ) → address < 2 ^ 64 → IsMet (record nk { trap = address }) (stored m (stores 8 0x2000 address))
   unfolding handler_in
-  trap_met =
-      let ws : List (ℕ × ℕ) = stores 8 0x2000 call.a in
-      let unguarded = handler_stores kinds call.a laws.byte.memory.places sound.handler in
+  trap_met address wide =
+      let ws : List (ℕ × ℕ) = stores 8 0x2000 address in
+      let unguarded = handler_stores kinds address laws.byte.memory.places sound.handler in
       let held : held_bytes kinds (stored m ws) ≡ held_bytes kinds m =
-      held_left kinds kinds m (stored m ws) (handler_left laws kinds root m sound call.a) sound.handler in
+      held_left kinds kinds m (stored m ws) (handler_left laws kinds root m sound address) sound.handler in
       let long : 0x2000 + 8 ≤ length m = omega (arith, sound.size, second) in
-      let trap : number_at (stored m ws) 8 0x2000 ≡ call.a =
-      laws.byte.memory.number_stored m 8 0x2000 call.a long ∙ mod-eq_of_lt is_called.first in
+      let trap : number_at (stored m ws) 8 0x2000 ≡ address =
+      laws.byte.memory.number_stored m 8 0x2000 address long ∙ mod-eq_of_lt wide in
       record {
         nested = λ i. record { tables = laws.store.stays kinds root m ws unguarded i; trap = trap i; held = held i; ledger = ledger };
         holds = laws.store.sound kinds root m ws sound unguarded;
-        keeps = is_called.keeps;
+        keeps = kept;
       }
     where
       second : 2 < length kinds
@@ -186,61 +176,64 @@ module _ (laws : LowerLaws) (kinds : List Kind) (root : ℕ) (ledger : Ledger) (
     keeps = kept;
   }
 
-  pages_met : call.number ≡ 6 → declaring_rule nk call ≡ None
-      → IsMet (made nk call source stand) (accepted_memory nk call source m)
-  pages_met number rule =
-      let facts = declare_facts ledger.book kinds (loose_of nk.tables) (mapped_by nk) call.a call.b call.c rule in
+  pages_met : (address size policy : ℕ) (source : Sourced) → declaring_rule nk address size policy ≡ None
+      → IsMet (made nk (DeclarePages address size policy) source (stand_of nk (DeclarePages address size policy) m)) m
+  pages_met address size policy source rule =
+      let facts = declare_facts ledger.book kinds (loose_of nk.tables) (mapped_by nk) address size policy rule in
       let fs : List ℕ = facts.0 in
+      let stand = stand_of nk (DeclarePages address size policy) m in
       let inside : All (λ f. f < length kinds) fs = free_inside kinds fs facts.2.free in
       let once : IsEachOnce fs = laws.declared.once fs facts.2.distinct in
       let guards = guarded_sound laws.guard laws.declared root m fs kinds sound once
       (λ k d below. (facts.2.free k d below, sym (laws.store.loose kinds root m _ sound) ∙ facts.2.none k d below)) in
-      both (with_pages nk call stand (Some fs)) m
-      (made_is nk call source stand ∙ number_6 call.number _ _ _ _ _ _ _ _ _ _ number ∙ ap (with_pages nk call stand) facts.1)
-      (written_6 nk call source m number)
-      (record {
+      subst (λ o. IsMet (with_pages nk address size policy stand o) m) (sym facts.1) (record {
         nested = λ i. record {
           tables = guards.1 i;
           trap = handler_in m;
-          held = held_guarded kinds m fs stand inside (stand_is nk call m fs number facts.1) i;
-          ledger = (with_pages nk call stand (Some fs)).ledger;
+          held = held_guarded kinds m fs stand inside (stand_is nk address size policy m fs facts.1) i;
+          ledger = (with_pages nk address size policy stand (Some fs)).ledger;
         };
         holds = guards.0;
-        keeps = kept_pages kinds ledger is_called.keeps (loose_of nk.tables) call.a call.b call.c fs facts.2 once
-            (frames_count (mapped_by nk) (call.b / 4096) (call.a / 4096) fs facts.1);
+        keeps = kept_pages kinds ledger kept (loose_of nk.tables) address size policy fs facts.2 once
+            (frames_count (mapped_by nk) (size / 4096) (address / 4096) fs facts.1);
       })
 
-  made_met : verdict nk call source ≡ None → IsMet (made nk call source stand) (accepted_memory nk call source m)
-  made_met none =
-      let n : ℕ = call.number in
-      accepted_by (IsMet (made nk call source stand) (accepted_memory nk call source m)) nk call source none
-      (λ is. both _ _ (made_is nk call source stand ∙ number_1 n _ _ _ _ _ _ _ _ _ _ is) (written_1 nk call source m is) trap_met)
-      (λ is rule. both _ _ (made_is nk call source stand ∙ number_2 n _ _ _ _ _ _ _ _ _ _ is) (written_2 nk call source m is)
-      (declared_met call.a call.b rule))
-      (λ is rule. both _ _ (made_is nk call source stand ∙ number_3 n _ _ _ _ _ _ _ _ _ _ is) (written_3 nk call source m is)
-      (written_met call.a call.b call.c is_called.third rule))
-      (λ is rule. both _ _ (made_is nk call source stand ∙ number_4 n _ _ _ _ _ _ _ _ _ _ is) (written_4 nk call source m is) (removed_met call.a rule))
-      (λ is rule. both _ _ (made_is nk call source stand ∙ number_5 n _ _ _ _ _ _ _ _ _ _ is) (written_5 nk call source m is) (loaded_met call.a rule))
-      pages_met
-      (λ is rule. let facts = alloc_facts ledger.book call.a call.b rule in
+  pool_met : (size policy : ℕ) → alloc_rule ledger.book size policy ≡ None
+      → let place = room ledger.book.regions size in IsMet (with_pool nk size policy place) (stored m (zeros_of nk size policy place))
+  pool_met size policy rule =
+      let facts = alloc_facts ledger.book size policy rule in
       let p : ℕ = facts.place.0 in
-      both (with_pool nk call (Some p)) (stored m (zeros_of nk call (Some p)))
-      (made_is nk call source stand ∙ number_7 n _ _ _ _ _ _ _ _ _ _ is ∙ ap (with_pool nk call) facts.place.1)
-      (written_7 nk call source m is ∙ ap (λ (o : Option ℕ). stored m (zeros_of nk call o)) facts.place.1)
-      (stores_met _ (zeros_of nk call (Some p)) (pool_stores kinds ledger is_called.keeps call p facts facts.place.1 nk refl)
-      (kept_pool kinds ledger is_called.keeps call.a call.b p facts facts.place.1)))
-      (λ is rule. let facts = free_facts (region_of ledger.book call.a) rule in
-      both (with_free nk call) m (made_is nk call source stand ∙ number_8 n _ _ _ _ _ _ _ _ _ _ is) (written_8 nk call source m is)
-      (record { nested = refl; holds = sound; keeps = kept_free kinds ledger is_called.keeps call.a facts.0 facts.1 facts.2 }))
-      (λ is rule. let facts = write_facts nk call source is is_called.sourced rule in
-      both (with_write nk call (bytes_read source)) (stored m (stores_written ledger.book call.a call.b (bytes_read source)))
-      (made_is nk call source stand ∙ number_9 n _ _ _ _ _ _ _ _ _ _ is) (written_9 nk call source m is)
-      (stores_met _ (stores_written ledger.book call.a call.b (bytes_read source)) (write_guarded kinds ledger is_called.keeps call source facts)
-      (kept_written kinds ledger is_called.keeps call.a call.b (bytes_read source) facts.region facts.found facts.range facts.admitted)))
+      subst (λ (o : Option ℕ). IsMet (with_pool nk size policy o) (stored m (zeros_of nk size policy o))) (sym facts.place.1)
+      (stores_met _ (zeros_of nk size policy (Some p)) (zeros_guarded kinds ledger kept size policy p facts facts.place.1)
+      (kept_pool kinds ledger kept size policy p facts facts.place.1))
 
-  pub call_met : IsMet (left_in kinds root ledger m call source) (memory_left kinds root ledger m call source)
-  call_met = by_verdict (verdict nk call source) refl
-    where
-      by_verdict : (v : Option Rule) → verdict nk call source ≡ v → IsMet (made_unless v nk call source stand) (written_unless v nk call source m)
-      by_verdict None none = made_met none
-      by_verdict (Some rule) is = record { nested = refl; holds = sound; keeps = is_called.keeps }
+  made_met : (call : Call) (source : Sourced) → IsWide call → IsSourceOf (wants ledger.book call) source → verdict nk call source ≡ None
+      → IsMet (made nk call source (stand_of nk call m)) (accepted_memory nk call source m)
+  made_met (SetHandler address) source wide sourced rule = trap_met address wide
+  made_met (DeclareTable level frame) source wide sourced rule = declared_met level frame rule
+  made_met (WriteEntry table index value) source wide sourced rule = written_met table index value wide rule
+  made_met (RemoveTable frame) source wide sourced rule = removed_met frame rule
+  made_met (LoadRoot frame) source wide sourced rule = loaded_met frame rule
+  made_met (DeclarePages address size policy) source wide sourced rule = pages_met address size policy source rule
+  made_met (Allocate size policy) source wide sourced rule = pool_met size policy rule
+  made_met (Free region) source wide sourced rule =
+      let facts = free_facts (region_of ledger.book region) rule in
+      record { nested = refl; holds = sound; keeps = kept_free kinds ledger kept region facts.0 facts.1 facts.2 }
+  made_met (Write region offset place count) source wide sourced rule =
+      let facts = write_facts nk region offset place count source sourced rule in
+      stores_met _ (stores_written ledger.book region offset (bytes_read source))
+      (written_guarded kinds ledger kept region offset (bytes_read source) facts.region facts.found facts.range)
+      (kept_written kinds ledger kept region offset (bytes_read source) facts.region facts.found facts.range facts.admitted)
+  made_met NoCall source wide sourced rule = cc
+
+pub call_met : (laws : LowerLaws) (kinds : List Kind) (root : ℕ) (ledger : Ledger) (m : List ℕ) (call : Call) (source : Sourced)
+    → (is : IsCalled kinds root ledger m call source)
+    → IsMet laws kinds root ledger m is.sound is.keeps (left_in kinds root ledger m call source) (memory_left kinds root ledger m call source)
+call_met laws kinds root ledger m call source is = by_verdict (verdict (nested_in kinds root ledger m) call source) refl
+  where
+    by_verdict : (v : Option Rule) → verdict (nested_in kinds root ledger m) call source ≡ v
+        → IsMet laws kinds root ledger m is.sound is.keeps
+        (made_unless v (nested_in kinds root ledger m) call source (stand_of (nested_in kinds root ledger m) call m))
+        (written_unless v (nested_in kinds root ledger m) call source m)
+    by_verdict None none = made_met laws kinds root ledger m is.sound is.keeps call source is.wide is.sourced none
+    by_verdict (Some rule) broken = record { nested = refl; holds = is.sound; keeps = is.keeps }

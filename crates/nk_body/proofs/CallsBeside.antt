@@ -1,26 +1,29 @@
 -- A replay stays beside a run over every call that is accepted.
-use Rattle.std.proofs.Common.{◌≡◌, ℕ, ◌+◌, ◌*◌, ◌/◌, ◌<◌, Bool, true, false, ◌&&◌, ◌||◌, List, [], ◌∷◌, ◌++◌, length, All, refl, sym, ap, subst, ◌∙◌, arith}
-use Rattle.std.specs.Prelude.{◌==◌, nat_lt, Option, None, Some, if◌then◌else◌}
+use Rattle.std.proofs.Common.{◌≡◌, ℕ, ◌+◌, ◌*◌, ◌/◌, ◌<◌, Bool, true, false, ◌||◌, List, [], ◌∷◌, ◌++◌, length, All, refl, sym, ap, subst, ◌∙◌, arith}
+use Rattle.std.specs.Prelude.{nat_lt, Option, None, Some, if◌then◌else◌}
 use Rattle.std.proofs.Math.Bool.{or-false}
 use Rattle.std.proofs.lemmas.Bool.{and_from, lt-ltb}
 use Rattle.std.proofs.lemmas.List.{get_or_push, length_push}
-use Rattle.nk_bits.specs.declared.call.CallWords.{CallWords}
 use Rattle.nk_bits.specs.declared.kind.Kind.{Kind}
+use Rattle.nk_bits.specs.declared.kind.Kind.TheVariants.{Fixed}
+use Rattle.nk_bits.specs.Kinds.{kind_of}
+use Rattle.nk_bits.specs.KernelLayout.{handler_slot}
 use Rattle.nk_bits.specs.declared.rule.Rule.{Rule}
 use Rattle.phys_mem.specs.Memory.{byte_at, stored}
 use Rattle.page_desc.specs.PageTables.{loose_of}
-use Rattle.vmmu.specs.TableCalls.{declare_rule, declared, entry_rule, entry_written, remove_rule, removed, root_loaded}
-use Rattle.region_book.specs.RegionCalls.{alloc_rule, freed, page_region, pool_region}
+use Rattle.vmmu.specs.TableCalls.{entry_written, removed, root_loaded}
+use Rattle.region_book.specs.RegionCalls.{alloc_rule, page_region, pool_region}
 use Rattle.region_book.specs.RegionRecords.{IsRegion, Region}
 use Rattle.policy_book.specs.PolicyRules.{book_by, log_by, stores_by}
-use Rattle.nk_body.specs.CallRules.{Sourced, accepted_memory, answer_by, answer_to, bytes_read, bytes_standing, frames_of_call, made, mapped_by, puts, stand_of, verdict, with_pages, with_pool, zeros_of}
-use Rattle.nk_body.specs.NestedRecord.{Nested}
+use Rattle.nk_body.specs.declared.call.Call.{Call}
+use Rattle.nk_body.specs.declared.call.Call.TheVariants.{Allocate, DeclarePages, DeclareTable, Free, LoadRoot, NoCall, RemoveTable, SetHandler, Write, WriteEntry}
+use Rattle.nk_body.specs.CallRules.{IsSourceOf, Sourced, accepted_answer, accepted_memory, answer_by, answer_to, bytes_read, bytes_standing, declaring_rule, frames_of_pages, made, mapped_by, puts, stand_of, verdict, wants, with_free, with_pages, with_pool, writing_rule, zeros_of}
+use Rattle.nk_body.specs.NestedRecord.{IsLedgerKept, Nested}
 use Rattle.nk_body.specs.ReplayBeside.{IsAccepted, IsBeside, IsMadeBeside, IsTold, declares_table}
 use Rattle.nk_body.proofs.BesidePages.{beside_pages}
 use Rattle.nk_body.proofs.BesideRegions.{beside_allocated, beside_freed, beside_written}
 use Rattle.nk_body.proofs.BesideTables.{beside_declared, beside_entry, beside_removed, beside_root, beside_trap}
 use Rattle.nk_body.proofs.CallFacts.{write_facts}
-use Rattle.nk_body.proofs.CallNumbers.{accepted_by, declaring_rule, made_is, number_1, number_2, number_3, number_4, number_5, number_6, number_7, number_8, number_9, writing_rule, written_1, written_2, written_3, written_4, written_5, written_6, written_7, written_8, written_9}
 use Rattle.nk_body.proofs.GuardedFrames.{among, frames_count}
 use Rattle.nk_body.proofs.KeptLedgers.{AreGuarded, kept_pages, kept_pool, pool_guarded}
 use Rattle.nk_body.proofs.LowerLaws.{ReplayLaws}
@@ -28,12 +31,16 @@ use Rattle.nk_body.proofs.RegionFrames.{found_holds}
 use Rattle.nk_body.proofs.RegionRules.{alloc_facts, declare_facts}
 
 -- verdict and answer go by tables and ledger alone
-pub verdict_same : (nk : Nested) (held : ℕ → ℕ → ℕ) (call : CallWords) (source : Sourced)
+pub verdict_same : (nk : Nested) (held : ℕ → ℕ → ℕ) (call : Call) (source : Sourced)
     → verdict (record nk { held = held }) call source ≡ verdict nk call source
-unfolding verdict
-verdict_same nk held call source = refl
+verdict_same nk held NoCall source = refl
+verdict_same nk held _ source = refl
 
-pub answer_same : (nk : Nested) (held : ℕ → ℕ → ℕ) (call : CallWords) (source : Sourced)
+answered_same : (nk : Nested) (held : ℕ → ℕ → ℕ) (call : Call) → accepted_answer (record nk { held = held }) call ≡ accepted_answer nk call
+answered_same nk held NoCall = refl
+answered_same nk held _ = refl
+
+pub answer_same : (nk : Nested) (held : ℕ → ℕ → ℕ) (call : Call) (source : Sourced)
     → answer_to (record nk { held = held }) call source ≡ answer_to nk call source
 unfolding answer_to
 answer_same nk held call source =
@@ -41,7 +48,7 @@ answer_same nk held call source =
     ∙ by_verdict (verdict nk call source)
   where
     by_verdict : (v : Option Rule) → answer_by v (record nk { held = held }) call ≡ answer_by v nk call
-    by_verdict None = refl
+    by_verdict None = answered_same nk held call
     by_verdict (Some rule) = refl
 
 -- the last of a list
@@ -50,161 +57,115 @@ last_holds P rs r all =
     subst P (get_or_push rs r r (length rs) refl) (all (length rs) r (omega (arith, length_push rs r)))
 
 module _ (laws : ReplayLaws) (opened : ℕ → ℕ → ℕ) (tabled : ℕ → Bool) (nk : Nested) (held : ℕ → ℕ → ℕ) (m : List ℕ)
-    (call : CallWords) (source : Sourced) (stand : ℕ → ℕ → ℕ) (beside : IsBeside opened tabled nk held m)
-    (accepted : IsAccepted nk call source) where
-  -- the replay's record, and what stands in its memory
+    (source : Sourced) (stand : ℕ → ℕ → ℕ) (beside : IsBeside opened tabled nk held m)
+    (handler : kind_of nk.tables.kinds handler_slot ≡ Fixed) (kept : IsLedgerKept nk.tables.kinds nk.ledger) where
+  -- the replay's record
   abbrev also : Nested
   also = record nk { held = held }
-
-  abbrev also_stand : ℕ → ℕ → ℕ
-  also_stand = stand_of also call m
-
-  abbrev run_after : Nested
-  run_after = made nk call source stand
-
-  abbrev also_after : Nested
-  also_after = made also call source also_stand
 
   abbrev kinds : List Kind
   kinds = nk.tables.kinds
 
-  abbrev n : ℕ
-  n = call.number
+  abbrev Goal : Call → Type 0
+  Goal call =
+      IsMadeBeside opened (λ f. tabled f || declares_table f call) (made nk call source stand)
+      (made also call source (stand_of also call m)) (accepted_memory also call source m)
 
-  -- a frame was a page table before, or becomes one
-  abbrev tabled_after : ℕ → Bool
-  tabled_after f = tabled f || declares_table f call
+  -- a call that declares no table
+  abbrev Stays : Nested → Nested → List ℕ → Type 0
+  Stays run replay memory = IsMadeBeside opened (λ f. tabled f || false) run replay memory
 
-  abbrev Goal : Type 0
-  Goal = IsMadeBeside opened tabled_after run_after also_after (accepted_memory also call source m)
-
-  along : (t : ℕ → Bool) (after : Nested) (h : ℕ → ℕ → ℕ) (later : List ℕ) → tabled_after ≡ t → run_after ≡ after
-      → also_after ≡ record after { held = h } → accepted_memory also call source m ≡ later → IsBeside opened t after h later
-      → Goal
-  along t after h later tables run replay memory is = record {
-    same = replay ∙ (λ i. record (sym run i) { held = (sym replay i).held });
-    beside = subst (λ (x : (ℕ → Bool) × Nested × (ℕ → ℕ → ℕ) × List ℕ). IsBeside opened x.0 x.1 x.2 x.3)
-        (λ i. (sym tables i, sym run i, (sym replay i).held, sym memory i)) is;
+  along : (after : Nested) (h : ℕ → ℕ → ℕ) (later : List ℕ) → IsBeside opened tabled after h later → Stays after (record after { held = h }) later
+  along after h later is = record {
+    same = refl;
+    beside = subst (λ (t : ℕ → Bool). IsBeside opened t after h later) (λ i f. sym (or-false (tabled f)) i) is;
   }
 
-  tables_same : (k : ℕ) → n ≡ k → (k == 2) ≡ false → tabled_after ≡ tabled
-  tables_same k is apart =
-      λ i f. (ap (λ b. tabled f || (b && call.b == f)) (ap (λ n. n == 2) is ∙ apart) ∙ or-false (tabled f)) i
-
-  of_trap : n ≡ 1 → Goal
-  of_trap is =
-      along tabled (record nk { trap = call.a }) held _ (tables_same 1 is refl)
-      (made_is nk call source stand ∙ number_1 n _ _ _ _ _ _ _ _ _ _ is)
-      (made_is also call source also_stand ∙ number_1 n _ _ _ _ _ _ _ _ _ _ is) (written_1 also call source m is)
-      (beside_trap laws.byte opened tabled nk held m beside call.a accepted.handler)
-
-  of_declared : n ≡ 2 → declare_rule nk.tables call.a call.b ≡ None → Goal
-  of_declared is rule =
-      along (λ f. tabled f || call.b == f) (record nk { tables = declared nk.tables call.a call.b }) held _
-      (λ i f. tabled f || (is i == 2 && call.b == f))
-      (made_is nk call source stand ∙ number_2 n _ _ _ _ _ _ _ _ _ _ is)
-      (made_is also call source also_stand ∙ number_2 n _ _ _ _ _ _ _ _ _ _ is) (written_2 also call source m is)
-      (beside_declared laws.byte opened tabled nk held m beside call.a call.b
-      (laws.accepted.declared nk.tables call.a call.b rule) accepted.kept)
-
-  of_entry : n ≡ 3 → entry_rule nk.tables call.a call.b call.c ≡ None → Goal
-  of_entry is rule =
-      along tabled (record nk { tables = entry_written nk.tables call.a call.b call.c }) held _ (tables_same 3 is refl)
-      (made_is nk call source stand ∙ number_3 n _ _ _ _ _ _ _ _ _ _ is)
-      (made_is also call source also_stand ∙ number_3 n _ _ _ _ _ _ _ _ _ _ is) (written_3 also call source m is)
-      (beside_entry laws.byte opened tabled nk held m beside call.a call.b call.c
-      (laws.accepted.written nk.tables call.a call.b call.c rule))
-
-  of_removed : n ≡ 4 → remove_rule nk.tables call.a ≡ None → Goal
-  of_removed is rule =
-      along tabled (record nk { tables = removed nk.tables call.a }) held _ (tables_same 4 is refl)
-      (made_is nk call source stand ∙ number_4 n _ _ _ _ _ _ _ _ _ _ is)
-      (made_is also call source also_stand ∙ number_4 n _ _ _ _ _ _ _ _ _ _ is) (written_4 also call source m is)
-      (beside_removed laws.byte opened tabled nk held m beside call.a (laws.accepted.removed nk.tables call.a rule))
-
-  of_root : n ≡ 5 → Goal
-  of_root is =
-      along tabled (record nk { tables = root_loaded nk.tables call.a }) held m (tables_same 5 is refl)
-      (made_is nk call source stand ∙ number_5 n _ _ _ _ _ _ _ _ _ _ is)
-      (made_is also call source also_stand ∙ number_5 n _ _ _ _ _ _ _ _ _ _ is) (written_5 also call source m is)
-      (beside_root laws.byte opened tabled nk held m beside call.a)
-
-  stands : n ≡ 6 → (fs : List ℕ) → frames_of_call nk call ≡ Some fs → (f offset : ℕ) → among f fs ≡ true
-      → offset < 4096 → also_stand f offset ≡ byte_at m (4096 * f + offset)
-  unfolding stand_of
-  stands is fs found f offset there inside =
-      (λ i. if is i == 6 then bytes_standing m (found i) f offset else 0)
-      ∙ (λ i. if and_from (among f fs) (nat_lt offset 4096) there (lt-ltb offset 4096 inside) i
-      then byte_at m (4096 * f + offset) else 0)
-
-  of_pages : n ≡ 6 → declaring_rule nk call ≡ None → Goal
-  of_pages is rule =
-      let facts = declare_facts nk.ledger.book kinds (loose_of nk.tables) (mapped_by nk) call.a call.b call.c rule in
+  of_pages : (address size policy : ℕ) → declaring_rule nk address size policy ≡ None → Goal (DeclarePages address size policy)
+  of_pages address size policy rule =
+      let also_stand : ℕ → ℕ → ℕ = stand_of also (DeclarePages address size policy) m in
+      let facts = declare_facts nk.ledger.book kinds (loose_of nk.tables) (mapped_by nk) address size policy rule in
       let fs : List ℕ = facts.0 in
-      let found : frames_of_call nk call ≡ Some fs = facts.1 in
-      let kept = kept_pages kinds nk.ledger accepted.kept (loose_of nk.tables) call.a call.b call.c fs facts.2
-      (laws.declared.once fs facts.2.distinct) (frames_count (mapped_by nk) (call.b / 4096) (call.a / 4096) fs found) in
+      let found : frames_of_pages nk address size ≡ Some fs = facts.1 in
+      let later = kept_pages kinds nk.ledger kept (loose_of nk.tables) address size policy fs facts.2
+      (laws.declared.once fs facts.2.distinct) (frames_count (mapped_by nk) (size / 4096) (address / 4096) fs found) in
       let region = last_holds (IsRegion (nk.ledger.book.next + 1)) nk.ledger.book.regions
-      (page_region nk.ledger.book call.a call.b call.c fs) kept.book.each in
-      along tabled (with_pages nk call stand (Some fs))
-      (λ f offset. if among f fs then also_stand f offset else held f offset) m (tables_same 6 is refl)
-      (made_is nk call source stand ∙ number_6 n _ _ _ _ _ _ _ _ _ _ is ∙ ap (with_pages nk call stand) found)
-      (made_is also call source also_stand ∙ number_6 n _ _ _ _ _ _ _ _ _ _ is
-      ∙ ap (with_pages also call also_stand) found)
-      (written_6 also call source m is)
-      (beside_pages opened tabled nk held m beside accepted.kept fs facts.2.free call.a call.b call.c
-      (nk.ledger.book.next + 1) region stand also_stand (stands is fs found))
+      (page_region nk.ledger.book address size policy fs) later.book.each in
+      let stands : (f offset : ℕ) → among f fs ≡ true → offset < 4096 → also_stand f offset ≡ byte_at m (4096 * f + offset) =
+      λ f offset there inside. ap (λ o. bytes_standing m o f offset) found
+      ∙ (λ i. if and_from (among f fs) (nat_lt offset 4096) there (lt-ltb offset 4096 inside) i
+      then byte_at m (4096 * f + offset) else 0) in
+      subst (λ o. Stays (with_pages nk address size policy stand o) (with_pages also address size policy also_stand o) m) (sym found)
+      (along (with_pages nk address size policy stand (Some fs))
+      (λ f offset. if among f fs then also_stand f offset else held f offset) m
+      (beside_pages opened tabled nk held m beside kept fs facts.2.free address size policy
+      (nk.ledger.book.next + 1) region stand also_stand stands))
 
-  of_pool : n ≡ 7 → alloc_rule nk.ledger.book call.a call.b ≡ None → Goal
-  of_pool is rule =
-      let facts = alloc_facts nk.ledger.book call.a call.b rule in
+  of_pool : (size policy : ℕ) → alloc_rule nk.ledger.book size policy ≡ None → Goal (Allocate size policy)
+  of_pool size policy rule =
+      let facts = alloc_facts nk.ledger.book size policy rule in
       let p : ℕ = facts.place.0 in
-      let kept = kept_pool kinds nk.ledger accepted.kept call.a call.b p facts facts.place.1 in
+      let later = kept_pool kinds nk.ledger kept size policy p facts facts.place.1 in
       let region = last_holds (IsRegion (nk.ledger.book.next + 1)) nk.ledger.book.regions
-      (pool_region nk.ledger.book call.a call.b p) kept.book.each in
-      along tabled (with_pool nk call (Some p)) _ _ (tables_same 7 is refl)
-      (made_is nk call source stand ∙ number_7 n _ _ _ _ _ _ _ _ _ _ is ∙ ap (with_pool nk call) facts.place.1)
-      (made_is also call source also_stand ∙ number_7 n _ _ _ _ _ _ _ _ _ _ is ∙ ap (with_pool also call) facts.place.1)
-      (written_7 also call source m is ∙ ap (λ (o : Option ℕ). stored m (zeros_of also call o)) facts.place.1)
-      (beside_allocated laws opened tabled nk held m beside accepted.kept (nk.ledger.book.next + 1) call.a call.b p region
-      (pool_guarded kinds nk.ledger accepted.kept call.a call.b p facts facts.place.1))
-
-  of_freed : n ≡ 8 → Goal
-  of_freed is =
-      along tabled (record nk { ledger = record nk.ledger { book = freed nk.ledger.book call.a } }) held m
-      (tables_same 8 is refl)
-      (made_is nk call source stand ∙ number_8 n _ _ _ _ _ _ _ _ _ _ is)
-      (made_is also call source also_stand ∙ number_8 n _ _ _ _ _ _ _ _ _ _ is) (written_8 also call source m is)
-      (beside_freed laws opened tabled nk held m beside accepted.kept call.a)
+      (pool_region nk.ledger.book size policy p) later.book.each in
+      subst (λ (o : Option ℕ). Stays (with_pool nk size policy o) (with_pool also size policy o) (stored m (zeros_of also size policy o))) (sym facts.place.1)
+      (along (with_pool nk size policy (Some p)) _ _
+      (beside_allocated laws opened tabled nk held m beside kept (nk.ledger.book.next + 1) size policy p region
+      (pool_guarded kinds nk.ledger kept size policy p facts facts.place.1)))
 
   -- a write in a region that lives, within it
-  write_by : Nested → Option Region → Nested
-  write_by x o = record x {
-    held = puts x.held (stores_by o call.b (bytes_read source));
+  write_by : Nested → Option Region → ℕ → Nested
+  write_by x o offset = record x {
+    held = puts x.held (stores_by o offset (bytes_read source));
     ledger = record {
-      book = book_by x.ledger.book o call.b (length (bytes_read source));
-      log = log_by x.ledger.log o call.b (bytes_read source);
+      book = book_by x.ledger.book o offset (length (bytes_read source));
+      log = log_by x.ledger.log o offset (bytes_read source);
     };
   }
 
-  of_written : n ≡ 9 → writing_rule nk call source ≡ None → Goal
+  of_written : (id offset place n : ℕ) → IsSourceOf (wants nk.ledger.book (Write id offset place n)) source
+      → writing_rule nk id offset n source ≡ None → Goal (Write id offset place n)
   unfolding write_by
-  of_written is rule =
-      let facts = write_facts nk call source is accepted.sourced rule in
+  of_written id offset place n sourced rule =
+      let facts = write_facts nk id offset place n source sourced rule in
       let r : Region = facts.region in
-      along tabled (write_by nk (Some r)) _ _ (tables_same 9 is refl)
-      (made_is nk call source stand ∙ number_9 n _ _ _ _ _ _ _ _ _ _ is ∙ ap (write_by nk) facts.found)
-      (made_is also call source also_stand ∙ number_9 n _ _ _ _ _ _ _ _ _ _ is ∙ ap (write_by also) facts.found)
-      (written_9 also call source m is
-      ∙ ap (λ (o : Option Region). stored m (stores_by o call.b (bytes_read source))) facts.found)
-      (beside_written laws opened tabled nk held m beside accepted.kept nk.ledger.book.next r
-      (found_holds (IsRegion nk.ledger.book.next) nk.ledger.book call.a r facts.found accepted.kept.book.each)
-      (found_holds (AreGuarded kinds) nk.ledger.book call.a r facts.found accepted.kept.frames)
-      call.b (bytes_read source) facts.range call.a facts.found
-      (found_holds (IsTold opened tabled nk.held held) nk.ledger.book call.a r facts.found beside.regions)
-      (log_by nk.ledger.log (Some r) call.b (bytes_read source)))
+      subst (λ (o : Option Region). Stays (write_by nk o offset) (write_by also o offset) (stored m (stores_by o offset (bytes_read source)))) (sym facts.found)
+      (along (write_by nk (Some r) offset) _ _
+      (beside_written laws opened tabled nk held m beside kept nk.ledger.book.next r
+      (found_holds (IsRegion nk.ledger.book.next) nk.ledger.book id r facts.found kept.book.each)
+      (found_holds (AreGuarded kinds) nk.ledger.book id r facts.found kept.frames)
+      offset (bytes_read source) facts.range id facts.found
+      (found_holds (IsTold opened tabled nk.held held) nk.ledger.book id r facts.found beside.regions)
+      (log_by nk.ledger.log (Some r) offset (bytes_read source))))
 
-  pub call_beside : Goal
-  call_beside =
-      accepted_by Goal nk call source accepted.none of_trap of_declared of_entry of_removed (λ is rule. of_root is) of_pages
-      of_pool (λ is rule. of_freed is) of_written
+  pub made_beside : (call : Call) → IsSourceOf (wants nk.ledger.book call) source → verdict nk call source ≡ None → Goal call
+  made_beside (SetHandler address) sourced rule =
+      along (record nk { trap = address }) held _ (beside_trap laws.byte opened tabled nk held m beside address handler)
+  made_beside (DeclareTable level frame) sourced rule = record {
+    same = refl;
+    beside = beside_declared laws.byte opened tabled nk held m beside level frame
+        (laws.accepted.declared nk.tables level frame rule) kept;
+  }
+  made_beside (WriteEntry table index value) sourced rule =
+      along (record nk { tables = entry_written nk.tables table index value }) held _
+      (beside_entry laws.byte opened tabled nk held m beside table index value (laws.accepted.written nk.tables table index value rule))
+  made_beside (RemoveTable frame) sourced rule =
+      along (record nk { tables = removed nk.tables frame }) held _
+      (beside_removed laws.byte opened tabled nk held m beside frame (laws.accepted.removed nk.tables frame rule))
+  made_beside (LoadRoot frame) sourced rule =
+      along (record nk { tables = root_loaded nk.tables frame }) held m (beside_root laws.byte opened tabled nk held m beside frame)
+  made_beside (DeclarePages address size policy) sourced rule = of_pages address size policy rule
+  made_beside (Allocate size policy) sourced rule = of_pool size policy rule
+  made_beside (Free region) sourced rule =
+      along (with_free nk region) held m (beside_freed laws opened tabled nk held m beside kept region)
+  made_beside (Write region offset place n) sourced rule = of_written region offset place n sourced rule
+  made_beside NoCall sourced rule = cc
+
+pub call_beside : (laws : ReplayLaws) (opened : ℕ → ℕ → ℕ) (tabled : ℕ → Bool) (nk : Nested) (held : ℕ → ℕ → ℕ) (m : List ℕ)
+    (call : Call) (source : Sourced) (stand : ℕ → ℕ → ℕ) (beside : IsBeside opened tabled nk held m)
+    (accepted : IsAccepted nk call source)
+    → IsMadeBeside opened (λ f. tabled f || declares_table f call) (made nk call source stand)
+    (made (record nk { held = held }) call source (stand_of (record nk { held = held }) call m))
+    (accepted_memory (record nk { held = held }) call source m)
+call_beside laws opened tabled nk held m call source stand beside accepted =
+    made_beside laws opened tabled nk held m source stand beside accepted.handler accepted.kept call accepted.sourced accepted.none

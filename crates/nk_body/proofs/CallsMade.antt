@@ -1,13 +1,12 @@
 -- What each call leaves, from what the part that makes it says.
-use Rattle.std.proofs.Common.{◌≡◌, ◌≢◌, ℕ, List, true, false, refl, sym, ap, subst, ◌∙◌}
+use Rattle.std.proofs.Common.{◌≡◌, ℕ, List, true, false, refl, sym, ap, subst, ◌∙◌}
 use Rattle.std.specs.Prelude.{OnErr, OnOk, Result, Ok, Err, Option, None, Some, not}
 use Rattle.std.proofs.lemmas.List.Elements.{All-weaker}
 use Rattle.phys_mem.specs.Memory.{stored, stores}
-use Rattle.nk_bits.specs.declared.call.CallWords.{CallWords}
 use Rattle.nk_bits.specs.declared.kind.Kind.{Kind}
 use Rattle.nk_bits.specs.declared.kind.Kind.TheVariants.{Guarded}
 use Rattle.nk_bits.specs.declared.rule.Rule.{Rule}
-use Rattle.nk_bits.specs.declared.rule.Rule.TheVariants.{BadCall, NotCanonical}
+use Rattle.nk_bits.specs.declared.rule.Rule.TheVariants.{NotCanonical}
 use Rattle.nk_bits.specs.Kinds.{kind_of}
 use Rattle.nk_bits.specs.Paging.{is_canonical}
 use Rattle.page_desc.specs.PageTables.{AreDescribed, Tables}
@@ -19,10 +18,11 @@ use Rattle.nk_bits.specs.Rules.{rule_of}
 use Rattle.table_rules.specs.ValueRules.{broken}
 use Rattle.page_desc.specs.FrameDescriptors.{Descriptors}
 use Rattle.vmmu.specs.declared.tables.Tables4.{Tables4}
+use Rattle.nk_body.specs.declared.call.Call.{Call}
+use Rattle.nk_body.specs.declared.call.Call.TheVariants.{SetHandler}
 use Rattle.nk_body.specs.NestedRecord.{AreBooks, Books, HoldsBooks, IsLedgerKept, Ledger, Nested, OwnState, books_in, nested_by}
 use Rattle.nk_body.specs.CallRules.{Sourced, made, stand_of, verdict, accepted_memory}
 use Rattle.nk_body.specs.CallMade.{IsMade}
-use Rattle.nk_body.proofs.CallNumbers.{made_is, number_1, number_other, verdict_is, written_1}
 
 abbrev pub books_of : Descriptors → ℕ → ℕ → Book → List LogRecord → Books
 books_of d root trap book log = record { frames = d; root = root; trap = trap; ledger = record { book = book; log = log } }
@@ -36,13 +36,19 @@ on_ok (Ok a) p = p
 on_ok (Err b) p = tt
 
 -- the books and the rule by other names
-pub made_as : (m : List ℕ) {seen later : List ℕ} {call : CallWords} {source : Sourced} {after : Books} (before own : OwnState) (one two : Option Rule)
+pub made_as : (m : List ℕ) {seen later : List ℕ} {call : Call} {source : Sourced} {after : Books} (before own : OwnState) (one two : Option Rule)
     → before ≡ own → two ≡ one → IsMade (books_in before m) seen call source one after later → IsMade (books_in own m) seen call source two after later
 made_as m {seen = seen} {later = later} {call = call} {source = source} {after = after} before own one two view same is =
     subst (λ (it : OwnState × Option Rule). IsMade (books_in it.0 m) seen call source it.1 after later) (λ i. (view i, sym same i)) is
 
+-- the call by another name
+pub call_made : {books after : Books} {m later : List ℕ} {source : Sourced} {rule : Option Rule} {call other : Call} → call ≡ other
+    → IsMade books m other source rule after later → IsMade books m call source rule after later
+call_made {books = books} {after = after} {m = m} {later = later} {source = source} {rule = rule} same is =
+    subst (λ (it : Call). IsMade books m it source rule after later) (sym same) is
+
 -- regions and log by what they were
-pub with_ledger : {seen later : List ℕ} {call : CallWords} {source : Sourced} {rule : Option Rule} {before : Books} (d : Descriptors) (root trap : ℕ)
+pub with_ledger : {seen later : List ℕ} {call : Call} {source : Sourced} {rule : Option Rule} {before : Books} (d : Descriptors) (root trap : ℕ)
     {book one : Book} {log two : List LogRecord} → one ≡ book → two ≡ log
     → IsMade before seen call source rule (books_of d root trap book log) later → IsMade before seen call source rule (books_of d root trap one two) later
 with_ledger {seen = seen} {later = later} {call = call} {source = source} {rule = rule} {before = before} d root trap books logs is =
@@ -63,7 +69,7 @@ kept_under kinds after ledger kept stays = record {
 }
 
 -- a call that breaks a rule leaves books and memory
-pub refused_made : (books : Books) (m : List ℕ) (call : CallWords) (source : Sourced) (rule : Rule) → AreBooks books m
+pub refused_made : (books : Books) (m : List ℕ) (call : Call) (source : Sourced) (rule : Rule) → AreBooks books m
     → Some rule ≡ verdict (nested_by books m) call source → IsMade books m call source (Some rule) books m
 refused_made books m call source rule are judged = record {
   judged = judged;
@@ -77,7 +83,7 @@ refused_made books m call source rule are judged = record {
 }
 
 -- what a call leaves that breaks no rule
-module _ (books : Books) (m : List ℕ) (call : CallWords) (source : Sourced) (after : Books) (later : List ℕ) (made_of : Nested) (w : List ℕ) where
+module _ (books : Books) (m : List ℕ) (call : Call) (source : Sourced) (after : Books) (later : List ℕ) (made_of : Nested) (w : List ℕ) where
   abbrev nk : Nested
   nk = nested_by books m
 
@@ -97,7 +103,7 @@ module _ (books : Books) (m : List ℕ) (call : CallWords) (source : Sourced) (a
   }
 
 -- a call on page tables, which leaves handler and ledger
-module _ (d e : Descriptors) (root other trap : ℕ) (book : Book) (log : List LogRecord) (m later : List ℕ) (call : CallWords) (source : Sourced)
+module _ (d e : Descriptors) (root other trap : ℕ) (book : Book) (log : List LogRecord) (m later : List ℕ) (call : Call) (source : Sourced)
     (after : Tables) (w : List ℕ) where
   abbrev before : Books
   before = books_of d root trap book log
@@ -118,27 +124,14 @@ module _ (d e : Descriptors) (root other trap : ℕ) (book : Book) (log : List L
       (λ i. (sym err.0 i, sym err.1 i, sym err.2 i)) (refused_made before m call source rule are judged)
 
 -- the handler is set
-pub trap_made : (books : Books) (m : List ℕ) (call : CallWords) (source : Sourced) → AreBooks books m → call.number ≡ 1 → is_canonical call.a ≡ true
-    → AreDescribed books.frames books.root (stored m (stores 8 0x2000 call.a))
-    → IsMade books m call source None (record books { trap = call.a }) (stored m (stores 8 0x2000 call.a))
-trap_made books m call source are number canonical described =
-    let nk : Nested = nested_by books m in
-    accepted_made books m call source (record books { trap = call.a }) _ _ _
-    (verdict_is nk call source ∙ number_1 call.number _ _ _ _ _ _ _ _ _ _ number ∙ ap (λ b. broken (not b) NotCanonical None) canonical)
-    (made_is nk call source _ ∙ number_1 call.number _ _ _ _ _ _ _ _ _ _ number) (written_1 nk call source m number)
-    refl refl refl refl refl described are.kept
+pub trap_made : (books : Books) (m : List ℕ) (address : ℕ) (source : Sourced) → AreBooks books m → is_canonical address ≡ true
+    → AreDescribed books.frames books.root (stored m (stores 8 0x2000 address))
+    → IsMade books m (SetHandler address) source None (record books { trap = address }) (stored m (stores 8 0x2000 address))
+trap_made books m address source are canonical described =
+    accepted_made books m (SetHandler address) source (record books { trap = address }) _ _ _
+    (ap (λ b. broken (not b) NotCanonical None) canonical) refl refl refl refl refl refl refl described are.kept
 
-pub trap_refused : (books : Books) (m : List ℕ) (call : CallWords) (source : Sourced) → call.number ≡ 1 → is_canonical call.a ≡ false
-    → AreBooks books m → IsMade books m call source (Some NotCanonical) books m
-trap_refused books m call source number canonical are =
-    refused_made books m call source NotCanonical are
-    (sym (verdict_is (nested_by books m) call source ∙ number_1 call.number _ _ _ _ _ _ _ _ _ _ number
-    ∙ ap (λ b. broken (not b) NotCanonical None) canonical))
-
--- a number that is that of no call
-pub other_made : (books : Books) (m : List ℕ) (call : CallWords) (source : Sourced) → AreBooks books m → call.number ≢ 1 → call.number ≢ 2
-    → call.number ≢ 3 → call.number ≢ 4 → call.number ≢ 5 → call.number ≢ 6 → call.number ≢ 7 → call.number ≢ 8 → call.number ≢ 9
-    → IsMade books m call source (Some BadCall) books m
-other_made books m call source are a b c d e f g h k =
-    refused_made books m call source BadCall are
-    (sym (verdict_is (nested_by books m) call source ∙ number_other call.number _ _ _ _ _ _ _ _ _ _ a b c d e f g h k))
+pub trap_refused : (books : Books) (m : List ℕ) (address : ℕ) (source : Sourced) → is_canonical address ≡ false
+    → AreBooks books m → IsMade books m (SetHandler address) source (Some NotCanonical) books m
+trap_refused books m address source canonical are =
+    refused_made books m (SetHandler address) source NotCanonical are (sym (ap (λ b. broken (not b) NotCanonical None) canonical))

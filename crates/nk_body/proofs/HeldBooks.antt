@@ -1,9 +1,9 @@
 -- Memory that holds the books: over stores in frames that aren't hidden, and after a call.
-use Rattle.std.proofs.Common.{◌≡◌, ◌≢◌, ℕ, ◌+◌, ◌/◌, ◌^◌, ◌<◌, ◌≤◌, ◌&&◌, true, false, List, length, All, arith, sym, ap, subst, ◌∙◌}
+use Rattle.std.proofs.Common.{◌≡◌, ◌≢◌, ℕ, ◌+◌, ◌/◌, ◌<◌, ◌≤◌, ◌&&◌, true, false, List, length, All, arith, sym, ap, subst, ◌∙◌}
 use Rattle.std.specs.Prelude.{OnErr, Result, Ok, Err, Option}
 use Rattle.std.proofs.lemmas.Bool.{false≢true, le-leb, lt-ltb}
 use Rattle.std.proofs.lemmas.List.Elements.{All-weaker}
-use Rattle.nk_bits.specs.declared.call.CallWords.{CallWords}
+use Rattle.nk_body.specs.declared.call.Call.{Call}
 use Rattle.nk_bits.specs.declared.kind.Kind.{Kind}
 use Rattle.nk_bits.specs.declared.kind.Kind.TheVariants.{Hidden}
 use Rattle.nk_bits.specs.declared.rule.Rule.{Rule}
@@ -19,7 +19,7 @@ use Rattle.region_book.specs.RegionLaws.{HeldRegionsLaws}
 use Rattle.write_log.specs.LogBytes.{HoldsLog, log_in}
 use Rattle.write_log.specs.LogLaws.{HeldLogLaws}
 use Rattle.vmmu.specs.declared.tables.Tables4.{Tables4}
-use Rattle.nk_body.specs.CallLeft.{IsCalled, left_in, memory_left}
+use Rattle.nk_body.specs.CallLeft.{IsCalled, IsWide, left_in, memory_left}
 use Rattle.nk_body.specs.CallMade.{IsMade, KeepsForm, left_by}
 use Rattle.nk_body.specs.CallRules.{IsSourceOf, Sourced, wants, written_unless}
 use Rattle.nk_body.specs.KindsKept.{is_settled}
@@ -123,15 +123,15 @@ fixed_stays kinds after stays fixed = record {
 }
 
 -- memory holds the books after a call
-pub held_after : LeftLaws → (own after : OwnState) (m later : List ℕ) (call : CallWords) (source : Sourced) (rule : Option Rule)
-    → HoldsBooks own m → IsSourceOf (wants (books_in own m).ledger.book call) source → call.a < 2 ^ 64 → call.c < 2 ^ 64
+pub held_after : LeftLaws → (own after : OwnState) (m later : List ℕ) (call : Call) (source : Sourced) (rule : Option Rule)
+    → HoldsBooks own m → IsSourceOf (wants (books_in own m).ledger.book call) source → IsWide call
     → IsMade (books_in own m) (seen m) call source rule (books_in after later) (seen later) → after.frames ≡ own.frames
     → KeepsForm after later → HoldsBooks after later
-held_after laws own after m later call source rule held sourced first third made frames form =
+held_after laws own after m later call source rule held sourced wide made frames form =
     let ks : List Kind = kinds_in m in
     let ledger : Ledger = (books_in own m).ledger in
     let called : IsCalled ks own.root ledger (seen m) call source =
-    record { sound = held.books.described.sound; keeps = held.books.kept; sourced = sourced; first = first; third = third } in
+    record { sound = held.books.described.sound; keeps = held.books.kept; sourced = sourced; wide = wide } in
     let left : Nested = left_in ks own.root ledger (seen m) call source in
     let by : left_by rule (books_in own m) (seen m) call source ≡ left =
     ap (λ r. left_by r (books_in own m) (seen m) call source) made.judged in

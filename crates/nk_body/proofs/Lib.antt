@@ -1,5 +1,4 @@
 pub mod LowerLaws
-pub mod CallNumbers
 pub mod HandlerStores
 pub mod CallsMade
 pub mod RegionFrames
@@ -24,6 +23,7 @@ pub mod NumbersLeft
 pub mod CallChanges
 pub mod CallRecords
 pub mod CallAnswers
+pub mod WideCalls
 pub mod ServedCalls
 pub mod HeldPuts
 pub mod RegionPlaces

@@ -1,9 +1,8 @@
 -- Ledgers that aren't kept, books that aren't held, and calls that change a book that they don't touch.
-use Rattle.std.proofs.Common.{◌≡◌, ◌≢◌, ℕ, ◌/◌, ◌<◌, ◌≤◌, ◌&&◌, List, ◌∷◌, length, All, sym, ap, subst, ◌∙◌, arith}
+use Rattle.std.proofs.Common.{◌≡◌, ◌≢◌, ℕ, ◌/◌, ◌<◌, ◌≤◌, List, ◌∷◌, length, All, refl, sym, ap, subst, ◌∙◌, arith}
 use Rattle.std.specs.Prelude.{Some, ◌==◌}
 use Rattle.std.proofs.lemmas.Bool.{false≢true}
 use Rattle.std.proofs.lemmas.List.Elements.{All-head}
-use Rattle.nk_bits.specs.declared.call.CallWords.{CallWords}
 use Rattle.nk_bits.specs.declared.kind.Kind.{Kind}
 use Rattle.nk_bits.specs.declared.kind.Kind.TheVariants.{Data, Fixed, Guarded}
 use Rattle.nk_bits.specs.Kinds.{is_data, is_storable, kind_of}
@@ -13,7 +12,8 @@ use Rattle.page_desc.specs.DescriptorBytes.{kinds_in}
 use Rattle.policy_book.specs.PolicyRules.{is_logged}
 use Rattle.region_book.specs.RegionRecords.{Book, Region, region_of}
 use Rattle.write_log.specs.LogRecords.{log_size}
-use Rattle.nk_body.specs.BooksTouched.{LeavesBooks, touches_descriptors, touches_regions}
+use Rattle.nk_body.specs.declared.call.Call.TheVariants.{DeclareTable, LoadRoot, SetHandler, Write, WriteEntry}
+use Rattle.nk_body.specs.BooksTouched.{LeavesBooks}
 use Rattle.nk_body.specs.NestedRecord.{AreBooks, Books, HasFixedFrames, HoldsBooks, IsLedgerKept, Ledger, OwnState}
 
 -- a region in a frame that isn't guarded
@@ -65,27 +65,30 @@ data_books books m is are = data_at_0 books.frames.kinds are.fixed is
 data_held : (own : OwnState) (m : List ℕ) → kind_of (kinds_in m) 3 ≡ Data → HoldsBooks own m → ⊥
 data_held own m is holds = data_at_3 (kinds_in m) holds.books.fixed is
 
-module _ (book : Book) (call : CallWords) (m later : List ℕ) (leaves : LeavesBooks book call m later) where
-  -- call 5, which loads a root, changes the first descriptor of 512
-  root_in_descriptors : call.number ≡ 5 → length m ≡ 2097152 → byte_at later 0x40000 ≢ byte_at m 0x40000 → ⊥
+module _ (book : Book) (m later : List ℕ) where
+  -- a call that loads a root changes the first descriptor of 512
+  root_in_descriptors : (frame : ℕ) → LeavesBooks book (LoadRoot frame) m later → length m ≡ 2097152
+      → byte_at later 0x40000 ≢ byte_at m 0x40000 → ⊥
   unfolding is_book_frame
-  root_in_descriptors number size other =
-      other (leaves.descriptors (ap touches_descriptors number) 0x40000 (omega arith) (ap (λ n. is_book_frame (n / 4096) 64) size))
+  root_in_descriptors frame leaves size other =
+      other (leaves.descriptors refl 0x40000 (omega arith) (ap (λ n. is_book_frame (n / 4096) 64) size))
 
-  -- call 3, which writes an entry, changes the first slot, and call 2 a written bit
-  entry_in_slots : call.number ≡ 3 → byte_at later 0x3C000 ≢ byte_at m 0x3C000 → ⊥
-  entry_in_slots number other = other (leaves.regions (ap touches_regions number) 0x3C000 (omega arith) (omega arith))
+  -- one that writes an entry changes the first slot, and one that declares a table a written bit
+  entry_in_slots : (table index value : ℕ) → LeavesBooks book (WriteEntry table index value) m later
+      → byte_at later 0x3C000 ≢ byte_at m 0x3C000 → ⊥
+  entry_in_slots table index value leaves other = other (leaves.regions refl 0x3C000 (omega arith) (omega arith))
 
-  table_in_bits : call.number ≡ 2 → byte_at later 0x2A000 ≢ byte_at m 0x2A000 → ⊥
-  table_in_bits number other = other (leaves.regions (ap touches_regions number) 0x2A000 (omega arith) (omega arith))
+  table_in_bits : (level frame : ℕ) → LeavesBooks book (DeclareTable level frame) m later
+      → byte_at later 0x2A000 ≢ byte_at m 0x2A000 → ⊥
+  table_in_bits level frame leaves other = other (leaves.regions refl 0x2A000 (omega arith) (omega arith))
 
-  -- call 1, which sets the handler, changes the log
-  handler_in_log : call.number ≡ 1 → byte_at later 0x1A008 ≢ byte_at m 0x1A008 → ⊥
-  handler_in_log number other =
-      other (leaves.log (ap (λ n. n == 9 && is_logged (region_of book call.a)) number) 0x1A008 (omega arith) (omega arith))
+  -- one that sets the handler changes the log
+  handler_in_log : (address : ℕ) → LeavesBooks book (SetHandler address) m later
+      → byte_at later 0x1A008 ≢ byte_at m 0x1A008 → ⊥
+  handler_in_log address leaves other = other (leaves.log refl 0x1A008 (omega arith) (omega arith))
 
   -- and so does a write in a region that is write-once
-  once_in_log : (r : Region) → call.number ≡ 9 → region_of book call.a ≡ Some r → r.policy ≡ 1
-      → byte_at later 0x1A008 ≢ byte_at m 0x1A008 → ⊥
-  once_in_log r number found once other =
-      other (leaves.log ((λ i. number i == 9 && is_logged (found i)) ∙ ap (λ p. p == 4) once) 0x1A008 (omega arith) (omega arith))
+  once_in_log : (region offset place count : ℕ) (r : Region) → LeavesBooks book (Write region offset place count) m later
+      → region_of book region ≡ Some r → r.policy ≡ 1 → byte_at later 0x1A008 ≢ byte_at m 0x1A008 → ⊥
+  once_in_log region offset place count r leaves found once other =
+      other (leaves.log (ap is_logged found ∙ ap (λ p. p == 4) once) 0x1A008 (omega arith) (omega arith))

@@ -3,14 +3,12 @@ use Rattle.std.proofs.Common.{◌≡◌, ℕ, ◌+◌, ◌≤◌, List, length, 
 use Rattle.std.specs.Prelude.{All, Option, Some, None, replicate}
 use Rattle.std.proofs.lemmas.List.{length-replicate}
 use Rattle.std.proofs.lemmas.List.Elements.{All-nil}
-use Rattle.nk_bits.specs.declared.call.CallWords.{CallWords}
 use Rattle.nk_bits.specs.declared.kind.Kind.{Kind}
 use Rattle.nk_bits.specs.declared.kind.Kind.TheVariants.{Guarded}
 use Rattle.nk_bits.specs.Kinds.{kind_of}
 use Rattle.policy_book.specs.PolicyRules.{stores_by, stores_written}
-use Rattle.region_book.specs.RegionCalls.{room}
+use Rattle.region_book.specs.RegionCalls.{pool_region, room}
 use Rattle.region_book.specs.RegionRecords.{IsRegion, Region, region_of, region_stores}
-use Rattle.nk_body.specs.CallRules.{new_region}
 use Rattle.nk_body.specs.NestedRecord.{IsLedgerKept, Ledger}
 use Rattle.nk_body.proofs.KeptLedgers.{AreGuarded, pool_guarded, pool_held}
 use Rattle.nk_body.proofs.RegionFrames.{InGuarded, found_holds, stores_bytes, stores_held}
@@ -18,12 +16,12 @@ use Rattle.nk_body.proofs.RegionRules.{IsAllocable}
 
 module _ (kinds : List Kind) (ledger : Ledger) (kept : IsLedgerKept kinds ledger) where
   -- the zeros of a new region
-  pub zeros_guarded : (call : CallWords) (p : ℕ) → IsAllocable ledger.book call.a call.b → room ledger.book.regions call.a ≡ Some p
-      → InGuarded kinds (region_stores (new_region ledger.book call p) 0 (replicate call.a 0))
-  zeros_guarded call p is found =
-      stores_held (λ f. kind_of kinds f ≡ Guarded) (new_region ledger.book call p) 0 (replicate call.a 0)
-      (pool_guarded kinds ledger kept call.a call.b p is found) (pool_held kinds ledger kept call.a call.b p is found)
-      (omega (arith, length-replicate {A = ℕ} call.a 0))
+  pub zeros_guarded : (size policy p : ℕ) → IsAllocable ledger.book size policy → room ledger.book.regions size ≡ Some p
+      → InGuarded kinds (region_stores (pool_region ledger.book size policy p) 0 (replicate size 0))
+  zeros_guarded size policy p is found =
+      stores_held (λ f. kind_of kinds f ≡ Guarded) (pool_region ledger.book size policy p) 0 (replicate size 0)
+      (pool_guarded kinds ledger kept size policy p is found) (pool_held kinds ledger kept size policy p is found)
+      (omega (arith, length-replicate {A = ℕ} size 0))
 
   -- what is written in a live region
   pub written_guarded : (id offset : ℕ) (bytes : List ℕ) (r : Region) → region_of ledger.book id ≡ Some r → offset + length bytes ≤ r.size

@@ -2,7 +2,7 @@
 use Rattle.std.specs.Prelude.{◌≡◌, Bool, ◌||◌, ◌/◌, ℕ, List, All, length, true}
 use Rattle.phys_mem.specs.MaskedMemory.{is_book_frame, seen}
 use Rattle.phys_mem.specs.Memory.{byte_at, stored}
-use Rattle.nk_bits.specs.declared.call.CallWords.{CallWords}
+use Rattle.nk_body.specs.declared.call.Call.{Call}
 use Rattle.nk_bits.specs.declared.kind.Kind.{Kind}
 use Rattle.nk_bits.specs.declared.kind.Kind.TheVariants.{Fixed}
 use Rattle.nk_bits.specs.Kinds.{is_storable, kind_of}
@@ -46,11 +46,11 @@ pub record BesideLaws : Type 0 where
   pub begins : (b m : List ℕ) (frames : ℕ) → IsOpening b frames m
       → IsBeside (opening_byte b frames) (is_opening_table b frames) (nested_in (kinds b frames) 5 opening_ledger m)
       (held_bytes (kinds b frames) m) m
-  pub judged : (nk : Nested) (held : ℕ → ℕ → ℕ) (call : CallWords) (source : Sourced)
+  pub judged : (nk : Nested) (held : ℕ → ℕ → ℕ) (call : Call) (source : Sourced)
       → verdict (record nk { held = held }) call source ≡ verdict nk call source
-  pub answered : (nk : Nested) (held : ℕ → ℕ → ℕ) (call : CallWords) (source : Sourced)
+  pub answered : (nk : Nested) (held : ℕ → ℕ → ℕ) (call : Call) (source : Sourced)
       → answer_to (record nk { held = held }) call source ≡ answer_to nk call source
-  pub stays : (opened : ℕ → ℕ → ℕ) (tabled : ℕ → Bool) (nk : Nested) (held : ℕ → ℕ → ℕ) (m : List ℕ) (call : CallWords)
+  pub stays : (opened : ℕ → ℕ → ℕ) (tabled : ℕ → Bool) (nk : Nested) (held : ℕ → ℕ → ℕ) (m : List ℕ) (call : Call)
       (source : Sourced) (stand : ℕ → ℕ → ℕ) → IsBeside opened tabled nk held m → IsAccepted nk call source
       → let also : Nested = record nk { held = held } in
       IsMadeBeside opened (λ f. tabled f || declares_table f call) (made nk call source stand)

@@ -1,7 +1,7 @@
 -- Which kinds no call changes, and which no call gives.
 use Rattle.std.specs.Prelude.{Bool, true, false}
 use Rattle.nk_bits.specs.declared.kind.Kind.{Kind}
-use Rattle.nk_bits.specs.declared.kind.Kind.TheVariants.{Data, Code, Table, Fixed, Trap, Guarded, Hidden}
+use Rattle.nk_bits.specs.declared.kind.Kind.TheVariants.{Data, Table, Guarded}
 
 -- no call changes this kind of a frame
 abbrev pub is_settled : Kind → Bool

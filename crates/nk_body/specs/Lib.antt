@@ -1,5 +1,6 @@
 -- What a reader must believe.
 pub mod NestedRecord
+pub mod Calls
 pub mod CallRules
 pub mod BooksTouched
 pub mod CallLeft

@@ -2,8 +2,9 @@
 -- record that it holds stands beside the one that they made in the run: both have the same kinds, entries, root, handler,
 -- regions and log, and the same bytes in the pool and in declared pages wherever a call wrote. The other bytes of declared
 -- pages are what the calls alone leave there.
-use Rattle.std.specs.Prelude.{◌≡◌, ℕ, ◌+◌, ◌*◌, ◌/◌, ◌%◌, ◌<◌, ◌≤◌, Bool, true, false, ◌&&◌, ◌||◌, ◌==◌, if◌then◌else◌, List, length, None, slice_index, slice_index_or, All}
-use Rattle.nk_bits.specs.declared.call.CallWords.{CallWords}
+use Rattle.std.specs.Prelude.{◌≡◌, ℕ, ◌+◌, ◌*◌, ◌/◌, ◌%◌, ◌<◌, ◌≤◌, Bool, true, false, ◌||◌, ◌==◌, if◌then◌else◌, List, length, None, slice_index, slice_index_or, All}
+use Rattle.nk_body.specs.declared.call.Call.{Call}
+use Rattle.nk_body.specs.declared.call.Call.TheVariants.{DeclareTable}
 use Rattle.nk_bits.specs.declared.kind.Kind.TheVariants.{Data, Fixed}
 use Rattle.nk_bits.specs.Kinds.{kind_of}
 use Rattle.nk_bits.specs.KernelLayout.{handler_slot, pool_end, pool_frame}
@@ -22,9 +23,10 @@ opening_byte b frames f offset = division_byte b frames (4096 * f + offset)
 abbrev pub is_opening_table : List ℕ → ℕ → ℕ → Bool
 is_opening_table b frames f = is_table (kind_at b frames f)
 
--- a call 2 that is accepted makes the frame a page table
-abbrev pub declares_table : ℕ → CallWords → Bool
-declares_table f call = call.number == 2 && call.b == f
+-- a call that declares the frame makes it a page table
+abbrev pub declares_table : ℕ → Call → Bool
+declares_table f (DeclareTable level frame) = frame == f
+declares_table f _ = false
 
 -- what the calls alone leave in a frame that is no page table and in which none of them wrote: 0 where it was a page table,
 -- else the opening's byte
@@ -62,7 +64,7 @@ pub record IsBeside (opened : ℕ → ℕ → ℕ) (tabled : ℕ → Bool) (nk :
 
 -- a call is accepted: it breaks no rule, and what was read is what it takes; the handler's frame is fixed, and the ledger
 -- is kept
-pub record IsAccepted (nk : Nested) (call : CallWords) (source : Sourced) : Type 0 where
+pub record IsAccepted (nk : Nested) (call : Call) (source : Sourced) : Type 0 where
   pub none : verdict nk call source ≡ None
   pub sourced : IsSourceOf (wants nk.ledger.book call) source
   pub handler : kind_of nk.tables.kinds handler_slot ≡ Fixed

@@ -1,6 +1,6 @@
 //! The nested kernel's books, and the calls on them.
 
-ghost use Rattle.std.specs.Prelude.{◌≡◌, ◌≢◌, ◌<◌, ◌^◌, false, length, IfOk, None, OnErr, OnOk, OnSome, Some};
+ghost use Rattle.std.specs.Prelude.{◌≡◌, ◌<◌, ◌^◌, ℕ, false, length, IfOk, OnErr, OnOk, OnSome, Some};
 ghost use Rattle.phys_mem.specs.MaskedMemory.{seen};
 ghost use Rattle.phys_mem.specs.Memory.{entry_in};
 ghost use Rattle.boot_map.specs.Division.{IsLayout};
@@ -16,9 +16,12 @@ ghost use Rattle.region_book.specs.RegionRecords.{region_of};
 ghost use Rattle.nk_body.specs.NestedRecord.{HoldsBooks, books_in, handler_in, nested_held};
 ghost use Rattle.nk_body.specs.BooksTouched.{LeavesBooks};
 ghost use Rattle.nk_body.specs.CallMade.{IsMade, KeepsForm};
-ghost use Rattle.nk_body.specs.CallRules.{Bytes, IsSourceOf, Sourced, after_call, answer_to, flushes, memory_after_call, answered_place, stand_of, value_by, verdict, wants};
+ghost use Rattle.nk_body.specs.CallRules.{Bytes, IsSourceOf, Sourced, accepted_answer, after_call, answer_to, memory_after_call, stand_of, verdict, wants};
+ghost use Rattle.nk_body.specs.Calls.{call_of};
+ghost use Rattle.nk_body.specs.declared.call.Call.TheVariants.{Allocate, DeclarePages, DeclareTable, Free, LoadRoot, NoCall, RemoveTable, SetHandler, Write, WriteEntry};
 ghost use Rattle.nk_body.specs.SourceWords.{opening_ledger, sourced_of};
 
+use crate::call::{Call, call_of};
 use crate::laws::{call_law, call_leaves_law, opening_sound_law};
 use crate::source::Source;
 use boot_map::{Layout, opening_kinds_law};
@@ -37,36 +40,18 @@ use write_log::{Log, held_log_law};
 /// The handler slot: the first eight bytes of frame 2.
 const HANDLER_SLOT: u64 = 0x2000;
 
-/// The numbers of the calls.
-const SET_TRAP: u64 = 1;
-
-const DECLARE_TABLE: u64 = 2;
-
-const WRITE_ENTRY: u64 = 3;
-
-const REMOVE_TABLE: u64 = 4;
-
-const LOAD_ROOT: u64 = 5;
-
-const DECLARE_PAGES: u64 = 6;
-
-const ALLOCATE: u64 = 7;
-
-const FREE: u64 = 8;
-
-const WRITE: u64 = 9;
-
-/// What a call that is accepted answers beside that: the identifier of a new region, else 0, and its place in the pool.
-#[derive(Clone, Copy, Debug, PartialEq, Eq)]
-struct Accepted {
-    value: u64,
-    place: Option<u64>,
-}
-
-/// Nothing beside that.
-const DONE: Accepted = Accepted {
+/// The answer to an accepted call that makes no region.
+const DONE: Answer = Answer {
     value: 0,
     place: None,
+    flush: false,
+};
+
+/// And to one that changes a frame's kind or the root.
+const FLUSHED: Answer = Answer {
+    value: 0,
+    place: None,
+    flush: true,
 };
 
 /// There is no room for the books.
@@ -125,178 +110,195 @@ impl Kernel {
     /// How many bytes the call takes from memory; None where it takes none.
     pub fn wants(&self, mem: &PhysMem, call: &CallWords) -> Option<u64>
         requires books { HoldsBooks self.now mem.now }
-        ensures { result ≡ wants (books_in self.now mem.now).ledger.book call.now }
+        ensures { result ≡ wants (books_in self.now mem.now).ledger.book (call_of call.now) }
     {
-        if call.number == WRITE && self.regions.fits(mem, call.a, call.b, call.d) {
-            Some(call.d)
-        } else {
-            None
+        match call_of(call) {
+            Call::Write {
+                region,
+                offset,
+                count,
+                ..
+            } if self.regions.fits(mem, region, offset, count) => Some(count),
+            _ => None,
         }
     }
 
     /// Makes a call, for which these bytes were read. One that breaks a rule leaves kernel and memory as they were.
     pub fn serve(&mut self, mem: &mut PhysMem, call: &CallWords, source: Source) -> Answer
         requires books { HoldsBooks self.old mem.old }
-        requires source { IsSourceOf (wants (books_in self.old mem.old).ledger.book call.now) (sourced_of source) }
+        requires source { IsSourceOf (wants (books_in self.old mem.old).ledger.book (call_of call.now)) (sourced_of source) }
         requires next { (books_in self.old mem.old).ledger.book.next < 2 ^ 63 }
-        ensures answer { result ≡ answer_to (nested_held self.old mem.old) call.now (sourced_of source.entry) }
-        ensures nested { nested_held self.new mem.new ≡ after_call (nested_held self.old mem.old) call.now (sourced_of source.entry)
-            (stand_of (nested_held self.old mem.old) call.now (seen mem.old)) }
-        ensures memory { seen mem.new ≡ memory_after_call (nested_held self.old mem.old) call.now (sourced_of source.entry) (seen mem.old) }
+        ensures answer { result ≡ answer_to (nested_held self.old mem.old) (call_of call.now) (sourced_of source.entry) }
+        ensures nested { nested_held self.new mem.new ≡ after_call (nested_held self.old mem.old) (call_of call.now) (sourced_of source.entry)
+            (stand_of (nested_held self.old mem.old) (call_of call.now) (seen mem.old)) }
+        ensures memory { seen mem.new ≡ memory_after_call (nested_held self.old mem.old) (call_of call.now) (sourced_of source.entry) (seen mem.old) }
         ensures books { HoldsBooks self.new mem.new }
-        ensures refused { OnSome (verdict (nested_held self.old mem.old) call.now (sourced_of source.entry))
+        ensures refused { OnSome (verdict (nested_held self.old mem.old) (call_of call.now) (sourced_of source.entry))
             ((self.new ≡ self.old) × (mem.new ≡ mem.old)) }
-        ensures leaves { LeavesBooks (books_in self.old mem.old).ledger.book call.now mem.old mem.new }
+        ensures leaves { LeavesBooks (books_in self.old mem.old).ledger.book (call_of call.now) mem.old mem.new }
     {
         call_law();
         call_leaves_law();
-        are_words(call);
+        let call = call_of(call);
         match self.make(mem, call, source) {
-            Ok(made) => answered(call, &made),
+            Ok(answer) => answer,
             Err(rule) => refused(rule),
         }
     }
 
     /// Makes a call, or names the first rule that it breaks.
-    fn make(
-        &mut self,
-        mem: &mut PhysMem,
-        call: &CallWords,
-        source: Source,
-    ) -> Result<Accepted, Rule>
+    fn make(&mut self, mem: &mut PhysMem, call: Call, source: Source) -> Result<Answer, Rule>
         requires books { HoldsBooks self.old mem.old }
-        requires source { IsSourceOf (wants (books_in self.old mem.old).ledger.book call.now) (sourced_of source) }
+        requires source { IsSourceOf (wants (books_in self.old mem.old).ledger.book call) (sourced_of source) }
         requires next { (books_in self.old mem.old).ledger.book.next < 2 ^ 63 }
-        ensures made { IsMade (books_in self.old mem.old) (seen mem.old) call.now (sourced_of source.entry) (rule_of result) (books_in self.new mem.new) (seen mem.new) }
+        ensures made { IsMade (books_in self.old mem.old) (seen mem.old) call (sourced_of source.entry) (rule_of result) (books_in self.new mem.new) (seen mem.new) }
         ensures frames { self.new.frames ≡ self.old.frames }
         ensures form { KeepsForm self.new mem.new }
         ensures refused { OnErr result ((self.new ≡ self.old) × (mem.new ≡ mem.old)) }
-        ensures leaves { LeavesBooks (books_in self.old mem.old).ledger.book call.now mem.old mem.new }
-        ensures shows { IfOk result (λ it. (it.value ≡ value_by (nested_held self.old mem.old) call.now)
-            × (it.place ≡ answered_place (nested_held self.old mem.old) call.now)) }
+        ensures leaves { LeavesBooks (books_in self.old mem.old).ledger.book call mem.old mem.new }
+        ensures shows { IfOk result (λ it. it ≡ accepted_answer (nested_held self.old mem.old) call) }
     {
-        match call.number {
-            SET_TRAP => self.set_trap(mem, call),
-            DECLARE_TABLE => self.declare_table(mem, call),
-            WRITE_ENTRY => self.write_entry(mem, call),
-            REMOVE_TABLE => self.remove_table(mem, call),
-            LOAD_ROOT => self.load_root(mem, call),
-            DECLARE_PAGES => self.declare_pages(mem, call),
-            ALLOCATE => self.allocate(mem, call),
-            FREE => self.free(mem, call),
-            WRITE => self.write(mem, call, source),
-            _ => self.refuse_number(mem, call),
+        match call {
+            Call::SetHandler { address } => self.set_handler(mem, address),
+            Call::DeclareTable { level, frame } => self.declare_table(mem, level, frame),
+            Call::WriteEntry {
+                table,
+                index,
+                value,
+            } => self.write_entry(mem, table, index, value),
+            Call::RemoveTable { frame } => self.remove_table(mem, frame),
+            Call::LoadRoot { frame } => self.load_root(mem, frame),
+            Call::DeclarePages {
+                address,
+                size,
+                policy,
+            } => self.declare_pages(mem, address, size, policy),
+            Call::Allocate { size, policy } => self.allocate(mem, size, policy),
+            Call::Free { region } => self.free(mem, region),
+            Call::Write {
+                region,
+                offset,
+                count,
+                ..
+            } => self.write(mem, region, offset, count, source),
+            Call::NoCall => self.refuse(mem),
         }
     }
 
     /// The handler of traps stands at a canonical address from now on.
-    fn set_trap(&mut self, mem: &mut PhysMem, call: &CallWords) -> Result<Accepted, Rule>
+    fn set_handler(&mut self, mem: &mut PhysMem, address: u64) -> Result<Answer, Rule>
         requires books { HoldsBooks self.old mem.old }
-        requires number { call.now.number ≡ 1 }
-        ensures made { (source : Sourced) → IsMade (books_in self.old mem.old) (seen mem.old) call.now source (rule_of result) (books_in self.new mem.new) (seen mem.new) }
+        ensures made { (source : Sourced) → IsMade (books_in self.old mem.old) (seen mem.old) (SetHandler address) source (rule_of result) (books_in self.new mem.new) (seen mem.new) }
         ensures frames { self.new.frames ≡ self.old.frames }
         ensures form { KeepsForm self.new mem.new }
         ensures refused { OnErr result ((self.new ≡ self.old) × (mem.new ≡ mem.old)) }
-        ensures leaves { LeavesBooks (books_in self.old mem.old).ledger.book call.now mem.old mem.new }
-        ensures shows { IfOk result (λ it. (it.value ≡ 0) × (it.place ≡ None)) }
+        ensures leaves { LeavesBooks (books_in self.old mem.old).ledger.book (SetHandler address) mem.old mem.new }
+        ensures shows { IfOk result (λ it. it ≡ accepted_answer (nested_held self.old mem.old) (SetHandler address)) }
     {
         page_tables_law();
         held_tables_law();
         memory_law();
         held_regions_law();
         held_log_law();
-        if !canonical(call.a) {
+        if !canonical(address) {
             return Err(Rule::NotCanonical);
         }
-        mem.store64(HANDLER_SLOT, call.a);
-        self.trap = call.a;
+        mem.store64(HANDLER_SLOT, address);
+        self.trap = address;
         Ok(DONE)
     }
 
-    fn declare_table(&mut self, mem: &mut PhysMem, call: &CallWords) -> Result<Accepted, Rule>
+    fn declare_table(&mut self, mem: &mut PhysMem, level: u64, frame: u64) -> Result<Answer, Rule>
         requires books { HoldsBooks self.old mem.old }
-        requires number { call.now.number ≡ 2 }
-        ensures made { (source : Sourced) → IsMade (books_in self.old mem.old) (seen mem.old) call.now source (rule_of result) (books_in self.new mem.new) (seen mem.new) }
+        ensures made { (source : Sourced) → IsMade (books_in self.old mem.old) (seen mem.old) (DeclareTable level frame) source (rule_of result) (books_in self.new mem.new) (seen mem.new) }
         ensures frames { self.new.frames ≡ self.old.frames }
         ensures form { KeepsForm self.new mem.new }
         ensures refused { OnErr result ((self.new ≡ self.old) × (mem.new ≡ mem.old)) }
-        ensures leaves { LeavesBooks (books_in self.old mem.old).ledger.book call.now mem.old mem.new }
-        ensures shows { IfOk result (λ it. (it.value ≡ 0) × (it.place ≡ None)) }
+        ensures leaves { LeavesBooks (books_in self.old mem.old).ledger.book (DeclareTable level frame) mem.old mem.new }
+        ensures shows { IfOk result (λ it. it ≡ accepted_answer (nested_held self.old mem.old) (DeclareTable level frame)) }
     {
         accepted_law();
         held_regions_law();
         held_log_law();
-        match self.tables.declare_table(mem, call.a, call.b) {
-            Ok(()) => Ok(DONE),
+        match self.tables.declare_table(mem, level, frame) {
+            Ok(()) => Ok(FLUSHED),
             Err(rule) => Err(rule),
         }
     }
 
-    fn write_entry(&mut self, mem: &mut PhysMem, call: &CallWords) -> Result<Accepted, Rule>
+    fn write_entry(
+        &mut self,
+        mem: &mut PhysMem,
+        table: u64,
+        index: u64,
+        value: u64,
+    ) -> Result<Answer, Rule>
         requires books { HoldsBooks self.old mem.old }
-        requires number { call.now.number ≡ 3 }
-        ensures made { (source : Sourced) → IsMade (books_in self.old mem.old) (seen mem.old) call.now source (rule_of result) (books_in self.new mem.new) (seen mem.new) }
+        ensures made { (source : Sourced) → IsMade (books_in self.old mem.old) (seen mem.old) (WriteEntry table index value) source (rule_of result) (books_in self.new mem.new) (seen mem.new) }
         ensures frames { self.new.frames ≡ self.old.frames }
         ensures form { KeepsForm self.new mem.new }
         ensures refused { OnErr result ((self.new ≡ self.old) × (mem.new ≡ mem.old)) }
-        ensures leaves { LeavesBooks (books_in self.old mem.old).ledger.book call.now mem.old mem.new }
-        ensures shows { IfOk result (λ it. (it.value ≡ 0) × (it.place ≡ None)) }
+        ensures leaves { LeavesBooks (books_in self.old mem.old).ledger.book (WriteEntry table index value) mem.old mem.new }
+        ensures shows { IfOk result (λ it. it ≡ accepted_answer (nested_held self.old mem.old) (WriteEntry table index value)) }
     {
         held_regions_law();
         held_log_law();
-        match self.tables.write_entry(mem, call.a, call.b, call.c) {
+        match self.tables.write_entry(mem, table, index, value) {
             Ok(()) => Ok(DONE),
             Err(rule) => Err(rule),
         }
     }
 
-    fn remove_table(&mut self, mem: &mut PhysMem, call: &CallWords) -> Result<Accepted, Rule>
+    fn remove_table(&mut self, mem: &mut PhysMem, frame: u64) -> Result<Answer, Rule>
         requires books { HoldsBooks self.old mem.old }
-        requires number { call.now.number ≡ 4 }
-        ensures made { (source : Sourced) → IsMade (books_in self.old mem.old) (seen mem.old) call.now source (rule_of result) (books_in self.new mem.new) (seen mem.new) }
+        ensures made { (source : Sourced) → IsMade (books_in self.old mem.old) (seen mem.old) (RemoveTable frame) source (rule_of result) (books_in self.new mem.new) (seen mem.new) }
         ensures frames { self.new.frames ≡ self.old.frames }
         ensures form { KeepsForm self.new mem.new }
         ensures refused { OnErr result ((self.new ≡ self.old) × (mem.new ≡ mem.old)) }
-        ensures leaves { LeavesBooks (books_in self.old mem.old).ledger.book call.now mem.old mem.new }
-        ensures shows { IfOk result (λ it. (it.value ≡ 0) × (it.place ≡ None)) }
+        ensures leaves { LeavesBooks (books_in self.old mem.old).ledger.book (RemoveTable frame) mem.old mem.new }
+        ensures shows { IfOk result (λ it. it ≡ accepted_answer (nested_held self.old mem.old) (RemoveTable frame)) }
     {
         accepted_law();
         held_regions_law();
         held_log_law();
-        match self.tables.remove_table(mem, call.a) {
-            Ok(()) => Ok(DONE),
+        match self.tables.remove_table(mem, frame) {
+            Ok(()) => Ok(FLUSHED),
             Err(rule) => Err(rule),
         }
     }
 
-    fn load_root(&mut self, mem: &mut PhysMem, call: &CallWords) -> Result<Accepted, Rule>
+    fn load_root(&mut self, mem: &mut PhysMem, frame: u64) -> Result<Answer, Rule>
         requires books { HoldsBooks self.old mem.old }
-        requires number { call.now.number ≡ 5 }
-        ensures made { (source : Sourced) → IsMade (books_in self.old mem.old) (seen mem.old) call.now source (rule_of result) (books_in self.new mem.new) (seen mem.new) }
+        ensures made { (source : Sourced) → IsMade (books_in self.old mem.old) (seen mem.old) (LoadRoot frame) source (rule_of result) (books_in self.new mem.new) (seen mem.new) }
         ensures frames { self.new.frames ≡ self.old.frames }
         ensures form { KeepsForm self.new mem.new }
         ensures refused { OnErr result ((self.new ≡ self.old) × (mem.new ≡ mem.old)) }
-        ensures leaves { LeavesBooks (books_in self.old mem.old).ledger.book call.now mem.old mem.new }
-        ensures shows { IfOk result (λ it. (it.value ≡ 0) × (it.place ≡ None)) }
+        ensures leaves { LeavesBooks (books_in self.old mem.old).ledger.book (LoadRoot frame) mem.old mem.new }
+        ensures shows { IfOk result (λ it. it ≡ accepted_answer (nested_held self.old mem.old) (LoadRoot frame)) }
     {
         let _frames = mem.frames();
-        match self.tables.load_root(mem, call.a) {
-            Ok(()) => Ok(DONE),
+        match self.tables.load_root(mem, frame) {
+            Ok(()) => Ok(FLUSHED),
             Err(rule) => Err(rule),
         }
     }
 
     /// Makes the frames of a range of pages a protected region.
-    fn declare_pages(&mut self, mem: &mut PhysMem, call: &CallWords) -> Result<Accepted, Rule>
+    fn declare_pages(
+        &mut self,
+        mem: &mut PhysMem,
+        address: u64,
+        size: u64,
+        policy: u64,
+    ) -> Result<Answer, Rule>
         requires books { HoldsBooks self.old mem.old }
-        requires number { call.now.number ≡ 6 }
         requires next { (books_in self.old mem.old).ledger.book.next < 2 ^ 63 }
-        ensures made { (source : Sourced) → IsMade (books_in self.old mem.old) (seen mem.old) call.now source (rule_of result) (books_in self.new mem.new) (seen mem.new) }
+        ensures made { (source : Sourced) → IsMade (books_in self.old mem.old) (seen mem.old) (DeclarePages address size policy) source (rule_of result) (books_in self.new mem.new) (seen mem.new) }
         ensures frames { self.new.frames ≡ self.old.frames }
         ensures form { KeepsForm self.new mem.new }
         ensures refused { OnErr result ((self.new ≡ self.old) × (mem.new ≡ mem.old)) }
-        ensures leaves { LeavesBooks (books_in self.old mem.old).ledger.book call.now mem.old mem.new }
-        ensures shows { IfOk result (λ it. (it.value ≡ (books_in self.old mem.old).ledger.book.next) × (it.place ≡ None)) }
+        ensures leaves { LeavesBooks (books_in self.old mem.old).ledger.book (DeclarePages address size policy) mem.old mem.new }
+        ensures shows { IfOk result (λ it. it ≡ accepted_answer (nested_held self.old mem.old) (DeclarePages address size policy)) }
     {
         page_tables_law();
         held_tables_law();
@@ -310,53 +312,55 @@ impl Kernel {
         let frames = &mut self.tables.frames;
         match self
             .regions
-            .declare(frames, mem, root, call.a, call.b, call.c)
+            .declare(frames, mem, root, address, size, policy)
         {
-            Ok(value) => Ok(Accepted { value, place: None }),
+            Ok(value) => Ok(Answer {
+                value,
+                place: None,
+                flush: true,
+            }),
             Err(rule) => Err(rule),
         }
     }
 
     /// Allocates a region of the pool.
-    fn allocate(&mut self, mem: &mut PhysMem, call: &CallWords) -> Result<Accepted, Rule>
+    fn allocate(&mut self, mem: &mut PhysMem, size: u64, policy: u64) -> Result<Answer, Rule>
         requires books { HoldsBooks self.old mem.old }
-        requires number { call.now.number ≡ 7 }
         requires next { (books_in self.old mem.old).ledger.book.next < 2 ^ 63 }
-        ensures made { (source : Sourced) → IsMade (books_in self.old mem.old) (seen mem.old) call.now source (rule_of result) (books_in self.new mem.new) (seen mem.new) }
+        ensures made { (source : Sourced) → IsMade (books_in self.old mem.old) (seen mem.old) (Allocate size policy) source (rule_of result) (books_in self.new mem.new) (seen mem.new) }
         ensures frames { self.new.frames ≡ self.old.frames }
         ensures form { KeepsForm self.new mem.new }
         ensures refused { OnErr result ((self.new ≡ self.old) × (mem.new ≡ mem.old)) }
-        ensures leaves { LeavesBooks (books_in self.old mem.old).ledger.book call.now mem.old mem.new }
-        ensures shows { IfOk result (λ it. (it.value ≡ (books_in self.old mem.old).ledger.book.next)
-            × (it.place ≡ answered_place (nested_held self.old mem.old) call.now)) }
+        ensures leaves { LeavesBooks (books_in self.old mem.old).ledger.book (Allocate size policy) mem.old mem.new }
+        ensures shows { IfOk result (λ it. it ≡ accepted_answer (nested_held self.old mem.old) (Allocate size policy)) }
     {
         page_tables_law();
         stored_law();
         held_log_law();
-        match self.regions.alloc(mem, call.a, call.b) {
-            Ok(granted) => Ok(Accepted {
+        match self.regions.alloc(mem, size, policy) {
+            Ok(granted) => Ok(Answer {
                 value: granted.id,
                 place: Some(granted.place),
+                flush: false,
             }),
             Err(rule) => Err(rule),
         }
     }
 
     /// Lets a region of the pool go.
-    fn free(&mut self, mem: &mut PhysMem, call: &CallWords) -> Result<Accepted, Rule>
+    fn free(&mut self, mem: &mut PhysMem, region: u64) -> Result<Answer, Rule>
         requires books { HoldsBooks self.old mem.old }
-        requires number { call.now.number ≡ 8 }
-        ensures made { (source : Sourced) → IsMade (books_in self.old mem.old) (seen mem.old) call.now source (rule_of result) (books_in self.new mem.new) (seen mem.new) }
+        ensures made { (source : Sourced) → IsMade (books_in self.old mem.old) (seen mem.old) (Free region) source (rule_of result) (books_in self.new mem.new) (seen mem.new) }
         ensures frames { self.new.frames ≡ self.old.frames }
         ensures form { KeepsForm self.new mem.new }
         ensures refused { OnErr result ((self.new ≡ self.old) × (mem.new ≡ mem.old)) }
-        ensures leaves { LeavesBooks (books_in self.old mem.old).ledger.book call.now mem.old mem.new }
-        ensures shows { IfOk result (λ it. (it.value ≡ 0) × (it.place ≡ None)) }
+        ensures leaves { LeavesBooks (books_in self.old mem.old).ledger.book (Free region) mem.old mem.new }
+        ensures shows { IfOk result (λ it. it ≡ accepted_answer (nested_held self.old mem.old) (Free region)) }
     {
         stored_law();
         held_regions_law();
         held_log_law();
-        match self.regions.free(mem, call.a) {
+        match self.regions.free(mem, region) {
             Ok(()) => Ok(DONE),
             Err(rule) => Err(rule),
         }
@@ -366,34 +370,36 @@ impl Kernel {
     fn write(
         &mut self,
         mem: &mut PhysMem,
-        call: &CallWords,
+        region: u64,
+        offset: u64,
+        count: u64,
         source: Source,
-    ) -> Result<Accepted, Rule>
+    ) -> Result<Answer, Rule>
         requires books { HoldsBooks self.old mem.old }
-        requires number { call.now.number ≡ 9 }
-        requires source { IsSourceOf (wants (books_in self.old mem.old).ledger.book call.now) (sourced_of source) }
-        ensures made { IsMade (books_in self.old mem.old) (seen mem.old) call.now (sourced_of source.entry) (rule_of result) (books_in self.new mem.new) (seen mem.new) }
+        requires source { IsSourceOf (wants (books_in self.old mem.old).ledger.book (Write region offset 0 count)) (sourced_of source) }
+        ensures made { (place : ℕ) → IsMade (books_in self.old mem.old) (seen mem.old) (Write region offset place count) (sourced_of source.entry) (rule_of result) (books_in self.new mem.new) (seen mem.new) }
         ensures frames { self.new.frames ≡ self.old.frames }
         ensures form { KeepsForm self.new mem.new }
         ensures refused { OnErr result ((self.new ≡ self.old) × (mem.new ≡ mem.old)) }
-        ensures leaves { LeavesBooks (books_in self.old mem.old).ledger.book call.now mem.old mem.new }
-        ensures shows { IfOk result (λ it. (it.value ≡ 0) × (it.place ≡ None)) }
+        ensures leaves { (place : ℕ) → LeavesBooks (books_in self.old mem.old).ledger.book (Write region offset place count) mem.old mem.new }
+        ensures shows { IfOk result (λ it. it ≡ accepted_answer (nested_held self.old mem.old) (Write region offset 0 count)) }
     {
         match source {
             // The range isn't one of a live region, or its region isn't: no bytes were read.
-            Source::NotTaken => Err(self.judge_bounds(mem, call)),
+            Source::NotTaken => Err(self.judge_bounds(mem, region, offset, count)),
             Source::Unreadable => Err(Rule::BadSource),
-            Source::Bytes(bytes) => self.write_bytes(mem, call, bytes),
+            Source::Bytes(bytes) => self.write_bytes(mem, region, offset, bytes),
         }
     }
 
     /// The rule that the range of a write breaks.
-    fn judge_bounds(&self, mem: &PhysMem, call: &CallWords) -> Rule
+    fn judge_bounds(&self, mem: &PhysMem, region: u64, offset: u64, count: u64) -> Rule
         requires books { HoldsBooks self.now mem.now }
-        requires bounds { fits_in (books_in self.now mem.now).ledger.book call.now.a call.now.b call.now.d ≡ false }
-        ensures { Some result ≡ bounds_of (region_of (books_in self.now mem.now).ledger.book call.now.a) call.now.b call.now.d }
+        requires bounds { fits_in (books_in self.now mem.now).ledger.book region offset count ≡ false }
+        ensures { Some result ≡ bounds_of (region_of (books_in self.now mem.now).ledger.book region) offset count }
     {
-        match self.regions.find(mem, call.a) {
+        let _range = (offset, count);
+        match self.regions.find(mem, region) {
             Some(_) => Rule::OutOfBounds,
             None => Rule::BadRegion,
         }
@@ -403,39 +409,36 @@ impl Kernel {
     fn write_bytes(
         &mut self,
         mem: &mut PhysMem,
-        call: &CallWords,
+        region: u64,
+        offset: u64,
         bytes: &[u8],
-    ) -> Result<Accepted, Rule>
+    ) -> Result<Answer, Rule>
         requires books { HoldsBooks self.old mem.old }
-        requires number { call.now.number ≡ 9 }
-        requires count { length bytes.now ≡ call.now.d }
-        ensures made { IsMade (books_in self.old mem.old) (seen mem.old) call.now (Bytes bytes.now) (rule_of result) (books_in self.new mem.new) (seen mem.new) }
+        ensures made { (place : ℕ) → IsMade (books_in self.old mem.old) (seen mem.old) (Write region offset place (length bytes.now)) (Bytes bytes.now) (rule_of result) (books_in self.new mem.new) (seen mem.new) }
         ensures frames { self.new.frames ≡ self.old.frames }
         ensures form { KeepsForm self.new mem.new }
         ensures refused { OnErr result ((self.new ≡ self.old) × (mem.new ≡ mem.old)) }
-        ensures leaves { LeavesBooks (books_in self.old mem.old).ledger.book call.now mem.old mem.new }
-        ensures shows { IfOk result (λ it. (it.value ≡ 0) × (it.place ≡ None)) }
+        ensures leaves { (place : ℕ) → LeavesBooks (books_in self.old mem.old).ledger.book (Write region offset place (length bytes.now)) mem.old mem.new }
+        ensures shows { IfOk result (λ it. it ≡ accepted_answer (nested_held self.old mem.old) (Write region offset 0 (length bytes.now))) }
     {
         page_tables_law();
         held_tables_law();
         stored_law();
         mask_law();
-        match policy_book::write(&mut self.regions, &mut self.log, mem, call.a, call.b, bytes) {
+        match policy_book::write(&mut self.regions, &mut self.log, mem, region, offset, bytes) {
             Ok(()) => Ok(DONE),
             Err(rule) => Err(rule),
         }
     }
 
-    /// A call of a number that is none is refused, and changes nothing.
-    fn refuse_number(&self, mem: &PhysMem, call: &CallWords) -> Result<Accepted, Rule>
+    /// What is no call is refused, and changes nothing.
+    fn refuse(&self, mem: &PhysMem) -> Result<Answer, Rule>
         requires books { HoldsBooks self.now mem.now }
-        requires number { (call.now.number ≢ 1) × (call.now.number ≢ 2) × (call.now.number ≢ 3) × (call.now.number ≢ 4) × (call.now.number ≢ 5)
-            × (call.now.number ≢ 6) × (call.now.number ≢ 7) × (call.now.number ≢ 8) × (call.now.number ≢ 9) }
-        ensures made { (source : Sourced) → IsMade (books_in self.now mem.now) (seen mem.now) call.now source (rule_of result) (books_in self.now mem.now) (seen mem.now) }
-        ensures shows { IfOk result (λ it. (it.value ≡ 0) × (it.place ≡ None)) }
+        ensures made { (source : Sourced) → IsMade (books_in self.now mem.now) (seen mem.now) NoCall source (rule_of result) (books_in self.now mem.now) (seen mem.now) }
+        ensures shows { IfOk result (λ it. it ≡ accepted_answer (nested_held self.now mem.now) NoCall) }
     {
         let _root = self.tables.root;
-        let _number = (mem.frames(), call.number);
+        let _frames = mem.frames();
         Err(Rule::BadCall)
     }
 
@@ -473,28 +476,6 @@ impl Kernel {
         ensures root { result.now.root ≡ self.now.root }
     {
         &self.tables
-    }
-}
-
-/// The arguments are numbers of 64 bits.
-fn are_words(call: &CallWords)
-    ensures { (call.now.a < 2 ^ 64) × (call.now.c < 2 ^ 64) }
-{
-    let _a = call.a;
-    let _c = call.c;
-}
-
-/// The answer to a call that is accepted.
-fn answered(call: &CallWords, made: &Accepted) -> Answer
-    ensures { result ≡ record { value = made.now.value; place = made.now.place; flush = flushes call.now } }
-{
-    Answer {
-        value: made.value,
-        place: made.place,
-        flush: matches!(
-            call.number,
-            DECLARE_TABLE | REMOVE_TABLE | LOAD_ROOT | DECLARE_PAGES
-        ),
     }
 }
 

@@ -3,13 +3,18 @@
 //! memory that it is handed and its own books, and no register; only its start takes memory. Floor: nested kernel.
 #![tactic(auto)]
 
-// What is read for a call, and the books with the calls on them.
+// The calls, what is read for one, and the books with the calls on them.
+mod call;
 mod kernel;
 mod source;
 
 // What follows from the definitions.
 mod laws;
 
+pub use call::{
+    ALLOCATE, Call, DECLARE_PAGES, DECLARE_TABLE, FREE, LOAD_ROOT, REMOVE_TABLE, SET_HANDLER,
+    WRITE, WRITE_ENTRY, call_of,
+};
 pub use kernel::{Kernel, NoMemory};
 pub use laws::{beside_law, call_law, call_leaves_law, held_law, opening_sound_law, stores_law};
 pub use source::Source;

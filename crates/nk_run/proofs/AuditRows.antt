@@ -1,9 +1,11 @@
 -- What the checks of an audit say of its outcome, and where the records of its region lie.
-use Rattle.std.proofs.Common.{◌≡◌, ℕ, ◌≤◌, List, [], ◌∷◌, Bool, true, false, Option, None, Some, if◌then◌else◌, refl, sym, ap, subst, ◌∙◌}
-use Rattle.std.specs.Prelude.{unwrap_or, ◌==◌, ◌&&◌}
-use Rattle.std.proofs.lemmas.Bool.{and_parts, eqb-true}
+use Rattle.std.proofs.Common.{◌≡◌, ℕ, ◌≤◌, List, [], ◌∷◌, Bool, true, false, Option, None, Some, if◌then◌else◌, refl, sym, ap, ◌∙◌}
+use Rattle.std.specs.Prelude.{unwrap_or, ◌==◌}
 use Rattle.nk_bits.specs.declared.call.CallWords.{CallWords}
 use Rattle.nk_host.specs.Told.{IfTold}
+use Rattle.nk_body.specs.declared.call.Call.{Call}
+use Rattle.nk_body.specs.declared.call.Call.TheVariants.{Allocate}
+use Rattle.nk_body.specs.Calls.{call_of}
 use Rattle.nk_body.specs.NestedRecord.{Nested}
 use Rattle.gate_state.specs.MachineStates.{Opening}
 use Rattle.report_text.specs.AuditLines.{audit_text}
@@ -12,7 +14,7 @@ use Rattle.replay_core.specs.GrantedLaws.{GivesRegion, GrantedLaws}
 use Rattle.replay_core.specs.ReplayedCalls.{WholeReplay, replay_of}
 use Rattle.nk_run.specs.declared.command_line.Role.TheVariants.{Image, Journal}
 use Rattle.nk_run.specs.CommandLine.{Audit, Replay, command_of}
-use Rattle.nk_run.specs.Outcome.{Check, checks_of, given, logged_size, opened, outcome, passes, replay_in, size_in, test, unless_ended}
+use Rattle.nk_run.specs.Outcome.{Check, checks_of, given, logged_by, logged_size, opened, outcome, passes, replay_in, size_in, test, unless_ended}
 use Rattle.nk_run.specs.Replies.{CommandSays, HoldsReplay, LiesWithin, RefusesBy, StopsIn}
 use Rattle.nk_run.specs.Witness.{Change, Files, ShelfState}
 use Rattle.nk_run.proofs.Rows.{all_says, later_says, outcome_says, own_nine, own_zero, row_says}
@@ -20,26 +22,26 @@ use Rattle.nk_run.proofs.RunRows.{calls_are, last_ends}
 use Rattle.nk_run.proofs.Told.{if_told, told_at}
 
 -- the call that has a size
-record IsLogged (call : Option CallWords) (size : ℕ) : Type 0 where
+record IsLogged (asked : Option CallWords) (size : ℕ) : Type 0 where
+  policy : ℕ
   it : CallWords
-  is : call ≡ Some it
-  allocates : it.number ≡ 7
-  size_is : it.a ≡ size
+  is : asked ≡ Some it
+  allocates : call_of it ≡ Allocate size policy
 
-some_where : (test : Bool) (a size : ℕ) → (if test then Some a else None) ≡ Some size → (test ≡ true) × (a ≡ size)
-some_where true a size e = (refl, cc)
+some_where : (test : Bool) (a size : ℕ) → (if test then Some a else None) ≡ Some size → a ≡ size
+some_where true a size e = cc
 some_where false a size e = cc
 
-logged_call : (call : Option CallWords) (size : ℕ) → logged_size call ≡ Some size → IsLogged call size
+logging_call : (call : Call) (size : ℕ) → logged_by call ≡ Some size → (policy : ℕ) × (call ≡ Allocate size policy)
+logging_call (Allocate asked policy) size e =
+    (policy, ap (λ n. Allocate n policy) (some_where (policy == 4) asked size e))
+logging_call _ size e = let no : None ≡ Some size = e in absurd (cc)
+
+logged_call : (asked : Option CallWords) (size : ℕ) → logged_size asked ≡ Some size → IsLogged asked size
 logged_call None size e = absurd (cc)
-logged_call (Some call) size e =
-    let found = some_where (call.number == 7 && call.b == 4) call.a size e in
-    record {
-      it = call;
-      is = refl;
-      allocates = eqb-true call.number 7 (and_parts (call.number == 7) (call.b == 4) found.0).0;
-      size_is = found.1;
-    }
+logged_call (Some it) size e =
+    let found = logging_call (call_of it) size e in
+    record { policy = found.0; it = it; is = refl; allocates = found.1 }
 
 -- a region of an accepted journal whose writes are logged has at most 65,536 bytes, and its records lie within them
 module _ (laws : GrantedLaws) (o : Opening) (journal : List ℕ) (id size : ℕ) (right : (replay_of journal (opened o)).bad ≡ None)
@@ -47,15 +49,14 @@ module _ (laws : GrantedLaws) (o : Opening) (journal : List ℕ) (id size : ℕ)
   call_is : IsLogged (granted_of journal id) size
   call_is = logged_call (granted_of journal id) size logged
 
-  gives : GivesRegion journal (opened o) id call_is.it
+  gives : GivesRegion journal (opened o) id size call_is.policy call_is.it
   gives = record { opening = refl; accepted = right; region = region; granted = call_is.is; allocates = call_is.allocates }
 
   pub size_bounds : (1 ≤ size) × (size ≤ 65536)
-  size_bounds = subst (λ n. (1 ≤ n) × (n ≤ 65536)) call_is.size_is (laws.size journal (opened o) id call_is.it gives)
+  size_bounds = laws.size journal (opened o) id size call_is.policy call_is.it gives
 
   pub lies_within : LiesWithin id size (replay_of journal (opened o)).made.nested.ledger.log
-  lies_within = subst (λ n. LiesWithin id n (replay_of journal (opened o)).made.nested.ledger.log) call_is.size_is
-      (λ it within of. laws.within journal (opened o) id call_is.it it gives within of)
+  lies_within = λ it within of. laws.within journal (opened o) id size call_is.policy call_is.it it gives within of
 
 module _ (words : List (List ℕ)) (frames id : ℕ) (asked : command_of words ≡ Some (Audit frames id)) where
   abbrev audit_row : Files → List Check

@@ -12,10 +12,11 @@ use Rattle.elf_image.specs.Pages.{is_executable}
 use Rattle.elf_image.specs.Rows.{first_fault}
 use Rattle.byte_scanner.specs.declared.encoding.Found.{Found}
 use Rattle.byte_scanner.specs.FirstFound.{first_found}
+use Rattle.boot_map.specs.Division.{IsLayout, division_of}
 use Rattle.boot_map.specs.KernelSlot.{IsCodePage}
 use Rattle.gate_state.specs.AnyVector.{DeliversAny}
 use Rattle.gate_state.specs.GateCalls.{IsCalledBack, IsCalledThrough, IsCalling}
-use Rattle.gate_state.specs.GuardedStates.{IsAdmitted, IsGuarded}
+use Rattle.gate_state.specs.GuardedStates.{IsGuarded}
 use Rattle.gate_state.specs.MachineOpening.{opening_state}
 use Rattle.gate_state.specs.MachineStates.{MachineState, Opening, nested_of}
 use Rattle.gate_state.specs.MachineSteps.{calls, made_by_all, state}
@@ -78,10 +79,11 @@ module _ (b : List ℕ) (modules : List CodeModule) (file : List ℕ) (it : IsWh
   unjoined none = none it.joined
 
   lost_byte : (o : Opening) (input : List ℕ) (plan : List Event) (step i k : ℕ) (part : JoinedPart) → o.image ≡ file
-      → IsAdmitted o → IsPlan plan → slice_get (modules_behind b modules) i ≡ Some part → k < part.memory_size
+      → IsLayout o.image (division_of o.image o.frames) → IsPlan plan → slice_get (modules_behind b modules) i ≡ Some part
+      → k < part.memory_size
       → (IsCodeByte o (state plan (opening_state o input) step).memory (part.address + k) (slice_index part.bytes k) → ⊥) → ⊥
-  lost_byte o input plan step i k part is admitted planned listed within none =
-      none (it.kept o input plan step is admitted planned i k part listed within)
+  lost_byte o input plan step i k part is room planned listed within none =
+      none (it.kept o input plan step is room planned i k part listed within)
 
 module _ (o : Opening) (m : List ℕ) (va byte : ℕ) where
   outside_the_code : ((frame : ℕ) → IsCodePage o.image o.frames (va / 4096) frame → ⊥) → IsCodeByte o m va byte → ⊥

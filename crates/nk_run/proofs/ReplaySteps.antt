@@ -5,6 +5,7 @@ use Rattle.std.proofs.lemmas.Bool.{eq-eqb}
 use Rattle.nk_bits.specs.declared.call.Answer.{Answer}
 use Rattle.nk_bits.specs.declared.call.CallWords.{CallWords}
 use Rattle.text_lines.specs.TextLines.{lines}
+use Rattle.nk_body.specs.Calls.{call_of}
 use Rattle.nk_body.specs.CallRules.{Bytes, IsSourceOf, NotTaken, Sourced, Unreadable, answer_to, wants}
 use Rattle.nk_body.specs.NestedRecord.{Nested}
 use Rattle.nk_body.specs.BookLaws.{BesideLaws}
@@ -37,18 +38,18 @@ answer_is answer call source = λ i. eq-eqb answer.value answer.value refl i && 
 -- a call that the record answers so is made
 pub replay_call : BesideLaws → (number : ℕ) (rest : List ℕ) (nk : Nested) (held : ℕ → ℕ → ℕ) (m : List ℕ) (call : CallWords)
     (source : Sourced) (line : List ℕ)
-    → IsHeard line (Some (Calls (noted_of call source (answer_to nk call source))))
-    → IsSourceOf (wants nk.ledger.book call) source
+    → IsHeard line (Some (Calls (noted_of call source (answer_to nk (call_of call) source))))
+    → IsSourceOf (wants nk.ledger.book (call_of call)) source
     → let s : Replayed = record { nested = record nk { held = held }; memory = m } in
     replay_from number (lines (line ++ rest)) s
-    ≡ replay_from (number + 1) (lines rest) (replayed s (noted_of call source (answer_to nk call source)))
+    ≡ replay_from (number + 1) (lines rest) (replayed s (noted_of call source (answer_to nk (call_of call) source)))
 replay_call laws number rest nk held m call source line is sourced =
     let s : Replayed = record { nested = record nk { held = held }; memory = m } in
-    let it = noted_of call source (answer_to nk call source) in
+    let it = noted_of call source (answer_to nk (call_of call) source) in
     let later : Replayed → WholeReplay = replay_from (number + 1) (lines rest) in
-    let right : is_answer (answer_to (record nk { held = held }) call source) it ≡ true =
-    ap (λ (a : Answer). is_answer a it) (laws.answered nk held call source)
-    ∙ answer_is (answer_to nk call source) call source in
+    let right : is_answer (answer_to (record nk { held = held }) (call_of call) source) it ≡ true =
+    ap (λ (a : Answer). is_answer a it) (laws.answered nk held (call_of call) source)
+    ∙ answer_is (answer_to nk (call_of call) source) call source in
     replay_line number line rest (Some (Calls it)) s is
-    ∙ (λ i. if given_is (wants nk.ledger.book call) source sourced i
+    ∙ (λ i. if given_is (wants nk.ledger.book (call_of call)) source sourced i
     then (if right i then later (replayed s it) else stops_at number (replayed s it)) else stops_at number s)

@@ -13,6 +13,7 @@ use Rattle.report_text.specs.RunLines.{call_line, console_line, delivery_line}
 use Rattle.text_lines.specs.TextLines.{lines}
 use Rattle.cpu_step.specs.declared.stepped.Stepped.{Stepped}
 use Rattle.cpu_step.specs.declared.stepped.Stepped.TheVariants as stepped
+use Rattle.nk_body.specs.declared.call.Call.{Call}
 use Rattle.nk_body.specs.CallRules.{IsSourceOf, Sourced, made, made_unless, stand_of, verdict, wants, accepted_memory, written_unless}
 use Rattle.nk_body.specs.NestedRecord.{Nested}
 use Rattle.nk_body.specs.ReplayBeside.{IsAccepted, IsBeside, declares_table, is_opening_table}
@@ -21,8 +22,8 @@ use Rattle.gate_state.specs.declared.moves.Move.{Move}
 use Rattle.gate_state.specs.declared.moves.Move.TheVariants as move
 use Rattle.gate_state.specs.GuardedStates.{IsGuarded}
 use Rattle.gate_state.specs.MachineStates.{MachineState, Opening, nested_of}
-use Rattle.gate_state.specs.MachineSteps.{Made, answer_in, call_in, called_by, made_by_all, made_in, seen_by, shown_by_turn, source_of, turn_of, verdict_in, with_call}
-use Rattle.gate_state.specs.SourceBytes.{SourceRead, in_front, read_on, source_byte, source_through, source_read, source_tlb, source_with}
+use Rattle.gate_state.specs.MachineSteps.{Made, answer_in, asked_in, call_in, called_by, made_by_all, made_in, seen_by, shown_by_turn, source_of, turn_of, verdict_in, with_call}
+use Rattle.gate_state.specs.SourceBytes.{SourceRead, in_front, read_on, source_byte, source_place, source_through, source_read, source_tlb, source_with}
 use Rattle.replay_core.specs.JournalLines.{Passes}
 use Rattle.replay_core.specs.ReplayedCalls.{Replayed, replay_from, replayed}
 use Rattle.nk_run.specs.ReplayedRuns.{was_table}
@@ -168,8 +169,11 @@ module _ (laws : BesideLaws) (o : Opening) (before : List Made) (s : MachineStat
     place = shown.place;
   }
 
-  abbrev call : CallWords
-  call = call_in s.processor.regs
+  abbrev asking : CallWords
+  asking = call_in s.processor.regs
+
+  abbrev call : Call
+  call = asked_in s
 
   abbrev source : Sourced
   source = source_of s
@@ -178,7 +182,7 @@ module _ (laws : BesideLaws) (o : Opening) (before : List Made) (s : MachineStat
   also = record (nested_of s) { held = held }
 
   sourced : IsSourceOf (wants s.ledger.book call) source
-  sourced = sourced_by s.memory s.processor.control.root s.processor.tlb call.c (wants s.ledger.book call)
+  sourced = sourced_by s.memory s.processor.control.root s.processor.tlb (source_place call) (wants s.ledger.book call)
 
   -- what the call makes, by its verdict
   abbrev made_with : Option Rule → Nested
@@ -215,7 +219,7 @@ module _ (laws : BesideLaws) (o : Opening) (before : List Made) (s : MachineStat
   call_step small =
       let it = by_verdict (verdict_in s) refl in
       let same : verdict also call source ≡ verdict_in s = laws.judged (nested_of s) held call source in
-      let makes : replayed (replay_beside (nested_of s) held m) (noted_of call source (answer_in s))
+      let makes : replayed (replay_beside (nested_of s) held m) (noted_of asking source (answer_in s))
       ≡ replay_beside (made_with (verdict_in s)) it.held_after it.memory_after =
       (λ i. record {
         nested = made_unless (same i) also call source (stand_of also call m);
@@ -227,8 +231,8 @@ module _ (laws : BesideLaws) (o : Opening) (before : List Made) (s : MachineStat
         held_after = it.held_after;
         memory_after = it.memory_after;
         goes = λ rest.
-            replay_call laws number rest (nested_of s) held m call source (call_line call source (answer_in s))
-            (call_heard call source (answer_in s) (small_call small)) sourced
+            replay_call laws number rest (nested_of s) held m asking source (call_line asking source (answer_in s))
+            (call_heard asking source (answer_in s) (small_call small)) sourced
             ∙ ap (replay_from (number + 1) (lines rest)) makes;
         beside = it.stands;
       }

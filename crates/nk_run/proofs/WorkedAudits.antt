@@ -2,6 +2,7 @@
 use Rattle.std.proofs.Common.{◌≡◌, ◌≢◌, ℕ, List, [], ◌∷◌, Option, None, Some, refl, sym, ap, ◌∙◌, arith}
 use Rattle.nk_bits.specs.declared.call.CallWords.{CallWords}
 use Rattle.boot_map.specs.Division.{need}
+use Rattle.nk_body.specs.Calls.{call_of}
 use Rattle.nk_run.specs.declared.command_line.Role.TheVariants.{Image}
 use Rattle.nk_run.specs.CommandLine.{Audit, command_of}
 use Rattle.nk_run.specs.Lines.{journal_line, noregion_line}
@@ -23,6 +24,7 @@ sizes :
     (logged_size (called 6 64 4) ≡ None) ×
     (logged_size (called 9 256 4) ≡ None) ×
     (logged_size None ≡ None)
+unfolding call_of
 sizes = (refl, refl, refl, refl, refl, refl, refl, refl, refl)
 
 other_status : (a b : Answer) → Some a ≡ Some b → a.status ≡ b.status

@@ -16,6 +16,9 @@ use Rattle.irq_plan.specs.PlanFile.{plan_of}
 use Rattle.boot_map.specs.Division.{need}
 use Rattle.nk_bits.specs.KernelLayout.{opening_root}
 use Rattle.boot_map.specs.OpeningEntries.{opening_entry}
+use Rattle.nk_body.specs.declared.call.Call.{Call}
+use Rattle.nk_body.specs.declared.call.Call.TheVariants.{Allocate}
+use Rattle.nk_body.specs.Calls.{call_of}
 use Rattle.gate_state.specs.MachineOpening.{opening_memory, opening_state}
 use Rattle.gate_state.specs.MachineStates.{Opening, nested_of}
 use Rattle.report_text.specs.AuditLines.{audit_text}
@@ -159,11 +162,14 @@ abbrev pub journaled : Option ℕ → Verdict
 journaled None = passes
 journaled (Some number) = ends (record { status = 6; text = journal_line number })
 
--- the size of a region that a call gave, where it is of the pool and its writes are logged: the call's number is 7, and its
--- policy 4
+-- the size of a region that a call gave, where it is of the pool and its writes are logged, by policy 4
+abbrev pub logged_by : Call → Option ℕ
+logged_by (Allocate size policy) = if policy == 4 then Some size else None
+logged_by _ = None
+
 abbrev pub logged_size : Option CallWords → Option ℕ
 logged_size None = None
-logged_size (Some call) = if call.number == 7 && call.b == 4 then Some call.a else None
+logged_size (Some asked) = logged_by (call_of asked)
 
 -- and of the one to which a call of the journal gave this identifier
 abbrev pub size_in : Files → List (List ℕ) → ℕ → Option ℕ

@@ -2,12 +2,13 @@
 ghost use Rattle.std.specs.Prelude.{◌≡◌, ◌≤◌, ℕ, List, None, Some, IfSome, MatchResult, length, replicate};
 ghost use Rattle.write_log.specs.LogBytes.{HoldsLog, log_in};
 ghost use Rattle.report_text.specs.AuditLines.{audit_text};
+ghost use Rattle.nk_body.specs.Calls.{call_of};
 ghost use Rattle.replay_core.specs.GrantedCalls.{granted_of};
 ghost use Rattle.replay_core.specs.ReplayedCalls.{replay_of};
 ghost use Rattle.nk_run.specs.CommandLine.{command_of, Audit, IsBounded};
 ghost use Rattle.nk_run.specs.NamedCommands.{NamesReplay};
 ghost use Rattle.nk_run.specs.Witness.{shelf_change, sink_change};
-ghost use Rattle.nk_run.specs.Outcome.{given, logged_size, opened};
+ghost use Rattle.nk_run.specs.Outcome.{given, logged_by, logged_size, opened};
 ghost use Rattle.nk_run.specs.ReplyText.{line_bytes};
 ghost use Rattle.nk_run.specs.Statuses.{status_number};
 ghost use Rattle.nk_run.specs.Replies.{CommandSays, IsAnswered, IsAuditable, IsTextPut, LiesWithin, RefusesBy};
@@ -17,13 +18,12 @@ use crate::lines::noregion_line;
 use crate::replay::{Replayed, make_replay};
 use crate::reply::{Reply, made, no_memory};
 use crate::status::Status;
+use nk_bits::CallWords;
+use nk_body::{Call, call_of};
 use nk_host::{Shelf, Sink, SinkFault};
 use replay_core::{granted, granted_law};
 use report_text::Auditing;
 use std::alloc::Global;
-
-/// The number of the call that gives a region of the pool.
-const ALLOCATE: u64 = 7;
 
 /// The policy of a region whose writes are logged.
 const WRITE_LOG: u64 = 4;
@@ -40,7 +40,17 @@ fn logged_size(journal: &[u8], id: u64) -> Option<u64>
     ensures { result ≡ logged_size (granted_of journal.now id) }
 {
     match granted(journal, id) {
-        Some(call) if call.number == ALLOCATE && call.b == WRITE_LOG => Some(call.a),
+        Some(words) => logged_by(&words),
+        None => None,
+    }
+}
+
+/// The size of the region that a call gives, where its writes are logged.
+fn logged_by(words: &CallWords) -> Option<u64>
+    ensures { result ≡ logged_by (call_of words.now) }
+{
+    match call_of(words) {
+        Call::Allocate { size, policy } if policy == WRITE_LOG => Some(size),
         _ => None,
     }
 }

@@ -7,22 +7,25 @@ use Rattle.nk_bits.specs.declared.call.CallWords.{CallWords}
 use Rattle.nk_bits.specs.declared.rule.Rule.{Rule}
 use Rattle.nk_bits.specs.declared.rule.Rule.TheVariants.{BadCall, BadRange, BadPolicy, NoRoom, TooManyRegions}
 use Rattle.nk_bits.specs.Rules.{rule_number}
-use Rattle.region_book.specs.RegionCalls.{alloc_rule, is_policy, room, with_one_more}
+use Rattle.region_book.specs.RegionCalls.{alloc_rule, is_policy, pool_region, room, with_one_more}
 use Rattle.region_book.specs.RegionRecords.{Book, Region}
 use Rattle.text_lines.specs.TextLines.{lines, words}
-use Rattle.nk_body.specs.CallRules.{Sourced, after_call, answer_by, answer_to, made, made_unless, new_region, stand_of, verdict, with_pool}
+use Rattle.nk_body.specs.CallRules.{Sourced, accepted_answer, after_call, answer_by, answer_to, made_unless, stand_of, verdict, with_pool}
+use Rattle.nk_body.specs.declared.call.Call.{Call}
+use Rattle.nk_body.specs.declared.call.Call.TheVariants.{Allocate}
+use Rattle.nk_body.specs.Calls.{call_of}
 use Rattle.nk_body.specs.NestedRecord.{Ledger, Nested}
 use Rattle.replay_core.specs.JournalLines.{Calls, Ends, Heard, Noted, Passes, heard_of}
 use Rattle.replay_core.specs.GrantedCalls.{granted_by, granted_in, granted_of}
 use Rattle.replay_core.specs.GrantedLaws.{GivesRegion}
 use Rattle.replay_core.specs.ReplayedCalls.{Replayed, WholeReplay, is_answer, is_answer_right, is_same_place, is_source_right, replay_from, replay_of, replayed, stops_at, with_line, with_noted}
 use Rattle.replay_core.proofs.GrantedSizes.{IsGiven, IsSized, given_by, grown_sized, opening_sized, sized_by}
-use Rattle.replay_core.proofs.LedgerMoves.{at_number, call_kept, else_none, gives_next, verdict_7}
+use Rattle.replay_core.proofs.LedgerMoves.{call_kept, else_none}
 
 -- a line of a call that isn't the last one
 record IsRight (number : ℕ) (s : Replayed) (it : Noted) (later : Replayed → WholeReplay) : Type 0 where
   source : is_source_right s it ≡ true
-  value : (answer_to s.nested it.call it.source).value ≡ it.value
+  value : (answer_to s.nested (call_of it.call) it.source).value ≡ it.value
   goes : with_noted number s it later ≡ later (replayed s it)
 
 right_line : (number : ℕ) (s : Replayed) (it : Noted) (later : Replayed → WholeReplay)
@@ -35,7 +38,7 @@ right_line number s it later right = by_tests (is_source_right s it) (is_answer_
     by_tests false answer is_source is_answer right = let no : Some number ≡ None = right in absurd (cc)
     by_tests true false is_source is_answer right = let no : Some number ≡ None = right in absurd (cc)
     by_tests true true is_source is_answer right =
-        let gives = answer_to s.nested it.call it.source in
+        let gives = answer_to s.nested (call_of it.call) it.source in
         let same = and_parts (gives.value == it.value) (is_same_place gives.place it.place) is_answer in
         record {
           source = is_source;
@@ -49,7 +52,7 @@ rule_low : (rule : Rule) → rule_number rule ≤ 27
 rule_low BadCall = omega arith
 rule_low _ = omega arith
 
-accepted : (nk : Nested) (call : CallWords) (source : Sourced) → 256 ≤ (answer_to nk call source).value
+accepted : (nk : Nested) (call : Call) (source : Sourced) → 256 ≤ (answer_to nk call source).value
     → verdict nk call source ≡ None
 unfolding answer_to
 accepted nk call source high = by_verdict (verdict nk call source) refl high
@@ -84,18 +87,6 @@ allocated book size policy is =
       place = not_none (room book.regions size) d.0;
     }
 
--- what it makes of the ledger
-made_of_7 : (nk : Nested) (call : CallWords) (source : Sourced) (stand : ℕ → ℕ → ℕ)
-    → made nk (record call { number = 7 }) source stand ≡ with_pool nk call (room nk.ledger.book.regions call.a)
-unfolding made
-made_of_7 nk call source stand = refl
-
-made_7 : (nk : Nested) (call : CallWords) (source : Sourced) (stand : ℕ → ℕ → ℕ) → call.number ≡ 7
-    → made nk call source stand ≡ with_pool nk call (room nk.ledger.book.regions call.a)
-made_7 nk call source stand is =
-    at_number (λ c. made nk c source stand ≡ with_pool nk c (room nk.ledger.book.regions c.a)) 7 call is
-    (made_of_7 nk call source stand)
-
 -- behind the line that gave the identifier, each line keeps its region's size
 module _ (id size : ℕ) where
   abbrev Given : Replayed → Type 0
@@ -103,8 +94,8 @@ module _ (id size : ℕ) where
 
   given_on : (s : Replayed) (it : Noted) → Given s → is_source_right s it ≡ true → Given (replayed s it)
   given_on s it given right =
-      call_kept (IsGiven id size) s.nested it.call it.source (stand_of s.nested it.call s.memory)
-      (given_by id size s.nested.ledger given.sized it.call (answer_to s.nested it.call it.source).value given.used) right
+      call_kept (IsGiven id size) s.nested (call_of it.call) it.source (stand_of s.nested (call_of it.call) s.memory)
+      (given_by id size s.nested.ledger given.sized (call_of it.call) (answer_to s.nested (call_of it.call) it.source).value given.used) right
 
   keeps_line : (number : ℕ) (s : Replayed) (heard : Option Heard) (later : Replayed → WholeReplay) → Given s
       → ((t : Replayed) → Given t → (later t).bad ≡ None → Given (later t).made)
@@ -126,65 +117,66 @@ module _ (id size : ℕ) where
       keeps_line number s (heard_of (words line)) (replay_from (number + 1) ls) given
       (λ t holds is. lines_keep (number + 1) ls t holds is) right
 
-module _ (id : ℕ) (call : CallWords) (region : 256 ≤ id) (seven : call.number ≡ 7) where
+module _ (id asked policy : ℕ) (asking : CallWords) (region : 256 ≤ id) (allocates : call_of asking ≡ Allocate asked policy) where
   -- a ledger behind the call that gives the identifier
   record IsGrant (ledger : Ledger) : Type 0 where
-    least : 1 ≤ call.a
-    most : call.a ≤ 65536
-    given : IsGiven id call.a ledger
+    least : 1 ≤ asked
+    most : asked ≤ 65536
+    given : IsGiven id asked ledger
 
-  grant : (nk : Nested) (source : Sourced) (stand : ℕ → ℕ → ℕ) → IsSized id call.a nk.ledger
-      → (answer_to nk call source).value ≡ id → IsGrant (after_call nk call source stand).ledger
+  grant : (nk : Nested) (source : Sourced) (stand : ℕ → ℕ → ℕ) → IsSized id asked nk.ledger
+      → (answer_to nk (Allocate asked policy) source).value ≡ id → IsGrant (after_call nk (Allocate asked policy) source stand).ledger
+  unfolding answer_to
   grant nk source stand sized value =
-      let none = accepted nk call source (omega arith) in
-      let is = allocated nk.ledger.book call.a call.b (sym (verdict_7 nk source call seven) ∙ none) in
-      let next = gives_next nk source call none (ap (λ (k : ℕ). k == 6 || k == 7) seven) in
-      let new : Region = new_region nk.ledger.book call is.place.0 in
-      let ledger_is : (after_call nk call source stand).ledger ≡ record nk.ledger { book = with_one_more nk.ledger.book new 0 } =
-      ap (λ (v : Option Rule). (made_unless v nk call source stand).ledger) none
-      ∙ ap (λ (after : Nested). after.ledger) (made_7 nk call source stand seven)
-      ∙ ap (λ (p : Option ℕ). (with_pool nk call p).ledger) is.place.1 in
+      let none = accepted nk (Allocate asked policy) source (omega arith) in
+      let is = allocated nk.ledger.book asked policy none in
+      let next : nk.ledger.book.next ≡ id =
+      ap (λ (v : Option Rule). (answer_by v nk (Allocate asked policy)).value) (sym none) ∙ value in
+      let new : Region = pool_region nk.ledger.book asked policy is.place.0 in
+      let ledger_is : (after_call nk (Allocate asked policy) source stand).ledger ≡ record nk.ledger { book = with_one_more nk.ledger.book new 0 } =
+      ap (λ (v : Option Rule). (made_unless v nk (Allocate asked policy) source stand).ledger) none
+      ∙ ap (λ (p : Option ℕ). (with_pool nk asked policy p).ledger) is.place.1 in
       record {
         least = is.least;
         most = is.most;
-        given = subst (IsGiven id call.a) (sym ledger_is)
-            (record { sized = grown_sized id call.a nk.ledger sized new 0 (λ same. refl); used = omega arith });
+        given = subst (IsGiven id asked) (sym ledger_is)
+            (record { sized = grown_sized id asked nk.ledger sized new 0 (λ same. refl); used = omega arith });
       }
 
   -- the call that is noted is this one
-  grant_noted : (s : Replayed) (it : Noted) → IsSized id call.a s.nested.ledger → call ≡ it.call
-      → (answer_to s.nested it.call it.source).value ≡ id → IsGrant (replayed s it).nested.ledger
+  grant_noted : (s : Replayed) (it : Noted) → IsSized id asked s.nested.ledger → asking ≡ it.call
+      → (answer_to s.nested (call_of it.call) it.source).value ≡ id → IsGrant (replayed s it).nested.ledger
   grant_noted s it sized same =
-      subst (λ (c : CallWords). (answer_to s.nested c it.source).value ≡ id
-      → IsGrant (after_call s.nested c it.source (stand_of s.nested c s.memory)).ledger) same
-      (grant s.nested it.source (stand_of s.nested call s.memory) sized)
+      subst (λ (c : Call). (answer_to s.nested c it.source).value ≡ id
+      → IsGrant (after_call s.nested c it.source (stand_of s.nested c s.memory)).ledger) (sym allocates ∙ ap call_of same)
+      (grant s.nested it.source (stand_of s.nested (Allocate asked policy) s.memory) sized)
 
   -- where a replay ends that comes to that call
   pub record IsGranting (whole : WholeReplay) : Type 0 where
-    pub least : 1 ≤ call.a
-    pub most : call.a ≤ 65536
-    pub sized : IsSized id call.a whole.made.nested.ledger
+    pub least : 1 ≤ asked
+    pub most : asked ≤ 65536
+    pub sized : IsSized id asked whole.made.nested.ledger
 
   -- another call
-  sized_on : (s : Replayed) (it : Noted) → IsSized id call.a s.nested.ledger → is_source_right s it ≡ true
-      → (answer_to s.nested it.call it.source).value ≢ id → IsSized id call.a (replayed s it).nested.ledger
+  sized_on : (s : Replayed) (it : Noted) → IsSized id asked s.nested.ledger → is_source_right s it ≡ true
+      → (answer_to s.nested (call_of it.call) it.source).value ≢ id → IsSized id asked (replayed s it).nested.ledger
   sized_on s it sized right other =
-      call_kept (IsSized id call.a) s.nested it.call it.source (stand_of s.nested it.call s.memory)
-      (sized_by id call.a s.nested.ledger sized it.call (answer_to s.nested it.call it.source).value
+      call_kept (IsSized id asked) s.nested (call_of it.call) it.source (stand_of s.nested (call_of it.call) s.memory)
+      (sized_by id asked s.nested.ledger sized (call_of it.call) (answer_to s.nested (call_of it.call) it.source).value
       (λ r is next asked same. absurd (other (next ∙ sym is ∙ same))))
       right
 
   module _ (number : ℕ) (s : Replayed) (later : Replayed → WholeReplay) (found : Option CallWords)
-      (sized : IsSized id call.a s.nested.ledger)
-      (before : (t : Replayed) → IsSized id call.a t.nested.ledger → (later t).bad ≡ None → found ≡ Some call
+      (sized : IsSized id asked s.nested.ledger)
+      (before : (t : Replayed) → IsSized id asked t.nested.ledger → (later t).bad ≡ None → found ≡ Some asking
       → IsGranting (later t))
-      (behind : (t : Replayed) → IsGiven id call.a t.nested.ledger → (later t).bad ≡ None
-      → IsGiven id call.a (later t).made.nested.ledger) where
+      (behind : (t : Replayed) → IsGiven id asked t.nested.ledger → (later t).bad ≡ None
+      → IsGiven id asked (later t).made.nested.ledger) where
     grants_call : (it : Noted) (here : Bool) → (it.value == id) ≡ here → IsRight number s it later
-        → (later (replayed s it)).bad ≡ None → (if here then Some it.call else found) ≡ Some call
+        → (later (replayed s it)).bad ≡ None → (if here then Some it.call else found) ≡ Some asking
         → IsGranting (later (replayed s it))
     grants_call it true here line right is =
-        let granted = grant_noted s it sized (sym (same_Some it.call call is)) (line.value ∙ eqb-true it.value id here) in
+        let granted = grant_noted s it sized (sym (same_Some it.call asking is)) (line.value ∙ eqb-true it.value id here) in
         record {
           least = granted.least;
           most = granted.most;
@@ -195,27 +187,28 @@ module _ (id : ℕ) (call : CallWords) (region : 256 ≤ id) (seven : call.numbe
         (sized_on s it sized line.source (λ same. eqb-false it.value id here (sym line.value ∙ same))) right is
 
     grants_line : (heard : Option Heard) → (with_line number s heard later).bad ≡ None
-        → granted_by id heard found ≡ Some call → IsGranting (with_line number s heard later)
-    grants_line None right is = let no : None ≡ Some call = is in absurd (cc)
+        → granted_by id heard found ≡ Some asking → IsGranting (with_line number s heard later)
+    grants_line None right is = let no : None ≡ Some asking = is in absurd (cc)
     grants_line (Some Passes) right is = before s sized right is
-    grants_line (Some Ends) right is = let no : None ≡ Some call = is in absurd (cc)
+    grants_line (Some Ends) right is = let no : None ≡ Some asking = is in absurd (cc)
     grants_line (Some (Calls it)) right is =
         let line = right_line number s it later right in
         subst IsGranting (sym line.goes) (grants_call it (it.value == id) refl line
         (ap (λ (whole : WholeReplay). whole.bad) (sym line.goes) ∙ right) is)
 
-  pub lines_grant : (number : ℕ) (ls : List (List ℕ)) (s : Replayed) → IsSized id call.a s.nested.ledger
-      → (replay_from number ls s).bad ≡ None → granted_in id ls ≡ Some call → IsGranting (replay_from number ls s)
+  pub lines_grant : (number : ℕ) (ls : List (List ℕ)) (s : Replayed) → IsSized id asked s.nested.ledger
+      → (replay_from number ls s).bad ≡ None → granted_in id ls ≡ Some asking → IsGranting (replay_from number ls s)
   unfolding replay_from granted_in
-  lines_grant number [] s sized right is = let no : None ≡ Some call = is in absurd (cc)
+  lines_grant number [] s sized right is = let no : None ≡ Some asking = is in absurd (cc)
   lines_grant number (line ∷ ls) s sized right is =
       grants_line number s (replay_from (number + 1) ls) (granted_in id ls) sized
       (λ t holds on given. lines_grant (number + 1) ls t holds on given)
-      (λ t holds on. lines_keep id call.a (number + 1) ls t holds on) (heard_of (words line)) right is
+      (λ t holds on. lines_keep id asked (number + 1) ls t holds on) (heard_of (words line)) right is
 
-pub accepted_journal : (journal : List ℕ) (from : Replayed) (id : ℕ) (call : CallWords) (is : GivesRegion journal from id call)
-    → IsGranting id call is.region is.allocates (replay_of journal from)
+pub accepted_journal : (journal : List ℕ) (from : Replayed) (id asked policy : ℕ) (asking : CallWords)
+    → (is : GivesRegion journal from id asked policy asking)
+    → IsGranting id asked policy asking is.region is.allocates (replay_of journal from)
 unfolding replay_of granted_of
-accepted_journal journal from id call is =
-    lines_grant id call is.region is.allocates 1 (lines journal) from
-    (subst (IsSized id call.a) (sym is.opening) (opening_sized id call.a)) is.accepted is.granted
+accepted_journal journal from id asked policy asking is =
+    lines_grant id asked policy asking is.region is.allocates 1 (lines journal) from
+    (subst (IsSized id asked) (sym is.opening) (opening_sized id asked)) is.accepted is.granted

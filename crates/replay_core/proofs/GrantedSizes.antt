@@ -5,7 +5,8 @@ use Rattle.std.specs.List.{find}
 use Rattle.std.proofs.lemmas.Bool.{cond_both}
 use Rattle.std.proofs.lemmas.List.Elements.{All-filter, All-head, All-map, All-nil, All-push, All-tail, All-weaker}
 use Rattle.std.proofs.lemmas.Option.{same_Some}
-use Rattle.nk_bits.specs.declared.call.CallWords.{CallWords}
+use Rattle.nk_body.specs.declared.call.Call.{Call}
+use Rattle.nk_body.specs.declared.call.Call.TheVariants.{Allocate}
 use Rattle.region_book.specs.RegionCalls.{freed, with_one_more}
 use Rattle.region_book.specs.RegionRecords.{Region, marked, region_of}
 use Rattle.policy_book.specs.PolicyRules.{book_by, log_by}
@@ -77,8 +78,9 @@ module _ (id size : ℕ) (before : Ledger) (sized : IsSized id size before) wher
       }
 
   -- before the identifier is given: a region that a call adds has this size, if it gets the identifier
-  pub sized_by : (call : CallWords) (answer : ℕ)
-      → ((r : Region) → r.id ≡ before.book.next → answer ≡ before.book.next → (call.number ≡ 7 → r.size ≡ call.a) → HasSize id size r)
+  pub sized_by : (call : Call) (answer : ℕ)
+      → ((r : Region) → r.id ≡ before.book.next → answer ≡ before.book.next
+      → ((n policy : ℕ) → call ≡ Allocate n policy → r.size ≡ n) → HasSize id size r)
       → IsKeptBy (IsSized id size) before call answer
   sized_by call answer new = record {
     stays = sized;
@@ -88,7 +90,7 @@ module _ (id size : ℕ) (before : Ledger) (sized : IsSized id size before) wher
   }
 
   -- and behind that no region gets it
-  pub given_by : (call : CallWords) (answer : ℕ) → id < before.book.next → IsKeptBy (IsGiven id size) before call answer
+  pub given_by : (call : Call) (answer : ℕ) → id < before.book.next → IsKeptBy (IsGiven id size) before call answer
   given_by call answer used = record {
     stays = record { sized = sized; used = used };
     grows = λ r pages is next asked.

@@ -7,7 +7,8 @@ use Rattle.nk_bits.specs.declared.call.CallWords.{CallWords}
 use Rattle.region_book.specs.RegionCalls.{alloc_rule, room}
 use Rattle.policy_book.specs.PolicyRules.{policy_rule}
 use Rattle.write_log.specs.LogRecords.{LogRecord, log_size}
-use Rattle.nk_body.specs.CallRules.{answer_to, made, verdict}
+use Rattle.nk_body.specs.CallRules.{answer_to}
+use Rattle.nk_body.specs.Calls.{call_of}
 use Rattle.nk_body.specs.NestedRecord.{Nested}
 use Rattle.nk_body.specs.SourceWords.{opening_ledger}
 use Rattle.replay_core.specs.GrantedCalls.{granted_in, granted_of}
@@ -30,7 +31,7 @@ module _ (nk : Nested) (memory : List ℕ) where
   -- an answer that is a rule's number
   low : ((journal : List ℕ) (from : Replayed) (id : ℕ) (call : CallWords) → from.nested.ledger ≡ opening_ledger
       → (replay_of journal from).bad ≡ None → granted_of journal id ≡ Some call → call.number ≡ 7 → 1 ≤ call.a) → ⊥
-  unfolding granted_of granted_in replay_of replay_from verdict made answer_to alloc_rule room
+  unfolding granted_of granted_in replay_of replay_from call_of answer_to alloc_rule room
   low law =
       let wrong : 1 ≤ 0 = law (codes "k 7 0 4 0 0 - 15 -\n") (opened nk memory) 15 nothing refl refl refl refl in
       omega arith
@@ -55,7 +56,7 @@ module _ (nk : Nested) (memory : List ℕ) where
       → (replay_of journal from).bad ≡ None → granted_of journal id ≡ Some call → call.number ≡ 7
       → Contains (replay_of journal from).made.nested.ledger.log it → it.region ≡ id
       → it.offset + length it.bytes ≤ call.a) → ⊥
-  unfolding granted_of granted_in replay_of replay_from verdict made answer_to alloc_rule room
+  unfolding granted_of granted_in replay_of replay_from call_of answer_to alloc_rule room
   written law =
       let stays : (replay_of one_byte written_before).made.nested.ledger.log ≡ early ∷ [] = refl in
       let wrong : 2 ≤ 1 =
@@ -71,7 +72,7 @@ module _ (nk : Nested) (memory : List ℕ) where
       (bad nk memory whole ≡ None) ×
       (left nk memory whole ≡ (nk.trap, 257, 0, 1)) ×
       ((replay nk memory whole).made.nested.ledger.log ≡ early ∷ [])
-  unfolding replay_of replay_from verdict made answer_to decode_pairs alloc_rule room policy_rule log_size
+  unfolding replay_of replay_from call_of answer_to decode_pairs alloc_rule room policy_rule log_size
   let_go = (refl, refl, refl)
 
   -- a byte more is refused, and isn't in the log
@@ -79,5 +80,5 @@ module _ (nk : Nested) (memory : List ℕ) where
   past = codes "k 7 2 4 0 0 - 256 ffffff8000010000\nk 9 100 0 1000 3 - 21 -\nk 9 100 1 1000 2 - 21 -\n"
 
   refused : (bad nk memory past ≡ None) × (left nk memory past ≡ (nk.trap, 257, 1, 0))
-  unfolding replay_of replay_from verdict made answer_to decode_pairs alloc_rule room policy_rule log_size
+  unfolding replay_of replay_from call_of answer_to decode_pairs alloc_rule room policy_rule log_size
   refused = (refl, refl)

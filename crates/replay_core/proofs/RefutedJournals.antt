@@ -5,7 +5,8 @@ use Rattle.hex.specs.Hex.{decode_pairs}
 use Rattle.region_book.specs.RegionCalls.{alloc_rule, room}
 use Rattle.region_book.specs.RegionRecords.{region_stores}
 use Rattle.policy_book.specs.PolicyRules.{policy_rule}
-use Rattle.nk_body.specs.CallRules.{answer_to, made, puts, verdict}
+use Rattle.nk_body.specs.CallRules.{answer_to, puts}
+use Rattle.nk_body.specs.Calls.{call_of}
 use Rattle.nk_body.specs.NestedRecord.{Nested}
 use Rattle.replay_core.specs.ReplayedCalls.{replay_from, replay_of}
 use Rattle.replay_core.proofs.WorkedReplays.{bad, left, replay}
@@ -34,7 +35,7 @@ module _ (nk : Nested) (memory : List ℕ) where
   wrong_somewhere number journal wrong right = cc
 
   right : IsRight (allocated ++ written ++ refused ++ freed)
-  unfolding replay_of replay_from verdict made answer_to decode_pairs alloc_rule room policy_rule
+  unfolding replay_of replay_from call_of answer_to decode_pairs alloc_rule room policy_rule
   right = refl
 
   -- a rule for an accepted call, and 0 for a refused one; another identifier, and another place
@@ -43,7 +44,7 @@ module _ (nk : Nested) (memory : List ℕ) where
       IsWrongAt 3 (allocated ++ written ++ codes "k 9 100 1 1000 1 03 0 -\n" ++ freed) ×
       IsWrongAt 1 (codes "k 7 4 1 0 0 - 257 ffffff8000010000\n" ++ written ++ refused ++ freed) ×
       IsWrongAt 1 (codes "k 7 4 1 0 0 - 256 ffffff8000010010\n" ++ written ++ refused ++ freed)
-  unfolding replay_of replay_from verdict made answer_to decode_pairs alloc_rule room policy_rule
+  unfolding replay_of replay_from call_of answer_to decode_pairs alloc_rule room policy_rule
   other_answers = (refl, refl, refl, refl)
 
   -- a byte less, and one more; none that could be read, where the call is accepted; and one for a call that takes none
@@ -52,7 +53,7 @@ module _ (nk : Nested) (memory : List ℕ) where
       IsWrongAt 2 (allocated ++ codes "k 9 100 0 1000 2 010203 0 -\n" ++ refused ++ freed) ×
       IsWrongAt 2 (allocated ++ codes "k 9 100 0 1000 2 ! 0 -\n" ++ refused ++ freed) ×
       IsWrongAt 4 (allocated ++ written ++ refused ++ codes "k 8 100 0 0 0 01 0 -\n")
-  unfolding replay_of replay_from verdict made answer_to decode_pairs alloc_rule room policy_rule
+  unfolding replay_of replay_from call_of answer_to decode_pairs alloc_rule room policy_rule
   other_sources = (refl, refl, refl, refl)
 
   -- a line that a later answer rests on, and one that stands twice
@@ -60,14 +61,14 @@ module _ (nk : Nested) (memory : List ℕ) where
       IsWrongAt 1 (written ++ refused ++ freed) ×
       IsWrongAt 2 (allocated ++ refused ++ freed) ×
       IsWrongAt 5 (allocated ++ written ++ refused ++ freed ++ freed)
-  unfolding replay_of replay_from verdict made answer_to decode_pairs alloc_rule room policy_rule
+  unfolding replay_of replay_from call_of answer_to decode_pairs alloc_rule room policy_rule
   left_out = (refl, refl, refl)
 
   exchanged :
       IsWrongAt 1 (written ++ allocated ++ refused ++ freed) ×
       IsWrongAt 2 (allocated ++ refused ++ written ++ freed) ×
       IsWrongAt 4 (allocated ++ written ++ freed ++ refused)
-  unfolding replay_of replay_from verdict made answer_to decode_pairs alloc_rule room policy_rule
+  unfolding replay_of replay_from call_of answer_to decode_pairs alloc_rule room policy_rule
   exchanged = (refl, refl, refl)
 
   -- no answer rests on the last line, but the region lives on without it
@@ -75,7 +76,7 @@ module _ (nk : Nested) (memory : List ℕ) where
       IsRight (allocated ++ written ++ refused) ×
       (left nk memory (allocated ++ written ++ refused) ≡ (nk.trap, 257, 1, 0)) ×
       (left nk memory (allocated ++ written ++ refused ++ freed) ≡ (nk.trap, 257, 0, 0))
-  unfolding replay_of replay_from verdict made answer_to decode_pairs alloc_rule room policy_rule
+  unfolding replay_of replay_from call_of answer_to decode_pairs alloc_rule room policy_rule
   last_left_out = (refl, refl, refl)
 
   -- nor on the bytes of a source, but they stand in the region: its second byte is at 1 in frame 10
@@ -86,5 +87,5 @@ module _ (nk : Nested) (memory : List ℕ) where
       IsRight (allocated ++ codes "k 9 100 0 1000 2 0103 0 -\n") ×
       (second_byte (allocated ++ codes "k 9 100 0 1000 2 0103 0 -\n") ≡ 3) ×
       (second_byte (allocated ++ written) ≡ 2)
-  unfolding replay_of replay_from verdict made answer_to decode_pairs alloc_rule room policy_rule region_stores puts
+  unfolding replay_of replay_from call_of answer_to decode_pairs alloc_rule room policy_rule region_stores puts
   other_bytes = (refl, refl, refl)

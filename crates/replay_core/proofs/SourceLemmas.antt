@@ -1,6 +1,6 @@
 -- The bytes of a source's word, read into a buffer of as many.
 use Rattle.std.proofs.Common.{◌≡◌, ℕ, ◌/◌, ◌%◌, ◌==◌, Bool, true, false, List, length, ◌++◌, Option, None, Some, Result, Ok, Err, codes, refl, sym, ap, ◌∙◌, if◌then◌else◌, inl, inr, arith}
-use Rattle.std.specs.Prelude.{◌&&◌, is_some}
+use Rattle.std.specs.Prelude.{◌&&◌, is_some, take}
 use Rattle.std.specs.List.{list_all}
 use Rattle.std.specs.Option.{option_map}
 use Rattle.std.specs.Str.{bytes_eq}
@@ -13,9 +13,8 @@ use Rattle.hex.proofs.HexLemmas.{decode_of-err, decode_of-ok, decode_pairs-ok}
 use Rattle.hex.specs.declared.error.FromHexError.{FromHexError}
 use Rattle.hex.specs.declared.error.FromHexError.TheVariants.{OddLength, InvalidStringLength}
 use Rattle.hex.specs.Hex.{decode_of, decode_pairs, decode_sized, is_hex_digit}
-use Rattle.nk_body.specs.CallRules.{Bytes, Sourced}
-use Rattle.replay_core.specs.declared.source.Taken.TheVariants as taken
-use Rattle.replay_core.specs.HeardLines.{given_source, put_in, so_many, source_in}
+use Rattle.nk_body.specs.CallRules.{Bytes, Sourced, Unreadable}
+use Rattle.replay_core.specs.HeardLines.{given_source, put_in, so_many, source_where}
 use Rattle.replay_core.specs.JournalLines.{bytes_of_word, decoded, is_lower, source_of_word}
 
 decoded_by : (odd fits : Bool) (pairs : Result (List ℕ) FromHexError) (count : ℕ)
@@ -47,7 +46,7 @@ read_lower done word front count lower put =
 -- what is read of bytes that a word has, or hasn't
 module _ (count : ℕ) (front back : List ℕ) (size : length front ≡ count) where
   abbrev given : Bool → Option Sourced
-  given done = option_map (source_in (front ++ back)) (if done then Some (taken.Bytes count) else None)
+  given done = if done then Some (Bytes (take count (front ++ back))) else None
 
   of_so_many : (done fits : Bool) (bytes : List ℕ) → put_in done front ≡ (if fits then Some bytes else None)
       → given done ≡ (if fits then Some (Bytes bytes) else None)
@@ -67,9 +66,10 @@ module _ (count : ℕ) (front back : List ℕ) (size : length front ≡ count) w
   -- the word isn't `!`
   pub taken_bytes : (done : Bool) (word : List ℕ) → false ≡ bytes_eq word (codes "!")
       → put_in done front ≡ so_many count (bytes_of_word word)
-      → given done ≡ given_source (Some count) (source_of_word word)
+      → source_where done (front ++ back) (Some count) word ≡ given_source (Some count) (source_of_word word)
   taken_bytes done word other put =
-      elim (cases_Bool (bytes_eq word (codes "-"))) [
+      ap (λ b. if done then Some (if b then Unreadable else Bytes (take count (front ++ back))) else None) (sym other)
+      ∙ elim (cases_Bool (bytes_eq word (codes "-"))) [
         | inl nothing ↦
             let is : word ≡ codes "-" = (bytes_eq-Decides word (codes "-")).0 nothing in
             of_bytes done None (put ∙ ap (λ w. so_many count (bytes_of_word w)) is)

@@ -4,7 +4,8 @@ use Rattle.std.specs.Prelude.{IfSome, ◌&&◌, nat_le, if◌then◌else◌}
 use Rattle.std.specs.List.{find}
 use Rattle.std.proofs.lemmas.Bool.{and_parts, leb-true}
 use Rattle.std.proofs.lemmas.List.Elements.{All-head, All-tail}
-use Rattle.nk_bits.specs.declared.call.CallWords.{CallWords}
+use Rattle.nk_body.specs.declared.call.Call.{Call}
+use Rattle.nk_body.specs.declared.call.Call.TheVariants.{Write}
 use Rattle.region_book.specs.RegionCalls.{fits_in, fits_region}
 use Rattle.region_book.specs.RegionRecords.{Book, IsBook, IsRegion, Region, region_of}
 use Rattle.nk_body.specs.CallRules.{wants}
@@ -30,15 +31,12 @@ fits_most (Some r) offset count most fits =
     let within = leb-true (offset + count) r.size parts.1 in
     omega arith
 
-pub wants_most : (book : Book) (call : CallWords) (room : ℕ) → IsBook book → 65536 ≤ room
+pub wants_most : (book : Book) (call : Call) (room : ℕ) → IsBook book → 65536 ≤ room
     → IfSome (wants book call) (λ count. count ≤ room)
-wants_most book call room is roomy = by_test (call.number == 9 && fits_in book call.a call.b call.d) refl
+wants_most book (Write id offset place n) room is roomy = by_test (fits_in book id offset n) refl
   where
-    by_test : (takes : Bool) → (call.number == 9 && fits_in book call.a call.b call.d) ≡ takes
-        → IfSome (if takes then Some call.d else None) (λ count. count ≤ room)
+    by_test : (takes : Bool) → fits_in book id offset n ≡ takes → IfSome (if takes then Some n else None) (λ count. count ≤ room)
     by_test true takes =
-        let most = fits_most (region_of book call.a) call.b call.d
-        (found_most book.next (λ r. r.id == call.a) book.regions is.each)
-        (and_parts (call.number == 9) (fits_in book call.a call.b call.d) takes).1 in
-        omega arith
+        let most = fits_most (region_of book id) offset n (found_most book.next (λ r. r.id == id) book.regions is.each) takes in omega arith
     by_test false takes = tt
+wants_most book _ room is roomy = tt

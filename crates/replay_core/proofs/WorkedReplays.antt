@@ -1,7 +1,8 @@
 -- Journals at worked values, over any tables, handler and memory.
 use Rattle.std.proofs.Common.{◌≡◌, ℕ, List, [], None, Some, Option, length, codes, refl}
 use Rattle.hex.specs.Hex.{decode_pairs}
-use Rattle.nk_body.specs.CallRules.{answer_to, made, verdict}
+use Rattle.nk_body.specs.CallRules.{answer_to}
+use Rattle.nk_body.specs.Calls.{call_of}
 use Rattle.nk_body.specs.NestedRecord.{Nested}
 use Rattle.nk_body.specs.SourceWords.{opening_ledger}
 use Rattle.region_book.specs.RegionCalls.{alloc_rule, room}
@@ -57,7 +58,7 @@ module _ (nk : Nested) (memory : List ℕ) where
       (bad (codes "k 1 5000 0 0 1 00 0 -\n") ≡ Some 1) ×
       (left (codes "k 1 5000 0 0 1 00 0 -\n") ≡ (nk.trap, 256, 0, 0)) ×
       (left (codes "k 1 5000 0 0 0 - 0 -\nend halted\nk 1 6000 0 0 0 - 0 -\n") ≡ (0x5000, 256, 0, 0))
-  unfolding replay_of replay_from verdict made answer_to decode_pairs
+  unfolding replay_of replay_from call_of answer_to decode_pairs
   handlers = (refl, refl, refl, refl, refl, refl, refl, refl, refl, refl, refl, refl, refl, refl, refl)
 
   -- a region of the pool, with its place; and what a call 9 takes: as many bytes as it names, or none where no region
@@ -79,5 +80,5 @@ module _ (nk : Nested) (memory : List ℕ) where
       (bad (codes "k 7 10 1 0 0 - 256 ffffff8000010000\nk 9 100 0 1000 0  21 -\n") ≡ Some 2) ×
       (bad (codes "k 9 100 0 1000 4 - 19 -\n") ≡ None) ×
       (bad (codes "k 9 100 0 1000 4 ! 19 -\n") ≡ Some 1)
-  unfolding replay_of replay_from verdict made answer_to decode_pairs alloc_rule room
+  unfolding replay_of replay_from call_of answer_to decode_pairs alloc_rule room
   regions = (refl, refl, refl, refl, refl, refl, refl, refl, refl, refl, refl, refl, refl, refl, refl, refl)

@@ -1,12 +1,10 @@
 -- A line as the code hears it, whose source stays a word, and the source as the code takes it: its bytes stand at the
 -- front of a buffer.
-use Rattle.std.specs.Prelude.{ℕ, Bool, ◌==◌, if◌then◌else◌, List, length, take, Option, None, Some}
+use Rattle.std.specs.Prelude.{ℕ, Bool, ◌==◌, if◌then◌else◌, List, codes, length, take, Option, None, Some}
 use Rattle.nk_body.specs.CallRules.{Bytes, NotTaken, Sourced, Unreadable}
 use Rattle.replay_core.specs.declared.heard.ReadLine.{ReadLine}
 use Rattle.replay_core.specs.declared.heard.ReadLine.TheVariants as read
-use Rattle.replay_core.specs.declared.source.Taken.{Taken}
-use Rattle.replay_core.specs.declared.source.Taken.TheVariants as taken
-use Rattle.replay_core.specs.JournalLines.{Ends, Heard, Passes, noted_with, source_of_word}
+use Rattle.replay_core.specs.JournalLines.{Ends, Heard, Passes, is_text, noted_with, source_of_word}
 use Rattle.replay_core.specs.ReplayedCalls.{is_given}
 
 -- what the line says, once the word of its source is read; None where that is out of form
@@ -26,17 +24,14 @@ abbrev pub so_many : ℕ → Option (List ℕ) → Option (List ℕ)
 so_many count None = None
 so_many count (Some bytes) = if length bytes == count then Some bytes else None
 
--- how many bytes of the buffer are the source's
-abbrev pub taken_count : Taken → ℕ
-taken_count taken.Nothing = 0
-taken_count taken.Unreadable = 0
-taken_count (taken.Bytes count) = count
+-- the source of a call that wants so many bytes, by the buffer and the word
+abbrev pub source_in : List ℕ → Option ℕ → List ℕ → Sourced
+source_in buffer None word = NotTaken
+source_in buffer (Some count) word = if is_text (codes "!") word then Unreadable else Bytes (take count buffer)
 
--- the source, by the buffer
-abbrev pub source_in : List ℕ → Taken → Sourced
-source_in buffer taken.Nothing = NotTaken
-source_in buffer taken.Unreadable = Unreadable
-source_in buffer (taken.Bytes count) = Bytes (take count buffer)
+-- where the call takes what the word notes
+abbrev pub source_where : Bool → List ℕ → Option ℕ → List ℕ → Option Sourced
+source_where done buffer wanted word = if done then Some (source_in buffer wanted word) else None
 
 -- the source that is noted, where a call that wants so many bytes takes it
 abbrev pub given_source : Option ℕ → Option Sourced → Option Sourced

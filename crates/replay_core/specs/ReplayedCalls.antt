@@ -3,6 +3,7 @@
 use Rattle.std.specs.Prelude.{◌≡◌, ℕ, ◌+◌, Bool, true, false, ◌&&◌, ◌==◌, if◌then◌else◌, List, [], ◌∷◌, length, Option, None, Some, ⊤}
 use Rattle.phys_mem.specs.MaskedMemory.{seen}
 use Rattle.nk_bits.specs.declared.call.Answer.{Answer}
+use Rattle.nk_body.specs.Calls.{call_of}
 use Rattle.nk_body.specs.CallRules.{Bytes, NotTaken, Sourced, Unreadable, after_call, answer_to, memory_after_call, stand_of, wants}
 use Rattle.nk_body.specs.NestedRecord.{Books, Nested, OwnState, books_in, nested_by}
 use Rattle.text_lines.specs.TextLines.{lines, words}
@@ -43,16 +44,16 @@ is_answer answer it = answer.value == it.value && is_same_place answer.place it.
 
 -- the source and the answer that are noted are those that the record gives
 abbrev pub is_source_right : Replayed → Noted → Bool
-is_source_right s it = is_given (wants s.nested.ledger.book it.call) it.source
+is_source_right s it = is_given (wants s.nested.ledger.book (call_of it.call)) it.source
 
 abbrev pub is_answer_right : Replayed → Noted → Bool
-is_answer_right s it = is_answer (answer_to s.nested it.call it.source) it
+is_answer_right s it = is_answer (answer_to s.nested (call_of it.call) it.source) it
 
--- record and memory after the call; a call 6 finds in its frames what memory holds
+-- record and memory after the call; pages that are declared hold what memory holds
 abbrev pub replayed : Replayed → Noted → Replayed
 replayed s it = record {
-  nested = after_call s.nested it.call it.source (stand_of s.nested it.call s.memory);
-  memory = memory_after_call s.nested it.call it.source s.memory;
+  nested = after_call s.nested (call_of it.call) it.source (stand_of s.nested (call_of it.call) s.memory);
+  memory = memory_after_call s.nested (call_of it.call) it.source s.memory;
 }
 
 -- where a replay ends: what was made, and the number of the first line that isn't right, if any

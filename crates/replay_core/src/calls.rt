@@ -1,6 +1,7 @@
 //! The calls of a journal, made in order.
 
 ghost use Rattle.std.specs.Prelude.{◌≡◌, ◌≢◌, ◌≤◌, ◌<◌, ◌+◌, ◌*◌, ◌^◌, ◌==◌, ◌&&◌, ℕ, None, Err, IfErr, IfOk, Some, length, true};
+ghost use Rattle.nk_body.specs.Calls.{call_of};
 ghost use Rattle.nk_body.specs.CallRules.{wants};
 ghost use Rattle.nk_body.specs.NestedRecord.{HoldsBooks, books_in};
 ghost use Rattle.nk_body.specs.SourceWords.{opening_ledger, sourced_of};
@@ -15,7 +16,7 @@ ghost use Rattle.text_lines.specs.TextLines.{words};
 
 use crate::fault::ReplayFault;
 use crate::heard::{ReadCall, ReadLine, hear};
-use crate::source::{source, take};
+use crate::source::{is_taken, source};
 use nk_bits::Answer;
 use nk_body::{Kernel, Source, call_leaves_law};
 use phys_mem::{PhysMem, mask_law};
@@ -55,7 +56,7 @@ fn is_answer(answer: &Answer, noted: &ReadCall) -> bool
 fn make(kernel: &mut Kernel, mem: &mut PhysMem, noted: &ReadCall, source: Source) -> Step
     requires books { HoldsBooks kernel.old mem.old }
     requires next { (books_in kernel.old mem.old).ledger.book.next < 2 ^ 63 }
-    requires given { is_given (wants (books_in kernel.old mem.old).ledger.book noted.now.call) (sourced_of source) ≡ true }
+    requires given { is_given (wants (books_in kernel.old mem.old).ledger.book (call_of noted.now.call)) (sourced_of source) ≡ true }
     ensures step { (number : ℕ) (later : Replayed → WholeReplay)
         → with_noted number (standing_held kernel.old mem.old) (noted_in noted.now (sourced_of source.entry)) later
         ≡ after_step result number (standing_held kernel.new mem.new) later }
@@ -87,9 +88,10 @@ fn follow_call(kernel: &mut Kernel, mem: &mut PhysMem, buffer: &mut [u8], noted:
     ensures room { length buffer.new ≡ length buffer.old }
 {
     let wanted = kernel.wants(mem, &noted.call);
-    match take(buffer, wanted, noted.source) {
-        Some(taken) => make(kernel, mem, noted, source(buffer, taken)),
-        None => Step::Stops,
+    if is_taken(buffer, wanted, noted.source) {
+        make(kernel, mem, noted, source(buffer, wanted, noted.source))
+    } else {
+        Step::Stops
     }
 }
 

@@ -1,23 +1,14 @@
 //! What a call took from memory, as a journal notes it.
 
 ghost use Rattle.std.specs.Prelude.{◌≡◌, ◌≤◌, IfSome, is_some, length};
-ghost use Rattle.std.specs.Option.{option_map};
 ghost use Rattle.std.specs.List.{list_all};
 ghost use Rattle.hex.specs.Hex.{decode_sized, is_hex_digit};
 ghost use Rattle.nk_body.specs.SourceWords.{sourced_of};
 ghost use Rattle.replay_core.specs.JournalLines.{bytes_of_word, decoded, source_of_word};
-ghost use Rattle.replay_core.specs.HeardLines.{taken_count, given_source, put_in, so_many, source_in};
+ghost use Rattle.replay_core.specs.HeardLines.{given_source, put_in, so_many, source_in, source_where};
 
 use crate::word::{is_lower, is_text};
 use nk_body::Source;
-
-/// What a call took; its bytes stand at the front of a buffer.
-#[derive(Clone, Copy)]
-pub(crate) enum Taken {
-    Nothing,
-    Unreadable,
-    Bytes(usize),
-}
 
 /// Puts the bytes of a word of two digits each, of either case, into a buffer of as many.
 fn is_decoded(buffer: &mut [u8], word: &[u8]) -> bool
@@ -36,37 +27,31 @@ fn is_read(buffer: &mut [u8], word: &[u8]) -> bool
     is_lower(word) && is_decoded(buffer, word)
 }
 
-/// What the word notes of a call that wants so many bytes; None where the word is out of form, or the call doesn't take
-/// that.
+/// Puts the bytes that a word notes, if any, to the front of the buffer; whether the word is in form, and a call that
+/// wants so many bytes takes what it notes.
 #[tactic(auto, using(crate::proofs::SourceLemmas::taken_bytes))]
-pub(crate) fn take(buffer: &mut [u8], wanted: Option<u64>, word: &[u8]) -> Option<Taken>
+pub(crate) fn is_taken(buffer: &mut [u8], wanted: Option<u64>, word: &[u8]) -> bool
     requires room { IfSome wanted (λ count. count ≤ length buffer.old) }
     ensures size { length buffer.new ≡ length buffer.old }
-    ensures room { IfSome result (λ taken. taken_count taken ≤ length buffer.new) }
-    ensures taken { option_map (source_in buffer.new) result ≡ given_source wanted (source_of_word word.now) }
+    ensures room { IfSome wanted (λ count. count ≤ length buffer.new) }
+    ensures taken { source_where result buffer.new wanted word.now ≡ given_source wanted (source_of_word word.now) }
 {
     match wanted {
-        None => is_text(word, b"-").then_some(Taken::Nothing),
-        Some(count) => {
-            if is_text(word, b"!") {
-                Some(Taken::Unreadable)
-            } else {
-                let count = count as usize;
-                is_read(&mut buffer[..count], word).then_some(Taken::Bytes(count))
-            }
-        }
+        None => is_text(word, b"-"),
+        Some(_) if is_text(word, b"!") => true,
+        Some(count) => is_read(&mut buffer[..count as usize], word),
     }
 }
 
-/// The source of a call, from the buffer.
-pub(crate) fn source<'b>(buffer: &'b [u8], taken: Taken) -> Source<'b>
-    requires room { taken_count taken ≤ length buffer.now }
-    ensures { sourced_of result ≡ source_in buffer.now taken }
+/// The source of a call that takes what the word notes, its bytes at the front of the buffer.
+pub(crate) fn source<'b>(buffer: &'b [u8], wanted: Option<u64>, word: &[u8]) -> Source<'b>
+    requires room { IfSome wanted (λ count. count ≤ length buffer.now) }
+    ensures { sourced_of result ≡ source_in buffer.now wanted word.now }
 {
-    match taken {
-        Taken::Nothing => Source::NotTaken,
-        Taken::Unreadable => Source::Unreadable,
-        Taken::Bytes(count) => Source::Bytes(&buffer[..count]),
+    match wanted {
+        None => Source::NotTaken,
+        Some(_) if is_text(word, b"!") => Source::Unreadable,
+        Some(count) => Source::Bytes(&buffer[..count as usize]),
     }
 }
 

@@ -1,6 +1,7 @@
 //! The names of registers, flags, vectors, calls and rules.
 
 use nk_bits::Rule;
+use nk_body::Call;
 
 /// The general registers, by their numbers.
 pub(crate) static REGISTERS: [&str; 16] = [
@@ -61,19 +62,19 @@ pub(crate) fn rule_name(number: u64) -> Option<&'static str> {
     None
 }
 
-/// The name of a call by its number.
-pub(crate) fn call_name(number: u64) -> &'static str {
-    match number {
-        1 => "set-handler",
-        2 => "declare-table",
-        3 => "write-entry",
-        4 => "remove-table",
-        5 => "load-root",
-        6 => "declare-pages",
-        7 => "allocate",
-        8 => "free",
-        9 => "write",
-        _ => "none",
+/// The name of a call.
+pub(crate) fn call_name(call: Call) -> &'static str {
+    match call {
+        Call::SetHandler { .. } => "set-handler",
+        Call::DeclareTable { .. } => "declare-table",
+        Call::WriteEntry { .. } => "write-entry",
+        Call::RemoveTable { .. } => "remove-table",
+        Call::LoadRoot { .. } => "load-root",
+        Call::DeclarePages { .. } => "declare-pages",
+        Call::Allocate { .. } => "allocate",
+        Call::Free { .. } => "free",
+        Call::Write { .. } => "write",
+        Call::NoCall => "none",
     }
 }
 

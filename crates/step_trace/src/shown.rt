@@ -13,6 +13,7 @@ use cpu_step::Touched;
 use gate_state::{Called, Machine, Seen, Step, Took};
 use irq_plan::What;
 use nk_bits::{Answer, CallWords, Delivery};
+use nk_body::call_of;
 use nk_host::{Pieces, Sink, SinkFault};
 use phys_mem::PhysMem;
 use x86_decode::Op;
@@ -78,7 +79,7 @@ fn put_call(line: &mut Line, call: &CallWords) {
     line.text(" - call ");
     line.decimal(call.number);
     line.text(" ");
-    line.text(call_name(call.number));
+    line.text(call_name(call_of(call)));
     for (name, number) in [
         (" a ", call.a),
         (" b ", call.b),

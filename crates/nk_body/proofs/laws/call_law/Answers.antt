@@ -1,5 +1,6 @@
 use Rattle.nk_body.proofs.CallRecords.{call_met}
 use Rattle.nk_body.proofs.LowerLaws.{LowerLaws}
+use Rattle.nk_body.proofs.WideCalls.{wide_of}
 use Rattle.nk_body.proofs.laws.call_law.Goals as goal
 
 pub returns : goal.returns
@@ -13,6 +14,7 @@ returns c =
       declared = c.declared_law.ensures;
     } in
     record {
+      wide = wide_of;
       nested = λ kinds root ledger m call source is. (call_met lower kinds root ledger m call source is).nested;
       sound = λ kinds root ledger m call source is. (call_met lower kinds root ledger m call source is).holds;
       kept = λ kinds root ledger m call source is. (call_met lower kinds root ledger m call source is).keeps;

@@ -5,9 +5,9 @@ use Rattle.replay_core.proofs.granting.granted_law.Goals as goal
 
 pub returns : goal.returns
 returns c = record {
-  size = λ journal from id call is.
-      let ends = accepted_journal journal from id call is in (ends.least, ends.most);
-  within = λ journal from id call it is there.
-      let ends = accepted_journal journal from id call is in
-      All-contains (LiesWithin id call.a) _ it ends.sized.writes there;
+  size = λ journal from id size policy words is.
+      let ends = accepted_journal journal from id size policy words is in (ends.least, ends.most);
+  within = λ journal from id size policy words it is there.
+      let ends = accepted_journal journal from id size policy words is in
+      All-contains (LiesWithin id size) _ it ends.sized.writes there;
 }

@@ -3,7 +3,7 @@ use Rattle.std.specs.Prelude.{OnSome}
 use Rattle.nk_bits.specs.Accesses.{wp_of}
 use Rattle.cpu_step.specs.Turns.{enters_body}
 use Rattle.nk_body.specs.BooksTouched.{LeavesBooks}
-use Rattle.gate_state.specs.MachineSteps.{call_in, verdict_in}
+use Rattle.gate_state.specs.MachineSteps.{asked_in, verdict_in}
 use Rattle.gate_state.specs.WholeMachine.{HeldState, WholeState, known_of, served_whole}
 use Rattle.gate_state.proofs.BodyKept.{body_stands}
 use Rattle.gate_state.proofs.WholeLemmas.{served_behind, served_clear}
@@ -36,5 +36,5 @@ returns-clause-refused c =
 
 pub returns-clause-leaves : goal.returns-clause-leaves
 returns-clause-leaves c =
-    subst (λ (w : HeldState). LeavesBooks w.state.ledger.book (call_in w.state.processor.regs) w.real c.serve-called.new.self.real)
+    subst (λ (w : HeldState). LeavesBooks w.state.ledger.book (asked_in w.state) w.real c.serve-called.new.self.real)
     (c.deref_mut.ensures.value ∙ c.self.view_is) c.serve-called.ensures.leaves

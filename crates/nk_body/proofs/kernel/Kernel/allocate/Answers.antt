@@ -5,13 +5,13 @@ use Rattle.page_desc.specs.FrameDescriptors.{Descriptors}
 use Rattle.phys_mem.specs.MaskedMemory.{seen}
 use Rattle.region_book.specs.RegionBytes.{book_in}
 use Rattle.write_log.specs.LogBytes.{log_in}
+use Rattle.nk_body.specs.declared.call.Call.TheVariants.{Allocate}
 use Rattle.nk_body.specs.CallMade.{IsMade}
 use Rattle.nk_body.specs.NestedRecord.{HoldsBooks, OwnState, books_in}
 use Rattle.nk_body.proofs.CallsMade.{books_of, held_before, made_as, own_of}
 use Rattle.nk_body.proofs.RegionsHeld.{beside_stands, err_with}
 use Rattle.nk_body.proofs.RegionsMade.{pool_made}
 use Rattle.nk_body.proofs.BooksLeft.{err_as, own_stands, pool_leaves}
-use Rattle.nk_body.specs.BooksTouched.{touches_regions}
 use Rattle.nk_body.proofs.kernel.Kernel.allocate.Goals.{in-Err, in-Ok}
 use Rattle.nk_body.proofs.kernel.Kernel.allocate.Goals as goal
 
@@ -28,10 +28,10 @@ returns-clause-made c source =
     let later : List ℕ = c.alloc.new.mem in
     let stands = beside_stands before m later held c.alloc.ensures.size c.stored_law.ensures c.held_log_law.ensures c.alloc.ensures.others in
     made_as m before c.args.self.now (rule_of c.alloc.result) (rule_of c.match-alloc.result) c.self.view_is same
-    (subst (λ (d : Descriptors). IsMade (books_in before m) (seen m) c.args.call.now source (rule_of c.alloc.result)
+    (subst (λ (d : Descriptors). IsMade (books_in before m) (seen m) (Allocate c.args.size c.args.policy) source (rule_of c.alloc.result)
     (books_of d before.root before.trap (book_in c.alloc.new.self later) (log_in before.log later)) (seen later)) (sym stands.described)
     (pool_made (descriptors_in m) before.root before.trap (book_in before.regions m) (book_in c.alloc.new.self later) (log_in before.log m)
-    (log_in before.log later) (seen m) (seen later) c.args.call.now source held.books c.requires.number c.page_tables_law.ensures stands.log
+    (log_in before.log later) (seen m) (seen later) source held.books c.args.size c.args.policy c.page_tables_law.ensures stands.log
     c.alloc.result c.alloc.ensures.judged (err_with (λ same. (λ i. book_in (same.0 i) (same.1 i), ap seen same.1)) c.alloc.result c.alloc.ensures.refused)
     c.alloc.ensures.granted c.alloc.ensures.allocated c.alloc.ensures.memory))
 
@@ -59,5 +59,5 @@ returns-clause-refused c =
 
 pub returns-clause-leaves : goal.returns-clause-leaves
 returns-clause-leaves c =
-    pool_leaves (books_in c.args.self.now c.args.mem.now).ledger.book c.args.call.now c.args.mem.now c.alloc.new.mem (ap touches_regions c.requires.number)
+    pool_leaves (books_in c.args.self.now c.args.mem.now).ledger.book (Allocate c.args.size c.args.policy) c.args.mem.now c.alloc.new.mem refl
     c.alloc.ensures.others

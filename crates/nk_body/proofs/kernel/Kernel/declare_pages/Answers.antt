@@ -9,6 +9,7 @@ use Rattle.region_book.specs.RegionBytes.{book_in}
 use Rattle.vmmu.specs.declared.tables.Tables4.{Tables4}
 use Rattle.write_log.specs.LogBytes.{log_in}
 use Rattle.write_log.specs.LogRecords.{LogRecord}
+use Rattle.nk_body.specs.declared.call.Call.TheVariants.{DeclarePages}
 use Rattle.nk_body.specs.CallMade.{IsMade}
 use Rattle.nk_body.specs.NestedRecord.{HoldsBooks, OwnState, books_in}
 use Rattle.nk_body.proofs.CallsMade.{books_of, held_before, made_as, own_of}
@@ -16,7 +17,6 @@ use Rattle.nk_body.proofs.HeldBooks.{tables_of}
 use Rattle.nk_body.proofs.PagesMade.{pages_made, seen_map}
 use Rattle.nk_body.proofs.RegionsHeld.{err_with}
 use Rattle.nk_body.proofs.BooksLeft.{err_as, own_stands, pages_leave}
-use Rattle.nk_body.specs.BooksTouched.{touches_descriptors, touches_regions}
 use Rattle.nk_body.proofs.kernel.Kernel.declare_pages.Goals.{in-Err, in-Ok}
 use Rattle.nk_body.proofs.kernel.Kernel.declare_pages.Goals as goal
 
@@ -49,18 +49,18 @@ returns-clause-made c source =
     let log = c.held_log_law.ensures.agree before.log m later held.log c.declare.ensures.size
     (λ p low high. c.declare.ensures.others p high) in
     made_as m before c.args.self.now (rule_of c.declare.result) (rule_of c.match-declare.result) c.self.view_is same
-    (subst (λ (it : List ℕ × List LogRecord). IsMade (books_in before m) (seen m) c.args.call.now source (rule_of c.declare.result)
+    (subst (λ (it : List ℕ × List LogRecord). IsMade (books_in before m) (seen m) (DeclarePages c.args.address c.args.size c.args.policy) source (rule_of c.declare.result)
     (books_of (descriptors_in later) before.root before.trap (book_in c.declare.new.self later) it.1) it.0)
     (λ i. (sym c.declare.ensures.unseen i, sym log.0 i))
     (pages_made c.guarded_law.ensures c.declared_law.ensures c.record_walk_law.ensures c.walk_law.ensures c.page_tables_law.ensures (descriptors_in m) (descriptors_in later) before.root before.trap
-    (book_in before.regions m) (book_in c.declare.new.self later) (log_in before.log m) (seen m) c.args.call.now source held.books c.requires.number
+    (book_in before.regions m) (book_in c.declare.new.self later) (log_in before.log m) (seen m) c.args.address c.args.size c.args.policy source held.books
     c.declare.result
     (c.declare.ensures.judged ∙ ap (λ at. pages_rule (book_in before.regions m) (kinds_in m) (slice_index (descriptors_in m).loose) at
-    c.args.call.now.a c.args.call.now.b c.args.call.now.c) map)
+    c.args.address c.args.size c.args.policy) map)
     (err_with (λ same. (λ i. book_in (same.0 i) (same.1 i), ap descriptors_in same.1)) c.declare.result c.declare.ensures.refused)
-    (subst (λ at. OnOk c.declare.result (IfSome (frames_from at (c.args.call.now.a / 4096) (c.args.call.now.b / 4096))
+    (subst (λ at. OnOk c.declare.result (IfSome (frames_from at (c.args.address / 4096) (c.args.size / 4096))
     (λ fs. (book_in c.declare.new.self later ≡ with_one_more (book_in before.regions m)
-    (page_region (book_in before.regions m) c.args.call.now.a c.args.call.now.b c.args.call.now.c fs) (length fs))
+    (page_region (book_in before.regions m) c.args.address c.args.size c.args.policy fs) (length fs))
     × (descriptors_in later ≡ record (descriptors_in m) { kinds = guarded (kinds_in m) fs })))) map c.declare.ensures.region)))
 
 pub returns-clause-form : goal.returns-clause-form
@@ -90,5 +90,5 @@ returns-clause-refused c =
 
 pub returns-clause-leaves : goal.returns-clause-leaves
 returns-clause-leaves c =
-    pages_leave (books_in c.args.self.now c.args.mem.now).ledger.book c.args.call.now c.args.mem.now c.declare.new.mem (ap touches_descriptors c.requires.number)
-    (ap touches_regions c.requires.number) c.declare.ensures.others
+    pages_leave (books_in c.args.self.now c.args.mem.now).ledger.book (DeclarePages c.args.address c.args.size c.args.policy) c.args.mem.now c.declare.new.mem refl refl
+    c.declare.ensures.others

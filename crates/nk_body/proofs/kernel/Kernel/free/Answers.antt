@@ -5,13 +5,13 @@ use Rattle.page_desc.specs.DescriptorBytes.{descriptors_in}
 use Rattle.page_desc.specs.FrameDescriptors.{Descriptors}
 use Rattle.region_book.specs.RegionBytes.{book_in}
 use Rattle.write_log.specs.LogBytes.{log_in}
+use Rattle.nk_body.specs.declared.call.Call.TheVariants.{Free}
 use Rattle.nk_body.specs.CallMade.{IsMade}
 use Rattle.nk_body.specs.NestedRecord.{HoldsBooks, OwnState, books_in}
 use Rattle.nk_body.proofs.CallsMade.{books_of, held_before, made_as, own_of}
 use Rattle.nk_body.proofs.RegionsHeld.{beside_stands, err_with}
 use Rattle.nk_body.proofs.RegionsMade.{free_made}
 use Rattle.nk_body.proofs.BooksLeft.{err_as, own_stands, pool_leaves}
-use Rattle.nk_body.specs.BooksTouched.{touches_regions}
 use Rattle.nk_body.proofs.kernel.Kernel.free.Goals.{in-Err, in-Ok}
 use Rattle.nk_body.proofs.kernel.Kernel.free.Goals as goal
 
@@ -29,10 +29,10 @@ returns-clause-made c source =
     let stands = beside_stands before m later held c.free.ensures.elsewhere.size c.stored_law.ensures c.held_log_law.ensures
     (λ p is. c.free.ensures.elsewhere.elsewhere p) in
     made_as m before c.args.self.now (rule_of c.free.result) (rule_of c.match-free.result) c.self.view_is same
-    (subst (λ (d : Descriptors). IsMade (books_in before m) (seen m) c.args.call.now source (rule_of c.free.result)
+    (subst (λ (d : Descriptors). IsMade (books_in before m) (seen m) (Free c.args.region) source (rule_of c.free.result)
     (books_of d before.root before.trap (book_in c.free.new.self later) (log_in before.log later)) (seen later)) (sym stands.described)
     (free_made (descriptors_in m) before.root before.trap (book_in before.regions m) (book_in c.free.new.self later) (log_in before.log m)
-    (log_in before.log later) (seen m) (seen later) c.args.call.now source held.books c.requires.number stands.log
+    (log_in before.log later) (seen m) (seen later) source held.books c.args.region stands.log
     (c.held_regions_law.ensures.unseen m later held.regions.size c.free.ensures.elsewhere) c.free.result c.free.ensures.judged
     (err_with (λ same. λ i. book_in (same.0 i) (same.1 i)) c.free.result c.free.ensures.refused) c.free.ensures.freed))
 
@@ -60,5 +60,5 @@ returns-clause-refused c =
 
 pub returns-clause-leaves : goal.returns-clause-leaves
 returns-clause-leaves c =
-    pool_leaves (books_in c.args.self.now c.args.mem.now).ledger.book c.args.call.now c.args.mem.now c.free.new.mem (ap touches_regions c.requires.number)
+    pool_leaves (books_in c.args.self.now c.args.mem.now).ledger.book (Free c.args.region) c.args.mem.now c.free.new.mem refl
     (λ p is. c.free.ensures.elsewhere.elsewhere p)

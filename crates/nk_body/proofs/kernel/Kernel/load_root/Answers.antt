@@ -6,7 +6,7 @@ use Rattle.vmmu.specs.declared.tables.Tables4.{Tables4}
 use Rattle.region_book.specs.RegionBytes.{book_in}
 use Rattle.write_log.specs.LogBytes.{log_in}
 use Rattle.nk_body.specs.NestedRecord.{HoldsBooks, OwnState, books_in}
-use Rattle.nk_body.proofs.CallNumbers.{made_is, number_5, verdict_is, written_5}
+use Rattle.nk_body.specs.declared.call.Call.TheVariants.{LoadRoot}
 use Rattle.nk_body.proofs.CallsMade.{held_before, made_as, own_of, on_ok, tables_made}
 use Rattle.nk_body.proofs.RegionsHeld.{err_with}
 use Rattle.nk_body.proofs.BooksLeft.{err_as, leaves_all, own_stands}
@@ -24,10 +24,10 @@ returns-clause-made c source =
     let held : HoldsBooks before c.args.mem.now = held_before before c.args.self.now c.args.mem.now c.self.view_is c.requires.books in
     made_as c.args.mem.now before c.args.self.now (rule_of c.load_root.result) (rule_of c.match-load_root.result) c.self.view_is same
     (tables_made (descriptors_in c.args.mem.now) (descriptors_in c.args.mem.now) c.self.inside.tables.root c.load_root.new.self.root
-    c.self.inside.trap (book_in c.self.inside.regions c.args.mem.now) (log_in c.self.inside.log c.args.mem.now) (seen c.args.mem.now) (seen c.args.mem.now) c.args.call.now source _ _
+    c.self.inside.trap (book_in c.self.inside.regions c.args.mem.now) (log_in c.self.inside.log c.args.mem.now) (seen c.args.mem.now) (seen c.args.mem.now) (LoadRoot c.args.frame) source _ _
     c.load_root.result
-    (made_is _ _ _ _ ∙ number_5 c.args.call.now.number _ _ _ _ _ _ _ _ _ _ c.requires.number) (written_5 _ _ _ _ c.requires.number) held.books
-    (c.load_root.ensures.judged ∙ sym (verdict_is _ _ _ ∙ number_5 c.args.call.now.number _ _ _ _ _ _ _ _ _ _ c.requires.number))
+    refl refl held.books
+    c.load_root.ensures.judged
     (err_with (λ same. (refl, ap (λ (t : Tables4). t.root) same, refl)) c.load_root.result c.load_root.ensures.refused)
     (on_ok c.load_root.result refl) c.load_root.ensures.root (on_ok c.load_root.result refl) c.load_root.ensures.books.described (λ none f is. is))
 
@@ -46,4 +46,4 @@ returns-clause-refused c =
     )) c.load_root.result c.load_root.ensures.refused)
 
 pub returns-clause-leaves : goal.returns-clause-leaves
-returns-clause-leaves c = leaves_all (books_in c.args.self.now c.args.mem.now).ledger.book c.args.call.now c.args.mem.now c.args.mem.now refl
+returns-clause-leaves c = leaves_all (books_in c.args.self.now c.args.mem.now).ledger.book (LoadRoot c.args.frame) c.args.mem.now c.args.mem.now refl

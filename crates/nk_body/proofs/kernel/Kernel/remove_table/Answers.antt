@@ -1,4 +1,4 @@
-use Rattle.std.proofs.Common.{◌≡◌, sym, ap, ◌∙◌, refl}
+use Rattle.std.proofs.Common.{◌≡◌, refl, sym, ap, ◌∙◌}
 use Rattle.nk_bits.specs.Rules.{rule_of}
 use Rattle.phys_mem.specs.MaskedMemory.{seen}
 use Rattle.page_desc.specs.DescriptorBytes.{descriptors_in}
@@ -6,11 +6,10 @@ use Rattle.region_book.specs.RegionBytes.{book_in}
 use Rattle.write_log.specs.LogBytes.{log_in}
 use Rattle.nk_body.specs.NestedRecord.{HoldsBooks, OwnState, books_in}
 use Rattle.nk_body.proofs.GuardedStays.{removed_stays}
-use Rattle.nk_body.proofs.CallNumbers.{made_is, number_4, verdict_is, written_4}
+use Rattle.nk_body.specs.declared.call.Call.TheVariants.{RemoveTable}
 use Rattle.nk_body.proofs.CallsMade.{held_before, made_as, own_of, on_ok, tables_made, with_ledger}
 use Rattle.nk_body.proofs.HeldBooks.{LedgerLaws, tables_form, tables_ledger, unchanged}
 use Rattle.nk_body.proofs.BooksLeft.{err_as, own_stands, tables_leave}
-use Rattle.nk_body.specs.BooksTouched.{touches_descriptors}
 use Rattle.nk_body.proofs.RegionsHeld.{err_with}
 use Rattle.nk_body.proofs.kernel.Kernel.remove_table.Goals.{in-Err, in-Ok}
 use Rattle.nk_body.proofs.kernel.Kernel.remove_table.Goals as goal
@@ -30,15 +29,14 @@ returns-clause-made c source =
     made_as c.args.mem.now before c.args.self.now (rule_of c.remove_table.result) (rule_of c.match-remove_table.result) c.self.view_is same
     (with_ledger (descriptors_in c.remove_table.new.mem) c.remove_table.new.self.root c.self.inside.trap ledger.book ledger.log
     (tables_made (descriptors_in c.args.mem.now) (descriptors_in c.remove_table.new.mem) c.self.inside.tables.root c.remove_table.new.self.root
-    c.self.inside.trap (book_in c.self.inside.regions c.args.mem.now) (log_in c.self.inside.log c.args.mem.now) (seen c.args.mem.now) (seen c.remove_table.new.mem) c.args.call.now source _ _
+    c.self.inside.trap (book_in c.self.inside.regions c.args.mem.now) (log_in c.self.inside.log c.args.mem.now) (seen c.args.mem.now) (seen c.remove_table.new.mem) (RemoveTable c.args.frame) source _ _
     c.remove_table.result
-    (made_is _ _ _ _ ∙ number_4 c.args.call.now.number _ _ _ _ _ _ _ _ _ _ c.requires.number) (written_4 _ _ _ _ c.requires.number) held.books
-    (c.remove_table.ensures.judged ∙ sym (verdict_is _ _ _ ∙ number_4 c.args.call.now.number _ _ _ _ _ _ _ _ _ _ c.requires.number))
+    refl refl held.books
+    c.remove_table.ensures.judged
     (unchanged c.self.inside.tables c.remove_table.new.self c.args.mem.now c.remove_table.new.mem c.remove_table.result c.remove_table.ensures.refused)
     c.remove_table.ensures.kinds (on_ok c.remove_table.result c.remove_table.ensures.root)
     c.remove_table.ensures.memory c.remove_table.ensures.books.described
-    (λ none. removed_stays c.accepted_law.ensures.removed _ c.args.call.now.a
-    (sym (verdict_is _ _ source ∙ number_4 c.args.call.now.number _ _ _ _ _ _ _ _ _ _ c.requires.number) ∙ none))))
+    (λ none. removed_stays c.accepted_law.ensures.removed _ c.args.frame none)))
 
 pub returns-clause-form : goal.returns-clause-form
 returns-clause-form c =
@@ -63,5 +61,5 @@ returns-clause-refused c =
 
 pub returns-clause-leaves : goal.returns-clause-leaves
 returns-clause-leaves c =
-    tables_leave (books_in c.args.self.now c.args.mem.now).ledger.book c.args.call.now c.args.mem.now c.remove_table.new.mem (ap touches_descriptors c.requires.number)
+    tables_leave (books_in c.args.self.now c.args.mem.now).ledger.book (RemoveTable c.args.frame) c.args.mem.now c.remove_table.new.mem refl
     c.remove_table.ensures.others

@@ -1,15 +1,14 @@
-use Rattle.std.proofs.Common.{◌≡◌, sym, ap, ◌∙◌, refl}
+use Rattle.std.proofs.Common.{◌≡◌, refl, sym, ap, ◌∙◌}
 use Rattle.nk_bits.specs.Rules.{rule_of}
 use Rattle.phys_mem.specs.MaskedMemory.{seen}
 use Rattle.page_desc.specs.DescriptorBytes.{descriptors_in}
 use Rattle.region_book.specs.RegionBytes.{book_in}
 use Rattle.write_log.specs.LogBytes.{log_in}
 use Rattle.nk_body.specs.NestedRecord.{HoldsBooks, OwnState, books_in}
-use Rattle.nk_body.proofs.CallNumbers.{made_is, number_3, verdict_is, written_3}
+use Rattle.nk_body.specs.declared.call.Call.TheVariants.{WriteEntry}
 use Rattle.nk_body.proofs.CallsMade.{held_before, made_as, own_of, on_ok, tables_made, with_ledger}
 use Rattle.nk_body.proofs.HeldBooks.{LedgerLaws, tables_form, tables_ledger, unchanged}
 use Rattle.nk_body.proofs.BooksLeft.{err_as, own_stands, tables_leave}
-use Rattle.nk_body.specs.BooksTouched.{touches_descriptors}
 use Rattle.nk_body.proofs.RegionsHeld.{err_with}
 use Rattle.nk_body.proofs.kernel.Kernel.write_entry.Goals.{in-Err, in-Ok}
 use Rattle.nk_body.proofs.kernel.Kernel.write_entry.Goals as goal
@@ -29,10 +28,10 @@ returns-clause-made c source =
     made_as c.args.mem.now before c.args.self.now (rule_of c.write_entry.result) (rule_of c.match-write_entry.result) c.self.view_is same
     (with_ledger (descriptors_in c.write_entry.new.mem) c.write_entry.new.self.root c.self.inside.trap ledger.book ledger.log
     (tables_made (descriptors_in c.args.mem.now) (descriptors_in c.write_entry.new.mem) c.self.inside.tables.root c.write_entry.new.self.root
-    c.self.inside.trap (book_in c.self.inside.regions c.args.mem.now) (log_in c.self.inside.log c.args.mem.now) (seen c.args.mem.now) (seen c.write_entry.new.mem) c.args.call.now source _ _
+    c.self.inside.trap (book_in c.self.inside.regions c.args.mem.now) (log_in c.self.inside.log c.args.mem.now) (seen c.args.mem.now) (seen c.write_entry.new.mem) (WriteEntry c.args.table c.args.index c.args.value) source _ _
     c.write_entry.result
-    (made_is _ _ _ _ ∙ number_3 c.args.call.now.number _ _ _ _ _ _ _ _ _ _ c.requires.number) (written_3 _ _ _ _ c.requires.number) held.books
-    (c.write_entry.ensures.judged ∙ sym (verdict_is _ _ _ ∙ number_3 c.args.call.now.number _ _ _ _ _ _ _ _ _ _ c.requires.number))
+    refl refl held.books
+    c.write_entry.ensures.judged
     (unchanged c.self.inside.tables c.write_entry.new.self c.args.mem.now c.write_entry.new.mem c.write_entry.result c.write_entry.ensures.refused)
     (on_ok c.write_entry.result c.write_entry.ensures.kinds)
     (on_ok c.write_entry.result c.write_entry.ensures.root) c.write_entry.ensures.memory c.write_entry.ensures.books.described
@@ -61,5 +60,5 @@ returns-clause-refused c =
 
 pub returns-clause-leaves : goal.returns-clause-leaves
 returns-clause-leaves c =
-    tables_leave (books_in c.args.self.now c.args.mem.now).ledger.book c.args.call.now c.args.mem.now c.write_entry.new.mem (ap touches_descriptors c.requires.number)
+    tables_leave (books_in c.args.self.now c.args.mem.now).ledger.book (WriteEntry c.args.table c.args.index c.args.value) c.args.mem.now c.write_entry.new.mem refl
     c.write_entry.ensures.others
