@@ -5,13 +5,13 @@ use Rattle.std.specs.List.{find}
 use Rattle.std.proofs.lemmas.Bool.{and_parts, false≢true, leb-true}
 use Rattle.std.proofs.lemmas.List.Elements.{All-head, All-tail}
 use Rattle.region_book.specs.RegionCalls.{fits_in, fits_region}
-use Rattle.region_book.specs.RegionRecords.{Book, IsBook, IsRegion, Region, region_of}
+use Rattle.region_book.specs.RegionRecords.{Book, IsBook, IsRegion, RegionRecord, region_of}
 use Rattle.nk_body.specs.declared.call.Call.{Call}
 use Rattle.nk_body.specs.declared.call.Call.TheVariants.{Write}
 use Rattle.nk_body.specs.CallRules.{wants}
 
 -- what holds of each region holds of the one that is found
-found_holds : (P : Region → Type 0) (test : Region → Bool) (rs : List Region) → All P rs → IfSome (find test rs) P
+found_holds : (P : RegionRecord → Type 0) (test : RegionRecord → Bool) (rs : List RegionRecord) → All P rs → IfSome (find test rs) P
 found_holds P test [] all = tt
 found_holds P test (r ∷ rs) all =
     choice (test r) (All-head P r rs all) (found_holds P test rs (All-tail P r rs all))
@@ -21,7 +21,7 @@ found_holds P test (r ∷ rs) all =
     choice false first rest = rest
 
 -- a range that fits is no longer than that
-fits_most : (next offset count : ℕ) (found : Option Region) → IfSome found (IsRegion next)
+fits_most : (next offset count : ℕ) (found : Option RegionRecord) → IfSome found (IsRegion next)
     → fits_region found offset count ≡ true → count ≤ 65536
 fits_most next offset count None is fits = absurd (false≢true fits)
 fits_most next offset count (Some r) is fits =

@@ -11,7 +11,7 @@ use Rattle.nk_bits.specs.Kinds.{kind_of}
 use Rattle.phys_mem.specs.Memory.{byte_at}
 use Rattle.page_desc.specs.PageTables.{is_table}
 use Rattle.region_book.specs.RegionCalls.{with_one_more, guarded, page_region}
-use Rattle.region_book.specs.RegionRecords.{Book, IsRegion, Region}
+use Rattle.region_book.specs.RegionRecords.{Book, IsRegion, RegionRecord}
 use Rattle.nk_body.specs.NestedRecord.{IsLedgerKept, Nested}
 use Rattle.nk_body.specs.ReplayBeside.{IsBeside, IsTold, frame_at, left_alone, offset_at}
 use Rattle.nk_body.proofs.CallChanges.{free_inside}
@@ -30,7 +30,7 @@ module _ (opened : ℕ → ℕ → ℕ) (tabled : ℕ → Bool) (nk : Nested) (h
       (region : IsRegion next (page_region book address size policy fs))
       (run_stand stand : ℕ → ℕ → ℕ) (stands : (f offset : ℕ) → among f fs ≡ true → offset < 4096
       → stand f offset ≡ byte_at m (4096 * f + offset)) where
-    abbrev pages : Region
+    abbrev pages : RegionRecord
     pages = page_region book address size policy fs
 
     abbrev run_after : ℕ → ℕ → ℕ
@@ -49,7 +49,7 @@ module _ (opened : ℕ → ℕ → ℕ) (tabled : ℕ → Bool) (nk : Nested) (h
     inside = free_inside kinds fs is
 
     -- the regions that were there
-    old_told : (q : Region) → IsRegion book.next q → All (λ f. kind_of kinds f ≡ Guarded) q.frames
+    old_told : (q : RegionRecord) → IsRegion book.next q → All (λ f. kind_of kinds f ≡ Guarded) q.frames
         → IsTold opened tabled nk.held held q → IsTold opened tabled run_after held_after q
     old_told q was guards told = record {
       bytes = λ at within.

@@ -11,7 +11,7 @@ use Rattle.nk_bits.specs.declared.kind.Kind.TheVariants.{Data, Guarded}
 use Rattle.nk_bits.specs.Kinds.{kind_of}
 use Rattle.phys_mem.specs.Memory.{stored}
 use Rattle.region_book.specs.RegionCalls.{with_one_more, freed, pool_region}
-use Rattle.region_book.specs.RegionRecords.{Book, IsRegion, Region, byte_place, marked, region_of, region_stores, with_region}
+use Rattle.region_book.specs.RegionRecords.{Book, IsRegion, RegionRecord, byte_place, marked, region_of, region_stores, with_region}
 use Rattle.nk_body.specs.CallRules.{puts}
 use Rattle.nk_body.specs.NestedRecord.{IsLedgerKept, Ledger, Nested}
 use Rattle.write_log.specs.LogRecords.{LogRecord}
@@ -54,7 +54,7 @@ module _ (laws : ReplayLaws) (opened : ℕ → ℕ → ℕ) (tabled : ℕ → Bo
     pool_after : (f offset : ℕ) → 10 ≤ f → f < 26 → offset < 4096 → held_after f offset ≡ run_after f offset
     pool_after f offset least most inside = puts_alike ws held nk.held f offset (beside.pool f offset least most inside)
 
-    pooled_told : (next : ℕ) (r : Region) → IsRegion next r → r.pooled ≡ true
+    pooled_told : (next : ℕ) (r : RegionRecord) → IsRegion next r → r.pooled ≡ true
         → IsTold opened tabled run_after held_after r
     pooled_told next r is pooled = record {
       bytes = λ at inside.
@@ -79,7 +79,7 @@ module _ (laws : ReplayLaws) (opened : ℕ → ℕ → ℕ) (tabled : ℕ → Bo
     }
 
     -- a region that no store hits
-    missed_told : (r : Region) → ((at : ℕ) → at < r.size → hits (byte_place r at) ws ≡ false)
+    missed_told : (r : RegionRecord) → ((at : ℕ) → at < r.size → hits (byte_place r at) ws ≡ false)
         → IsTold opened tabled nk.held held r → IsTold opened tabled run_after held_after r
     missed_told r missed told = record {
       bytes = λ at inside.
@@ -91,7 +91,7 @@ module _ (laws : ReplayLaws) (opened : ℕ → ℕ → ℕ) (tabled : ℕ → Bo
     }
 
   -- stores in a region
-  module _ (next : ℕ) (r : Region) (region : IsRegion next r) (guards : All (λ f. kind_of kinds f ≡ Guarded) r.frames)
+  module _ (next : ℕ) (r : RegionRecord) (region : IsRegion next r) (guards : All (λ f. kind_of kinds f ≡ Guarded) r.frames)
       (offset : ℕ) (bytes : List ℕ) (fits : offset + length bytes ≤ r.size) where
     abbrev ws : List (ℕ × ℕ)
     ws = region_stores r offset bytes
@@ -105,7 +105,7 @@ module _ (laws : ReplayLaws) (opened : ℕ → ℕ → ℕ) (tabled : ℕ → Bo
         (omega (arith, most, fits)))
 
     -- no store hits a region whose bytes stand apart
-    apart_told : (q : Region) → IsTold opened tabled nk.held held q
+    apart_told : (q : RegionRecord) → IsTold opened tabled nk.held held q
         → ((k at : ℕ) → k < r.size → at < q.size → byte_place r k ≢ byte_place q at)
         → IsTold opened tabled (puts nk.held ws) (puts held ws) q
     apart_told q told apart =
@@ -116,7 +116,7 @@ module _ (laws : ReplayLaws) (opened : ℕ → ℕ → ℕ) (tabled : ℕ → Bo
     -- a region of the pool
     pool_told : r.pooled ≡ true → All (IsTold opened tabled (puts nk.held ws) (puts held ws)) book.regions
     pool_told pooled k d below =
-        let q : Region = slice_index_or book.regions k d in
+        let q : RegionRecord = slice_index_or book.regions k d in
         let is : IsRegion book.next q = kept.book.each k d below in
         elim (cases_Bool q.pooled) [
           | inl also ↦ pooled_told ws in_guarded book.next q is also
@@ -182,17 +182,17 @@ module _ (laws : ReplayLaws) (opened : ℕ → ℕ → ℕ) (tabled : ℕ → Bo
     -- a write
     module _ (id : ℕ) (found : region_of book id ≡ Some r) (told : IsTold opened tabled nk.held held r)
         (log : List LogRecord) where
-      abbrev after : Region → Region
+      abbrev after : RegionRecord → RegionRecord
       after old = if old.id == r.id then marked r offset (length bytes) else old
 
-      other_told : (q : Region) → (q.id == r.id) ≡ false → region_of book q.id ≡ Some q
+      other_told : (q : RegionRecord) → (q.id == r.id) ≡ false → region_of book q.id ≡ Some q
           → IsTold opened tabled nk.held held q → IsTold opened tabled (puts nk.held ws) (puts held ws) q
       other_told q other q_found was =
           apart_told q was
           (λ k at. laws.region.between book id q.id k at r q kept.book
           (λ same. eqb-false q.id r.id other (sym same ∙ sym (found_id book id r found))) found q_found)
 
-      after_told : (q : Region) (b : Bool) → (q.id == r.id) ≡ b → region_of book q.id ≡ Some q
+      after_told : (q : RegionRecord) (b : Bool) → (q.id == r.id) ≡ b → region_of book q.id ≡ Some q
           → IsTold opened tabled nk.held held q
           → IsTold opened tabled (puts nk.held ws) (puts held ws) (if b then marked r offset (length bytes) else q)
       after_told q true same q_found was = marked_told id found told
@@ -207,22 +207,22 @@ module _ (laws : ReplayLaws) (opened : ℕ → ℕ → ℕ) (tabled : ℕ → Bo
           stored_beside ws in_guarded ledger_after
           (λ k d below.
           let short : k < length book.regions = omega (arith, below, length-map book.regions after) in
-          let q : Region = slice_index_or book.regions k d in
+          let q : RegionRecord = slice_index_or book.regions k d in
           subst (IsTold opened tabled (puts nk.held ws) (puts held ws))
           (sym (get_or-map after book.regions k d d short))
           (after_told q (q.id == r.id) refl (laws.region.listed book k d kept.book short) (beside.regions k d short)))
 
   -- a new region of the pool
-  abbrev with_added : Region → Ledger
+  abbrev with_added : RegionRecord → Ledger
   with_added r = record nk.ledger { book = with_one_more book r 0 }
 
   pub beside_allocated : (next size policy p : ℕ) → IsRegion next (pool_region book size policy p)
       → All (λ f. kind_of kinds f ≡ Guarded) (pool_region book size policy p).frames
-      → let r : Region = pool_region book size policy p in
+      → let r : RegionRecord = pool_region book size policy p in
       let ws = region_stores r 0 (replicate size 0) in
       IsBeside opened tabled (record nk { held = puts nk.held ws; ledger = with_added r }) (puts held ws) (stored m ws)
   beside_allocated next size policy p region guards =
-      let r : Region = pool_region book size policy p in
+      let r : RegionRecord = pool_region book size policy p in
       let zeros : List ℕ = replicate size 0 in
       let ws = region_stores r 0 zeros in
       let fits : 0 + length zeros ≤ r.size = omega (arith, length-replicate {A = ℕ} size 0) in

@@ -11,7 +11,7 @@ use Rattle.nk_bits.specs.Kinds.{is_data, kind_of, level_of}
 use Rattle.phys_mem.specs.Memory.{byte_at, frame_zeroed, stored, stores}
 use Rattle.page_desc.specs.FrameDescriptors.{last_value}
 use Rattle.page_desc.specs.PageTables.{is_table}
-use Rattle.region_book.specs.RegionRecords.{IsRegion, Region}
+use Rattle.region_book.specs.RegionRecords.{IsRegion, RegionRecord}
 use Rattle.vmmu.specs.AcceptedCalls.{IsDeclarable, IsRemovable, IsWritable}
 use Rattle.vmmu.specs.TableCalls.{declared, entry_written, memory_declared, memory_removed, memory_written, removed, root_loaded}
 use Rattle.nk_body.specs.NestedRecord.{IsLedgerKept, Nested}
@@ -164,7 +164,7 @@ module _ (laws : ByteLaws) (opened : ℕ → ℕ → ℕ) (tabled : ℕ → Bool
     other_frame : (f : ℕ) → kind_of kinds f ≡ Guarded → f ≢ frame
     other_frame f guarded same = guarded_data (sym guarded ∙ ap (kind_of kinds) same ∙ is.free)
 
-    still_told : (r : Region) → IsRegion nk.ledger.book.next r → All (λ f. kind_of kinds f ≡ Guarded) r.frames
+    still_told : (r : RegionRecord) → IsRegion nk.ledger.book.next r → All (λ f. kind_of kinds f ≡ Guarded) r.frames
         → IsTold opened tabled nk.held held r → IsTold opened also nk.held held r
     still_told r region guarded told = record {
       bytes = λ at inside. told.bytes at inside

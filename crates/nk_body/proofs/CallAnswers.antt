@@ -9,7 +9,7 @@ use Rattle.nk_bits.specs.declared.rule.Rule.TheVariants.{BadCall}
 use Rattle.nk_bits.specs.Rules.{rule_number}
 use Rattle.policy_book.specs.PolicyRules.{book_by}
 use Rattle.region_book.specs.RegionCalls.{room}
-use Rattle.region_book.specs.RegionRecords.{Region, region_of}
+use Rattle.region_book.specs.RegionRecords.{RegionRecord, region_of}
 use Rattle.nk_body.specs.declared.call.Call.{Call}
 use Rattle.nk_body.specs.declared.call.Call.TheVariants.{Allocate, DeclarePages, DeclareTable, LoadRoot, RemoveTable, Write}
 use Rattle.nk_body.specs.NestedRecord.{Nested}
@@ -66,7 +66,7 @@ module _ (nk : Nested) (stand : ℕ → ℕ → ℕ) where
   pool_next size policy None = omega arith
   pool_next size policy (Some p) = omega arith
 
-  written_next : (o : Option Region) (offset n : ℕ) → (book_by nk.ledger.book o offset n).next ≡ next nk
+  written_next : (o : Option RegionRecord) (offset n : ℕ) → (book_by nk.ledger.book o offset n).next ≡ next nk
   written_next None offset n = refl
   written_next (Some r) offset n = refl
 

@@ -4,7 +4,7 @@ use Rattle.std.specs.Prelude.{All, Option, Some, None, replicate, if◌then◌el
 use Rattle.std.proofs.lemmas.List.Elements.{All-nil, All-replicate}
 use Rattle.policy_book.specs.PolicyRules.{bounds_of, policy_of, policy_rule}
 use Rattle.region_book.specs.RegionCalls.{fits_in, fits_region, pool_region}
-use Rattle.region_book.specs.RegionRecords.{Region, region_of}
+use Rattle.region_book.specs.RegionRecords.{RegionRecord, region_of}
 use Rattle.nk_body.specs.declared.call.Call.TheVariants.{Write}
 use Rattle.nk_body.specs.CallRules.{IsSourceOf, Sourced, bytes_read, source_rule, wants, writing_rule, zeros_of}
 use Rattle.nk_body.specs.NestedRecord.{Ledger, Nested}
@@ -13,7 +13,7 @@ use Rattle.nk_body.proofs.RegionRules.{bounds_facts, source_facts, writing_facts
 
 -- bytes that are written in a live region
 pub record IsWriting (ledger : Ledger) (id offset : ℕ) (source : Sourced) : Type 0 where
-  pub region : Region
+  pub region : RegionRecord
   pub found : region_of ledger.book id ≡ Some region
   pub range : offset + length (bytes_read source) ≤ region.size
   pub admitted : policy_rule ledger.log region offset (length (bytes_read source)) ≡ None
@@ -21,7 +21,7 @@ pub record IsWriting (ledger : Ledger) (id offset : ℕ) (source : Sourced) : Ty
 pub write_facts : (nk : Nested) (id offset place n : ℕ) (source : Sourced) → IsSourceOf (wants nk.ledger.book (Write id offset place n)) source
     → writing_rule nk id offset n source ≡ None → IsWriting nk.ledger id offset source
 write_facts nk id offset place n source sourced none =
-    let o : Option Region = region_of nk.ledger.book id in
+    let o : Option RegionRecord = region_of nk.ledger.book id in
     let facts = writing_facts (bounds_of o offset n) (source_rule source) (policy_of nk.ledger.log o offset n) none in
     let live = bounds_facts o offset n facts.0 in
     let fits : fits_in nk.ledger.book id offset n ≡ true = ap (λ r. fits_region r offset n) live.1 ∙ live.2 in

@@ -13,7 +13,7 @@ use Rattle.phys_mem.specs.Memory.{byte_at, stored}
 use Rattle.page_desc.specs.PageTables.{loose_of}
 use Rattle.vmmu.specs.TableCalls.{entry_written, removed, root_loaded}
 use Rattle.region_book.specs.RegionCalls.{alloc_rule, page_region, pool_region}
-use Rattle.region_book.specs.RegionRecords.{IsRegion, Region}
+use Rattle.region_book.specs.RegionRecords.{IsRegion, RegionRecord}
 use Rattle.policy_book.specs.PolicyRules.{book_by, log_by, stores_by}
 use Rattle.nk_body.specs.declared.call.Call.{Call}
 use Rattle.nk_body.specs.declared.call.Call.TheVariants.{Allocate, DeclarePages, DeclareTable, Free, LoadRoot, NoCall, RemoveTable, SetHandler, Write, WriteEntry}
@@ -52,7 +52,7 @@ answer_same nk held call source =
     by_verdict (Some rule) = refl
 
 -- the last of a list
-last_holds : (P : Region → Type 0) (rs : List Region) (r : Region) → All P (rs ++ r ∷ []) → P r
+last_holds : (P : RegionRecord → Type 0) (rs : List RegionRecord) (r : RegionRecord) → All P (rs ++ r ∷ []) → P r
 last_holds P rs r all =
     subst P (get_or_push rs r r (length rs) refl) (all (length rs) r (omega (arith, length_push rs r)))
 
@@ -114,7 +114,7 @@ module _ (laws : ReplayLaws) (opened : ℕ → ℕ → ℕ) (tabled : ℕ → Bo
       (pool_guarded kinds nk.ledger kept size policy p facts facts.place.1)))
 
   -- a write in a region that lives, within it
-  write_by : Nested → Option Region → ℕ → Nested
+  write_by : Nested → Option RegionRecord → ℕ → Nested
   write_by x o offset = record x {
     held = puts x.held (stores_by o offset (bytes_read source));
     ledger = record {
@@ -128,8 +128,8 @@ module _ (laws : ReplayLaws) (opened : ℕ → ℕ → ℕ) (tabled : ℕ → Bo
   unfolding write_by
   of_written id offset place n sourced rule =
       let facts = write_facts nk id offset place n source sourced rule in
-      let r : Region = facts.region in
-      subst (λ (o : Option Region). Stays (write_by nk o offset) (write_by also o offset) (stored m (stores_by o offset (bytes_read source)))) (sym facts.found)
+      let r : RegionRecord = facts.region in
+      subst (λ (o : Option RegionRecord). Stays (write_by nk o offset) (write_by also o offset) (stored m (stores_by o offset (bytes_read source)))) (sym facts.found)
       (along (write_by nk (Some r) offset) _ _
       (beside_written laws opened tabled nk held m beside kept nk.ledger.book.next r
       (found_holds (IsRegion nk.ledger.book.next) nk.ledger.book id r facts.found kept.book.each)

@@ -10,7 +10,7 @@ use Rattle.nk_bits.specs.declared.rule.Rule.TheVariants.{NotCanonical}
 use Rattle.nk_bits.specs.Kinds.{kind_of}
 use Rattle.nk_bits.specs.Paging.{is_canonical}
 use Rattle.page_desc.specs.PageTables.{AreDescribed, Tables}
-use Rattle.region_book.specs.RegionRecords.{Book, Region}
+use Rattle.region_book.specs.RegionRecords.{Book, RegionRecord}
 use Rattle.region_book.specs.RegionBytes.{RegionIndex}
 use Rattle.write_log.specs.LogBytes.{LogCounts}
 use Rattle.write_log.specs.LogRecords.{LogRecord}
@@ -63,7 +63,7 @@ pub kept_under : (kinds after : List Kind) (ledger : Ledger) → IsLedgerKept ki
     → ((f : ℕ) → kind_of kinds f ≡ Guarded → kind_of after f ≡ Guarded) → IsLedgerKept after ledger
 kept_under kinds after ledger kept stays = record {
   book = kept.book;
-  frames = All-weaker _ _ (λ (r : Region) all. All-weaker _ _ (λ (f : ℕ) is. stays f is) r.frames all) ledger.book.regions kept.frames;
+  frames = All-weaker _ _ (λ (r : RegionRecord) all. All-weaker _ _ (λ (f : ℕ) is. stays f is) r.frames all) ledger.book.regions kept.frames;
   pool = λ f least most. stays f (kept.pool f least most);
   log = kept.log;
 }

@@ -12,7 +12,7 @@ use Rattle.nk_bits.specs.Kinds.{is_data, kind_of}
 use Rattle.policy_book.specs.PolicyRules.{book_by, book_written, log_by, log_written, policy_rule}
 use Rattle.region_book.specs.RegionCalls.{with_one_more, freed, guarded, meets, page_region, pool_region, room}
 use Rattle.nk_bits.specs.KernelLayout.{pool_start}
-use Rattle.region_book.specs.RegionRecords.{IsApart, IsEachOnce, IsRegion, Region, region_of}
+use Rattle.region_book.specs.RegionRecords.{IsApart, IsEachOnce, IsRegion, RegionRecord, region_of}
 use Rattle.write_log.specs.LogRecords.{log_size, logged}
 use Rattle.nk_body.specs.NestedRecord.{IsLedgerKept, Ledger}
 use Rattle.nk_body.proofs.GuardedFrames.{guarded_stays, guarded_there}
@@ -21,10 +21,10 @@ use Rattle.nk_body.proofs.RegionRules.{IsAllocable, IsDeclarable, logged_size, p
 use Rattle.nk_body.proofs.SoundBooks.{added_sound, removed_sound, written_frames, written_sound}
 
 -- the frames of a region are guarded
-abbrev pub AreGuarded : List Kind → Region → Type 0
+abbrev pub AreGuarded : List Kind → RegionRecord → Type 0
 AreGuarded kinds r = All (λ f. kind_of kinds f ≡ Guarded) r.frames
 
-none_meets : (p : Region → Bool) (rs : List Region) → list_any p rs ≡ false → All (λ r. p r ≡ false) rs
+none_meets : (p : RegionRecord → Bool) (rs : List RegionRecord) → list_any p rs ≡ false → All (λ r. p r ≡ false) rs
 none_meets p [] none = All-nil (λ r. p r ≡ false)
 none_meets p (r ∷ rs) none =
     let parts = or_parts (p r) (list_any p rs) none in All-cons (λ r. p r ≡ false) r rs parts.0 (none_meets p rs parts.1)
@@ -32,7 +32,7 @@ none_meets p (r ∷ rs) none =
 module _ (kinds : List Kind) (ledger : Ledger) (kept : IsLedgerKept kinds ledger) where
   -- a region of the pool is allocated
   module _ (size policy p : ℕ) (is : IsAllocable ledger.book size policy) (found : room ledger.book.regions size ≡ Some p) where
-    abbrev region : Region
+    abbrev region : RegionRecord
     region = pool_region ledger.book size policy p
 
     fits : p + size ≤ 65536
@@ -67,7 +67,7 @@ module _ (kinds : List Kind) (ledger : Ledger) (kept : IsLedgerKept kinds ledger
       pages = λ old_declared declared. absurd (false≢true (sym declared));
     }
       where
-        go : (old : Region) → old.pooled ≡ true → IsRegion ledger.book.next old → (old.pooled && meets p size (old.first - pool_start) old.size) ≡ false
+        go : (old : RegionRecord) → old.pooled ≡ true → IsRegion ledger.book.next old → (old.pooled && meets p size (old.first - pool_start) old.size) ≡ false
             → (old.first + old.size ≤ pool_start + p) ⊎ (pool_start + p + size ≤ old.first)
         go old old_pooled was free =
             let place = was.pooled old_pooled in
@@ -150,7 +150,7 @@ module _ (kinds : List Kind) (ledger : Ledger) (kept : IsLedgerKept kinds ledger
     }
 
   -- a region of the pool is let go
-  pub kept_free : (id : ℕ) (r : Region) → region_of ledger.book id ≡ Some r → r.pooled ≡ true
+  pub kept_free : (id : ℕ) (r : RegionRecord) → region_of ledger.book id ≡ Some r → r.pooled ≡ true
       → IsLedgerKept kinds (record ledger { book = freed ledger.book id })
   kept_free id r found pooled = record {
     book = removed_sound ledger.book kept.book id r found pooled;
@@ -160,7 +160,7 @@ module _ (kinds : List Kind) (ledger : Ledger) (kept : IsLedgerKept kinds ledger
   }
 
   -- a range is written
-  module _ (id offset : ℕ) (bytes : List ℕ) (r : Region) (found : region_of ledger.book id ≡ Some r) (range : offset + length bytes ≤ r.size)
+  module _ (id offset : ℕ) (bytes : List ℕ) (r : RegionRecord) (found : region_of ledger.book id ≡ Some r) (range : offset + length bytes ≤ r.size)
       (admitted : policy_rule ledger.log r offset (length bytes) ≡ None) where
     log_fits : (b : Bool) → (r.policy == 4) ≡ b → log_size (if b then logged ledger.log r.id offset bytes else ledger.log) ≤ 65536
     log_fits true logs =
@@ -169,7 +169,7 @@ module _ (kinds : List Kind) (ledger : Ledger) (kept : IsLedgerKept kinds ledger
 
     pub kept_written : IsLedgerKept kinds (record { book = book_written ledger.book id offset (length bytes); log = log_written ledger.book ledger.log id offset bytes })
     kept_written =
-        subst (λ (o : Option Region). IsLedgerKept kinds (record { book = book_by ledger.book o offset (length bytes); log = log_by ledger.log o offset bytes })) (sym found)
+        subst (λ (o : Option RegionRecord). IsLedgerKept kinds (record { book = book_by ledger.book o offset (length bytes); log = log_by ledger.log o offset bytes })) (sym found)
         (record {
           book = written_sound ledger.book kept.book id offset (length bytes) r found range;
           frames = written_frames ledger.book kept.book id offset (length bytes) r found range (λ fs. All (λ f. kind_of kinds f ≡ Guarded) fs) kept.frames;

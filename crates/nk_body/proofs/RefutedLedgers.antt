@@ -10,20 +10,20 @@ use Rattle.phys_mem.specs.MaskedMemory.{is_book_frame}
 use Rattle.phys_mem.specs.Memory.{byte_at}
 use Rattle.page_desc.specs.DescriptorBytes.{kinds_in}
 use Rattle.policy_book.specs.PolicyRules.{is_logged}
-use Rattle.region_book.specs.RegionRecords.{Book, Region, region_of}
+use Rattle.region_book.specs.RegionRecords.{Book, RegionRecord, region_of}
 use Rattle.write_log.specs.LogRecords.{log_size}
 use Rattle.nk_body.specs.declared.call.Call.TheVariants.{DeclareTable, LoadRoot, SetHandler, Write, WriteEntry}
 use Rattle.nk_body.specs.BooksTouched.{LeavesBooks}
 use Rattle.nk_body.specs.NestedRecord.{AreBooks, Books, HasFixedFrames, HoldsBooks, IsLedgerKept, Ledger, OwnState}
 
 -- a region in a frame that isn't guarded
-unguarded_region : (kinds : List Kind) (ledger : Ledger) (r : Region) (f : ℕ) (regions : List Region) (frames : List ℕ)
+unguarded_region : (kinds : List Kind) (ledger : Ledger) (r : RegionRecord) (f : ℕ) (regions : List RegionRecord) (frames : List ℕ)
     → ledger.book.regions ≡ r ∷ regions → r.frames ≡ f ∷ frames → kind_of kinds f ≢ Guarded → IsLedgerKept kinds ledger → ⊥
 unguarded_region kinds ledger r f regions frames lives lies other kept =
-    let each : All (λ (it : Region). All (λ g. kind_of kinds g ≡ Guarded) it.frames) (r ∷ regions) =
-    subst (λ (rs : List Region). All (λ (it : Region). All (λ g. kind_of kinds g ≡ Guarded) it.frames) rs) lives kept.frames in
+    let each : All (λ (it : RegionRecord). All (λ g. kind_of kinds g ≡ Guarded) it.frames) (r ∷ regions) =
+    subst (λ (rs : List RegionRecord). All (λ (it : RegionRecord). All (λ g. kind_of kinds g ≡ Guarded) it.frames) rs) lives kept.frames in
     let here : All (λ g. kind_of kinds g ≡ Guarded) r.frames =
-    All-head (λ (it : Region). All (λ g. kind_of kinds g ≡ Guarded) it.frames) r regions each in
+    All-head (λ (it : RegionRecord). All (λ g. kind_of kinds g ≡ Guarded) it.frames) r regions each in
     let all : All (λ g. kind_of kinds g ≡ Guarded) (f ∷ frames) =
     subst (λ (fs : List ℕ). All (λ g. kind_of kinds g ≡ Guarded) fs) lies here in
     other (All-head (λ g. kind_of kinds g ≡ Guarded) f frames all)
@@ -88,7 +88,7 @@ module _ (book : Book) (m later : List ℕ) where
   handler_in_log address leaves other = other (leaves.log refl 0x1A008 (omega arith) (omega arith))
 
   -- and so does a write in a region that is write-once
-  once_in_log : (region offset place count : ℕ) (r : Region) → LeavesBooks book (Write region offset place count) m later
+  once_in_log : (region offset place count : ℕ) (r : RegionRecord) → LeavesBooks book (Write region offset place count) m later
       → region_of book region ≡ Some r → r.policy ≡ 1 → byte_at later 0x1A008 ≢ byte_at m 0x1A008 → ⊥
   once_in_log region offset place count r leaves found once other =
       other (leaves.log (ap is_logged found ∙ ap (λ p. p == 4) once) 0x1A008 (omega arith) (omega arith))

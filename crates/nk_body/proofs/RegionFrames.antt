@@ -11,7 +11,7 @@ use Rattle.nk_bits.specs.declared.kind.Kind.TheVariants.{Fixed, Guarded, Hidden}
 use Rattle.nk_bits.specs.Kinds.{is_guarded, is_hidden, kind_of}
 use Rattle.phys_mem.specs.Memory.{stored}
 use Rattle.page_desc.specs.PageTables.{is_handler_byte, is_unchanging, is_table, is_unguarded}
-use Rattle.region_book.specs.RegionRecords.{Book, Region, byte_place, region_of, region_stores}
+use Rattle.region_book.specs.RegionRecords.{Book, RegionRecord, byte_place, region_of, region_stores}
 use Rattle.nk_body.specs.NestedRecord.{handler_in}
 use Rattle.nk_body.proofs.LowerLaws.{LowerLaws}
 
@@ -28,20 +28,20 @@ found_place {X = X} p (y ∷ xs) x found = go (p y) refl found (λ later. found_
     go false here is later = let at = later is in (suc at.0, omega (arith, at.1), λ d. at.2 d, at.3)
 
 -- what holds of each region holds of the one that is found
-pub found_holds : (P : Region → Type 0) (book : Book) (id : ℕ) (r : Region) → region_of book id ≡ Some r → All P book.regions → P r
+pub found_holds : (P : RegionRecord → Type 0) (book : Book) (id : ℕ) (r : RegionRecord) → region_of book id ≡ Some r → All P book.regions → P r
 found_holds P book id r found all =
     let at = found_place (λ x. x.id == id) book.regions r found in
     subst P (at.2 r) (all at.0 r at.1)
 
-pub if_found : (P Q : Region → Type 0) → ((r : Region) → P r → Q r) → (book : Book) (id : ℕ) → All P book.regions → IfSome (region_of book id) Q
+pub if_found : (P Q : RegionRecord → Type 0) → ((r : RegionRecord) → P r → Q r) → (book : Book) (id : ℕ) → All P book.regions → IfSome (region_of book id) Q
 if_found P Q weaker book id all = go (region_of book id) refl
   where
-    go : (o : Option Region) → region_of book id ≡ o → IfSome o Q
+    go : (o : Option RegionRecord) → region_of book id ≡ o → IfSome o Q
     go None is = tt
     go (Some r) is = weaker r (found_holds P book id r is all)
 
 -- what holds of each frame of a region holds of the frames of its bytes
-pub stores_held : (P : ℕ → Type 0) (r : Region) (offset : ℕ) (bs : List ℕ) → All P r.frames → r.place + r.size ≤ 4096 * length r.frames
+pub stores_held : (P : ℕ → Type 0) (r : RegionRecord) (offset : ℕ) (bs : List ℕ) → All P r.frames → r.place + r.size ≤ 4096 * length r.frames
     → offset + length bs ≤ r.size → All (λ w. P (w.0 / 4096)) (region_stores r offset bs)
 unfolding region_stores
 stores_held P r offset [] all held fits = All-nil (λ (w : ℕ × ℕ). P (w.0 / 4096))
@@ -53,7 +53,7 @@ stores_held P r offset (b ∷ bs) all held fits =
     (stores_held P r (offset + 1) bs all held (omega (arith, fits)))
 
 -- the bytes that are stored are those that are given
-pub stores_bytes : (P : ℕ → Type 0) (r : Region) (offset : ℕ) (bs : List ℕ) → All P bs → All (λ w. P w.1) (region_stores r offset bs)
+pub stores_bytes : (P : ℕ → Type 0) (r : RegionRecord) (offset : ℕ) (bs : List ℕ) → All P bs → All (λ w. P w.1) (region_stores r offset bs)
 unfolding region_stores
 stores_bytes P r offset [] all = All-nil (λ (w : ℕ × ℕ). P w.1)
 stores_bytes P r offset (b ∷ bs) all =

@@ -6,22 +6,22 @@ use Rattle.std.proofs.lemmas.List.Elements.{All-cons, All-nil}
 use Rattle.std.proofs.lemmas.List.Folds.{list_any_none}
 use Rattle.std.proofs.lemmas.List.FromFn.{get_or-range_with_len}
 use Rattle.nk_bits.specs.KernelLayout.{pool_start}
-use Rattle.region_book.specs.RegionRecords.{Book, IsRegion, Region, byte_place, region_of, region_stores}
+use Rattle.region_book.specs.RegionRecords.{Book, IsRegion, RegionRecord, byte_place, region_of, region_stores}
 use Rattle.nk_body.specs.ReplayBeside.{frame_at}
 use Rattle.nk_body.proofs.HeldPuts.{hits}
 use Rattle.nk_body.proofs.RegionFrames.{found_place}
 
 -- the region of an identifier has it
-pub found_id : (book : Book) (id : ℕ) (r : Region) → region_of book id ≡ Some r → r.id ≡ id
+pub found_id : (book : Book) (id : ℕ) (r : RegionRecord) → region_of book id ≡ Some r → r.id ≡ id
 found_id book id r found = eqb-true r.id id (found_place (λ x. x.id == id) book.regions r found).3
 
 -- the frame of each byte of a region is one of its frames
-pub frame_holds : (P : ℕ → Type 0) (next : ℕ) (r : Region) → IsRegion next r → All P r.frames → (at : ℕ) → at < r.size
+pub frame_holds : (P : ℕ → Type 0) (next : ℕ) (r : RegionRecord) → IsRegion next r → All P r.frames → (at : ℕ) → at < r.size
     → P (frame_at r at)
 frame_holds P next r is all at inside = all ((r.place + at) / 4096) 0 (omega (arith, is.held, inside))
 
 -- that of a byte of the pool is one of the pool's
-pub frame_pooled : (next : ℕ) (r : Region) → IsRegion next r → r.pooled ≡ true → (at : ℕ) → at < r.size
+pub frame_pooled : (next : ℕ) (r : RegionRecord) → IsRegion next r → r.pooled ≡ true → (at : ℕ) → at < r.size
     → (10 ≤ frame_at r at) × (frame_at r at < 26)
 frame_pooled next r is pooled at inside =
     let facts = is.pooled pooled in
@@ -36,7 +36,7 @@ frame_pooled next r is pooled at inside =
 
 -- Stores in a region.
 
-module _ (r : Region) where
+module _ (r : RegionRecord) where
   pub stores_all : (P : ℕ → Type 0) (offset : ℕ) (bytes : List ℕ)
       → ((k : ℕ) → offset ≤ k → k < offset + length bytes → P (byte_place r k))
       → All (λ w. P w.0) (region_stores r offset bytes)

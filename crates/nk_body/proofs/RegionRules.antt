@@ -12,7 +12,7 @@ use Rattle.nk_bits.specs.declared.rule.Rule.TheVariants.{BadPolicy, BadRange, Ba
 use Rattle.nk_bits.specs.Kinds.{is_data, kind_of}
 use Rattle.nk_bits.specs.Paging.{is_canonical}
 use Rattle.region_book.specs.RegionCalls.{alloc_rule, pages_rule, else_rule, fits_region, frames_from, frames_rule, free_rule_of, has_twice, is_bad_range, is_policy, is_range_taken, room}
-use Rattle.region_book.specs.RegionRecords.{Book, Region, is_written_in}
+use Rattle.region_book.specs.RegionRecords.{Book, RegionRecord, is_written_in}
 use Rattle.policy_book.specs.PolicyRules.{bounds_of, first_rule, policy_rule}
 use Rattle.write_log.specs.LogRecords.{LogRecord, log_size, logged, room_of}
 use Rattle.nk_body.specs.CallRules.{IsSourceOf, NotTaken, Sourced, Unreadable, source_rule}
@@ -65,7 +65,7 @@ alloc_facts book size policy is =
       place = not_none (room book.regions size) d.0;
     }
 
-pub room_facts : (regions : List Region) (size p : ℕ) → room regions size ≡ Some p → (p + size ≤ 65536) × (is_range_taken regions size p ≡ false)
+pub room_facts : (regions : List RegionRecord) (size p : ℕ) → room regions size ≡ Some p → (p + size ≤ 65536) × (is_range_taken regions size p ≡ false)
 unfolding room
 room_facts regions size p found =
     let test = (found_place (λ p. nat_le (p + size) 65536 && not (is_range_taken regions size p)) (map (λ k. 16 * k) (range_with_len 0 4096)) p found).3 in
@@ -73,7 +73,7 @@ room_facts regions size p found =
     (leb-true (p + size) 65536 parts.0, not-true (is_range_taken regions size p) parts.1)
 
 -- a region that is let go lives, and lies in the pool
-pub free_facts : (o : Option Region) → free_rule_of o ≡ None → (r : Region) × (o ≡ Some r) × (r.pooled ≡ true)
+pub free_facts : (o : Option RegionRecord) → free_rule_of o ≡ None → (r : RegionRecord) × (o ≡ Some r) × (r.pooled ≡ true)
 free_facts None is = let no : Some BadRegion ≡ None = is in cc
 free_facts (Some r) is = (r, refl, not-false r.pooled (else_none (not r.pooled) NotAllocated None is).0)
 
@@ -148,8 +148,8 @@ declare_facts book kinds loose at address size policy is = by_range (is_bad_rang
     by_range false range is = by_frames range (frames_from at (address / 4096) (size / 4096)) is
 
 -- the range of a write is one of a live region
-pub bounds_facts : (o : Option Region) (offset count : ℕ) → bounds_of o offset count ≡ None
-    → (r : Region) × (o ≡ Some r) × (fits_region (Some r) offset count ≡ true) × (offset + count ≤ r.size)
+pub bounds_facts : (o : Option RegionRecord) (offset count : ℕ) → bounds_of o offset count ≡ None
+    → (r : RegionRecord) × (o ≡ Some r) × (fits_region (Some r) offset count ≡ true) × (offset + count ≤ r.size)
 bounds_facts None offset count is = let no : Some BadRegion ≡ None = is in cc
 bounds_facts (Some r) offset count is =
     let fits = not-false (fits_region (Some r) offset count) (else_none (not (fits_region (Some r) offset count)) OutOfBounds None is).0 in
@@ -163,7 +163,7 @@ source_facts count Unreadable is none = let no : Some BadSource ≡ None = none 
 source_facts count (Bytes bytes) is none = (bytes, refl, is)
 
 -- a write that is logged has room in the log
-pub policy_room : (log : List LogRecord) (r : Region) (offset count : ℕ) → policy_rule log r offset count ≡ None → (r.policy == 4) ≡ true
+pub policy_room : (log : List LogRecord) (r : RegionRecord) (offset count : ℕ) → policy_rule log r offset count ≡ None → (r.policy == 4) ≡ true
     → 24 + count ≤ room_of log
 unfolding policy_rule
 policy_room log r offset count is logs =

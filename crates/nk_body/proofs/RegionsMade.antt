@@ -15,7 +15,7 @@ use Rattle.policy_book.specs.PolicyRules.{book_written, bounds_of, first_rule, l
 use Rattle.region_book.specs.declared.regions.Granted.{Granted}
 use Rattle.region_book.specs.RegionCalls.{with_one_more, alloc_rule, else_rule, fits_in, fits_region, free_rule, freed, pool_region, room}
 use Rattle.nk_bits.specs.KernelLayout.{pool_start}
-use Rattle.region_book.specs.RegionRecords.{Book, Region, region_of, region_stores}
+use Rattle.region_book.specs.RegionRecords.{Book, RegionRecord, region_of, region_stores}
 use Rattle.nk_bits.specs.Rules.{rule_of}
 use Rattle.write_log.specs.LogRecords.{LogRecord}
 use Rattle.nk_body.specs.declared.call.Call.{Call}
@@ -128,7 +128,7 @@ module _ (books : Books) (m : List ℕ) (id offset place n : ℕ) (source : Sour
   pub bounds_refused : (rule : Rule) → Some rule ≡ bounds → IsMade books m (Write id offset place n) source (Some rule) books m
   bounds_refused rule is = refused_made books m _ source rule are (ap (λ o. judged_by o source) is)
 
-  fits_bounds : (o : Option Region) → fits_region o offset n ≡ true → bounds_of o offset n ≡ None
+  fits_bounds : (o : Option RegionRecord) → fits_region o offset n ≡ true → bounds_of o offset n ≡ None
   fits_bounds None fits = absurd (false≢true fits)
   fits_bounds (Some r) fits = ap (λ b. else_rule (not b) OutOfBounds None) fits
 

@@ -12,7 +12,7 @@ use Rattle.phys_mem.specs.Memory.{byte_at}
 use Rattle.boot_map.specs.Opening.{division_byte}
 use Rattle.boot_map.specs.OpeningKinds.{kind_at}
 use Rattle.page_desc.specs.PageTables.{is_table}
-use Rattle.region_book.specs.RegionRecords.{Region}
+use Rattle.region_book.specs.RegionRecords.{RegionRecord}
 use Rattle.nk_body.specs.CallRules.{IsSourceOf, Sourced, verdict, wants}
 use Rattle.nk_body.specs.NestedRecord.{IsLedgerKept, Nested}
 
@@ -34,20 +34,20 @@ abbrev pub left_alone : (ℕ → ℕ → ℕ) → (ℕ → Bool) → ℕ → ℕ
 left_alone opened tabled f offset = if tabled f then 0 else opened f offset
 
 -- the frame of a region's byte, and the byte's offset in it
-abbrev pub frame_at : Region → ℕ → ℕ
+abbrev pub frame_at : RegionRecord → ℕ → ℕ
 frame_at r at = slice_index r.frames ((r.place + at) / 4096)
 
-abbrev pub offset_at : Region → ℕ → ℕ
+abbrev pub offset_at : RegionRecord → ℕ → ℕ
 offset_at r at = (r.place + at) % 4096
 
 -- a byte of a region: the run's where the region is of the pool or the byte was written, else what the calls alone leave
-abbrev pub told_byte : (ℕ → ℕ → ℕ) → (ℕ → Bool) → (ℕ → ℕ → ℕ) → Region → ℕ → ℕ
+abbrev pub told_byte : (ℕ → ℕ → ℕ) → (ℕ → Bool) → (ℕ → ℕ → ℕ) → RegionRecord → ℕ → ℕ
 told_byte opened tabled run r at =
     if r.pooled || slice_index_or r.written at false then run (frame_at r at) (offset_at r at)
     else left_alone opened tabled (frame_at r at) (offset_at r at)
 
 -- each byte of a region is that
-pub record IsTold (opened : ℕ → ℕ → ℕ) (tabled : ℕ → Bool) (run held : ℕ → ℕ → ℕ) (r : Region) : Type 0 where
+pub record IsTold (opened : ℕ → ℕ → ℕ) (tabled : ℕ → Bool) (run held : ℕ → ℕ → ℕ) (r : RegionRecord) : Type 0 where
   pub bytes : (at : ℕ) → at < r.size → held (frame_at r at) (offset_at r at) ≡ told_byte opened tabled run r at
 
 -- the bytes of guarded frames and the memory that the calls alone made, beside the record that they made in the run, from

@@ -3,7 +3,7 @@ use Rattle.std.proofs.Common.{◌≡◌, ℕ, zero, suc, ◌+◌, ◌<◌, ◌�
 use Rattle.std.specs.Prelude.{slice_index_or}
 use Rattle.std.specs.List.{range_with_len}
 use Rattle.std.proofs.lemmas.List.Elements.{All-head, All-tail}
-use Rattle.region_book.specs.RegionRecords.{Region}
+use Rattle.region_book.specs.RegionRecords.{RegionRecord}
 use Rattle.nk_body.specs.NestedRecord.{Nested}
 use Rattle.nk_body.specs.ReplayBeside.{IsBeside, IsTold, opening_byte}
 use Rattle.gate_state.specs.MachineStates.{Opening}
@@ -19,7 +19,7 @@ map_same f g (suc n) from same =
     λ i. same from (omega arith) (omega arith) i ∷ map_same f g n (from + 1)
     (λ k least most. same k (omega (arith, least)) (omega (arith, most))) i
 
-regions_same : (one other : Region → List ℕ) (rs : List Region) → All (λ r. one r ≡ other r) rs
+regions_same : (one other : RegionRecord → List ℕ) (rs : List RegionRecord) → All (λ r. one r ≡ other r) rs
     → region_lines one rs ≡ region_lines other rs
 unfolding region_lines
 regions_same one other [] same = refl
@@ -36,7 +36,7 @@ module _ (o : Opening) (made : List Made) (nk : Nested) (held : ℕ → ℕ → 
   abbrev also : Nested
   also = record nk { held = held }
 
-  bytes_told : (r : Region) → IsTold (opened o) (was_table o made) nk.held held r
+  bytes_told : (r : RegionRecord) → IsTold (opened o) (was_table o made) nk.held held r
       → bytes_of_region also r ≡ replayed_bytes o made nk r
   unfolding bytes_of_region replayed_bytes
   bytes_told r told = map_same _ _ r.size 0 (λ k least most. told.bytes k (omega (arith, most)))

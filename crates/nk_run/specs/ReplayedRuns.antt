@@ -4,7 +4,7 @@
 -- carry the stores that the outer kernel made of its own.
 use Rattle.std.specs.Prelude.{ℕ, Bool, ◌||◌, List, map}
 use Rattle.std.specs.List.{list_any, range_with_len}
-use Rattle.region_book.specs.RegionRecords.{Region}
+use Rattle.region_book.specs.RegionRecords.{RegionRecord}
 use Rattle.nk_body.specs.NestedRecord.{Nested}
 use Rattle.nk_body.specs.ReplayBeside.{declares_table, is_opening_table, opening_byte, told_byte}
 use Rattle.gate_state.specs.MachineStates.{Opening}
@@ -17,10 +17,10 @@ was_table o made f = is_opening_table o.image o.frames f || list_any (λ (it : M
 
 -- a byte of a region as a replay shows it: that of the record where the region is of the pool or the byte was written, else
 -- what these calls alone leave there
-abbrev pub replayed_byte : Opening → List Made → Nested → Region → ℕ → ℕ
+abbrev pub replayed_byte : Opening → List Made → Nested → RegionRecord → ℕ → ℕ
 replayed_byte o made nk r at = told_byte (opening_byte o.image o.frames) (was_table o made) nk.held r at
 
-unfoldable pub replayed_bytes : Opening → List Made → Nested → Region → List ℕ
+unfoldable pub replayed_bytes : Opening → List Made → Nested → RegionRecord → List ℕ
 replayed_bytes o made nk r = map (replayed_byte o made nk r) (range_with_len 0 r.size)
 
 -- the closing section that a replay shows, for the record of a run and the calls that were accepted in it

@@ -5,7 +5,7 @@ use Rattle.std.proofs.lemmas.Bool.{and_parts, le-leb, leb-true, lt-ltb}
 use Rattle.phys_mem.specs.MaskedMemory.{is_book_frame}
 use Rattle.phys_mem.specs.Memory.{byte_at, stored}
 use Rattle.region_book.specs.RegionCalls.{fits_region}
-use Rattle.region_book.specs.RegionRecords.{Book, IsBook, Region, byte_place, region_of, region_stores}
+use Rattle.region_book.specs.RegionRecords.{Book, IsBook, RegionRecord, byte_place, region_of, region_stores}
 use Rattle.policy_book.specs.PolicyRules.{stores_by, stores_written}
 
 -- the frames of the log are the books'
@@ -18,7 +18,7 @@ log_place frames p low high =
 
 -- the law on bytes of other regions
 abbrev pub Stays : Type 0
-Stays = (book : Book) (id other offset b : ℕ) (r q : Region) (m bytes : List ℕ) → IsBook book → id ≢ other
+Stays = (book : Book) (id other offset b : ℕ) (r q : RegionRecord) (m bytes : List ℕ) → IsBook book → id ≢ other
     → region_of book id ≡ Some r → region_of book other ≡ Some q → offset + length bytes ≤ r.size → b < q.size
     → byte_at (stored m (region_stores r offset bytes)) (byte_place q b) ≡ byte_at m (byte_place q b)
 
@@ -29,7 +29,7 @@ pub others_stay : Stays → (book : Book) (id offset : ℕ) (m later bytes : Lis
 others_stay law book id offset m later bytes sound fits is other b apart =
     go (region_of book id) (region_of book other) refl refl fits is
   where
-    go : (o p : Option Region) → region_of book id ≡ o → region_of book other ≡ p → fits_region o offset (length bytes) ≡ true
+    go : (o p : Option RegionRecord) → region_of book id ≡ o → region_of book other ≡ p → fits_region o offset (length bytes) ≡ true
         → later ≡ stored m (stores_by o offset bytes)
         → IfSome p (λ q. b < q.size → byte_at later (byte_place q b) ≡ byte_at m (byte_place q b))
     go o None one two fits is = tt

@@ -3,11 +3,11 @@ use Rattle.std.proofs.Common.{◌≡◌, ℕ, ◌+◌, ◌-◌, ◌*◌, ◌^◌
 use Rattle.nk_bits.specs.declared.rule.Rule.{Rule}
 use Rattle.nk_bits.specs.declared.rule.Rule.TheVariants.{BadRegion, LogFull, NoWrite, NotAtEnd, OutOfBounds, WrittenOnce}
 use Rattle.policy_book.specs.PolicyRules.{book_written, log_written, policy_rule, stores_written, write_rule}
-use Rattle.region_book.specs.RegionRecords.{Book, Region, region_stores}
+use Rattle.region_book.specs.RegionRecords.{Book, RegionRecord, region_stores}
 use Rattle.write_log.specs.LogRecords.{LogRecord, log_size}
 
 -- eight bytes of the pool with a policy, of which these were written; the regions stand 16 bytes apart
-abbrev eight : ℕ → List Bool → ℕ → Region
+abbrev eight : ℕ → List Bool → ℕ → RegionRecord
 eight policy written tail = record {
   id = 256 + policy;
   policy = policy;
@@ -25,20 +25,20 @@ abbrev some_written : List Bool
 some_written = false ∷ false ∷ true ∷ true ∷ true ∷ false ∷ false ∷ false ∷ []
 
 -- a book of four regions
-abbrev book_of_four : Region → Region → Region → Region → Book
+abbrev book_of_four : RegionRecord → RegionRecord → RegionRecord → RegionRecord → Book
 book_of_four a b c d = record { regions = a ∷ b ∷ c ∷ d ∷ []; next = 261; declared = 0 }
 
 -- region 257 is write-once, 258 append-only with the tail 5, 259 no-write, and 260 write-log
-abbrev once : Region
+abbrev once : RegionRecord
 once = eight 1 some_written 0
 
-abbrev append : Region
+abbrev append : RegionRecord
 append = eight 2 some_written 5
 
-abbrev closed : Region
+abbrev closed : RegionRecord
 closed = eight 3 some_written 0
 
-abbrev noting : Region
+abbrev noting : RegionRecord
 noting = eight 4 some_written 0
 
 abbrev book : Book

@@ -14,7 +14,7 @@ ghost use Rattle.write_log.specs.LogRecords.{logged, room_of};
 
 use nk_bits::Rule;
 use phys_mem::PhysMem;
-use region_book::{Regions, ShownRegion, apart_law, held_regions_law};
+use region_book::{Regions, Region, apart_law, held_regions_law};
 use write_log::{Log, held_log_law};
 
 const WRITE_ONCE: u8 = 1;
@@ -97,7 +97,7 @@ fn judge_policy(
     regions: &Regions,
     log: &Log,
     mem: &PhysMem,
-    region: &ShownRegion,
+    region: &Region,
     offset: u32,
     count: u32,
 ) -> Option<Rule>

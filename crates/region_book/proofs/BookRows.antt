@@ -4,7 +4,7 @@ use Rattle.std.specs.Prelude.{Option, Some, None, IfNone, IsSome, cond, option_m
 use Rattle.std.specs.List.{find, list_any, range_with_len}
 use Rattle.std.proofs.lemmas.List.FromFn.{get_or-map-range_with_len}
 use Rattle.region_book.specs.declared.row.Row.{Row}
-use Rattle.region_book.specs.RegionRecords.{Book, Region, is_written_in, region_of}
+use Rattle.region_book.specs.RegionRecords.{Book, RegionRecord, is_written_in, region_of}
 use Rattle.region_book.specs.RegionRows.{bit_in, bits_from, book_of, first_bit, region_at, row_of}
 use Rattle.region_book.proofs.BitTests.{same_in_runs}
 
@@ -34,9 +34,9 @@ pub is_located : (o : Option ℕ) (none : Type 0) → IfNone o none → (none �
 is_located None none is live = absurd (live is)
 is_located (Some i) none is live = refl
 
-pub live_not_none : (o : Option Region) → IsSome o → o ≡ None → ⊥
+pub live_not_none : (o : Option RegionRecord) → IsSome o → o ≡ None → ⊥
 live_not_none o live none =
-    let no : IsSome {T = Region} None = subst IsSome none live in cc
+    let no : IsSome {T = RegionRecord} None = subst IsSome none live in cc
 
 -- which bytes were written
 pub written_at : (bits : List ℕ) (first count k : ℕ) → k < count →

@@ -6,7 +6,7 @@ use Rattle.std.proofs.lemmas.List.Elements.{All-cons, All-nil}
 use Rattle.std.proofs.lemmas.List.FromFn.{get_or-range_with_len}
 use Rattle.phys_mem.specs.Memory.{byte_at, stored}
 use Rattle.nk_bits.specs.KernelLayout.{pool_start}
-use Rattle.region_book.specs.RegionRecords.{Book, IsApart, IsBook, IsEachOnce, IsRegion, Region, byte_place, region_of, region_stores}
+use Rattle.region_book.specs.RegionRecords.{Book, IsApart, IsBook, IsEachOnce, IsRegion, RegionRecord, byte_place, region_of, region_stores}
 use Rattle.region_book.proofs.Found.{find_at, found_place}
 use Rattle.region_book.proofs.RegionReads.{region_sound}
 
@@ -21,7 +21,7 @@ same_index frames i j once i_below j_below same = elim (cases_order i j) [
   ]
 ]
 
-module _ (next : ℕ) (r : Region) (is : IsRegion next r) where
+module _ (next : ℕ) (r : RegionRecord) (is : IsRegion next r) where
   -- the bytes of a region of the pool follow one another, in frames 10 to 25
   pooled_place : r.pooled ≡ true → (a : ℕ) → a < r.size → byte_place r a ≡ 40960 + (r.first - pool_start) + a
   pooled_place pooled a within =
@@ -62,7 +62,7 @@ module _ (next : ℕ) (r : Region) (is : IsRegion next r) where
         omega (arith, index, places)
   ]
 
-module _ (next : ℕ) (r q : Region) (is : IsRegion next r) (other : IsRegion next q) (apart : IsApart r q)
+module _ (next : ℕ) (r q : RegionRecord) (is : IsRegion next r) (other : IsRegion next q) (apart : IsApart r q)
     (a b : ℕ) (within : a < r.size) (inside : b < q.size) where
   pub bytes_apart : byte_place r a ≢ byte_place q b
   bytes_apart same = elim (cases_Bool r.pooled) [
@@ -95,7 +95,7 @@ module _ (next : ℕ) (r q : Region) (is : IsRegion next r) (other : IsRegion ne
       ]
 
 -- a store of a region's bytes is at one of its places
-stores_at : (P : ℕ → Type 0) (r : Region) (offset : ℕ) (bytes : List ℕ) →
+stores_at : (P : ℕ → Type 0) (r : RegionRecord) (offset : ℕ) (bytes : List ℕ) →
     ((k : ℕ) → offset ≤ k → k < offset + length bytes → P (byte_place r k)) →
     All (λ w. P w.0) (region_stores r offset bytes)
 unfolding region_stores
@@ -107,7 +107,7 @@ stores_at P r offset (b ∷ bytes) each =
 
 module _ (book : Book) (sound : IsBook book) where
   -- a region of the list is the first of its identifier
-  pub listed_region : (k : ℕ) (d : Region) → k < length book.regions →
+  pub listed_region : (k : ℕ) (d : RegionRecord) → k < length book.regions →
       region_of book (slice_index_or book.regions k d).id ≡ Some (slice_index_or book.regions k d)
   listed_region k d below =
       let id : ℕ = (slice_index_or book.regions k d).id in
@@ -115,12 +115,12 @@ module _ (book : Book) (sound : IsBook book) where
       (λ i before. ne_eqb _ id (λ same. omega (arith, sound.rising i k d before below, same)))
       (eq-eqb id id refl)
 
-  pub one_region : (id : ℕ) (r : Region) → region_of book id ≡ Some r → (a b : ℕ) → a < r.size → b < r.size → a ≢ b →
+  pub one_region : (id : ℕ) (r : RegionRecord) → region_of book id ≡ Some r → (a b : ℕ) → a < r.size → b < r.size → a ≢ b →
       byte_place r a ≢ byte_place r b
   one_region id r found a b a_within b_within apart same =
       apart (same_byte book.next r (region_sound book id r sound found) a b a_within b_within same)
 
-  module _ (one other : ℕ) (r q : Region) (differ : one ≢ other) (found : region_of book one ≡ Some r)
+  module _ (one other : ℕ) (r q : RegionRecord) (differ : one ≢ other) (found : region_of book one ≡ Some r)
       (q_found : region_of book other ≡ Some q) where
     regions_apart : (IsApart r q) ⊎ (IsApart q r)
     regions_apart =

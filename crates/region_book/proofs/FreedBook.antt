@@ -4,14 +4,14 @@ use Rattle.std.specs.Prelude.{IfSome, IsSome, Option, Some, None, filter}
 use Rattle.nk_bits.specs.declared.rule.Rule.TheVariants.{BadRegion, NotAllocated}
 use Rattle.region_book.specs.declared.row.Row.{Row}
 use Rattle.region_book.specs.RegionCalls.{else_rule, free_rule, free_rule_of, freed}
-use Rattle.region_book.specs.RegionRecords.{Book, IsBook, Region, region_of}
+use Rattle.region_book.specs.RegionRecords.{Book, IsBook, RegionRecord, region_of}
 use Rattle.region_book.specs.RegionRows.{book_of, region_at}
 use Rattle.region_book.proofs.Found.{for_some}
 use Rattle.region_book.proofs.ListEdits.{map_filter}
 use Rattle.region_book.proofs.SoundBooks.{removed_sound}
 
 -- where no rule is broken, the region is live and of the pool
-pub free_rule_none : (o : Option Region) → free_rule_of o ≡ None → (r : Region) × (o ≡ Some r) × (r.pooled ≡ true)
+pub free_rule_none : (o : Option RegionRecord) → free_rule_of o ≡ None → (r : RegionRecord) × (o ≡ Some r) × (r.pooled ≡ true)
 free_rule_none None none = let no : Some BadRegion ≡ None = none in cc
 free_rule_none (Some r) none = (r, refl, go r.pooled none)
   where

@@ -6,7 +6,7 @@ use Rattle.std.proofs.lemmas.Grind.{get_or_default_zero}
 use Rattle.std.proofs.lemmas.List.{get_or-map, length-map}
 use Rattle.region_book.specs.declared.row.Row.{Row}
 use Rattle.region_book.specs.RegionBytes.{KeepsSlots, RegionIndex, bits_in, book_in, row_in}
-use Rattle.region_book.specs.RegionRecords.{IsBook, Region}
+use Rattle.region_book.specs.RegionRecords.{IsBook, RegionRecord}
 use Rattle.region_book.specs.RegionRows.{region_at}
 use Rattle.region_book.proofs.ListEdits.{place_of_key}
 
@@ -38,21 +38,21 @@ module _ (index : RegionIndex) (m : List ℕ) (book : IsBook (book_in index m)) 
   regions_within k below =
       omega (arith, rows_within k below, length-map (map (row_in m) index.slots) (region_at (bits_in m)))
 
-  id_at : (k d : ℕ) (e : Region) → k < length index.slots
+  id_at : (k d : ℕ) (e : RegionRecord) → k < length index.slots
       → (slice_index_or (book_in index m).regions k e).id ≡ (row_in m (slice_index_or index.slots k d)).id
   id_at k d e below =
-      ap (λ (r : Region). r.id)
+      ap (λ (r : RegionRecord). r.id)
       (get_or-map (region_at (bits_in m)) (map (row_in m) index.slots) k (row_in m d) e (rows_within k below)
       ∙ ap (region_at (bits_in m)) (get_or-map (row_in m) index.slots k d (row_in m d) below))
 
   pub slots_rise : AllPairs (λ a b. (row_in m a).id < (row_in m b).id) index.slots
   slots_rise a b d low below =
-      let e : Region = region_at (bits_in m) (row_in m d) in
+      let e : RegionRecord = region_at (bits_in m) (row_in m d) in
       omega (arith, book.rising a b e low (regions_within b below), id_at a d e (omega (arith, low, below)), id_at b d e below)
 
   below_next : All (λ s. (row_in m s).id < index.next) index.slots
   below_next k d below =
-      let e : Region = region_at (bits_in m) (row_in m d) in
+      let e : RegionRecord = region_at (bits_in m) (row_in m d) in
       let less = (book.each k e (regions_within k below)).below in
       omega (arith, less, id_at k d e below)
 

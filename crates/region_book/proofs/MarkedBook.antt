@@ -3,7 +3,7 @@ use Rattle.std.proofs.Common.{◌≡◌, ℕ, ◌+◌, ◌<◌, ◌≤◌, ◌||
 use Rattle.std.specs.Prelude.{Some, IfSome}
 use Rattle.std.proofs.lemmas.List.{get_or-map, length-map}
 use Rattle.region_book.specs.declared.row.Row.{Row}
-use Rattle.region_book.specs.RegionRecords.{Book, IsBook, Region, marked, region_of, with_region}
+use Rattle.region_book.specs.RegionRecords.{Book, IsBook, RegionRecord, marked, region_of, with_region}
 use Rattle.region_book.specs.RegionRows.{AreRowsKept, bit_in, book_of, first_bit, in_run, moved, region_at, row_of}
 use Rattle.region_book.proofs.BookBits.{marked_regions}
 use Rattle.region_book.proofs.BookRows.{region_found}
@@ -26,7 +26,7 @@ module _ (rows : List Row) (bits : List ℕ) (next declared : ℕ) (now : Book) 
   within_now : i < length (book_of rows bits next declared).regions
   within_now = omega (arith, within, length-map rows (region_at bits))
 
-  is_now : (d : Region) → slice_index_or (book_of rows bits next declared).regions i d ≡ region_at bits row
+  is_now : (d : RegionRecord) → slice_index_or (book_of rows bits next declared).regions i d ≡ region_at bits row
   is_now d = get_or-map (region_at bits) rows i row d within ∙ ap (region_at bits) (is row)
 
   module _ (after : List ℕ) (offset count tail : ℕ) (kept : AreRowsKept rows bits declared) (book : IsBook now)

@@ -10,7 +10,7 @@ use Rattle.std.proofs.lemmas.Option.{slice_get-get_or, slice_get-map}
 use Rattle.region_book.specs.declared.row.Row.{Row}
 use Rattle.region_book.specs.RegionBytes.{HoldsRegions, RegionIndex, bits_in, book_in, row_in}
 use Rattle.region_book.specs.RegionCalls.{free_rule, freed, with_one_more}
-use Rattle.region_book.specs.RegionRecords.{Book, IsBook, IsRegion, Region, declared_before, marked, pages_of_region, region_of, with_region}
+use Rattle.region_book.specs.RegionRecords.{Book, IsBook, IsRegion, RegionRecord, declared_before, marked, pages_of_region, region_of, with_region}
 use Rattle.region_book.specs.RegionRows.{frames_of_row, pages_of_row, region_at}
 use Rattle.region_book.proofs.Found.{found_place}
 use Rattle.region_book.proofs.FreedBook.{free_rule_none}
@@ -103,8 +103,8 @@ module _ (index : RegionIndex) (m : List ℕ) (held : HoldsRegions index m) (boo
 
     lesser : filter (λ r. nat_lt r.id row.id) (book_in index m).regions ≡ take k (book_in index m).regions
     lesser =
-        ap (λ id. filter (λ r. nat_lt r.id id) (book_in index m).regions) (sym (ap (λ (r : Region). r.id) region_here))
-        ∙ lesser_keys (λ (r : Region). r.id) (book_in index m).regions k (region_at (bits_in m) row) book.rising
+        ap (λ id. filter (λ r. nat_lt r.id id) (book_in index m).regions) (sym (ap (λ (r : RegionRecord). r.id) region_here))
+        ∙ lesser_keys (λ (r : RegionRecord). r.id) (book_in index m).regions k (region_at (bits_in m) row) book.rising
         (omega (
           arith,
           below,
@@ -126,7 +126,7 @@ module _ (index : RegionIndex) (m : List ℕ) (held : HoldsRegions index m) (boo
 
 -- What calls leave.
 
-pub before_added : (book : Book) (r : Region) (pages id : ℕ) → id ≤ r.id →
+pub before_added : (book : Book) (r : RegionRecord) (pages id : ℕ) → id ≤ r.id →
     declared_before (with_one_more book r pages) id ≡ declared_before book id
 before_added book r pages id later =
     ap (sum_by pages_of_region) (filter-append (λ x. nat_lt x.id id) book.regions (r ∷ [])
@@ -135,10 +135,10 @@ before_added book r pages id later =
 
 module _ (book : Book) (other : ℕ) (sound : IsBook book) where
   -- what a region counts
-  abbrev counted : Region → ℕ
+  abbrev counted : RegionRecord → ℕ
   counted x = if nat_lt x.id other then pages_of_region x else 0
 
-  before_is : (regions : List Region) → sum_by pages_of_region (filter (λ x. nat_lt x.id other) regions) ≡ sum_by counted regions
+  before_is : (regions : List RegionRecord) → sum_by pages_of_region (filter (λ x. nat_lt x.id other) regions) ≡ sum_by counted regions
   before_is regions = sum_kept (λ x. nat_lt x.id other) pages_of_region regions
 
   none_counted : (b : Bool) (pages : ℕ) → pages ≡ 0 → (if b then pages else 0) ≡ 0
@@ -155,11 +155,11 @@ module _ (book : Book) (other : ℕ) (sound : IsBook book) where
       (pages_of_region (slice_index_or book.regions k d)) (none k d below out))
       ∙ sym (before_is book.regions)
 
-  module _ (id offset count : ℕ) (r : Region) (found : region_of book id ≡ Some r) where
+  module _ (id offset count : ℕ) (r : RegionRecord) (found : region_of book id ≡ Some r) where
     named : r.id ≡ id
     named = eqb-true r.id id (found_place (λ x. x.id == id) book.regions r found).3
 
-    same_counted : (x : Region) (here : Bool) → (x.id == r.id) ≡ here → (x.id ≡ id → x ≡ r) →
+    same_counted : (x : RegionRecord) (here : Bool) → (x.id == r.id) ≡ here → (x.id ≡ id → x ≡ r) →
         counted (if here then marked r offset count else x) ≡ counted x
     same_counted x true is only = ap counted (sym (only (eqb-true x.id r.id is ∙ named)))
     same_counted x false is only = refl

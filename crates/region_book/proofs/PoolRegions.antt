@@ -10,7 +10,7 @@ use Rattle.phys_mem.specs.Memory.{stored}
 use Rattle.region_book.specs.declared.row.Row.{Row}
 use Rattle.region_book.specs.RegionCalls.{with_one_more, is_range_taken, meets, pool_region, room}
 use Rattle.nk_bits.specs.KernelLayout.{pool_start}
-use Rattle.region_book.specs.RegionRecords.{Book, IsApart, IsBook, IsRegion, Region, region_stores}
+use Rattle.region_book.specs.RegionRecords.{Book, IsApart, IsBook, IsRegion, RegionRecord, region_stores}
 use Rattle.region_book.specs.RegionRows.{IsHeld, frames_of_row, region_of_row, row_place, place_of_row, row_stores}
 use Rattle.region_book.proofs.Found.{found_place, none_any}
 use Rattle.region_book.proofs.RowPlaces.{region_stores_is}
@@ -55,7 +55,7 @@ pool_aside row p frames pooled first fits k within =
     low_is_no_book frames (row_place row k) (pool_places row p (4096 * 26) pooled first fits (omega arith) k within)
 
 -- the room that is found is free
-pub room_free : (regions : List Region) (size p : ℕ) → room regions size ≡ Some p → is_range_taken regions size p ≡ false
+pub room_free : (regions : List RegionRecord) (size p : ℕ) → room regions size ≡ Some p → is_range_taken regions size p ≡ false
 unfolding room
 room_free regions size p found =
     let test = (found_place (λ p. nat_le (p + size) 65536 && not (is_range_taken regions size p))
@@ -92,7 +92,7 @@ module _ (now : Book) (sound : IsBook now) (size policy p : ℕ) (some : 1 ≤ s
     pages = λ old_declared declared. absurd (false≢true (sym declared));
   }
     where
-      go : (old : Region) → old.pooled ≡ true → IsRegion now.next old →
+      go : (old : RegionRecord) → old.pooled ≡ true → IsRegion now.next old →
           (old.pooled && meets p size (old.first - pool_start) old.size) ≡ false →
           (old.first + old.size ≤ pool_start + p) ⊎ (pool_start + p + size ≤ old.first)
       go old old_pooled is free =
@@ -105,7 +105,7 @@ module _ (now : Book) (sound : IsBook now) (size policy p : ℕ) (some : 1 ≤ s
             | inr before ↦ inr (omega (arith, place.0, ltb-false (old.first - pool_start) (p + size) before))
           ]
 
-  pub pool_added : (r : Region) → r ≡ pool_region now size policy p → is_range_taken now.regions size p ≡ false →
+  pub pool_added : (r : RegionRecord) → r ≡ pool_region now size policy p → is_range_taken now.regions size p ≡ false →
       length now.regions < 256 → IsBook (with_one_more now r 0)
   pool_added r is free few =
       subst (λ r. IsBook (with_one_more now r 0)) (sym is)

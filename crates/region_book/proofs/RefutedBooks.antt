@@ -3,16 +3,16 @@ use Rattle.std.proofs.Common.{◌≡◌, ℕ, ◌+◌, ◌<◌, ◌≤◌, true,
 use Rattle.std.specs.Prelude.{slice_index}
 use Rattle.std.specs.List.{Contains, sum_by}
 use Rattle.nk_bits.specs.KernelLayout.{pool_start}
-use Rattle.region_book.specs.RegionRecords.{Book, IsApart, IsBook, IsRegion, Region, pages_of_region}
+use Rattle.region_book.specs.RegionRecords.{Book, IsApart, IsBook, IsRegion, RegionRecord, pages_of_region}
 
-pub two_declared_regions_share_no_frame : (one other : Region) (next declared f : ℕ) → one.pooled ≡ false →
+pub two_declared_regions_share_no_frame : (one other : RegionRecord) (next declared f : ℕ) → one.pooled ≡ false →
     other.pooled ≡ false → Contains one.frames f → Contains other.frames f →
     IsBook (record { regions = one ∷ other ∷ []; next = next; declared = declared }) → ⊥
 two_declared_regions_share_no_frame one other next declared f one_is other_is in_one in_other book =
     (book.apart 0 1 one (omega arith) (omega arith)).pages one_is other_is in_one.0 f in_one.1 in_other.0 f in_other.1
     (in_one.2 ∙ sym in_other.2)
 
-module _ (one other : Region) where
+module _ (one other : RegionRecord) where
   pub regions_that_meet_are_not_apart : one.pooled ≡ true → other.pooled ≡ true → one.first < other.first + other.size →
       other.first < one.first + one.size → IsApart one other → ⊥
   regions_that_meet_are_not_apart one_is other_is before behind is =
@@ -21,7 +21,7 @@ module _ (one other : Region) where
         | inr second ↦ omega (arith, second, before)
       ]
 
-module _ (next : ℕ) (r : Region) where
+module _ (next : ℕ) (r : RegionRecord) where
   pub declared_region_has_no_frame_twice : (i j : ℕ) → r.pooled ≡ false → i < j → j < length r.frames →
       slice_index r.frames i ≡ slice_index r.frames j → IsRegion next r → ⊥
   declared_region_has_no_frame_twice i j declared low below same is = (is.declared declared).2 i j 0 low below same
@@ -40,7 +40,7 @@ module _ (next : ℕ) (r : Region) where
 pub no_129_pages_are_declared : (book : Book) → sum_by pages_of_region book.regions ≡ 129 → IsBook book → ⊥
 no_129_pages_are_declared book pages is = omega (arith, pages, is.pages, is.most)
 
-pub two_regions_have_no_identifier_in_common : (one other : Region) (next declared : ℕ) → one.id ≡ other.id →
+pub two_regions_have_no_identifier_in_common : (one other : RegionRecord) (next declared : ℕ) → one.id ≡ other.id →
     IsBook (record { regions = one ∷ other ∷ []; next = next; declared = declared }) → ⊥
 two_regions_have_no_identifier_in_common one other next declared same book =
     let less : one.id < other.id = book.rising 0 1 one (omega arith) (omega arith) in omega (arith, same, less)
@@ -51,12 +51,12 @@ next_identifier_is_not_255 book = let least = book.next in omega (arith, least)
 pub no_257_regions_live : (book : Book) → length book.regions ≡ 257 → IsBook book → ⊥
 no_257_regions_live book many is = omega (arith, many, is.count)
 
-pub what_is_no_region_stands_in_no_book : (r : Region) (declared : ℕ) → r.policy ≡ 5 →
+pub what_is_no_region_stands_in_no_book : (r : RegionRecord) (declared : ℕ) → r.policy ≡ 5 →
     IsBook (record { regions = r ∷ []; next = 257; declared = declared }) → ⊥
 what_is_no_region_stands_in_no_book r declared five book =
     let most = (book.each 0 r (omega arith)).policy.1 in omega (arith, five, most)
 
-module _ (next : ℕ) (r : Region) (is : IsRegion next r) where
+module _ (next : ℕ) (r : RegionRecord) (is : IsRegion next r) where
   pub identifier_255_is_no_region's : r.id ≡ 255 → ⊥
   identifier_255_is_no_region's low = let least = is.least in omega (arith, low, least)
 

@@ -9,7 +9,7 @@ use Rattle.region_book.specs.declared.row.Row.{Row}
 use Rattle.region_book.specs.RegionBytes.{HasRowForm, HoldsRegions, RegionIndex, bits_in, book_in, row_in, slot_place}
 use Rattle.region_book.specs.RegionCalls.{free_rule, freed, with_one_more}
 use Rattle.region_book.specs.RegionLaws.{NumberedLaws}
-use Rattle.region_book.specs.RegionRecords.{Book, IsApart, IsBook, IsEachOnce, Region, declared_before, marked, region_of, with_region}
+use Rattle.region_book.specs.RegionRecords.{Book, IsApart, IsBook, IsEachOnce, RegionRecord, declared_before, marked, region_of, with_region}
 use Rattle.region_book.specs.RegionRows.{AreApart, AreNumbered, AreRowsKept, IsHeld, bit_in, first_bit, in_run, pages_of_row}
 
 -- a row of too many bytes; one that begins before the pool, or ends past it; and declared pages that are not whole, or that
@@ -59,7 +59,7 @@ module _ (rows : List Row) (declared : ℕ) (it : AreNumbered rows declared) whe
   one_page_more is = let pages = it.pages in omega (arith, is, pages)
 
 -- two declared regions with a frame in common
-module _ (one other : Region) (it : IsApart one other) where
+module _ (one other : RegionRecord) (it : IsApart one other) where
   common_frame : one.pooled ≡ false → other.pooled ≡ false → (All (λ f. All (λ g. f ≢ g) other.frames) one.frames → ⊥) → ⊥
   common_frame first second none = none (it.pages first second)
 
@@ -112,7 +112,7 @@ module _ (it : NumberedLaws) where
       ≡ (if (row_in m s).pooled then 0 else declared_before (book_in index m) (row_in m s).id)) index.slots → ⊥) → ⊥
   misnumbered index m held book none = none (it.number index m held book)
 
-  renumbered_by_one_more : (book : Book) (r : Region) (pages id : ℕ) → id ≤ r.id
+  renumbered_by_one_more : (book : Book) (r : RegionRecord) (pages id : ℕ) → id ≤ r.id
       → declared_before (with_one_more book r pages) id ≢ declared_before book id → ⊥
   renumbered_by_one_more book r pages id before other = other (it.added book r pages id before)
 
@@ -120,7 +120,7 @@ module _ (it : NumberedLaws) where
       → declared_before (freed book id) later ≢ declared_before book later → ⊥
   renumbered_by_one_less book id later sound freed_by other = other (it.let_go book id later sound freed_by)
 
-  renumbered_by_a_write : (book : Book) (id later offset count : ℕ) (r : Region) → IsBook book → region_of book id ≡ Some r
+  renumbered_by_a_write : (book : Book) (id later offset count : ℕ) (r : RegionRecord) → IsBook book → region_of book id ≡ Some r
       → declared_before (with_region book (marked r offset count)) later ≢ declared_before book later → ⊥
   renumbered_by_a_write book id later offset count r sound found other =
       other (it.written book id later offset count r sound found)

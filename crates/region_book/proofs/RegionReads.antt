@@ -4,14 +4,14 @@ use Rattle.std.specs.Prelude.{All, Option, Some, IfSome}
 use Rattle.std.specs.List.{list_any, range_with_len}
 use Rattle.phys_mem.specs.Memory.{stored}
 use Rattle.region_book.specs.declared.row.Row.{Row}
-use Rattle.region_book.specs.RegionRecords.{Book, IsBook, IsRegion, Region, byte_place, is_written_in, region_of, region_stores}
+use Rattle.region_book.specs.RegionRecords.{Book, IsBook, IsRegion, RegionRecord, byte_place, is_written_in, region_of, region_stores}
 use Rattle.region_book.specs.RegionRows.{IsHeld, bit_in, first_bit, row_place, region_at, region_with, row_stores}
 use Rattle.region_book.proofs.BookRows.{written_by_bits}
 use Rattle.region_book.proofs.Found.{for_some, found_holds, of_some}
 use Rattle.region_book.proofs.RowPlaces.{byte_place_is, frame_of_place, place_within, region_stores_is}
 
 -- a sound book's region is sound
-pub region_sound : (now : Book) (id : ℕ) (r : Region) → IsBook now → region_of now id ≡ Some r → IsRegion now.next r
+pub region_sound : (now : Book) (id : ℕ) (r : RegionRecord) → IsBook now → region_of now id ≡ Some r → IsRegion now.next r
 region_sound now id r book found = found_holds (λ r. r.id == id) (IsRegion now.next) now.regions r found book.each
 
 module _ (now : Book) (id : ℕ) (o : Option Row) (row : Row) (is : o ≡ Some row)

@@ -7,7 +7,7 @@ use Rattle.std.proofs.lemmas.List.{get_or-take}
 use Rattle.std.proofs.lemmas.List.FromFn.{get_or-range_with_len}
 use Rattle.region_book.specs.declared.row.Row.{Row}
 use Rattle.nk_bits.specs.KernelLayout.{pool_frame, pool_start}
-use Rattle.region_book.specs.RegionRecords.{IsRegion, Region, byte_place, region_stores}
+use Rattle.region_book.specs.RegionRecords.{IsRegion, RegionRecord, byte_place, region_stores}
 use Rattle.region_book.specs.RegionRows.{IsHeld, frames_of_row, row_place, place_of_row, region_with, row_stores}
 
 -- in the pool the frames follow one another
@@ -55,14 +55,14 @@ byte_place_is slots row written offset held within =
         (place b + offset) % 4096 ≡ found b) (sym is) holds
 
 -- each byte of a region stands in one of its frames
-pub place_within : (next size offset : ℕ) (r : Region) → IsRegion next r → offset < r.size →
+pub place_within : (next size offset : ℕ) (r : RegionRecord) → IsRegion next r → offset < r.size →
     All (λ f. 4096 * f + 4096 ≤ size) r.frames → byte_place r offset < size
 place_within next size offset r is within frames =
     let frame = frames ((r.place + offset) / 4096) 0 (omega (arith, is.held)) in
     omega (arith, frame)
 
 -- what holds of each frame holds of a byte's
-pub frame_of_place : (next offset : ℕ) (r : Region) (P : ℕ → Type 0) → IsRegion next r → offset < r.size →
+pub frame_of_place : (next offset : ℕ) (r : RegionRecord) (P : ℕ → Type 0) → IsRegion next r → offset < r.size →
     All P r.frames → P (byte_place r offset / 4096)
 frame_of_place next offset r P is within frames =
     let frame = frames ((r.place + offset) / 4096) 0 (omega (arith, is.held)) in

@@ -5,7 +5,7 @@ use Rattle.std.specs.List.{list_any}
 use Rattle.std.proofs.lemmas.List.{get_or-map, length-map}
 use Rattle.std.proofs.lemmas.List.Folds.{list_any_at, list_any_more}
 use Rattle.std.proofs.lemmas.Option.{slice_get-map}
-use Rattle.region_book.specs.declared.regions.ShownRegion.{ShownRegion}
+use Rattle.region_book.specs.declared.regions.Region.{Region}
 use Rattle.region_book.specs.declared.row.Row.{Row}
 use Rattle.region_book.specs.RegionBytes.{HoldsRegions, RegionIndex, bits_in, book_in, row_in}
 use Rattle.region_book.specs.RegionRecords.{region_of, shown_region}
@@ -56,7 +56,7 @@ module _ (index : RegionIndex) (m slots : List ℕ) (order : slots ≡ index.slo
       region_missing (map (row_in m) index.slots) (bits_in m) index.next index.declared (book_in index m) id refl
       (subst (λ xs. row_of (map (row_in m) xs) id ≡ None) order none)
 
-  pub shown_at : (i s : ℕ) (row : Row) (result : ShownRegion) → Some s ≡ slice_get slots i → row ≡ row_in m s
+  pub shown_at : (i s : ℕ) (row : Row) (result : Region) → Some s ≡ slice_get slots i → row ≡ row_in m s
       → result ≡ shown_region (region_at (bits_in m) row)
       → Some result ≡ option_map shown_region (slice_get (book_in index m).regions i)
   shown_at i s row result place read is =

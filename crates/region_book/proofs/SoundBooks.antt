@@ -9,12 +9,12 @@ use Rattle.std.proofs.lemmas.List.Kept.{AllPairs-filter}
 use Rattle.std.proofs.lemmas.List.Quantifiers.{all_pairs_push}
 use Rattle.std.proofs.lemmas.List.Sums.{count_by-le-length, length-filter, sum_by-set, sum_by_push}
 use Rattle.region_book.specs.RegionCalls.{with_one_more, freed}
-use Rattle.region_book.specs.RegionRecords.{Book, IsApart, IsBook, IsRegion, Region, marked, pages_of_region, region_of, with_region}
+use Rattle.region_book.specs.RegionRecords.{Book, IsApart, IsBook, IsRegion, RegionRecord, marked, pages_of_region, region_of, with_region}
 use Rattle.region_book.proofs.Found.{found_place}
 use Rattle.region_book.proofs.ListEdits.{pairs_set, place_of_key, replaced_by_key, sum_filter}
 
 -- the region that was written
-marked_region : (next offset count : ℕ) (r : Region) → IsRegion next r → offset + count ≤ r.size →
+marked_region : (next offset count : ℕ) (r : RegionRecord) → IsRegion next r → offset + count ≤ r.size →
     IsRegion next (marked r offset count)
 marked_region next offset count r is fits = record {
   least = is.least;
@@ -33,8 +33,8 @@ marked_region next offset count r is fits = record {
     tail false = is.tail
 
 module _ (book : Book) (sound : IsBook book) where
-  module _ (i offset count : ℕ) (r : Region) (within : i < length book.regions)
-      (is : (d : Region) → slice_index_or book.regions i d ≡ r) where
+  module _ (i offset count : ℕ) (r : RegionRecord) (within : i < length book.regions)
+      (is : (d : RegionRecord) → slice_index_or book.regions i d ≡ r) where
     pub with_marked : with_region book
         (marked r offset count) ≡ record book { regions = set book.regions i (marked r offset count) }
     with_marked = ap (λ rs. record book { regions = rs })
@@ -60,7 +60,7 @@ module _ (book : Book) (sound : IsBook book) where
         }
 
   -- the region of an identifier is the only one
-  pub only_region : (id : ℕ) (r : Region) → region_of book id ≡ Some r →
+  pub only_region : (id : ℕ) (r : RegionRecord) → region_of book id ≡ Some r →
       All (λ other. other.id ≡ id → other ≡ r) book.regions
   only_region id r found k d below same =
       let place = found_place (λ x. x.id == id) book.regions r found in
@@ -69,14 +69,14 @@ module _ (book : Book) (sound : IsBook book) where
       sym (ap (λ j. slice_index_or book.regions j d) here) ∙ place.2 d
 
   -- a region of the pool has no declared page
-  pub pages_let_go : (id : ℕ) (r : Region) → region_of book id ≡ Some r → r.pooled ≡ true →
+  pub pages_let_go : (id : ℕ) (r : RegionRecord) → region_of book id ≡ Some r → r.pooled ≡ true →
       All (λ x. not (x.id == id) ≡ false → pages_of_region x ≡ 0) book.regions
   pages_let_go id r found pooled k d below out =
       let is = only_region id r found k d below
       (eqb-true _ id (not-false ((slice_index_or book.regions k d).id == id) out)) in
       ap pages_of_region is ∙ ap (λ b. if b then 0 else length r.frames) pooled
 
-  pub removed_sound : (id : ℕ) (r : Region) → region_of book id ≡ Some r → r.pooled ≡ true → IsBook (freed book id)
+  pub removed_sound : (id : ℕ) (r : RegionRecord) → region_of book id ≡ Some r → r.pooled ≡ true → IsBook (freed book id)
   removed_sound id r found pooled = record {
     next = sound.next;
     count = omega (
@@ -94,7 +94,7 @@ module _ (book : Book) (sound : IsBook book) where
   }
 
   -- a new region
-  pub added_sound : (r : Region) (pages : ℕ) → length book.regions < 256 → r.id ≡ book.next →
+  pub added_sound : (r : RegionRecord) (pages : ℕ) → length book.regions < 256 → r.id ≡ book.next →
       IsRegion (book.next + 1) r →
       All (λ old. IsApart old r) book.regions → pages_of_region r ≡ pages → book.declared + pages ≤ 128 →
       IsBook (with_one_more book r pages)
@@ -110,7 +110,7 @@ module _ (book : Book) (sound : IsBook book) where
     most = most;
   }
     where
-      later : (x : Region) → IsRegion book.next x → IsRegion (book.next + 1) x
+      later : (x : RegionRecord) → IsRegion book.next x → IsRegion (book.next + 1) x
       later x was = record {
         least = was.least;
         below = omega (arith, was.below);

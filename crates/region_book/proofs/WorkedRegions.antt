@@ -6,10 +6,10 @@ use Rattle.nk_bits.specs.declared.kind.Kind.TheVariants.{Data, Code, Table, Fixe
 use Rattle.nk_bits.specs.declared.rule.Rule.{Rule}
 use Rattle.nk_bits.specs.declared.rule.Rule.TheVariants.{BadPolicy, BadRange, BadRegion, NoRoom, NotAllocated, NotData, StillLoose, TooManyRegions}
 use Rattle.region_book.specs.RegionCalls.{with_one_more, alloc_rule, pages_rule, frames_from, frames_rule, free_rule, freed, guarded, has_twice, is_bad_range, page_region, pool_region, room}
-use Rattle.region_book.specs.RegionRecords.{Book, Region, byte_place, is_written_in, marked, region_stores}
+use Rattle.region_book.specs.RegionRecords.{Book, RegionRecord, byte_place, is_written_in, marked, region_stores}
 
 -- a write-once region of the pool: so many bytes from a place in it on; what no rule looks at is left empty
-abbrev allocated : ℕ → ℕ → ℕ → Region
+abbrev allocated : ℕ → ℕ → ℕ → RegionRecord
 allocated id place size = record {
   id = id;
   policy = 1;
@@ -23,7 +23,7 @@ allocated id place size = record {
 }
 
 -- a write-once region of one page, which was declared at the address at which the pool begins
-abbrev page : ℕ → Region
+abbrev page : ℕ → RegionRecord
 page id = record {
   id = id;
   policy = 1;
@@ -36,7 +36,7 @@ page id = record {
   tail = 0;
 }
 
-abbrev book_with : List Region → ℕ → Book
+abbrev book_with : List RegionRecord → ℕ → Book
 book_with regions declared = record { regions = regions; next = 512; declared = declared }
 
 -- the least multiple of 16 from which on the bytes are free
@@ -70,11 +70,11 @@ no_rooms :
 unfolding room
 no_rooms = (refl, refl, refl)
 
-abbrev full : List Region
+abbrev full : List RegionRecord
 full = allocated 256 0 65536 ∷ []
 
 -- 256 regions that fill the pool
-abbrev many_full : List Region
+abbrev many_full : List RegionRecord
 many_full = map (λ k. allocated (256 + k) (256 * k) 256) (range_with_len 0 256)
 
 -- each rule on an allocation alone, at its bounds
@@ -147,7 +147,7 @@ twices = (refl, refl, refl, refl, refl, refl)
 
 -- the rule that declaring these frames breaks first: frames 0 and 1 are data, frame 1 has a loose leaf, frame 2 is fixed
 -- and has one too, and frame 3 is fixed and has none
-abbrev declaring : List Region → ℕ → ℕ → List ℕ → Option Rule
+abbrev declaring : List RegionRecord → ℕ → ℕ → List ℕ → Option Rule
 declaring regions declared policy frames =
     frames_rule (book_with regions declared) (Data ∷ Data ∷ Fixed ∷ Fixed ∷ [])
     (λ f. if f == 1 then 1 else if f == 2 then 2 else 0) policy (Some frames)
@@ -227,7 +227,7 @@ unfolding guarded
 guards = (refl, refl, refl, refl)
 
 -- a new region of the pool: where it begins and which frames hold it; its bytes count as not written
-abbrev new_at : ℕ → ℕ → Region
+abbrev new_at : ℕ → ℕ → RegionRecord
 new_at place size = pool_region (book_with [] 0) size 2 place
 
 new_regions :
@@ -254,7 +254,7 @@ new_regions :
 new_regions = (refl, refl, refl, refl, refl, refl, refl, refl, refl)
 
 -- two pages that were declared, in the frames 71 and 80
-abbrev two_pages : Region
+abbrev two_pages : RegionRecord
 two_pages = page_region (book_with [] 0) 0x5000 8192 4 (71 ∷ 80 ∷ [])
 
 -- a region more, with the identifier that was next
@@ -282,7 +282,7 @@ unfolding region_stores
 places = (refl, refl, refl, refl, refl, refl, refl, refl, refl, refl)
 
 -- four bytes of the pool with a policy, of which these were written
-abbrev four : ℕ → List Bool → ℕ → Region
+abbrev four : ℕ → List Bool → ℕ → RegionRecord
 four policy written tail = record {
   id = 256;
   policy = policy;

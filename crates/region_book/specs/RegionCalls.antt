@@ -10,7 +10,7 @@ use Rattle.nk_bits.specs.declared.rule.Rule.TheVariants.{BadPolicy, BadRange, Ba
 use Rattle.nk_bits.specs.Kinds.{is_data, kind_of}
 use Rattle.nk_bits.specs.Paging.{is_canonical, is_canonical_page, walk}
 use Rattle.nk_bits.specs.KernelLayout.{pool_frame, pool_start}
-use Rattle.region_book.specs.RegionRecords.{Book, Region, region_of}
+use Rattle.region_book.specs.RegionRecords.{Book, RegionRecord, region_of}
 
 -- the rule is the first that is broken, where this is so, and else one of the later rules, if any
 abbrev pub else_rule : Bool → Rule → Option Rule → Option Rule
@@ -26,11 +26,11 @@ abbrev pub meets : ℕ → ℕ → ℕ → ℕ → Bool
 meets p size q count = nat_lt p (q + count) && nat_lt q (p + size)
 
 -- a live region of the pool has a byte of the range
-abbrev pub is_range_taken : List Region → ℕ → ℕ → Bool
+abbrev pub is_range_taken : List RegionRecord → ℕ → ℕ → Bool
 is_range_taken regions size p = list_any (λ r. r.pooled && meets p size (r.first - pool_start) r.size) regions
 
 -- the least multiple of 16 from which on so many bytes of the pool are free
-unfoldable pub room : List Region → ℕ → Option ℕ
+unfoldable pub room : List RegionRecord → ℕ → Option ℕ
 room regions size =
     find (λ p. nat_le (p + size) 65536 && not (is_range_taken regions size p)) (map (λ k. 16 * k) (range_with_len 0 4096))
 
@@ -42,7 +42,7 @@ alloc_rule book size policy =
     (else_rule (is_none (room book.regions size)) NoRoom None)))
 
 -- the new region at a place of the pool, with no byte written
-abbrev pub pool_region : Book → ℕ → ℕ → ℕ → Region
+abbrev pub pool_region : Book → ℕ → ℕ → ℕ → RegionRecord
 pool_region book size policy p = record {
   id = book.next;
   policy = policy;
@@ -56,7 +56,7 @@ pool_region book size policy p = record {
 }
 
 -- the book with a region more
-abbrev pub with_one_more : Book → Region → ℕ → Book
+abbrev pub with_one_more : Book → RegionRecord → ℕ → Book
 with_one_more book r pages = record {
   regions = book.regions ++ r ∷ [];
   next = book.next + 1;
@@ -64,7 +64,7 @@ with_one_more book r pages = record {
 }
 
 -- freeing a region, which was allocated
-abbrev pub free_rule_of : Option Region → Option Rule
+abbrev pub free_rule_of : Option RegionRecord → Option Rule
 free_rule_of None = Some BadRegion
 free_rule_of (Some r) = else_rule (not r.pooled) NotAllocated None
 
@@ -77,7 +77,7 @@ freed book id = record book { regions = filter (λ r. not (r.id == id)) book.reg
 -- The range of a write.
 
 -- the range isn't empty and lies in the region
-abbrev pub fits_region : Option Region → ℕ → ℕ → Bool
+abbrev pub fits_region : Option RegionRecord → ℕ → ℕ → Bool
 fits_region None offset count = false
 fits_region (Some r) offset count = nat_le 1 count && nat_le (offset + count) r.size
 
@@ -131,7 +131,7 @@ pages_rule book kinds loose at address size policy =
     if is_bad_range address size then Some BadRange
     else frames_rule book kinds loose policy (frames_from at (address / 4096) (size / 4096))
 
-abbrev pub page_region : Book → ℕ → ℕ → ℕ → List ℕ → Region
+abbrev pub page_region : Book → ℕ → ℕ → ℕ → List ℕ → RegionRecord
 page_region book address size policy fs = record {
   id = book.next;
   policy = policy;

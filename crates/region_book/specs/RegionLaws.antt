@@ -6,19 +6,19 @@ use Rattle.nk_bits.specs.declared.kind.Kind.{Kind}
 use Rattle.nk_bits.specs.declared.kind.Kind.TheVariants.{Guarded}
 use Rattle.region_book.specs.RegionBytes.{DiffersInRegions, HoldsRegions, RegionIndex, book_in, row_in}
 use Rattle.region_book.specs.RegionCalls.{free_rule, freed, guarded, has_twice, with_one_more}
-use Rattle.region_book.specs.RegionRecords.{Book, IsBook, IsEachOnce, Region, byte_place, declared_before, marked, region_of, region_stores, with_region}
+use Rattle.region_book.specs.RegionRecords.{Book, IsBook, IsEachOnce, RegionRecord, byte_place, declared_before, marked, region_of, region_stores, with_region}
 
 -- each byte of a live region has a place of its own
 pub record ApartLaws : Type 0 where
-  pub within : (book : Book) (id a b : ℕ) (r : Region) → IsBook book → region_of book id ≡ Some r
+  pub within : (book : Book) (id a b : ℕ) (r : RegionRecord) → IsBook book → region_of book id ≡ Some r
       → a < r.size → b < r.size → a ≢ b → byte_place r a ≢ byte_place r b
-  pub between : (book : Book) (id other a b : ℕ) (r q : Region) → IsBook book → id ≢ other
+  pub between : (book : Book) (id other a b : ℕ) (r q : RegionRecord) → IsBook book → id ≢ other
       → region_of book id ≡ Some r → region_of book other ≡ Some q
       → a < r.size → b < q.size → byte_place r a ≢ byte_place q b
-  pub stays : (book : Book) (id other offset b : ℕ) (r q : Region) (m bytes : List ℕ) → IsBook book → id ≢ other
+  pub stays : (book : Book) (id other offset b : ℕ) (r q : RegionRecord) (m bytes : List ℕ) → IsBook book → id ≢ other
       → region_of book id ≡ Some r → region_of book other ≡ Some q → offset + length bytes ≤ r.size → b < q.size
       → byte_at (stored m (region_stores r offset bytes)) (byte_place q b) ≡ byte_at m (byte_place q b)
-  pub listed : (book : Book) (k : ℕ) (d : Region) → IsBook book → k < length book.regions
+  pub listed : (book : Book) (k : ℕ) (d : RegionRecord) → IsBook book → k < length book.regions
       → region_of book (slice_index_or book.regions k d).id ≡ Some (slice_index_or book.regions k d)
 
 -- the frames of a declaration
@@ -41,9 +41,9 @@ pub record NumberedLaws : Type 0 where
   pub number : (index : RegionIndex) (m : List ℕ) → HoldsRegions index m → IsBook (book_in index m)
       → All (λ s. (row_in m s).slot ≡ (if (row_in m s).pooled then 0 else declared_before (book_in index m) (row_in m s).id))
       index.slots
-  pub added : (book : Book) (r : Region) (pages id : ℕ) → id ≤ r.id
+  pub added : (book : Book) (r : RegionRecord) (pages id : ℕ) → id ≤ r.id
       → declared_before (with_one_more book r pages) id ≡ declared_before book id
   pub let_go : (book : Book) (id other : ℕ) → IsBook book → free_rule book id ≡ None
       → declared_before (freed book id) other ≡ declared_before book other
-  pub written : (book : Book) (id other offset count : ℕ) (r : Region) → IsBook book → region_of book id ≡ Some r
+  pub written : (book : Book) (id other offset count : ℕ) (r : RegionRecord) → IsBook book → region_of book id ≡ Some r
       → declared_before (with_region book (marked r offset count)) other ≡ declared_before book other

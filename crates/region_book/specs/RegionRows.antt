@@ -4,7 +4,7 @@ use Rattle.std.specs.List.{find, range_with_len, sum_by}
 use Rattle.region_book.specs.declared.row.Row.{Row}
 use Rattle.region_book.specs.RegionCalls.{meets}
 use Rattle.nk_bits.specs.KernelLayout.{pool_frame, pool_start}
-use Rattle.region_book.specs.RegionRecords.{Book, Region}
+use Rattle.region_book.specs.RegionRecords.{Book, RegionRecord}
 
 -- Bits.
 
@@ -40,7 +40,7 @@ unfoldable pub place_of_row : Row → ℕ
 place_of_row row = if row.pooled then (row.first - pool_start) % 4096 else 0
 
 -- the region that a row stands for, where these of its bytes were written
-abbrev pub region_with : List Bool → Row → Region
+abbrev pub region_with : List Bool → Row → RegionRecord
 region_with written row = record {
   id = row.id;
   policy = row.policy;
@@ -53,11 +53,11 @@ region_with written row = record {
   tail = row.tail;
 }
 
-abbrev pub region_at : List ℕ → Row → Region
+abbrev pub region_at : List ℕ → Row → RegionRecord
 region_at bits row = region_with (bits_from bits (first_bit row) row.size) row
 
 -- a new region
-abbrev pub region_of_row : Row → Region
+abbrev pub region_of_row : Row → RegionRecord
 region_of_row row = region_with (replicate row.size false) row
 
 -- a row whose tail moved, where it is append-only

@@ -31,7 +31,7 @@ const MOST_REGIONS: usize = 256;
 
 /// A region, as others see it.
 #[derive(Clone, Copy, Debug, PartialEq, Eq)]
-pub struct ShownRegion {
+pub struct Region {
     pub id: u64,
     /// 1 is write-once, 2 append-only, 3 no-write, 4 write-log.
     pub policy: u8,
@@ -104,7 +104,7 @@ impl Regions {
     }
 
     /// A live region by its place in the order of identifiers, from 0 on.
-    pub fn nth(&self, mem: &PhysMem, i: usize) -> ShownRegion
+    pub fn nth(&self, mem: &PhysMem, i: usize) -> Region
         requires held { HoldsRegions self.now mem.now }
         requires number { i < length self.now.slots }
         ensures { Some result ≡ option_map shown_region (slice_get (book_in self.now mem.now).regions i) }
@@ -126,7 +126,7 @@ impl Regions {
     }
 
     /// The live region that has this identifier.
-    pub fn find(&self, mem: &PhysMem, id: u64) -> Option<ShownRegion>
+    pub fn find(&self, mem: &PhysMem, id: u64) -> Option<Region>
         requires held { HoldsRegions self.now mem.now }
         ensures { result ≡ option_map shown_region (region_of (book_in self.now mem.now) id) }
     {

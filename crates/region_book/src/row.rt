@@ -7,7 +7,7 @@ ghost use Rattle.nk_bits.specs.KernelLayout.{pool_start};
 ghost use Rattle.region_book.specs.RegionRecords.{shown_region};
 ghost use Rattle.region_book.specs.RegionRows.{IsHeld, first_bit, row_place, region_with, row_meets, row_of};
 
-use crate::regions::ShownRegion;
+use crate::regions::Region;
 use nk_bits::{POOL_FRAME, POOL_START};
 
 /// The size of the pool, and of the largest region.
@@ -34,10 +34,10 @@ pub(crate) struct Row {
 
 impl Row {
     /// The row, as others see its region.
-    pub fn shown(&self) -> ShownRegion
+    pub fn shown(&self) -> Region
         ensures { (written : List Bool) → result ≡ shown_region (region_with written self.now) }
     {
-        ShownRegion {
+        Region {
             id: self.id,
             policy: self.policy,
             place: self.first,

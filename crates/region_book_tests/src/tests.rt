@@ -10,7 +10,7 @@ ghost use Rattle.region_book.specs.RegionRecords.{IsBook, region_of};
 
 use nk_bits::Rule;
 use phys_mem::PhysMem;
-use region_book::{Regions, ShownRegion};
+use region_book::{Regions, Region};
 use std::alloc::Global;
 
 /// The first linear address of the pool.
@@ -186,7 +186,7 @@ fn are_zero(mem: &PhysMem, at: u64, count: u64) -> bool
 }
 
 /// Whether a slot has the bytes of a region of the pool.
-fn is_row_of(mem: &PhysMem, at: u64, region: &ShownRegion) -> bool
+fn is_row_of(mem: &PhysMem, at: u64, region: &Region) -> bool
     requires { at ≤ 0x3FFC0 }
 {
     let sizes = u64::from(region.size) + (u64::from(region.tail) << 32);

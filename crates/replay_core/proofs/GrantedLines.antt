@@ -8,7 +8,7 @@ use Rattle.nk_bits.specs.declared.rule.Rule.{Rule}
 use Rattle.nk_bits.specs.declared.rule.Rule.TheVariants.{BadCall, BadRange, BadPolicy, NoRoom, TooManyRegions}
 use Rattle.nk_bits.specs.Rules.{rule_number}
 use Rattle.region_book.specs.RegionCalls.{alloc_rule, is_policy, pool_region, room, with_one_more}
-use Rattle.region_book.specs.RegionRecords.{Book, Region}
+use Rattle.region_book.specs.RegionRecords.{Book, RegionRecord}
 use Rattle.text_lines.specs.TextLines.{lines, words}
 use Rattle.nk_body.specs.CallRules.{Sourced, accepted_answer, after_call, answer_by, answer_to, made_unless, stand_of, verdict, with_pool}
 use Rattle.nk_body.specs.declared.call.Call.{Call}
@@ -132,7 +132,7 @@ module _ (id asked policy : ℕ) (asking : CallWords) (region : 256 ≤ id) (all
       let is = allocated nk.ledger.book asked policy none in
       let next : nk.ledger.book.next ≡ id =
       ap (λ (v : Option Rule). (answer_by v nk (Allocate asked policy)).value) (sym none) ∙ value in
-      let new : Region = pool_region nk.ledger.book asked policy is.place.0 in
+      let new : RegionRecord = pool_region nk.ledger.book asked policy is.place.0 in
       let ledger_is : (after_call nk (Allocate asked policy) source stand).ledger ≡ record nk.ledger { book = with_one_more nk.ledger.book new 0 } =
       ap (λ (v : Option Rule). (made_unless v nk (Allocate asked policy) source stand).ledger) none
       ∙ ap (λ (p : Option ℕ). (with_pool nk asked policy p).ledger) is.place.1 in

@@ -8,7 +8,7 @@ use Rattle.std.proofs.lemmas.Option.{same_Some}
 use Rattle.nk_body.specs.declared.call.Call.{Call}
 use Rattle.nk_body.specs.declared.call.Call.TheVariants.{Allocate}
 use Rattle.region_book.specs.RegionCalls.{freed, with_one_more}
-use Rattle.region_book.specs.RegionRecords.{Region, marked, region_of}
+use Rattle.region_book.specs.RegionRecords.{RegionRecord, marked, region_of}
 use Rattle.policy_book.specs.PolicyRules.{book_by, log_by}
 use Rattle.write_log.specs.LogRecords.{LogRecord, logged}
 use Rattle.nk_body.specs.NestedRecord.{Ledger}
@@ -16,7 +16,7 @@ use Rattle.nk_body.specs.SourceWords.{opening_ledger}
 use Rattle.replay_core.proofs.LedgerMoves.{IsKeptBy}
 
 -- a region that has the identifier has this size, and a write in one lies within it
-abbrev pub HasSize : ℕ → ℕ → Region → Type 0
+abbrev pub HasSize : ℕ → ℕ → RegionRecord → Type 0
 HasSize id size r = r.id ≡ id → r.size ≡ size
 
 abbrev pub LiesWithin : ℕ → ℕ → LogRecord → Type 0
@@ -32,7 +32,7 @@ pub record IsGiven (id size : ℕ) (ledger : Ledger) : Type 0 where
   pub used : id < ledger.book.next
 
 -- what holds of each region holds of the one that is found
-found_holds : (P : Region → Type 0) (test : Region → Bool) (rs : List Region) (r : Region) → find test rs ≡ Some r → All P rs
+found_holds : (P : RegionRecord → Type 0) (test : RegionRecord → Bool) (rs : List RegionRecord) (r : RegionRecord) → find test rs ≡ Some r → All P rs
     → P r
 found_holds P test [] r found all = let no : None ≡ Some r = found in absurd (cc)
 found_holds P test (first ∷ rs) r found all =
@@ -46,7 +46,7 @@ pub opening_sized : (id size : ℕ) → IsSized id size opening_ledger
 opening_sized id size = record { live = All-nil (HasSize id size); writes = All-nil (LiesWithin id size) }
 
 module _ (id size : ℕ) (before : Ledger) (sized : IsSized id size before) where
-  pub grown_sized : (r : Region) (pages : ℕ) → HasSize id size r
+  pub grown_sized : (r : RegionRecord) (pages : ℕ) → HasSize id size r
       → IsSized id size (record before { book = with_one_more before.book r pages })
   grown_sized r pages has = record {
     live = All-push (HasSize id size) before.book.regions r sized.live has;
@@ -59,7 +59,7 @@ module _ (id size : ℕ) (before : Ledger) (sized : IsSized id size before) wher
     writes = sized.writes;
   }
 
-  written_sized : (other offset : ℕ) (bytes : List ℕ) (r : Region) → region_of before.book other ≡ Some r
+  written_sized : (other offset : ℕ) (bytes : List ℕ) (r : RegionRecord) → region_of before.book other ≡ Some r
       → offset + length bytes ≤ r.size
       → IsSized id size (record {
         book = book_by before.book (Some r) offset (length bytes);
@@ -67,7 +67,7 @@ module _ (id size : ℕ) (before : Ledger) (sized : IsSized id size before) wher
       })
   written_sized other offset bytes r found range =
       let has : HasSize id size r = found_holds (HasSize id size) (λ x. x.id == other) before.book.regions r found sized.live in
-      let now : Region = marked r offset (length bytes) in
+      let now : RegionRecord = marked r offset (length bytes) in
       record {
         live = All-map (HasSize id size) (λ x. if x.id == now.id then now else x) before.book.regions
             (All-weaker (HasSize id size) (λ x. HasSize id size (if x.id == now.id then now else x))
@@ -79,7 +79,7 @@ module _ (id size : ℕ) (before : Ledger) (sized : IsSized id size before) wher
 
   -- before the identifier is given: a region that a call adds has this size, if it gets the identifier
   pub sized_by : (call : Call) (answer : ℕ)
-      → ((r : Region) → r.id ≡ before.book.next → answer ≡ before.book.next
+      → ((r : RegionRecord) → r.id ≡ before.book.next → answer ≡ before.book.next
       → ((n policy : ℕ) → call ≡ Allocate n policy → r.size ≡ n) → HasSize id size r)
       → IsKeptBy (IsSized id size) before call answer
   sized_by call answer new = record {

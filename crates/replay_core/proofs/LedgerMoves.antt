@@ -6,7 +6,7 @@ use Rattle.std.proofs.lemmas.Bool.{and_parts, eqb-true, false≢true, leb-true, 
 use Rattle.nk_bits.specs.declared.rule.Rule.{Rule}
 use Rattle.nk_bits.specs.declared.rule.Rule.TheVariants.{BadRegion, BadSource, OutOfBounds}
 use Rattle.region_book.specs.RegionCalls.{else_rule, fits_region, freed, page_region, pool_region, room, with_one_more}
-use Rattle.region_book.specs.RegionRecords.{Region, region_of}
+use Rattle.region_book.specs.RegionRecords.{RegionRecord, region_of}
 use Rattle.policy_book.specs.PolicyRules.{book_by, bounds_of, first_rule, log_by, policy_of}
 use Rattle.nk_body.specs.declared.call.Call.{Call}
 use Rattle.nk_body.specs.declared.call.Call.TheVariants.{Allocate, DeclarePages, Free, Write}
@@ -17,10 +17,10 @@ use Rattle.replay_core.specs.ReplayedCalls.{is_given}
 -- a property of the ledger afterwards, whichever of these the call made, by what it asked for and its answer
 pub record IsKeptBy (P : Ledger → Type 0) (before : Ledger) (call : Call) (answer : ℕ) : Type 0 where
   pub stays : P before
-  pub grows : (r : Region) (pages : ℕ) → r.id ≡ before.book.next → answer ≡ before.book.next → ((size policy : ℕ) → call ≡ Allocate size policy → r.size ≡ size)
+  pub grows : (r : RegionRecord) (pages : ℕ) → r.id ≡ before.book.next → answer ≡ before.book.next → ((size policy : ℕ) → call ≡ Allocate size policy → r.size ≡ size)
       → P (record before { book = with_one_more before.book r pages })
   pub shrinks : (id : ℕ) → P (record before { book = freed before.book id })
-  pub written : (id offset : ℕ) (bytes : List ℕ) (r : Region) → region_of before.book id ≡ Some r
+  pub written : (id offset : ℕ) (bytes : List ℕ) (r : RegionRecord) → region_of before.book id ≡ Some r
       → offset + length bytes ≤ r.size
       → P (record { book = book_by before.book (Some r) offset (length bytes); log = log_by before.log (Some r) offset bytes })
 
@@ -49,20 +49,20 @@ module _ (P : Ledger → Type 0) (nk : Nested) (source : Sourced) (stand : ℕ �
 
   -- a write in a region that lives, of as many bytes as the call takes
   module _ (id offset place n : ℕ) (kept : Kept (Write id offset place n)) where
-    abbrev after_write : Option Region → Sourced → Ledger
+    abbrev after_write : Option RegionRecord → Sourced → Ledger
     after_write o it = record {
       book = book_by nk.ledger.book o offset (length (bytes_read it));
       log = log_by nk.ledger.log o offset (bytes_read it);
     }
 
-    source_kept : (r : Region) → region_of nk.ledger.book id ≡ Some r → offset + n ≤ r.size → (it : Sourced) → source_rule it ≡ None
+    source_kept : (r : RegionRecord) → region_of nk.ledger.book id ≡ Some r → offset + n ≤ r.size → (it : Sourced) → source_rule it ≡ None
         → is_given (Some n) it ≡ true → P (after_write (Some r) it)
     source_kept r found range NotTaken rule given = absurd (false≢true given)
     source_kept r found range Unreadable rule given = let no : Some BadSource ≡ None = rule in absurd (cc)
     source_kept r found range (Bytes bytes) rule given =
         let count : length bytes ≡ n = eqb-true (length bytes) n given in kept.written id offset bytes r found (omega arith)
 
-    region_kept : (o : Option Region) → region_of nk.ledger.book id ≡ o
+    region_kept : (o : Option RegionRecord) → region_of nk.ledger.book id ≡ o
         → first_rule (bounds_of o offset n) (first_rule (source_rule source) (policy_of nk.ledger.log o offset n)) ≡ None
         → is_given (if fits_region o offset n then Some n else None) source ≡ true → P (after_write o source)
     region_kept None found rule given = let no : Some BadRegion ≡ None = rule in absurd (cc)

@@ -7,11 +7,11 @@ use Rattle.std.proofs.lemmas.List.Elements.{All-head, All-tail}
 use Rattle.nk_body.specs.declared.call.Call.{Call}
 use Rattle.nk_body.specs.declared.call.Call.TheVariants.{Write}
 use Rattle.region_book.specs.RegionCalls.{fits_in, fits_region}
-use Rattle.region_book.specs.RegionRecords.{Book, IsBook, IsRegion, Region, region_of}
+use Rattle.region_book.specs.RegionRecords.{Book, IsBook, IsRegion, RegionRecord, region_of}
 use Rattle.nk_body.specs.CallRules.{wants}
 
 -- the region that is found, if any, has at most that size
-found_most : (next : ℕ) (test : Region → Bool) (rs : List Region) → All (IsRegion next) rs
+found_most : (next : ℕ) (test : RegionRecord → Bool) (rs : List RegionRecord) → All (IsRegion next) rs
     → IfSome (find test rs) (λ r. r.size ≤ 65536)
 found_most next test [] all = tt
 found_most next test (r ∷ rs) all =
@@ -23,7 +23,7 @@ found_most next test (r ∷ rs) all =
     by_test true here later = here
     by_test false here later = later
 
-fits_most : (region : Option Region) (offset count : ℕ) → IfSome region (λ r. r.size ≤ 65536)
+fits_most : (region : Option RegionRecord) (offset count : ℕ) → IfSome region (λ r. r.size ≤ 65536)
     → fits_region region offset count ≡ true → count ≤ 65536
 fits_most None offset count most fits = absurd (cc)
 fits_most (Some r) offset count most fits =

@@ -9,9 +9,9 @@ use Rattle.nk_bits.specs.declared.kind.Kind.{Kind}
 use Rattle.nk_bits.specs.declared.kind.Kind.TheVariants.{Guarded}
 use Rattle.nk_bits.specs.Kinds.{is_guarded, kind_of}
 use Rattle.nk_body.specs.NestedRecord.{AreBooks, Books, Nested, held_bytes, nested_by}
-use Rattle.region_book.specs.declared.regions.ShownRegion.{ShownRegion}
+use Rattle.region_book.specs.declared.regions.Region.{Region}
 use Rattle.region_book.specs.RegionBytes.{RegionIndex, book_in, row_in}
-use Rattle.region_book.specs.RegionRecords.{Book, IsBook, IsRegion, Region, byte_place, region_of, shown_region}
+use Rattle.region_book.specs.RegionRecords.{Book, IsBook, IsRegion, RegionRecord, byte_place, region_of, shown_region}
 use Rattle.write_log.specs.declared.log.Noted.{Noted}
 use Rattle.write_log.specs.LogRecords.{LogRecord, noted}
 use Rattle.report_text.specs.ClosingSection.{bytes_of_region, lines_of, log_lines, region_lines}
@@ -21,7 +21,7 @@ use Rattle.report_text.proofs.ListedLines.{lines_alike}
 -- The lines by place.
 
 -- the line of a region that lives, and of a record that there is
-pub region_text : Nested → Option Region → List ℕ
+pub region_text : Nested → Option RegionRecord → List ℕ
 region_text nk None = []
 region_text nk (Some r) = region_line r (bytes_of_region nk r)
 
@@ -34,7 +34,7 @@ unfolding lines_of
 one_on g zero place = refl
 one_on g (suc n) place = ap (λ l. g (place + 1) ++ l) (one_on g n (place + 1))
 
-pub regions_listed : (nk : Nested) (rs : List Region)
+pub regions_listed : (nk : Nested) (rs : List RegionRecord)
     → lines_of (λ i. region_text nk (slice_get rs i)) (length rs) 0 ≡ region_lines (bytes_of_region nk) rs
 unfolding lines_of region_lines region_text
 regions_listed nk [] = refl
@@ -85,7 +85,7 @@ there [] i low = absurd (omega (arith, low))
 there (x ∷ xs) zero low = (x, refl)
 there (x ∷ xs) (suc i) low = there xs i (omega (arith, low))
 
-pub place_of : (rs : List Region) (i : ℕ) (r : Region) → i < length rs → slice_get rs i ≡ Some r
+pub place_of : (rs : List RegionRecord) (i : ℕ) (r : RegionRecord) → i < length rs → slice_get rs i ≡ Some r
     → slice_index_or rs i r ≡ r
 place_of rs i r below at = same_Some _ r (sym (slice_get-get_or rs i r below) ∙ at)
 
@@ -96,36 +96,36 @@ other a b less = decided (a == b) refl
     decided false e = e
     decided true e = let same = eqb-true a b e in absurd (omega (arith, less, same))
 
-found : (rs : List Region) → AllPairs (λ one other. one.id < other.id) rs → (i : ℕ) (r : Region)
+found : (rs : List RegionRecord) → AllPairs (λ one other. one.id < other.id) rs → (i : ℕ) (r : RegionRecord)
     → slice_get rs i ≡ Some r
     → find (λ it. it.id == r.id) rs ≡ Some r
 found [] rising i r e = absurd (cc)
 found (x ∷ rs) rising zero r e =
     let same = same_Some x r e in
-    let test : (x.id == r.id) ≡ true = eq-eqb x.id r.id (ap (λ (it : Region). it.id) same) in
+    let test : (x.id == r.id) ≡ true = eq-eqb x.id r.id (ap (λ (it : RegionRecord). it.id) same) in
     ap (λ (t : Bool). if t then Some x else find (λ it. it.id == r.id) rs) test ∙ e
 found (x ∷ rs) rising (suc i) r e =
     let below : i < length rs = within rs i r e in
     let at : slice_index_or rs i x ≡ r = same_Some _ r (sym (slice_get-get_or rs i x below) ∙ e) in
     let less : x.id < r.id =
-    subst (λ (it : Region). x.id < it.id) at (rising 0 (suc i) x (omega arith) (omega (arith, below))) in
+    subst (λ (it : RegionRecord). x.id < it.id) at (rising 0 (suc i) x (omega arith) (omega (arith, below))) in
     let test : (x.id == r.id) ≡ false = other x.id r.id less in
     ap (λ (t : Bool). if t then Some x else find (λ it. it.id == r.id) rs) test
     ∙ found rs (λ i j d low high. rising (suc i) (suc j) d (omega (arith, low)) (omega (arith, high))) i r e
   where
-    within : (rs : List Region) (i : ℕ) (r : Region) → slice_get rs i ≡ Some r → i < length rs
+    within : (rs : List RegionRecord) (i : ℕ) (r : RegionRecord) → slice_get rs i ≡ Some r → i < length rs
     within [] i r e = absurd (cc)
     within (x ∷ rs) zero r e = omega arith
     within (x ∷ rs) (suc i) r e = let low = within rs i r e in omega (arith, low)
 
 -- what is shown is a region that lives, and it is found by its identifier
-pub record IsShown (book : Book) (i : ℕ) (it : ShownRegion) : Type 0 where
-  pub region : Region
+pub record IsShown (book : Book) (i : ℕ) (it : Region) : Type 0 where
+  pub region : RegionRecord
   pub at : slice_get book.regions i ≡ Some region
   pub same : it ≡ shown_region region
   pub live : region_of book it.id ≡ Some region
 
-pub shown_at : (book : Book) → IsBook book → (i : ℕ) (it : ShownRegion) → i < length book.regions
+pub shown_at : (book : Book) → IsBook book → (i : ℕ) (it : Region) → i < length book.regions
     → Some it ≡ option_map shown_region (slice_get book.regions i) → IsShown book i it
 shown_at book sound i it below e =
     let (r, at) = there book.regions i below in
@@ -134,7 +134,7 @@ shown_at book sound i it below e =
       region = r;
       at = at;
       same = same;
-      live = ap (λ (s : ShownRegion). region_of book s.id) same ∙ found book.regions sound.rising i r at;
+      live = ap (λ (s : Region). region_of book s.id) same ∙ found book.regions sound.rising i r at;
     }
 
 -- and so with a record of the log
@@ -183,7 +183,7 @@ mapped_alike f g (suc n) place same =
 module _ (books : Books) (m n : List ℕ) (are : AreBooks books m)
     (reads : (f o : ℕ) → kind_of books.frames.kinds f ≡ Guarded → o < 4096
     → byte_at n (4096 * f + o) ≡ byte_at m (4096 * f + o)) (i : ℕ) (below : i < length books.ledger.book.regions) where
-  region_bytes : (r : Region) → slice_get books.ledger.book.regions i ≡ Some r
+  region_bytes : (r : RegionRecord) → slice_get books.ledger.book.regions i ≡ Some r
       → map (λ o. byte_at n (byte_place r o)) (range_with_len 0 r.size) ≡ bytes_of_region (nested_by books m) r
   unfolding bytes_of_region
   region_bytes r at =
@@ -192,7 +192,7 @@ module _ (books : Books) (m n : List ℕ) (are : AreBooks books m)
       let sound : IsRegion books.ledger.book.next r =
       subst (IsRegion books.ledger.book.next) is (are.kept.book.each i r below) in
       let guarded : All (λ f. kind_of books.frames.kinds f ≡ Guarded) r.frames =
-      subst (λ (r : Region). All (λ f. kind_of books.frames.kinds f ≡ Guarded) r.frames) is
+      subst (λ (r : RegionRecord). All (λ f. kind_of books.frames.kinds f ≡ Guarded) r.frames) is
       (are.kept.frames i r below) in
       mapped_alike _ _ r.size 0 (λ o low.
       let frame : (r.place + o) / 4096 < length r.frames = omega (arith, low, sound.held) in
@@ -204,7 +204,7 @@ module _ (books : Books) (m n : List ℕ) (are : AreBooks books m)
 
   -- the line of the region at this place
   pub record IsListed : Type 0 where
-    pub region : Region
+    pub region : RegionRecord
     pub at : slice_get books.ledger.book.regions i ≡ Some region
     pub text : region_line region (map (λ o. byte_at n (byte_place region o)) (range_with_len 0 region.size))
         ≡ region_text (nested_by books m) (slice_get books.ledger.book.regions i)

@@ -7,8 +7,8 @@ use Rattle.hex.specs.Hex.{encode_lower, encode_with}
 use Rattle.nk_bits.specs.declared.call.Answer.{Answer}
 use Rattle.nk_bits.specs.declared.call.CallWords.{CallWords}
 use Rattle.nk_body.specs.CallRules.{Sourced}
-use Rattle.region_book.specs.declared.regions.ShownRegion.{ShownRegion}
-use Rattle.region_book.specs.RegionRecords.{Region, shown_region}
+use Rattle.region_book.specs.declared.regions.Region.{Region}
+use Rattle.region_book.specs.RegionRecords.{RegionRecord, shown_region}
 use Rattle.write_log.specs.declared.log.Noted.{Noted}
 use Rattle.write_log.specs.LogRecords.{LogRecord, noted}
 use Rattle.report_text.specs.ClosingSection.{lines_of}
@@ -32,7 +32,7 @@ record_head number it =
     codes "l " ++ (decimal number ++ (codes " " ++ (decimal it.region
     ++ (codes " " ++ (decimal it.offset ++ codes " ")))))
 
-abbrev region_head : ShownRegion → List ℕ
+abbrev region_head : Region → List ℕ
 region_head r =
     codes "r " ++ (decimal r.id ++ (codes " " ++ (decimal r.policy
     ++ (codes " " ++ (hex_16 r.place ++ (codes " " ++ (decimal r.size ++ codes " ")))))))
@@ -59,7 +59,7 @@ log_parts number of it x same e =
     sym (ap (λ l. l ++ rest) (e ∙ ap (record_head number) same) ∙ whole)
 
 -- of a region
-pub region_parts : (r : Region) (it : ShownRegion) (bytes x : List ℕ) → it ≡ shown_region r → x ≡ region_head it
+pub region_parts : (r : RegionRecord) (it : Region) (bytes x : List ℕ) → it ≡ shown_region r → x ≡ region_head it
     → region_line r bytes ≡ x ++ (encode_lower bytes ++ codes "\n")
 unfolding region_line
 region_parts r it bytes x same e =

@@ -4,7 +4,7 @@ use Rattle.std.specs.Fmt.{char_count, digits, padded_integral}
 use Rattle.hex.specs.Hex.{encode_with}
 use Rattle.nk_bits.specs.declared.kind.Kind.TheVariants.{Data, Code, Table, Fixed, Trap, Guarded, Hidden}
 use Rattle.nk_body.specs.CallRules.{Bytes, NotTaken, Sourced, Unreadable}
-use Rattle.region_book.specs.RegionRecords.{Region}
+use Rattle.region_book.specs.RegionRecords.{RegionRecord}
 use Rattle.report_text.specs.RunLines.{call_line, console_line, delivery_line, ending_line, entry_line, hex_16, kind_line, log_line, region_line, root_line, trap_line, turns_line}
 use Rattle.report_text.specs.RunSummary.{count_line, counts_line, summary_lines}
 
@@ -89,7 +89,7 @@ entries :
 unfolding entry_line hex_16 padded_integral char_count digits
 entries = (refl, refl, refl)
 
-abbrev region : ℕ → ℕ → ℕ → ℕ → Region
+abbrev region : ℕ → ℕ → ℕ → ℕ → RegionRecord
 region id policy first size = record {
   id = id;
   policy = policy;

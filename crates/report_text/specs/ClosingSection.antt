@@ -9,7 +9,7 @@ use Rattle.boot_map.specs.OpeningEntries.{opening_entry}
 use Rattle.boot_map.specs.OpeningKinds.{kind_at}
 use Rattle.page_desc.specs.PageTables.{is_table}
 use Rattle.nk_body.specs.NestedRecord.{Nested}
-use Rattle.region_book.specs.RegionRecords.{Region}
+use Rattle.region_book.specs.RegionRecords.{RegionRecord}
 use Rattle.write_log.specs.LogRecords.{LogRecord}
 use Rattle.report_text.specs.RunLines.{entry_line, kind_line, log_line, region_line, root_line, trap_line}
 
@@ -57,12 +57,12 @@ unfoldable pub entry_lines : List ℕ → ℕ → Nested → List ℕ
 entry_lines image frames nk = lines_of (lines_of_table image frames nk) frames 0
 
 -- the bytes of a region, as its frames hold them
-unfoldable pub bytes_of_region : Nested → Region → List ℕ
+unfoldable pub bytes_of_region : Nested → RegionRecord → List ℕ
 bytes_of_region nk r =
     map (λ o. nk.held (slice_index r.frames ((r.place + o) / 4096)) ((r.place + o) % 4096)) (range_with_len 0 r.size)
 
 -- the regions that live, by identifier, each with its bytes as they are given, and the records of the log, in order
-unfoldable pub region_lines : (Region → List ℕ) → List Region → List ℕ
+unfoldable pub region_lines : (RegionRecord → List ℕ) → List RegionRecord → List ℕ
 region_lines bytes [] = []
 region_lines bytes (r ∷ later) = region_line r (bytes r) ++ region_lines bytes later
 
@@ -71,7 +71,7 @@ log_lines number [] = []
 log_lines number (it ∷ later) = log_line number it ++ log_lines (number + 1) later
 
 -- the section of a record, for the opening of an image in a memory of so many frames, with these bytes of each region
-abbrev pub section_with : (Region → List ℕ) → List ℕ → ℕ → Nested → List ℕ
+abbrev pub section_with : (RegionRecord → List ℕ) → List ℕ → ℕ → Nested → List ℕ
 section_with bytes image frames nk =
     root_line nk.tables.root ++ (trap_line nk.trap ++ (kind_lines image frames nk ++ (entry_lines image frames nk
     ++ (region_lines bytes nk.ledger.book.regions ++ log_lines 0 nk.ledger.log))))

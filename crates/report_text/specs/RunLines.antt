@@ -8,7 +8,7 @@ use Rattle.nk_bits.specs.declared.call.Delivery.{Delivery}
 use Rattle.nk_bits.specs.declared.kind.Kind.{Kind}
 use Rattle.nk_bits.specs.declared.kind.Kind.TheVariants as kind
 use Rattle.nk_body.specs.CallRules.{Bytes, NotTaken, Sourced, Unreadable}
-use Rattle.region_book.specs.RegionRecords.{Region}
+use Rattle.region_book.specs.RegionRecords.{RegionRecord}
 use Rattle.write_log.specs.LogRecords.{LogRecord}
 
 -- a number of at most 64 bits as 16 hexadecimal digits
@@ -82,7 +82,7 @@ entry_line frame index value =
     codes "t " ++ (decimal frame ++ (codes " " ++ (decimal index ++ (codes " " ++ (hex_16 value ++ codes "\n")))))
 
 -- a region that lives: its identifier, its policy, its first address, its size and its bytes
-unfoldable pub region_line : Region → List ℕ → List ℕ
+unfoldable pub region_line : RegionRecord → List ℕ → List ℕ
 region_line r bytes =
     codes "r " ++ (decimal r.id ++ (codes " " ++ (decimal r.policy ++ (codes " " ++ (hex_16 r.first ++ (codes " "
     ++ (decimal r.size ++ (codes " " ++ (encode_lower bytes ++ codes "\n")))))))))

@@ -21,7 +21,7 @@ use nk_body::Kernel;
 use nk_host::{Pieces, Sink, SinkFault, pieces_law};
 use page_desc::held_tables_law;
 use phys_mem::{PhysMem, mask_law};
-use region_book::{Regions, ShownRegion};
+use region_book::{Regions, Region};
 use write_log::{Log, Noted, Spot, held_log_law};
 
 /// Writes the regions that live, and the log.
@@ -111,7 +111,7 @@ fn take_region<O: Sink>(
     sink: &mut O,
     regions: &Regions,
     mem: &PhysMem,
-    region: &ShownRegion,
+    region: &Region,
 ) -> Result<(), SinkFault>
     requires held { HoldsRegions regions.now mem.now }
     requires book { IsBook (book_in regions.now mem.now) }
@@ -143,7 +143,7 @@ fn take_region<O: Sink>(
 const REGION_HEAD: usize = 82;
 
 /// The line of a region up to its bytes, at the end of the room. It is put there from its last word to its first.
-fn region_head<'a>(room: &'a mut [u8; REGION_HEAD], region: &ShownRegion) -> &'a [u8]
+fn region_head<'a>(room: &'a mut [u8; REGION_HEAD], region: &Region) -> &'a [u8]
     ensures { result.now ≡ codes "r " ++ (decimal region.now.id ++ (codes " "
         ++ (decimal region.now.policy ++ (codes " " ++ (hex_16 region.now.place ++ (codes " "
         ++ (decimal region.now.size ++ codes " "))))))) }

@@ -6,7 +6,7 @@ ghost use Rattle.nk_body.specs.NestedRecord.{HoldsBooks};
 use gate_state::Called;
 use nk_body::Kernel;
 use phys_mem::PhysMem;
-use region_book::ShownRegion;
+use region_book::Region;
 use std::alloc::{AllocError, Global};
 
 /// Where the log stands, and how many bytes it has at most.
@@ -107,7 +107,7 @@ fn is_empty(mem: &PhysMem, at: u64) -> bool {
 }
 
 /// Whether the slot holds what is told of the region.
-fn is_slot_of(slot: &Slot, region: &ShownRegion) -> bool {
+fn is_slot_of(slot: &Slot, region: &Region) -> bool {
     slot.first == region.place
         && slot.size == u64::from(region.size)
         && slot.tail == u64::from(region.tail)

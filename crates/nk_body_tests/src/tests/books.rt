@@ -4,7 +4,7 @@
 use super::calls::{DECLARED, ONCE, TAIL};
 use super::cases::{Case, Found, Start, first_wrong};
 use super::{PAGE, POOL, Row};
-use region_book::ShownRegion;
+use region_book::Region;
 
 const SLOTS: u64 = 0x3_C000;
 
@@ -43,7 +43,7 @@ const RECORDS: [u64; 8] = [
 const LAST_FOUR: [u64; 8] = [0, 0, 0, 0, 0, 0, 0, 0xF000_0000_0000_0000];
 
 /// The regions of `TAIL`.
-const FIRST: ShownRegion = ShownRegion {
+const FIRST: Region = Region {
     id: 256,
     policy: 2,
     place: POOL,
@@ -52,7 +52,7 @@ const FIRST: ShownRegion = ShownRegion {
     pooled: true,
 };
 
-const SECOND: ShownRegion = ShownRegion {
+const SECOND: Region = Region {
     id: 257,
     policy: 3,
     place: POOL + 16,

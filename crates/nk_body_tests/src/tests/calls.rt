@@ -3,7 +3,7 @@
 use super::cases::{Case, Found, Start, first_wrong};
 use super::{HALTS, NOWHERE, PAGE, POOL, READABLE, Row, WRITABLE};
 use nk_bits::Kind;
-use region_book::ShownRegion;
+use region_book::Region;
 use write_log::Noted;
 
 /// The handler of the opening. Canonical addresses are those whose bits 63 to 47 are equal (SDM volume 1, 3.3.7.1).
@@ -299,7 +299,7 @@ fn limits_of_regions_and_pages(rt: HostRuntime) {
 }
 
 /// The logged region that filled the log.
-const FILLING: ShownRegion = ShownRegion {
+const FILLING: Region = Region {
     id: 256,
     policy: 4,
     place: POOL,

@@ -8,7 +8,7 @@ use super::{Opened, Row, filled, load, logged, open, pages_declared, play, words
 use nk_bits::Kind;
 use nk_body::Kernel;
 use phys_mem::PhysMem;
-use region_book::ShownRegion;
+use region_book::Region;
 use std::alloc::Global;
 use write_log::Noted;
 
@@ -40,9 +40,9 @@ pub(super) enum Found {
     /// A number at a place of memory.
     Number(u64, u64),
     /// A live region by its place in the order.
-    Nth(usize, Option<ShownRegion>),
+    Nth(usize, Option<Region>),
     /// A region by its identifier.
-    Region(u64, Option<ShownRegion>),
+    Region(u64, Option<Region>),
     /// How many bytes of the log are left.
     Room(u64),
     /// A record of the log, by its number.
@@ -123,7 +123,7 @@ fn is_descriptor(mem: &PhysMem, frame: u64, code: u8, level: u8, links: u64) -> 
 }
 
 /// A live region by its place in the order.
-fn nth(kernel: &Kernel, mem: &PhysMem, i: usize) -> Option<ShownRegion>
+fn nth(kernel: &Kernel, mem: &PhysMem, i: usize) -> Option<Region>
     requires { HoldsBooks kernel.now mem.now }
 {
     if i < kernel.regions().count() {

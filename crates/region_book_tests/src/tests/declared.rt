@@ -16,7 +16,7 @@ use super::{are_zero, load};
 use nk_bits::{Kind, Rule};
 use page_desc::Frames;
 use phys_mem::{NoMemory, PhysMem};
-use region_book::{Regions, ShownRegion, held_regions_law};
+use region_book::{Regions, Region, held_regions_law};
 use std::alloc::{AllocError, Global};
 
 /// Data but for a table of each level, those of the kernel slot, the pool and the books.
@@ -162,7 +162,7 @@ enum Step {
     /// A frame, and its loose leaves.
     Loose(u32, u32),
     /// An identifier, and its region.
-    Found(u64, Option<ShownRegion>),
+    Found(u64, Option<Region>),
 }
 
 use Step::{Declare, Empty, Found, Kinds, Loose, Slot};
@@ -315,7 +315,7 @@ static CASES: [Case; 2] = [
             Loose(70, 1),
             Found(
                 256,
-                Some(ShownRegion {
+                Some(Region {
                     id: 256,
                     policy: 2,
                     place: 4096,

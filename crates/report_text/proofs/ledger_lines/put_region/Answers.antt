@@ -2,9 +2,9 @@ use Rattle.std.proofs.Common.{◌+◌, ◌*◌, ◌≤◌, ◌++◌, All, ap, le
 use Rattle.std.specs.List.{range_with_len}
 use Rattle.hex.specs.Hex.{encode_lower}
 use Rattle.phys_mem.specs.Memory.{byte_at}
-use Rattle.region_book.specs.declared.regions.ShownRegion.{ShownRegion}
+use Rattle.region_book.specs.declared.regions.Region.{Region}
 use Rattle.region_book.specs.RegionBytes.{book_in}
-use Rattle.region_book.specs.RegionRecords.{Region, byte_place}
+use Rattle.region_book.specs.RegionRecords.{RegionRecord, byte_place}
 use Rattle.report_text.proofs.LedgerLines.{place_of, shown_at}
 use Rattle.report_text.proofs.LineParts.{region_parts}
 use Rattle.report_text.proofs.TakenUp.{end_cut, first_cut, second_cut, third_cut, went_out}
@@ -21,7 +21,7 @@ pub take_region-requires-clause-size : goal.take_region-requires-clause-size
 take_region-requires-clause-size g c =
     let it = shown_at (book_in c.args.regions.now c.args.mem.now) c.requires.book c.args.i c.nth-region.result c.requires.number
     c.nth-region.ensures in
-    some_from _ it.live (sym (ap (λ (s : ShownRegion). s.size) it.same))
+    some_from _ it.live (sym (ap (λ (s : Region). s.size) it.same))
 
 pub take_region-requires-clause-frames : goal.take_region-requires-clause-frames
 take_region-requires-clause-frames g c =
@@ -29,7 +29,7 @@ take_region-requires-clause-frames g c =
     c.nth-region.ensures in
     let frames = c.requires.frames c.args.i it.region c.requires.number in
     some_from _ it.live
-    (subst (λ (r : Region). All (λ f. 4096 * f + 4096 ≤ length c.args.mem.now) r.frames)
+    (subst (λ (r : RegionRecord). All (λ f. 4096 * f + 4096 ≤ length c.args.mem.now) r.frames)
     (place_of (book_in c.args.regions.now c.args.mem.now).regions c.args.i it.region c.requires.number it.at) frames)
 
 pub returns-in-Err-clause-some : goal.returns-in-Err-clause-some

@@ -5,7 +5,7 @@ use Rattle.nk_host.specs.PiecesOut.{MovedOn}
 use Rattle.nk_host.specs.Taken.{AppendsPrefix}
 use Rattle.phys_mem.specs.Memory.{byte_at}
 use Rattle.region_book.specs.RegionBytes.{book_in}
-use Rattle.region_book.specs.RegionRecords.{Region, byte_place, region_of}
+use Rattle.region_book.specs.RegionRecords.{RegionRecord, byte_place, region_of}
 use Rattle.report_text.specs.ClosingSection.{lines_of}
 use Rattle.report_text.proofs.LineParts.{range_taken}
 use Rattle.report_text.proofs.TakenUp.{takes_ended, takes_on, takes_were_cut}
@@ -17,7 +17,7 @@ returns-in-Err-clause-cut g c =
     let (r, is) = some_is (region_of (book_in c.args.regions.now c.args.mem.now) c.args.region.now.id) c.requires.live in
     let going = some_at _ is c.loop-offset.invariant.taken in
     let size : r.size ≡ c.args.region.now.size =
-    some_at (λ (r : Region). r.size ≡ c.args.region.now.size) is c.requires.size in
+    some_at (λ (r : RegionRecord). r.size ≡ c.args.region.now.size) is c.requires.size in
     let byte : c.byte-byte.result ≡ byte_at c.args.mem.now (byte_place r c.loop-offset.offset) =
     some_at _ is c.byte-byte.ensures in
     let here = subst (λ b. AppendsPrefix (g.O.Sink.taken c.loop-offset.sink) (g.O.Sink.taken c.push_hex.new.sink)
@@ -55,7 +55,7 @@ returns-clause-moved g c =
     let (r, is) = some_is (region_of (book_in c.args.regions.now c.args.mem.now) c.args.region.now.id) c.requires.live in
     let going = some_at _ is c.loop-offset.invariant.taken in
     let size : r.size ≡ c.args.region.now.size =
-    some_at (λ (r : Region). r.size ≡ c.args.region.now.size) is c.requires.size in
+    some_at (λ (r : RegionRecord). r.size ≡ c.args.region.now.size) is c.requires.size in
     let text : lines_of (λ o. encode_lower (byte_at c.args.mem.now (byte_place r o) ∷ [])) c.args.region.now.size 0
     ≡ encode_lower (map (λ o. byte_at c.args.mem.now (byte_place r o)) (range_with_len 0 r.size)) =
     range_taken (λ o. byte_at c.args.mem.now (byte_place r o)) c.args.region.now.size 0

@@ -4,7 +4,7 @@ use Rattle.std.proofs.lemmas.List.{length-map}
 use Rattle.region_book.specs.RegionBytes.{bits_in, book_in, row_in}
 use Rattle.region_book.specs.RegionCalls.{with_one_more, is_range_taken, pool_region}
 use Rattle.nk_bits.specs.KernelLayout.{pool_start}
-use Rattle.region_book.specs.RegionRecords.{Book, IsBook, Region}
+use Rattle.region_book.specs.RegionRecords.{Book, IsBook, RegionRecord}
 use Rattle.region_book.specs.RegionRows.{region_of_row, region_at}
 use Rattle.region_book.proofs.KeptSlots.{kept_behind, slots_as_they_were}
 use Rattle.region_book.proofs.NumberedRows.{pages_pooled}
@@ -68,14 +68,14 @@ book_after c =
     c.requires.held in
     c.admit.ensures.added
     ∙ ap (λ book. with_one_more book (region_of_row c.pool_row-row.result) 0) same
-    ∙ ap (λ (r : Region). with_one_more (book_in c.args.self.now c.args.mem.now) r 0)
+    ∙ ap (λ (r : RegionRecord). with_one_more (book_in c.args.self.now c.args.mem.now) r 0)
     (c.pool_row-row.ensures.region (book_in c.args.self.now c.args.mem.now) refl)
 
 pub returns-in-Ok-clause-granted : goal.returns-in-Ok-clause-granted
 returns-in-Ok-clause-granted c =
     let row = c.pool_row-row.result in
     let place : c.in-Ok.place ≡ row.first - pool_start = omega (arith, c.pool_row-row.ensures.first) in (
-      ap (λ (r : Region). r.id) (c.pool_row-row.ensures.region (book_in c.args.self.now c.args.mem.now) refl),
+      ap (λ (r : RegionRecord). r.id) (c.pool_row-row.ensures.region (book_in c.args.self.now c.args.mem.now) refl),
       omega (arith, c.pool_row-row.ensures.first),
       omega (arith, c.pool_row-row.ensures.first, c.in-Ok.ensures.within),
       c.in-Ok.ensures.room ∙ ap (λ p. Some p) place,

@@ -4,7 +4,7 @@ use Rattle.std.proofs.lemmas.List.{length-map}
 use Rattle.page_desc.specs.DescriptorBytes.{kinds_in}
 use Rattle.region_book.specs.RegionBytes.{bits_in, book_in, row_in}
 use Rattle.region_book.specs.RegionCalls.{with_one_more, page_region}
-use Rattle.region_book.specs.RegionRecords.{IsBook, Region}
+use Rattle.region_book.specs.RegionRecords.{IsBook, RegionRecord}
 use Rattle.region_book.specs.RegionRows.{region_of_row, region_at}
 use Rattle.region_book.proofs.DeclaredRegions.{page_added}
 use Rattle.region_book.proofs.Found.{for_some}
@@ -47,7 +47,7 @@ book_after c =
     c.guard.ensures.elsewhere.size (λ p low high. c.guard.ensures.elsewhere.elsewhere p (inl high))).0 in
     c.admit.ensures.added
     ∙ ap (λ book. with_one_more book (region_of_row c.page_row-row.result) c.in-Ok.pages.count) same
-    ∙ ap (λ (r : Region). with_one_more (book_in c.args.self.now c.args.mem.now) r c.in-Ok.pages.count)
+    ∙ ap (λ (r : RegionRecord). with_one_more (book_in c.args.self.now c.args.mem.now) r c.in-Ok.pages.count)
     (c.page_row-row.ensures.region (book_in c.args.self.now c.args.mem.now) refl)
     ∙ ap (with_one_more (book_in c.args.self.now c.args.mem.now) (page_region (book_in c.args.self.now c.args.mem.now) c.args.va
     c.args.size c.args.policy (take c.in-Ok.pages.count c.in-Ok.pages.frames))) (sym (count_is c))
