@@ -1,8 +1,8 @@
-//! The registers of the processor, with reads and partial writes of the general ones (SDM volume 1, 3.4.1), and the
-//! plain values that pass between the parts of one turn: an instruction's effect or fault, the frame of a return, and
-//! the places of the tables of delivery; and what operations make of the values of their operands. It meets the
-//! definitions of `specs/`; what an instruction does to registers and memory is left to the crates above. Floor:
-//! processor.
+//! The effect of an instruction: the plain values that pass between the parts of one turn, an instruction's effect or
+//! fault, the frame of a return, and the places of the tables of delivery; and what operations make of the values of
+//! their operands. Beside them the registers that an effect is over, with reads and partial writes of the general ones
+//! (SDM volume 1, 3.4.1). It meets the definitions of `specs/`; what an instruction does to registers and memory is left
+//! to the crates above. Floor: processor.
 #![tactic(auto)]
 
 // The registers, and the operands that name them.
