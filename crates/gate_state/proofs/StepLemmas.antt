@@ -1,5 +1,6 @@
 -- A step of the machine by its move: the state after it, the bytes that were read, what it shows and what it touches.
-use Rattle.std.proofs.Common.{◌≡◌, ℕ, Bool, true, false, List, Option, None, Some, refl, sym, ap, subst, false≢true, ◌||◌}
+use Rattle.std.proofs.Common.{◌≡◌, ℕ, Bool, true, false, List, Option, None, Some, refl, sym, ap, subst, ◌||◌}
+use Rattle.std.proofs.lemmas.Bool.{false≢true}
 use Rattle.std.specs.Prelude.{if◌then◌else◌, nat_le, slice_get}
 use Rattle.cpu_step.specs.Processor.{Processor}
 use Rattle.cpu_step.specs.declared.touched.Touched.{Touched}
