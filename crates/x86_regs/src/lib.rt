@@ -16,8 +16,10 @@ mod form;
 // What an operation makes of the values of its operands, and whether a branch is taken.
 mod bits;
 mod combinations;
+mod halves;
 mod movements;
 mod numbers;
+mod questions;
 mod sums;
 mod taken;
 
@@ -42,6 +44,7 @@ pub use effects::{Act, Change, Effect, Write};
 pub use faults::Fault;
 pub use flag_changes::{DF, IF, flags_changed, flags_popped};
 pub use form::{DataForm, FlowForm, Form, instr_form};
+pub use halves::{set_halves, upper_half};
 pub use laws::{alike_law, bound_law, effect_law, grant_law};
 pub use movements::{movement, source_width};
 pub use numbers::{extended, ones, sign};
@@ -49,6 +52,7 @@ pub use operands::{
     RAX, RBP, RCX, RDI, RDX, RSI, RSP, fallen, from_address, from_source, going_on, lowered,
     next_of, place_span, pop_source, push_span, risen, stack_span, string_span, to_source,
 };
+pub use questions::{is_asked, is_forward, is_repeated, is_signed};
 pub use refusals::{is_unconditional, raised, refusal};
 pub use registers::{Regs, held, low, set_place, set_register, with_register, written};
 pub use sums::{difference, sum};
