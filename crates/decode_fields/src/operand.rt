@@ -1,6 +1,6 @@
 //! ModRM, SIB and displacement (SDM volume 2, tables 2-2 and 2-3).
 
-ghost use Rattle.std.specs.Prelude.{◌≡◌, ◌≤◌, ◌<◌, ◌+◌, ◌⊎◌, length, slice_index, IfNone, IfSome};
+ghost use Rattle.std.specs.Prelude.{◌≡◌, ◌≤◌, ◌<◌, ◌+◌, ◌*◌, ◌⊎◌, length, slice_index, IfNone, IfSome};
 ghost use Rattle.decode_fields.specs.Bounds.{IsPlace};
 ghost use Rattle.decode_fields.specs.ModRm.{IsModRm, IsRex, displacement_from, displacement_size, front_size, has_sib, index_of, is_register, is_rip_relative, lacks_base, mod_field, modrm_length, modrm_of, place_by, plain_address, reg_by, reg_field, rex_b, rm_field, scale_of, sib_address};
 

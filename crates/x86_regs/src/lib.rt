@@ -31,6 +31,9 @@ mod flag_changes;
 mod refusals;
 mod writes;
 
+// An instruction, by its plan and its outcome.
+mod execution;
+
 // What follows from the definition of an effect.
 mod laws;
 
@@ -41,9 +44,10 @@ pub use combinations::{
 pub use conditions::{bit, condition_stands};
 pub use delivery::{Frame, Tables};
 pub use effects::{Act, Change, Effect, Write};
+pub use execution::{Execution, planned_effect};
 pub use faults::Fault;
 pub use flag_changes::{DF, IF, flags_changed, flags_popped};
-pub use form::{DataForm, FlowForm, Form, instr_form};
+pub use form::{DataForm, FlowForm, Form, data_form, flow_form, instr_form};
 pub use halves::{set_halves, upper_half};
 pub use laws::{alike_law, bound_law, effect_law, grant_law};
 pub use movements::{movement, source_width};
