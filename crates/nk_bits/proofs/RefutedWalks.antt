@@ -1,5 +1,5 @@
 -- Walks, look-ups and kinds that aren't so, each named by the sentence that it guards.
-use Rattle.std.proofs.Common.{◌≡◌, ◌≢◌, ◌-◌, ◌/◌, ◌<◌, ◌≤◌, ℕ, Bool, true, false, List, [], length, None, Some, Ok, Err, arith}
+use Rattle.std.proofs.Common.{◌≡◌, ◌≢◌, ◌/◌, ◌<◌, ℕ, true, false, List, [], length, None, Some, Ok, Err, arith}
 use Rattle.std.specs.Prelude.{IfOk}
 use Rattle.nk_bits.specs.declared.access.Access.{Access}
 use Rattle.nk_bits.specs.declared.kind.Kind.{Kind}

@@ -1,5 +1,5 @@
 -- Counts and tables after changes that aren't so, each named by the sentence that it guards.
-use Rattle.std.proofs.Common.{◌≡◌, ◌≢◌, ◌+◌, ◌==◌, ◌&&◌, ◌/◌, ◌<◌, ◌≤◌, ℕ, true, false, List, length, ap, arith}
+use Rattle.std.proofs.Common.{◌≡◌, ◌≢◌, ◌==◌, ◌&&◌, ◌/◌, ◌<◌, ◌≤◌, ℕ, true, false, List, length, ap, arith}
 use Rattle.std.specs.Prelude.{slice_set}
 use Rattle.phys_mem.specs.MaskedMemory.{is_book_frame}
 use Rattle.phys_mem.specs.Memory.{byte_at, entry_in}
@@ -73,8 +73,8 @@ module _ (kinds : List Kind) (t : ℕ → ℕ → ℕ) (laws : CountLaws) where
     -- the kernel slot's entry of a new table of level 4 counts for nothing, or stays counted once the table is none
     slot_entry_uncounted : (a : ℕ) → kind_of kinds a ≡ Data
         → links_in (slice_set kinds a (Table 4)) (emptied t a 4) 6 ≡ links_in kinds t 6 → ⊥
-    slot_entry_uncounted a data same =
-        let law = (laws.new_table kinds t a 4 6 fixed data (omega arith)).1 in omega (arith, law, same)
+    slot_entry_uncounted a is same =
+        let law = (laws.new_table kinds t a 4 6 fixed is (omega arith)).1 in omega (arith, law, same)
 
     slot_entry_stays : (a : ℕ) → (level_of (kind_of kinds a) == 4 && true) ≡ true → 1 ≤ level_of (kind_of kinds a)
         → level_of (kind_of kinds a) ≤ 4
