@@ -81,6 +81,7 @@ pub fn effect_of(
 }
 
 /// The execution of an instruction of this form.
+#[derive(Clone, Copy)]
 struct DataExecution {
     form: DataForm,
 }

@@ -109,6 +109,7 @@ fn effect_by(
 }
 
 /// The execution of an instruction of this form.
+#[derive(Clone, Copy)]
 struct FlowExecution {
     form: FlowForm,
 }
