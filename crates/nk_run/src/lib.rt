@@ -7,6 +7,7 @@
 // The words.
 mod command_line;
 mod numbers;
+mod request;
 
 // What is said, and how it goes out.
 mod lines;
@@ -49,9 +50,10 @@ mod top;
 // The whole over the machine.
 mod program;
 
-pub use crate::command_line::Role;
+pub use crate::command_line::{Command, Role};
 pub use crate::image::FILE_LIMIT;
-pub use crate::opening::{Opened, begin};
+pub use crate::opening::{Opened, ReadyRun, begin};
 pub use crate::program::nk_program;
-pub use crate::ready::{ReadyRun, Refusal, ready_run};
+pub use crate::ready::{Refusal, ready_run};
+pub use crate::request::Request;
 pub use crate::top::nk_main;
