@@ -31,7 +31,7 @@ use nk_bits::{Answer, CallWords, EXIT};
 use nk_body::{Kernel, held_law};
 use phys_mem::{PhysMem, mask_law};
 use std::marker::Model;
-use x86_regs::{Regs, bit};
+use x86_regs::Regs;
 
 /// Processor, memory with the books in it, and what the nested kernel keeps beside it, with how many turns and events were taken.
 pub(crate) struct Whole<'i> {
@@ -195,11 +195,10 @@ impl<'i> Whole<'i> {
     }
 
     /// Whether WP is set.
-    #[tactic(auto, unfolding(nk_bits::specs::Accesses::wp_of))]
     pub fn keeps_supervisor(&self) -> bool
         ensures { result ≡ wp_of self.now.state.processor.control.cr0 }
     {
-        bit(self.cpu.control().cr0, WP)
+        self.cpu.control().write_protect()
     }
 
     /// Whether the nested kernel's body is to run.
@@ -339,9 +338,6 @@ pub struct Finished {
     pub mem: PhysMem,
     pub kernel: Kernel,
 }
-
-/// Bit 16 of CR0: the supervisor's writes need a writable page (SDM volume 3, 2.5).
-const WP: u8 = 16;
 
 /// The step that the next event of the plan decides, or that none is left.
 fn move_by(cpu: &Cpu, plan: &Plan, turns: u64, taken: usize) -> Move
