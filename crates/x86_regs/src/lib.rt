@@ -1,8 +1,9 @@
-//! The registers of the processor, with reads and partial writes of the general ones (SDM volume 1, 3.4.1), and the
-//! plain values that pass between the parts of one turn: an instruction's effect or fault, the frame of a return, and
-//! the places of the tables of delivery; what operations make of the values of their operands; and the engine that
-//! executes an instruction by its plan and its outcome. It meets the definitions of `specs/`; which plan and outcome an
-//! instruction has, and how accesses are made, is left to the crates above. Floor: processor.
+//! The effect of an instruction: the plain values that pass between the parts of one turn, an instruction's effect or
+//! fault, the frame of a return, and the places of the tables of delivery; what operations make of the values of their
+//! operands; and the engine that executes an instruction by its plan and its outcome. Beside them the registers that an
+//! effect is over, with reads and partial writes of the general ones (SDM volume 1, 3.4.1). It meets the definitions of
+//! `specs/`; which plan and outcome an instruction has, and how accesses are made, is left to the crates above. Floor:
+//! processor.
 #![tactic(auto)]
 
 // The registers, and the operands that name them.
