@@ -47,6 +47,7 @@ pub fn effect(
 }
 
 /// The effect of an instruction whose form is known: the fault of its conditions, or what its accesses and its outcome are.
+#[inline(always)]
 #[tactic(auto, unfolding(x86_regs::specs::Effects::effect_of))]
 pub fn effect_of(
     form: DataForm,

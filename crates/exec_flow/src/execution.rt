@@ -51,6 +51,7 @@ pub fn effect(
 }
 
 /// The effect of an instruction whose form is known: the fault of its conditions, or what its form makes.
+#[inline(always)]
 #[tactic(auto, unfolding(x86_regs::specs::Effects::effect_of))]
 pub fn effect_of(
     form: FlowForm,
