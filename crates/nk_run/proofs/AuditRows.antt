@@ -13,7 +13,8 @@ use Rattle.replay_core.specs.GrantedCalls.{granted_of}
 use Rattle.replay_core.specs.GrantedLaws.{GivesRegion, GrantedLaws}
 use Rattle.replay_core.specs.ReplayedCalls.{WholeReplay, replay_of}
 use Rattle.nk_run.specs.declared.command_line.Role.TheVariants.{Image, Journal}
-use Rattle.nk_run.specs.CommandLine.{Audit, Replay, command_of}
+use Rattle.nk_run.specs.declared.command_line.Command.TheVariants.{Audit, Replay}
+use Rattle.nk_run.specs.CommandLine.{command_of}
 use Rattle.nk_run.specs.Outcome.{Check, checks_of, given, logged_by, logged_size, opened, outcome, passes, replay_in, size_in, test, unless_ended}
 use Rattle.nk_run.specs.Replies.{CommandSays, HoldsReplay, LiesWithin, RefusesBy, StopsIn}
 use Rattle.nk_run.specs.Witness.{Change, Files, ShelfState}

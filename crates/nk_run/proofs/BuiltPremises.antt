@@ -12,7 +12,8 @@ use Rattle.asm_text.specs.AssembledText.{code_from}
 use Rattle.code_modules.specs.ModuleList.{list_from, list_of}
 use Rattle.nk_run.specs.declared.command_line.Role.{Role}
 use Rattle.nk_run.specs.Clauses.{IsDoable, IsFaultless, IsGoodImage, IsGoodList, IsGoodPlan, IsGoodText, NameRose, Promises, SinkRose}
-use Rattle.nk_run.specs.CommandLine.{Make, Run, command_of}
+use Rattle.nk_run.specs.declared.command_line.Command.TheVariants.{Make, Run}
+use Rattle.nk_run.specs.CommandLine.{command_of}
 use Rattle.nk_run.specs.Witness.{Files, Witness}
 
 -- counts of five, of faults of every name and of the sink, that stay; and a count of wants before and after

@@ -18,7 +18,9 @@ use Rattle.code_modules.specs.JoinedParts.{CodeModule}
 use Rattle.code_modules.specs.ModuleList.{Listed, list_of}
 use Rattle.nk_run.specs.declared.command_line.Role.TheVariants.{Image, Module, ModuleList}
 use Rattle.nk_run.specs.Clauses.{HasJoined, IsWholeJoin}
-use Rattle.nk_run.specs.CommandLine.{Command, Scan, Map, Run, Replay, Make, Work, Join, Audit, Assemble, Listing, command_of, name_in, roles_of}
+use Rattle.nk_run.specs.declared.command_line.Command.{Command}
+use Rattle.nk_run.specs.declared.command_line.Command.TheVariants.{Scan, Map, Run, Replay, Make, Work, Join, Audit, Assemble, Listing}
+use Rattle.nk_run.specs.CommandLine.{command_of, name_in, roles_of}
 use Rattle.nk_run.specs.Outcome.{Answer, Check, Verdict, checks_of, ends, file_in, file_joined, first_verdict, join_in, joinable, list_checks, listed_in, module_checks, module_fetches, module_held, modules_in, modules_named, outcome, passes, test, unless_ended, well_listed}
 use Rattle.nk_run.specs.Replies.{CommandSays, EndsOwn, IsOwn, IsWant, ReadsBytes, StopsIn}
 use Rattle.nk_run.specs.declared.status.Status.{Status}

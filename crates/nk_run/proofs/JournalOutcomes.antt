@@ -5,7 +5,7 @@ use Rattle.irq_plan.specs.declared.event.Event.{Event}
 use Rattle.gate_state.specs.MachineStates.{Opening}
 use Rattle.report_text.specs.ClosingSection.{section}
 use Rattle.replay_core.specs.ReplayedCalls.{replay_of}
-use Rattle.nk_run.specs.CommandLine.{Replay}
+use Rattle.nk_run.specs.declared.command_line.Command.TheVariants.{Replay}
 use Rattle.nk_run.specs.declared.command_line.Role.TheVariants.{Image}
 use Rattle.nk_run.specs.Clauses.{HasRoom, IsDoable, IsGoodImage}
 use Rattle.nk_run.specs.JournalLaw.{IsJournal, IsReplayAsked, IsReplayedRun, section_replayed, text_of_run}

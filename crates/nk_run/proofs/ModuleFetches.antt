@@ -12,7 +12,7 @@ use Rattle.code_modules.specs.ModuleList.{Listed}
 use Rattle.nk_run.specs.declared.command_line.Role.{Role}
 use Rattle.nk_run.specs.declared.command_line.Role.TheVariants.{Module}
 use Rattle.nk_run.specs.Outcome.{IsReached, Verdict, fetch_verdict, first_verdict, module_fetches, module_held, modules_named, passes, unless_ended}
-use Rattle.nk_run.specs.Replies.{Stops, StopsIn, is_listed}
+use Rattle.nk_run.specs.Replies.{StopsFetch, StopsIn, is_listed}
 use Rattle.nk_run.specs.Witness.{Change, Files, ShelfState}
 use Rattle.nk_run.proofs.Rows.{name_rose_from}
 use Rattle.nk_run.proofs.Told.{if_told, told_at}
@@ -108,27 +108,34 @@ role_within (suc n) a i low high = elim (cases_lt a i) [
 pub module_stops : (words : List (List ℕ)) (before mid after : ShelfState) (modules : List Listed) (i : ℕ)
     (bytes : List (List ℕ)) (name : List ℕ) (status : ℕ) (text : List ℕ) → i < 32
     → NeverFalls before.faults mid.faults → mid.files ≡ before.files
+    → IfTold before.files (λ files. modules ≡ modules_named files words)
     → option_map (λ it. it.name) (slice_get modules i) ≡ Some name
     → IfTold before.files (λ files. IsFetched files modules i bytes)
-    → Stops words (record { before = mid; after = after }) (Module i) (λ files. fetch_verdict (Module i) (files name)) status text
+    → StopsFetch (record { before = mid; after = after }) (Module i) name status text
     → StopsIn words (record { before = before; after = after }) (map Module (range_with_len 0 32))
     (λ files. module_fetches files 0 modules) status text
-module_stops words before mid after modules i bytes name status text few falls same is so_far (inl stop) =
+module_stops words before mid after modules i bytes name status text few falls same listed is so_far (inl stop) =
     let at = listed_at modules i name is in
+    let P : List Listed → Type 0 = λ ms. name_at ms i ≡ Some name in
     inl (record {
       role = Module i;
       listed = role_within 32 0 i (omega arith) (omega (arith, few));
       unread = record {
-        rose = name_rose_from words before mid after (Module i) falls same stop.rose;
+        rose = name_rose_from words before mid after (Module i) falls same (
+          name,
+          if_told mid.files _ (λ files e.
+              subst P (told_at before.files _ files (sym same ∙ e) listed) is),
+          stop.rose,
+        );
         status_is = stop.status_is;
         text_is = stop.text_is;
       };
       reached = if_told before.files _ (λ files e.
-          let P : List Listed → Type 0 = λ ms. IsReached (Module i) (module_fetches files i ms) in
-          (told_at before.files _ files e so_far).reached (Module i) (subst P (sym at.first) (inl refl)));
+          let Q : List Listed → Type 0 = λ ms. IsReached (Module i) (module_fetches files i ms) in
+          (told_at before.files _ files e so_far).reached (Module i) (subst Q (sym at.first) (inl refl)));
     })
-module_stops words before mid after modules i bytes name status text few falls same is so_far (inr (inl want)) = inr (inl want)
-module_stops words before mid after modules i bytes name status text few falls same is so_far (inr (inr stop)) =
+module_stops words before mid after modules i bytes name status text few falls same listed is so_far (inr (inl want)) = inr (inl want)
+module_stops words before mid after modules i bytes name status text few falls same listed is so_far (inr (inr stop)) =
     let at = listed_at modules i name is in
     inr (inr (record {
       ended = if_told before.files _ (λ files e.

@@ -13,9 +13,11 @@ use Rattle.boot_map.specs.Division.{need}
 use Rattle.gate_state.specs.MachineStates.{Opening}
 use Rattle.replay_core.specs.ReplayedCalls.{replay_of}
 use Rattle.nk_run.specs.declared.command_line.Role.TheVariants.{Image, Input, Plan, Journal, ModuleList, Module, Text}
-use Rattle.nk_run.specs.CommandLine.{Command, Scan, Map, Run, Replay, Make, Work, Join, Audit, Assemble, Listing, command_of, name_in}
+use Rattle.nk_run.specs.declared.command_line.Command.{Command}
+use Rattle.nk_run.specs.declared.command_line.Command.TheVariants.{Scan, Map, Run, Replay, Make, Work, Join, Audit, Assemble, Listing}
+use Rattle.nk_run.specs.CommandLine.{command_of, name_in}
 use Rattle.nk_run.specs.Lines.{longest_file, longest_module}
-use Rattle.nk_run.specs.Witness.{Change, Files, ShelfState, Witness}
+use Rattle.nk_run.specs.Witness.{Change, Files, ShelfState, SinkState, Witness}
 use Rattle.nk_run.specs.Outcome.{Answer, Verdict, addressed, assembled, passes, decided, first_verdict, checks_of, text_of, outcome, command_outcome, fetch_verdict, formed, clean, given, join_in, joinable, journaled, list_checks, module_checks, module_fetches, modules_named, opened, opening_in, planned, replay_in, roomy, file_in, size_in, test, unless_ended, well_listed}
 use Rattle.code_modules.specs.declared.fault.JoinFault.{JoinFault}
 use Rattle.code_modules.specs.ModuleList.{Listed, list_of}
@@ -451,3 +453,16 @@ promised seen result ended law again joined bytes r = record {
   image_joined = of_command seen (λ command files. HasJoined command seen.words files)
       (λ files e command asked. joined seen.words files command (read_bytes seen bytes files e command asked));
 }
+
+-- and so it is of the words that a request has
+pub promised_of : (words request : List (List ℕ)) (shelf : Change ShelfState) (sink : Change SinkState) (result : ℕ) → request ≡ words
+    → ((words : List (List ℕ)) (files : Files) (command : Command) → HasEnd command words files)
+    → ((words : List (List ℕ)) (files : Files) (command : Command) → command_of words ≡ Some command → ReadsBytes command (Some files) → HasSafeRun command words files)
+    → ((words : List (List ℕ)) (files : Files) (command : Command) → command_of words ≡ Some command → ReadsBytes command (Some files) → HasJournal command words files)
+    → ((words : List (List ℕ)) (files : Files) (command : Command) → ReadsBytes command (Some files) → HasJoined command words files)
+    → IfSome (command_of request) (λ command. ReadsBytes command shelf.before.files)
+    → IsAnswered (record { words = request; shelf = shelf; sink = sink }) result
+    → Promises (record { words = words; shelf = shelf; sink = sink }) result
+promised_of words request shelf sink result same ended law again joined bytes r =
+    let P : List (List ℕ) → Type 0 = λ it. Promises (record { words = it; shelf = shelf; sink = sink }) result in
+    subst P same (promised (record { words = request; shelf = shelf; sink = sink }) result ended law again joined bytes r)

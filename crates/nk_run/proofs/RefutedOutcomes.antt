@@ -30,7 +30,9 @@ use Rattle.nk_run.specs.declared.command_line.Role.{Role}
 use Rattle.nk_run.specs.declared.command_line.Role.TheVariants.{Input, ModuleList, Plan}
 use Rattle.nk_run.specs.declared.ending.Ending.{Ending}
 use Rattle.nk_run.specs.Clauses.{HasCodeAt, HasEnd, HasJournal, HasModules, HasSafeRun, IsDoable, IsFaultless, IsGoodImage, IsGoodJournal, IsGoodList, IsGoodPlan, IsGoodText, IsSafeRun, IsUnread, IsWholeJoin, NameRose, Promises}
-use Rattle.nk_run.specs.CommandLine.{Command, IsAsked, Run, command_of, name_in}
+use Rattle.nk_run.specs.declared.command_line.Command.{Command}
+use Rattle.nk_run.specs.declared.command_line.Command.TheVariants.{Run}
+use Rattle.nk_run.specs.CommandLine.{IsAsked, command_of, name_in}
 use Rattle.nk_run.specs.JoinedRuns.{IsCodeByte}
 use Rattle.nk_run.specs.JournalLaw.{IsJournal, IsReplayedRun}
 use Rattle.nk_run.specs.Lines.{longest_module}

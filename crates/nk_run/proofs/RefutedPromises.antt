@@ -12,7 +12,9 @@ use Rattle.image_maker.specs.MadeImage.{image_of_number}
 use Rattle.nk_run.specs.declared.command_line.Role.{Role}
 use Rattle.nk_run.specs.declared.command_line.Role.TheVariants.{Image}
 use Rattle.nk_run.specs.Clauses.{HasJoined, HasSafeRun, IsFaultless, IsOutside, IsUnread, IsWholeJoin, MaySay, NameRose, Promises, SinkRose, TookAll, TookPrefix}
-use Rattle.nk_run.specs.CommandLine.{Command, Scan, Join, Work, IsAsked, command_of}
+use Rattle.nk_run.specs.declared.command_line.Command.{Command}
+use Rattle.nk_run.specs.declared.command_line.Command.TheVariants.{Scan, Join, Work}
+use Rattle.nk_run.specs.CommandLine.{IsAsked, command_of}
 use Rattle.nk_run.specs.Lines.{no_memory_line, unread_line}
 use Rattle.nk_run.specs.Outcome.{Answer, checks_of, file_in, first_verdict, modules_in, outcome, passes, text_of}
 use Rattle.nk_run.specs.Witness.{Files, Witness}

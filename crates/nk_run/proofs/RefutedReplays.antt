@@ -5,7 +5,9 @@ use Rattle.gate_state.specs.MachineStates.{Opening}
 use Rattle.report_text.specs.ClosingSection.{section}
 use Rattle.replay_core.specs.ReplayedCalls.{replay_of}
 use Rattle.nk_run.specs.declared.command_line.Role.TheVariants.{Image, Journal}
-use Rattle.nk_run.specs.CommandLine.{Command, Replay, command_of, name_in}
+use Rattle.nk_run.specs.declared.command_line.Command.{Command}
+use Rattle.nk_run.specs.declared.command_line.Command.TheVariants.{Replay}
+use Rattle.nk_run.specs.CommandLine.{command_of, name_in}
 use Rattle.nk_run.specs.JournalLaw.{IsJournal, IsReplayAsked, section_replayed, text_of_run}
 use Rattle.nk_run.specs.Lines.{longest_file}
 use Rattle.nk_run.specs.Outcome.{Answer, opened, outcome}

@@ -7,11 +7,13 @@ use Rattle.nk_host.specs.Told.{IfTold}
 use Rattle.elf_image.specs.Rows.{first_fault}
 use Rattle.nk_run.specs.declared.command_line.Role.{Role}
 use Rattle.nk_run.specs.declared.command_line.Role.TheVariants.{Image, Input, Plan, Journal, ModuleList, Module, Text}
-use Rattle.nk_run.specs.CommandLine.{Command, Scan, IsAsked, command_of, name_in, roles_of}
+use Rattle.nk_run.specs.declared.command_line.Command.{Command}
+use Rattle.nk_run.specs.declared.command_line.Command.TheVariants.{Scan}
+use Rattle.nk_run.specs.CommandLine.{IsAsked, command_of, name_in, roles_of}
 use Rattle.nk_run.specs.Witness.{Change, Files, ShelfState}
 use Rattle.nk_run.specs.Clauses.{IsNameOf, NameRose}
 use Rattle.nk_run.specs.Outcome.{Answer, Check, IsReached, Verdict, checks_of, decided, ends, fetch, fetch_verdict, file_in, first_verdict, outcome, command_outcome, passes, form_checks, formed, formed_checks, image_checks, test, text_of, unheld, unless_ended}
-use Rattle.nk_run.specs.Replies.{CommandSays, IsOwn, IsWant, RefusesBy, Stops, StopsIn, is_listed, is_same}
+use Rattle.nk_run.specs.Replies.{CommandSays, IsOwn, IsWant, IsWordRole, RefusesBy, Stops, StopsFetch, StopsIn, is_listed, is_same}
 use Rattle.nk_run.proofs.Checks.{first_verdict-append}
 use Rattle.nk_run.proofs.Told.{if_told, told_at}
 
@@ -161,6 +163,32 @@ fetch_stops words shelf role name roles later status text same named (inr (inr s
       ∙ ap (λ (v : Verdict). unless_ended v (first_verdict (later files))) (told_at shelf.before.files _ files e stop.ended));
   own = stop.own;
 }))
+
+-- a name that stands among the words is that of its role's file
+word_name : (words : List (List ℕ)) (told : Option Files) (role : Role) (name : List ℕ) → IsWordRole role → name ≡ name_in words role
+    → IsNameOf words told role name
+word_name words told Image name among named = named
+word_name words told Input name among named = named
+word_name words told Plan name among named = named
+word_name words told Journal name among named = named
+word_name words told ModuleList name among named = named
+word_name words told (Module number) name among named = absurd among
+word_name words told Text name among named = named
+
+-- the fetch of the file of that name is that of the role's file
+pub word_stops : (words : List (List ℕ)) (shelf : Change ShelfState) (role : Role) (name : List ℕ) (status : ℕ) (text : List ℕ)
+    → IsWordRole role → name ≡ name_in words role → StopsFetch shelf role name status text
+    → Stops words shelf role (λ files. fetch_verdict role (files (name_in words role))) status text
+word_stops words shelf role name status text among named (inl stop) = inl (record {
+  rose = (name, word_name words shelf.before.files role name among named, stop.rose);
+  status_is = stop.status_is;
+  text_is = stop.text_is;
+})
+word_stops words shelf role name status text among named (inr (inl want)) = inr (inl want)
+word_stops words shelf role name status text among named (inr (inr stop)) =
+    let P : List ℕ → Type 0 = λ n. IfTold shelf.before.files
+    (λ files. fetch_verdict role (files n) ≡ ends (record { status = status; text = text })) in
+    inr (inr (record { ended = subst P named stop.ended; own = stop.own }))
 
 -- a number that isn't one of those of the usage line and of the outside
 own_number : (number : ℕ) → (number ≤ 1) ⊎ ((6 ≤ number) × (number ≤ 10)) → IsOwn number

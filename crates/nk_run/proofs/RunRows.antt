@@ -11,7 +11,8 @@ use Rattle.report_text.specs.ClosingSection.{section}
 use Rattle.replay_core.specs.ReplayedCalls.{WholeReplay, replay_of}
 use Rattle.image_maker.specs.MadeImage.{image_of_number}
 use Rattle.nk_run.specs.declared.command_line.Role.TheVariants.{Image, Input, Journal, Plan}
-use Rattle.nk_run.specs.CommandLine.{Make, Map, Replay, Run, Work, command_of, roles_of}
+use Rattle.nk_run.specs.declared.command_line.Command.TheVariants.{Make, Map, Replay, Run, Work}
+use Rattle.nk_run.specs.CommandLine.{command_of, roles_of}
 use Rattle.nk_run.specs.Outcome.{Answer, Check, Verdict, checks_of, decided, ends, events_in, file_in, first_verdict, image_checks, journal_checks, journaled, opened, opening_in, outcome, passes, replay_in, roomy, run_checks, test, translation_of, unheld, unless_ended, worked}
 use Rattle.nk_run.specs.Replies.{CommandSays, Concludes, HoldsReplay, IsWant, RefusesBy, Stops, StopsIn}
 use Rattle.nk_run.specs.Lines.{walk_line}

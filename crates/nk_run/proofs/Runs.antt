@@ -9,7 +9,6 @@ use Rattle.nk_host.specs.Taken.{AppendsPrefix}
 use Rattle.irq_plan.specs.declared.event.Event.{Event}
 use Rattle.gate_state.specs.declared.moves.Move.{Move}
 use Rattle.gate_state.specs.declared.moves.Move.TheVariants as move
-use Rattle.gate_state.specs.MachineOpening.{opening_state}
 use Rattle.gate_state.specs.MachineStates.{MachineState, Opening, nested_of}
 use Rattle.gate_state.specs.MachineSteps.{move_of, next, state}
 use Rattle.gate_state.specs.StepsTaken.{CountsSteps}
@@ -97,15 +96,6 @@ unfolding run_text lines_from state run_length closing
 text_ended o steps plan s reason e =
     ap (λ n. lines_from n plan s ++ closing o steps plan (state plan s n)) (ends_within (left steps plan s) steps plan s reason e)
     ∙ ap (λ (why : Option Ending). ended why ++ (turns_line s.turns ++ section o.image o.frames (nested_of s))) e
-
--- the text from the opening on, of a memory of so many frames
-pub text_begun : (steps : ℕ) (plan : List Event) (image input : List ℕ) (n frames : ℕ) (s : MachineState)
-    → s ≡ opening_state (record { image = image; frames = n }) input → n ≡ frames
-    → let o : Opening = record { image = image; frames = frames } in
-    run_text (record { image = image; frames = n }) steps plan s ≡ run_text o steps plan (opening_state o input)
-text_begun steps plan image input n frames s begun same =
-    let text : ℕ → List ℕ = λ f. run_text (record { image = image; frames = f }) steps plan (opening_state (record { image = image; frames = f }) input) in
-    ap (run_text (record { image = image; frames = n }) steps plan) begun ∙ ap text same
 
 -- What the loop keeps.
 

@@ -9,7 +9,9 @@ use Rattle.report_text.specs.ImageLines.{admitted_line}
 use Rattle.nk_run.specs.declared.command_line.Role.TheVariants.{Image}
 use Rattle.nk_run.specs.declared.pieces.Stop.{Stop}
 use Rattle.nk_run.specs.declared.pieces.Stop.TheVariants.{Faulty, Longer, Protected, Unread, Want}
-use Rattle.nk_run.specs.CommandLine.{Command, Scan, command_of, name_in, roles_of}
+use Rattle.nk_run.specs.declared.command_line.Command.{Command}
+use Rattle.nk_run.specs.declared.command_line.Command.TheVariants.{Scan}
+use Rattle.nk_run.specs.CommandLine.{command_of, name_in, roles_of}
 use Rattle.nk_run.specs.HeldFile.{OfFile}
 use Rattle.nk_run.specs.Lines.{longer_line, longest_file}
 use Rattle.nk_run.specs.Outcome.{Answer, IsReached, Verdict, checks_of, clean, decided, ends, fetch_verdict, first_verdict, formed, image_checks, outcome, command_outcome, passes, text_of, unless_ended}

@@ -5,7 +5,8 @@ use Rattle.elf_image.specs.Pages.{is_executable}
 use Rattle.report_text.specs.ListingLines.{code_listing}
 use Rattle.asm_text.specs.AssembledText.{assembled_of}
 use Rattle.nk_run.specs.declared.command_line.Role.TheVariants.{Image, Text}
-use Rattle.nk_run.specs.CommandLine.{Assemble, Listing, command_of}
+use Rattle.nk_run.specs.declared.command_line.Command.TheVariants.{Assemble, Listing}
+use Rattle.nk_run.specs.CommandLine.{command_of}
 use Rattle.nk_run.specs.Outcome.{Check, addressed, assembled, code_in, file_in, first_verdict, formed_checks, outcome, passes, test, text_checks, unless_ended}
 use Rattle.nk_run.specs.Replies.{CommandSays, RefusesBy, Stops}
 use Rattle.nk_run.specs.Witness.{Change, Files, ShelfState}

@@ -30,7 +30,9 @@ use Rattle.gate_state.specs.SafeStates.{IsSafe}
 use Rattle.gate_state.specs.WindowLeft.{IsShortWindow}
 use Rattle.nk_run.specs.declared.command_line.Role.{Role}
 use Rattle.nk_run.specs.declared.command_line.Role.TheVariants.{Image, Input, Plan, Journal, ModuleList, Module, Text}
-use Rattle.nk_run.specs.CommandLine.{Command, Scan, Map, Run, Replay, Make, Work, Join, Audit, Assemble, Listing, command_of, name_in, IsAsked}
+use Rattle.nk_run.specs.declared.command_line.Command.{Command}
+use Rattle.nk_run.specs.declared.command_line.Command.TheVariants.{Scan, Map, Run, Replay, Make, Work, Join, Audit, Assemble, Listing}
+use Rattle.nk_run.specs.CommandLine.{command_of, name_in, IsAsked}
 use Rattle.nk_run.specs.JoinedRuns.{KeepsCode}
 use Rattle.nk_run.specs.JournalLaw.{IsJournal}
 use Rattle.nk_run.specs.Lines.{longest_file, longest_module, no_memory_line, unread_line, usage_line}

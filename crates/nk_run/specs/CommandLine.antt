@@ -5,22 +5,13 @@ use Rattle.std.specs.Option.{option_map}
 use Rattle.std.specs.Str.{bytes_eq}
 use Rattle.nk_bits.specs.Paging.{is_canonical}
 use Rattle.text_lines.specs.Numerals.{numeral}
+use Rattle.nk_run.specs.declared.command_line.Command.{Command}
+use Rattle.nk_run.specs.declared.command_line.Command.TheVariants.{Scan, Map, Run, Replay, Make, Work, Join, Audit, Assemble, Listing}
 use Rattle.nk_run.specs.declared.command_line.Role.{Role}
 use Rattle.nk_run.specs.declared.command_line.Role.TheVariants.{Image, Input, Plan, Journal, ModuleList, Module, Text}
 use Rattle.nk_run.specs.NumberWords.{decimal_within, address_word}
 
--- what the words ask for, by the numbers among them; the names of the files are read beside it
-pub data Command : Type 0 where
-  Scan : Command
-  Map : ℕ → ℕ → Command
-  Run : ℕ → ℕ → Command
-  Replay : ℕ → Command
-  Make : ℕ → Command
-  Work : ℕ → Command
-  Join : Command
-  Audit : ℕ → ℕ → Command
-  Assemble : Command
-  Listing : ℕ → ℕ → Command
+-- What the words ask for is a command, by the numbers among them; the names of the files are read beside it.
 
 -- a command of two numbers, where the words are numbers both
 abbrev pub both : (ℕ → ℕ → Command) → Option ℕ → Option ℕ → Option Command

@@ -8,7 +8,8 @@ use Rattle.gate_state.specs.MachineSteps.{calls, state}
 use Rattle.report_text.specs.ClosingSection.{section}
 use Rattle.replay_core.specs.ReplayedCalls.{WholeReplay, replay_of}
 use Rattle.nk_run.specs.declared.command_line.Role.TheVariants.{Image, Journal}
-use Rattle.nk_run.specs.CommandLine.{Replay, command_of, name_in}
+use Rattle.nk_run.specs.declared.command_line.Command.TheVariants.{Replay}
+use Rattle.nk_run.specs.CommandLine.{command_of, name_in}
 use Rattle.nk_run.specs.Lines.{longest_file}
 use Rattle.nk_run.specs.Outcome.{opened, outcome}
 use Rattle.nk_run.specs.ReplayedRuns.{replayed_section}

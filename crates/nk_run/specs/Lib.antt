@@ -13,7 +13,6 @@ pub mod Clauses
 pub mod RunsBegun
 -- Words of private clauses and proofs.
 pub mod Statuses
-pub mod NamedCommands
 pub mod RunProgress
 pub mod ReplyText
 pub mod Replies

@@ -2,8 +2,7 @@
 use Rattle.std.specs.Prelude.{◌≡◌, ◌≢◌, ℕ, ◌+◌, ◌*◌, ◌/◌, ◌==◌, Bool, true, false, ◌<◌, ◌≤◌, ◌⊎◌, List, length, replicate, Contains, Option, None, Some, OnErr, OnOk, Result, IsSome, ⊤}
 use Rattle.std.specs.List.{list_any}
 use Rattle.nk_bits.specs.declared.leaf.Leaf.{Leaf}
-use Rattle.irq_plan.specs.declared.event.Event.{Event}
-use Rattle.nk_host.specs.FaultCounts.{RoseTo}
+use Rattle.nk_host.specs.FaultCounts.{Rose, RoseTo}
 use Rattle.nk_host.specs.Files.{AreFilesOfBytes}
 use Rattle.nk_host.specs.Told.{IfTold}
 use Rattle.elf_image.specs.Pages.{is_executable}
@@ -12,7 +11,6 @@ use Rattle.boot_map.specs.Division.{Division, IsLayout}
 use Rattle.write_log.specs.LogBytes.{HoldsLog, log_in}
 use Rattle.write_log.specs.LogRecords.{LogRecord}
 use Rattle.nk_body.specs.NestedRecord.{HoldsBooks, OwnState, nested_held}
-use Rattle.gate_state.specs.MachineOpening.{opening_state}
 use Rattle.report_text.specs.AuditLines.{audit_text}
 use Rattle.report_text.specs.ListingLines.{code_listing}
 use Rattle.replay_core.specs.ReplayedCalls.{replay_of}
@@ -20,11 +18,12 @@ use Rattle.image_maker.specs.MadeImage.{image_of_number}
 use Rattle.nk_run.specs.declared.command_line.Role.{Role}
 use Rattle.nk_run.specs.declared.command_line.Role.TheVariants.{Image, Input, Plan, Journal, ModuleList, Module, Text}
 use Rattle.nk_run.specs.declared.count.Tally.{Tally}
-use Rattle.nk_run.specs.CommandLine.{Command, Join, Replay, Run, Scan, command_of}
+use Rattle.nk_run.specs.declared.command_line.Command.{Command}
+use Rattle.nk_run.specs.declared.command_line.Command.TheVariants.{Join, Replay, Run, Scan}
+use Rattle.nk_run.specs.CommandLine.{command_of}
 use Rattle.nk_run.specs.Lines.{no_memory_line, unread_line, usage_line, walk_line}
 use Rattle.nk_run.specs.Witness.{Change, Files, ShelfState, SinkState, Witness}
-use Rattle.nk_run.specs.Outcome.{Check, Verdict, checks_of, ends, decided, file_in, first_verdict, opened, outcome, passes, IsReached}
-use Rattle.nk_run.specs.RunStates.{run_text}
+use Rattle.nk_run.specs.Outcome.{Check, Verdict, checks_of, ends, decided, fetch_verdict, file_in, first_verdict, opened, outcome, passes, IsReached}
 use Rattle.nk_run.specs.Clauses.{AreKept, IsUnread, NameRose, SinkRose, TookAll, TookPrefix}
 
 -- a status that a command's own answer may have: neither that of the usage line nor one of the outside
@@ -119,6 +118,23 @@ pub record StopsEnded (shelf : Change ShelfState) (verdict : Files → Verdict) 
   pub ended : IfTold shelf.before.files (λ files. verdict files ≡ ends (record { status = status; text = text }))
   pub own : IsOwn status
 
+-- the fetch of the file of a name failed: its count rose
+pub record IsUnfetched (shelf : Change ShelfState) (role : Role) (name : List ℕ) (status : ℕ) (text : List ℕ) : Type 0 where
+  pub rose : Rose shelf.before.faults shelf.after.faults name
+  pub status_is : status ≡ 3
+  pub text_is : text ≡ unread_line role
+
+-- the fetch of the file of a name gives one of these replies
+abbrev pub StopsFetch : Change ShelfState → Role → List ℕ → ℕ → List ℕ → Type 0
+StopsFetch shelf role name status text =
+    IsUnfetched shelf role name status text
+    ⊎ (IsWant status text ⊎ StopsEnded shelf (λ files. fetch_verdict role (files name)) status text)
+
+-- the name of the role's file stands among the words: a module's doesn't
+abbrev pub IsWordRole : Role → Type 0
+IsWordRole (Module number) = ⊥
+IsWordRole _ = ⊤
+
 -- the reply is one of these, for checks that begin with the fetch of a role's file
 abbrev pub Stops : List (List ℕ) → Change ShelfState → Role → (Files → Verdict) → ℕ → List ℕ
     → Type 0
@@ -177,18 +193,6 @@ Concludes verdict answer status text =
 -- the line for what a walk found, or there was no memory
 abbrev pub ShowsWalk : Result Leaf ℕ → ℕ → List ℕ → Type 0
 ShowsWalk found status text = IsWant status text ⊎ ((status ≡ 0) × (text ≡ walk_line found))
-
--- a run may begin: the image was scanned and has its layout, and where files are told the text of the run is the outcome's
-pub record IsReady (words : List (List ℕ)) (told : Option Files) (steps frames : ℕ) (image : List ℕ) (layout : Division)
-    (input : List ℕ) (plan : List Event) : Type 0 where
-  pub layout_is : IsLayout image layout
-  pub frames_are : layout.frames ≡ frames
-  pub clean : first_found image ≡ None
-  pub outcome_is : IfTold told (λ files. outcome words files ≡ Some (record {
-    status = 0;
-    text = run_text (record { image = image; frames = frames }) steps plan
-        (opening_state (record { image = image; frames = frames }) input);
-  }))
 
 -- where files are told, image and journal are theirs, and these checks pass on them
 abbrev pub HoldsReplay : List (List ℕ) → Option Files → List ℕ → List ℕ → (Files → List Check) → Type 0

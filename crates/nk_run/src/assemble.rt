@@ -1,19 +1,20 @@
 //! The command `asm TEXT`.
-ghost use Rattle.std.specs.Prelude.{◌≡◌, ℕ, List, Ok, Some, MatchResult};
+ghost use Rattle.std.specs.Prelude.{◌≡◌, Ok, Some, MatchResult};
 ghost use Rattle.nk_host.specs.Told.{IfTold};
 ghost use Rattle.asm_text.specs.AssembledText.{assembled_of};
-ghost use Rattle.nk_run.specs.CommandLine.{command_of, Assemble};
-ghost use Rattle.nk_run.specs.NamedCommands.{Names};
+ghost use Rattle.nk_run.specs.declared.command_line.Command.TheVariants.{Assemble};
+ghost use Rattle.nk_run.specs.CommandLine.{command_of};
 ghost use Rattle.nk_run.specs.Witness.{shelf_change, sink_change};
 ghost use Rattle.nk_run.specs.Outcome.{assembled, file_in, first_verdict, passes, text_checks};
 ghost use Rattle.nk_run.specs.ReplyText.{line_bytes};
 ghost use Rattle.nk_run.specs.Statuses.{status_number};
 ghost use Rattle.nk_run.specs.Replies.{IsAnswered, RefusesBy, Stops};
 
-use crate::command_line::{FileName, Role};
+use crate::command_line::Role;
 use crate::image::fetch;
 use crate::lines::text_line;
 use crate::reply::{Reply, made, no_memory};
+use crate::request::Request;
 use crate::status::Status;
 use asm_text::TextFault;
 use nk_host::{Shelf, Sink, put_all};
@@ -34,18 +35,20 @@ fn assemble_text(alloc: Global, text: &[u8]) -> Result<Vec<u8>, Reply>
 }
 
 /// The code of a file's text, or the reply to the first check on it that doesn't pass.
-fn make_code<S: Shelf>(alloc: Global, name: FileName<'_>, shelf: &mut S) -> Result<Vec<u8>, Reply>
-    ghost words: { List (List ℕ) }
-    requires { Names words Role.Text name }
+fn make_code<S: Shelf>(
+    alloc: Global,
+    request: &Request<'_>,
+    shelf: &mut S,
+) -> Result<Vec<u8>, Reply>
     ensures files_stay { S.files shelf.new ≡ S.files shelf.old }
     ensures made { MatchResult result
-        (λ code. IfTold (S.files shelf.old) (λ files. (assembled_of (file_in files words Role.Text) ≡ Ok code.items)
-        × (first_verdict (text_checks files words) ≡ passes)))
-        (λ reply. Stops words (shelf_change S.files S.faults S.wants shelf.old shelf.new) Role.Text
-        (λ files. first_verdict (text_checks files words))
+        (λ code. IfTold (S.files shelf.old) (λ files. (assembled_of (file_in files request.now Role.Text) ≡ Ok code.items)
+        × (first_verdict (text_checks files request.now) ≡ passes)))
+        (λ reply. Stops request.now (shelf_change S.files S.faults S.wants shelf.old shelf.new) Role.Text
+        (λ files. first_verdict (text_checks files request.now))
         (status_number reply.status) (line_bytes reply.line)) }
 {
-    match fetch(alloc, name, Role::Text, shelf) {
+    match fetch(alloc, request, Role::Text, shelf) {
         Ok(bytes) => assemble_text(alloc, &bytes),
         Err(reply) => Err(reply),
     }
@@ -55,20 +58,18 @@ fn make_code<S: Shelf>(alloc: Global, name: FileName<'_>, shelf: &mut S) -> Resu
 #[inline(never)]
 pub(crate) fn assemble<S: Shelf, O: Sink>(
     alloc: Global,
-    text: FileName<'_>,
+    request: &Request<'_>,
     shelf: &mut S,
     sink: &mut O,
 ) -> Status
-    ghost words: { List (List ℕ) }
-    requires asked { command_of words ≡ Some Assemble }
-    requires named { Names words Role.Text text }
+    requires { command_of request.now ≡ Some Assemble }
     ensures { IsAnswered (record {
-      words = words;
+      words = request.now;
       shelf = shelf_change S.files S.faults S.wants shelf.old shelf.new;
       sink = sink_change O.taken O.faults sink.old sink.new;
     }) (status_number result) }
 {
-    match make_code(alloc, text, shelf) {
+    match make_code(alloc, request, shelf) {
         Ok(code) => Status::Done.unless_cut(put_all(sink, &code)),
         Err(reply) => reply.write(sink),
     }

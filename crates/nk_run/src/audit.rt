@@ -1,22 +1,22 @@
 //! The command `audit IMAGE FRAMES JOURNAL ID`.
-ghost use Rattle.std.specs.Prelude.{◌≡◌, ◌≤◌, ℕ, List, None, Some, IfSome, MatchResult, length, replicate};
+ghost use Rattle.std.specs.Prelude.{◌≡◌, ◌≤◌, None, Some, IfSome, MatchResult, length, replicate};
 ghost use Rattle.write_log.specs.LogBytes.{HoldsLog, log_in};
 ghost use Rattle.report_text.specs.AuditLines.{audit_text};
 ghost use Rattle.nk_body.specs.Calls.{call_of};
 ghost use Rattle.replay_core.specs.GrantedCalls.{granted_of};
 ghost use Rattle.replay_core.specs.ReplayedCalls.{replay_of};
-ghost use Rattle.nk_run.specs.CommandLine.{command_of, Audit, IsBounded};
-ghost use Rattle.nk_run.specs.NamedCommands.{NamesReplay};
+ghost use Rattle.nk_run.specs.declared.command_line.Command.TheVariants.{Audit};
+ghost use Rattle.nk_run.specs.CommandLine.{command_of, IsBounded};
 ghost use Rattle.nk_run.specs.Witness.{shelf_change, sink_change};
 ghost use Rattle.nk_run.specs.Outcome.{given, logged_by, logged_size, opened};
 ghost use Rattle.nk_run.specs.ReplyText.{line_bytes};
 ghost use Rattle.nk_run.specs.Statuses.{status_number};
 ghost use Rattle.nk_run.specs.Replies.{CommandSays, IsAnswered, IsAuditable, IsTextPut, LiesWithin, RefusesBy};
 
-use crate::command_line::ReplayFiles;
 use crate::lines::noregion_line;
 use crate::replay::{Replayed, make_replay};
 use crate::reply::{Reply, made, no_memory};
+use crate::request::Request;
 use crate::status::Status;
 use nk_bits::CallWords;
 use nk_body::{Call, call_of};
@@ -114,23 +114,21 @@ fn take_room(alloc: Global, replayed: &Replayed, id: u64) -> Result<Auditing, Re
 /// All that the audit is made of, or the reply to the first check that doesn't pass.
 fn make_audit<S: Shelf>(
     alloc: Global,
-    files: ReplayFiles<'_>,
+    request: &Request<'_>,
     frames: u32,
     id: u64,
     shelf: &mut S,
 ) -> Result<Auditable, Reply>
-    ghost words: { List (List ℕ) }
-    requires asked { command_of words ≡ Some (Audit frames id) }
-    requires named { NamesReplay words files }
+    requires asked { command_of request.now ≡ Some (Audit frames id) }
     requires bounds { IsBounded (Audit frames id) }
     ensures files_stay { S.files shelf.new ≡ S.files shelf.old }
     ensures made { MatchResult result
-        (λ it. IsAuditable words (S.files shelf.old) id it.auditing
+        (λ it. IsAuditable request.now (S.files shelf.old) id it.auditing
         it.replayed.left.kernel it.replayed.left.memory)
-        (λ reply. CommandSays words (shelf_change S.files S.faults S.wants shelf.old shelf.new)
+        (λ reply. CommandSays request.now (shelf_change S.files S.faults S.wants shelf.old shelf.new)
         (status_number reply.status) (line_bytes reply.line)) }
 {
-    let replayed = match make_replay(alloc, files, frames, shelf) {
+    let replayed = match make_replay(alloc, request, frames, shelf) {
         Ok(replayed) => replayed,
         Err(reply) => return Err(reply),
     };
@@ -144,23 +142,21 @@ fn make_audit<S: Shelf>(
 #[inline(never)]
 pub(crate) fn audit<S: Shelf, O: Sink>(
     alloc: Global,
-    files: ReplayFiles<'_>,
+    request: &Request<'_>,
     frames: u32,
     id: u64,
     shelf: &mut S,
     sink: &mut O,
 ) -> Status
-    ghost words: { List (List ℕ) }
-    requires asked { command_of words ≡ Some (Audit frames id) }
-    requires named { NamesReplay words files }
+    requires asked { command_of request.now ≡ Some (Audit frames id) }
     requires bounds { IsBounded (Audit frames id) }
     ensures { IsAnswered (record {
-      words = words;
+      words = request.now;
       shelf = shelf_change S.files S.faults S.wants shelf.old shelf.new;
       sink = sink_change O.taken O.faults sink.old sink.new;
     }) (status_number result) }
 {
-    let mut auditable = match make_audit(alloc, files, frames, id, shelf) {
+    let mut auditable = match make_audit(alloc, request, frames, id, shelf) {
         Ok(auditable) => auditable,
         Err(reply) => return reply.write(sink),
     };

@@ -1,8 +1,7 @@
 //! The command line, read by hand: all words are positional.
-ghost use Rattle.std.specs.Prelude.{◌≡◌, [], ◌∷◌, map, option_map, IfSome};
+ghost use Rattle.std.specs.Prelude.{◌≡◌, map, IfSome};
 ghost use Rattle.std.specs.String.{string_bytes};
 ghost use Rattle.nk_run.specs.CommandLine.{audit_of, command_of, listing_of, middle_of, pair_of, run_of, short_of, IsBounded};
-ghost use Rattle.nk_run.specs.NamedCommands.{command_as, NamesFiles};
 
 use crate::numbers::{address_of, decimal_within};
 use text_lines::hexadecimal;
@@ -50,288 +49,161 @@ pub enum Role {
     Text,
 }
 
-/// The name of a file, as the words have it.
-#[derive(Clone, Copy)]
-pub(crate) struct FileName<'w> {
-    pub text: &'w str,
-}
-
-/// The files of a run.
-#[derive(Clone, Copy)]
-pub(crate) struct RunFiles<'w> {
-    pub image: FileName<'w>,
-    pub input: FileName<'w>,
-    pub plan: FileName<'w>,
-}
-
-/// The files of a replay, and of an audit.
-#[derive(Clone, Copy)]
-pub(crate) struct ReplayFiles<'w> {
-    pub image: FileName<'w>,
-    pub journal: FileName<'w>,
-}
-
-/// The files of a join.
-#[derive(Clone, Copy)]
-pub(crate) struct JoinFiles<'w> {
-    pub image: FileName<'w>,
-    pub list: FileName<'w>,
-}
-
-/// What the words ask for.
-#[derive(Clone, Copy)]
-pub(crate) enum Request<'w> {
+/// What the words ask for, by the numbers among them; a `Request` has the names of the files beside it.
+#[derive(Clone, Copy, Debug, PartialEq, Eq)]
+pub enum Command {
     /// Admit or refuse an image.
-    Scan {
-        image: FileName<'w>,
-    },
+    Scan,
     /// Walk the opening tables for a linear address, in a memory of so many frames.
-    Map {
-        image: FileName<'w>,
-        frames: u32,
-        va: u64,
-    },
+    Map { frames: u32, va: u64 },
     /// Run an image for at most so many turns, in a memory of so many frames.
-    Run {
-        files: RunFiles<'w>,
-        steps: u64,
-        frames: u32,
-    },
+    Run { steps: u64, frames: u32 },
     /// Make the calls of a journal, in a memory of so many frames.
-    Replay {
-        files: ReplayFiles<'w>,
-        frames: u32,
-    },
+    Replay { frames: u32 },
     /// Write the image of a number.
-    Make {
-        number: u64,
-    },
+    Make { number: u64 },
     /// Run the image of a number, and count.
-    Work {
-        number: u64,
-    },
+    Work { number: u64 },
     /// Write the image joined with the modules of a list.
-    Join {
-        files: JoinFiles<'w>,
-    },
+    Join,
     /// Make the calls of a journal, in a memory of so many frames, and write the audit of the region of this identifier.
-    Audit {
-        files: ReplayFiles<'w>,
-        frames: u32,
-        id: u64,
-    },
+    Audit { frames: u32, id: u64 },
     /// Write the code of a text.
-    Assemble {
-        text: FileName<'w>,
-    },
+    Assemble,
     /// List the code of an image from a linear address on, in at most so many lines.
-    Listing {
-        image: FileName<'w>,
-        address: u64,
-        count: u32,
-    },
+    Listing { address: u64, count: u32 },
 }
 
-impl<'w> Request<'w> {
-    /// The command that the words spell, None where they have none of the forms.
-    pub(crate) fn read(words: &'w [String]) -> Option<Request<'w>>
-        ensures command { option_map command_as result ≡ command_of (map string_bytes words.now) }
-        ensures bounds { IfSome result (λ it. IsBounded (command_as it)) }
-        ensures names { IfSome result (NamesFiles (map string_bytes words.now)) }
-    {
-        if let Some([name, word]) = words.as_array::<2>() {
-            return read_short(name.as_str(), word.as_str());
-        }
-        if let Some([name, image, list]) = words.as_array::<3>() {
-            return read_pair(name.as_str(), image.as_str(), list.as_str());
-        }
-        if let Some([name, image, third, last]) = words.as_array::<4>() {
-            return read_middle(name.as_str(), image.as_str(), third.as_str(), last.as_str());
-        }
-        if let Some([name, image, frames, journal, id]) = words.as_array::<5>() {
-            return read_audit(
-                name.as_str(),
-                image.as_str(),
-                frames.as_str(),
-                journal.as_str(),
-                id.as_str(),
-            );
-        }
-        if let Some(words) = words.as_array::<6>() {
-            return read_long(words);
-        }
-        None
+/// The command that the words spell, None where they have none of the forms.
+pub(crate) fn read_command(words: &[String]) -> Option<Command>
+    ensures command { result ≡ command_of (map string_bytes words.now) }
+    ensures bounds { IfSome result IsBounded }
+{
+    if let Some([name, word]) = words.as_array::<2>() {
+        return read_short(name.as_str(), word.as_str());
     }
+    if let Some([name, _, _]) = words.as_array::<3>() {
+        return read_pair(name.as_str());
+    }
+    if let Some([name, _, third, last]) = words.as_array::<4>() {
+        return read_middle(name.as_str(), third.as_str(), last.as_str());
+    }
+    if let Some([name, _, frames, _, id]) = words.as_array::<5>() {
+        return read_audit(name.as_str(), frames.as_str(), id.as_str());
+    }
+    if let Some(words) = words.as_array::<6>() {
+        return read_long(words);
+    }
+    None
 }
 
 /// `scan IMAGE`, `asm TEXT`, `make NUMBER` or `work NUMBER`.
-fn read_short<'w>(name: &str, word: &'w str) -> Option<Request<'w>>
-    ensures command { option_map command_as result ≡ short_of name.now word.now }
-    ensures bounds { IfSome result (λ it. IsBounded (command_as it)) }
-    ensures names { IfSome result (NamesFiles (name.now ∷ word.now ∷ [])) }
+fn read_short(name: &str, word: &str) -> Option<Command>
+    ensures command { result ≡ short_of name.now word.now }
+    ensures bounds { IfSome result IsBounded }
 {
     if name == "scan" {
-        let image = FileName { text: word };
-        return Some(Request::Scan { image });
+        return Some(Command::Scan);
     }
     if name == "asm" {
-        let text = FileName { text: word };
-        return Some(Request::Assemble { text });
+        return Some(Command::Assemble);
     }
     if name == "make" {
         let number = decimal_within(word, LEAST_NUMBER, MOST_NUMBER)?;
-        return Some(Request::Make { number });
+        return Some(Command::Make { number });
     }
     if name == "work" {
         let number = decimal_within(word, LEAST_NUMBER, MOST_NUMBER)?;
-        return Some(Request::Work { number });
+        return Some(Command::Work { number });
     }
     None
 }
 
 /// `join IMAGE LIST`.
-fn read_pair<'w>(name: &str, image: &'w str, list: &'w str) -> Option<Request<'w>>
-    ensures command { option_map command_as result ≡ pair_of name.now }
-    ensures bounds { IfSome result (λ it. IsBounded (command_as it)) }
-    ensures names { IfSome result (NamesFiles (name.now ∷ image.now ∷ list.now ∷ [])) }
+fn read_pair(name: &str) -> Option<Command>
+    ensures command { result ≡ pair_of name.now }
+    ensures bounds { IfSome result IsBounded }
 {
     if name != "join" {
         return None;
     }
-    let files = JoinFiles {
-        image: FileName { text: image },
-        list: FileName { text: list },
-    };
-    Some(Request::Join { files })
+    Some(Command::Join)
 }
 
 /// `list IMAGE ADDR COUNT`.
-fn read_listing<'w>(name: &str, image: &'w str, address: &str, count: &str) -> Option<Request<'w>>
-    ensures command { option_map command_as result ≡ listing_of
-        name.now address.now count.now }
-    ensures bounds { IfSome result (λ it. IsBounded (command_as it)) }
-    ensures names { IfSome result (NamesFiles
-        (name.now ∷ image.now ∷ address.now ∷ count.now ∷ [])) }
+fn read_listing(name: &str, address: &str, count: &str) -> Option<Command>
+    ensures command { result ≡ listing_of name.now address.now count.now }
+    ensures bounds { IfSome result IsBounded }
 {
     if name != "list" {
         return None;
     }
     let address = hexadecimal(address.as_bytes(), ADDRESS_DIGITS)?;
     let count = decimal_within(count, 1, MOST_LINES)?;
-    Some(Request::Listing {
-        image: FileName { text: image },
+    Some(Command::Listing {
         address,
         count: count as u32,
     })
 }
 
 /// `map IMAGE FRAMES VA`, `replay IMAGE FRAMES JOURNAL` or `list IMAGE ADDR COUNT`.
-fn read_middle<'w>(name: &str, image: &'w str, third: &str, last: &'w str) -> Option<Request<'w>>
-    ensures command { option_map command_as result ≡ middle_of
-        name.now third.now last.now }
-    ensures bounds { IfSome result (λ it. IsBounded (command_as it)) }
-    ensures names { IfSome result (NamesFiles
-        (name.now ∷ image.now ∷ third.now ∷ last.now ∷ [])) }
+fn read_middle(name: &str, third: &str, last: &str) -> Option<Command>
+    ensures command { result ≡ middle_of name.now third.now last.now }
+    ensures bounds { IfSome result IsBounded }
 {
     if name == "map" {
-        let image = FileName { text: image };
         let frames = decimal_within(third, LEAST_FRAMES, MOST_FRAMES)?;
         let va = address_of(last)?;
-        return Some(Request::Map {
-            image,
+        return Some(Command::Map {
             frames: frames as u32,
             va,
         });
     }
     if name == "replay" {
         let frames = decimal_within(third, LEAST_FRAMES, MOST_FRAMES)?;
-        let files = ReplayFiles {
-            image: FileName { text: image },
-            journal: FileName { text: last },
-        };
-        return Some(Request::Replay {
-            files,
+        return Some(Command::Replay {
             frames: frames as u32,
         });
     }
-    read_listing(name, image, third, last)
+    read_listing(name, third, last)
 }
 
 /// `audit IMAGE FRAMES JOURNAL ID`.
-fn read_audit<'w>(
-    name: &str,
-    image: &'w str,
-    frames: &str,
-    journal: &'w str,
-    id: &str,
-) -> Option<Request<'w>>
-    ensures command { option_map command_as result ≡ audit_of
-        name.now frames.now id.now }
-    ensures bounds { IfSome result (λ it. IsBounded (command_as it)) }
-    ensures names { IfSome result (NamesFiles
-        (name.now ∷ image.now ∷ frames.now ∷ journal.now ∷ id.now ∷ [])) }
+fn read_audit(name: &str, frames: &str, id: &str) -> Option<Command>
+    ensures command { result ≡ audit_of name.now frames.now id.now }
+    ensures bounds { IfSome result IsBounded }
 {
     if name != "audit" {
         return None;
     }
     let frames = decimal_within(frames, LEAST_FRAMES, MOST_FRAMES)?;
     let id = decimal_within(id, LEAST_ID, MOST_ID)?;
-    let files = ReplayFiles {
-        image: FileName { text: image },
-        journal: FileName { text: journal },
-    };
-    Some(Request::Audit {
-        files,
+    Some(Command::Audit {
         frames: frames as u32,
         id,
     })
 }
 
 /// The command that six words spell.
-fn read_long<'w>(words: &'w [String; 6]) -> Option<Request<'w>>
-    ensures command { option_map command_as result ≡ command_of (map string_bytes words.now) }
-    ensures bounds { IfSome result (λ it. IsBounded (command_as it)) }
-    ensures names { IfSome result (NamesFiles (map string_bytes words.now)) }
+fn read_long(words: &[String; 6]) -> Option<Command>
+    ensures command { result ≡ command_of (map string_bytes words.now) }
+    ensures bounds { IfSome result IsBounded }
 {
-    let [name, image, input, plan, steps, frames] = words;
-    read_run(
-        name.as_str(),
-        image.as_str(),
-        input.as_str(),
-        plan.as_str(),
-        steps.as_str(),
-        frames.as_str(),
-    )
+    let [name, _, _, _, steps, frames] = words;
+    read_run(name.as_str(), steps.as_str(), frames.as_str())
 }
 
 /// `run IMAGE INPUT PLAN STEPS FRAMES`.
-fn read_run<'w>(
-    name: &str,
-    image: &'w str,
-    input: &'w str,
-    plan: &'w str,
-    steps: &str,
-    frames: &str,
-) -> Option<Request<'w>>
-    ensures command { option_map command_as result ≡ run_of
-        name.now steps.now frames.now }
-    ensures bounds { IfSome result (λ it. IsBounded (command_as it)) }
-    ensures names { IfSome result
-        (NamesFiles (name.now ∷ image.now ∷ input.now
-        ∷ plan.now ∷ steps.now ∷ frames.now ∷ [])) }
+fn read_run(name: &str, steps: &str, frames: &str) -> Option<Command>
+    ensures command { result ≡ run_of name.now steps.now frames.now }
+    ensures bounds { IfSome result IsBounded }
 {
     if name != "run" {
         return None;
     }
     let steps = decimal_within(steps, 0, MOST_STEPS)?;
     let frames = decimal_within(frames, LEAST_FRAMES, MOST_FRAMES)?;
-    let files = RunFiles {
-        image: FileName { text: image },
-        input: FileName { text: input },
-        plan: FileName { text: plan },
-    };
-    Some(Request::Run {
-        files,
+    Some(Command::Run {
         steps,
         frames: frames as u32,
     })

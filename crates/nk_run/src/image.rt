@@ -1,21 +1,21 @@
 //! The fetch of a file, and the checks on the image, which every command on files makes first.
-ghost use Rattle.std.specs.Prelude.{◌≡◌, ◌≤◌, ℕ, List, None, Some, IfOk, MatchOption, MatchResult};
+ghost use Rattle.std.specs.Prelude.{◌≡◌, ◌≤◌, None, Some, IfOk, MatchOption, MatchResult};
 ghost use Rattle.nk_host.specs.FaultCounts.{NeverFalls};
 ghost use Rattle.nk_host.specs.Told.{IfTold};
 ghost use Rattle.elf_image.specs.Rows.{first_fault};
 ghost use Rattle.byte_scanner.specs.FirstFound.{first_found};
-ghost use Rattle.nk_run.specs.Clauses.{IsNameOf};
+ghost use Rattle.nk_run.specs.CommandLine.{name_in};
 ghost use Rattle.nk_run.specs.Lines.{most_of};
-ghost use Rattle.nk_run.specs.NamedCommands.{Names};
 ghost use Rattle.nk_run.specs.Witness.{shelf_change};
 ghost use Rattle.nk_run.specs.Outcome.{fetch_verdict, formed, clean, first_verdict, form_checks, formed_checks, image_checks, file_in, passes};
 ghost use Rattle.nk_run.specs.ReplyText.{line_bytes};
 ghost use Rattle.nk_run.specs.Statuses.{status_number};
-ghost use Rattle.nk_run.specs.Replies.{EndsBy, Stops, TellsBytes};
+ghost use Rattle.nk_run.specs.Replies.{EndsBy, IsWordRole, Stops, StopsFetch, TellsBytes};
 
-use crate::command_line::{FileName, Role};
+use crate::command_line::Role;
 use crate::lines::{longer_line, unread_line};
 use crate::reply::{Line, Reply, no_memory};
+use crate::request::Request;
 use crate::status::Status;
 use byte_scanner::{Found, scan};
 use elf_image::{Image, ImageFault};
@@ -39,27 +39,23 @@ fn limit_of(role: Role) -> u64
     }
 }
 
-/// The file of a role, or the reply to a failed fetch.
-pub(crate) fn fetch<S: Shelf>(
+/// The file of this name, for a role, or the reply to a failed fetch.
+pub(crate) fn fetch_named<S: Shelf>(
     alloc: Global,
-    name: FileName<'_>,
+    name: &str,
     role: Role,
     shelf: &mut S,
 ) -> Result<Vec<u8>, Reply>
-    ghost words: { List (List ℕ) }
-    requires { IsNameOf words (S.files shelf.old) role name.text.now }
     ensures files_stay { S.files shelf.new ≡ S.files shelf.old }
     ensures never_falls { NeverFalls (S.faults shelf.old) (S.faults shelf.new) }
     ensures bytes { TellsBytes (S.files shelf.old) }
     ensures fetched { MatchResult result
         (λ bytes. IfTold (S.files shelf.old) (λ files.
-        (files name.entry.text.now ≡ Some bytes.items)
-        × (fetch_verdict role (files name.entry.text.now) ≡ passes)))
-        (λ reply. Stops words (shelf_change S.files S.faults S.wants shelf.old shelf.new) role
-        (λ files. fetch_verdict role (files name.entry.text.now))
+        (files name.now ≡ Some bytes.items) × (fetch_verdict role (files name.now) ≡ passes)))
+        (λ reply. StopsFetch (shelf_change S.files S.faults S.wants shelf.old shelf.new) role name.now
         (status_number reply.status) (line_bytes reply.line)) }
 {
-    match shelf.fetch(alloc, name.text, limit_of(role)) {
+    match shelf.fetch(alloc, name, limit_of(role)) {
         Ok(bytes) => Ok(bytes),
         Err(FetchFault::Memory) => Err(no_memory()),
         Err(FetchFault::Failed) => Err(Reply {
@@ -70,6 +66,30 @@ pub(crate) fn fetch<S: Shelf>(
             status: Status::TooLong,
             line: Line::Fixed(longer_line(role)),
         }),
+    }
+}
+
+/// The file of a role whose name stands among the words, or the reply to a failed fetch.
+pub(crate) fn fetch<S: Shelf>(
+    alloc: Global,
+    request: &Request<'_>,
+    role: Role,
+    shelf: &mut S,
+) -> Result<Vec<u8>, Reply>
+    requires { IsWordRole role }
+    ensures files_stay { S.files shelf.new ≡ S.files shelf.old }
+    ensures never_falls { NeverFalls (S.faults shelf.old) (S.faults shelf.new) }
+    ensures bytes { TellsBytes (S.files shelf.old) }
+    ensures fetched { MatchResult result
+        (λ bytes. IfTold (S.files shelf.old) (λ files. (files (name_in request.now role) ≡ Some bytes.items)
+        × (fetch_verdict role (files (name_in request.now role)) ≡ passes)))
+        (λ reply. Stops request.now (shelf_change S.files S.faults S.wants shelf.old shelf.new) role
+        (λ files. fetch_verdict role (files (name_in request.now role)))
+        (status_number reply.status) (line_bytes reply.line)) }
+{
+    match fetch_named(alloc, request.name(role), role, shelf) {
+        Ok(bytes) => Ok(bytes),
+        Err(reply) => Err(reply),
     }
 }
 
@@ -116,20 +136,18 @@ fn form(bytes: Vec<u8>) -> Result<Image, Reply>
 /// The image, whatever its code holds, or the reply to the first check on it that doesn't pass.
 pub(crate) fn open_formed<S: Shelf>(
     alloc: Global,
-    name: FileName<'_>,
+    request: &Request<'_>,
     shelf: &mut S,
 ) -> Result<Image, Reply>
-    ghost words: { List (List ℕ) }
-    requires { Names words Role.Image name }
     ensures files_stay { S.files shelf.new ≡ S.files shelf.old }
     ensures opened { MatchResult result
-        (λ image. IfTold (S.files shelf.old) (λ files. (image ≡ file_in files words Role.Image)
-        × (first_verdict (formed_checks files words) ≡ passes)))
-        (λ reply. Stops words (shelf_change S.files S.faults S.wants shelf.old shelf.new) Role.Image
-        (λ files. first_verdict (formed_checks files words))
+        (λ image. IfTold (S.files shelf.old) (λ files. (image ≡ file_in files request.now Role.Image)
+        × (first_verdict (formed_checks files request.now) ≡ passes)))
+        (λ reply. Stops request.now (shelf_change S.files S.faults S.wants shelf.old shelf.new) Role.Image
+        (λ files. first_verdict (formed_checks files request.now))
         (status_number reply.status) (line_bytes reply.line)) }
 {
-    let bytes = match fetch(alloc, name, Role::Image, shelf) {
+    let bytes = match fetch(alloc, request, Role::Image, shelf) {
         Ok(bytes) => bytes,
         Err(reply) => return Err(reply),
     };
@@ -170,23 +188,21 @@ fn judge(bytes: Vec<u8>) -> Result<Image, Reply>
 /// The image, or the reply to the first check on it that doesn't pass.
 pub(crate) fn open<S: Shelf>(
     alloc: Global,
-    name: FileName<'_>,
+    request: &Request<'_>,
     shelf: &mut S,
 ) -> Result<Image, Reply>
-    ghost words: { List (List ℕ) }
-    requires { Names words Role.Image name }
     ensures files_stay { S.files shelf.new ≡ S.files shelf.old }
     ensures never_falls { NeverFalls (S.faults shelf.old) (S.faults shelf.new) }
     ensures bytes { TellsBytes (S.files shelf.old) }
     ensures clean { IfOk result (λ image. first_found image ≡ None) }
     ensures opened { MatchResult result
-        (λ image. IfTold (S.files shelf.old) (λ files. (image ≡ file_in files words Role.Image)
-        × (first_verdict (image_checks files words) ≡ passes)))
-        (λ reply. Stops words (shelf_change S.files S.faults S.wants shelf.old shelf.new) Role.Image
-        (λ files. first_verdict (image_checks files words))
+        (λ image. IfTold (S.files shelf.old) (λ files. (image ≡ file_in files request.now Role.Image)
+        × (first_verdict (image_checks files request.now) ≡ passes)))
+        (λ reply. Stops request.now (shelf_change S.files S.faults S.wants shelf.old shelf.new) Role.Image
+        (λ files. first_verdict (image_checks files request.now))
         (status_number reply.status) (line_bytes reply.line)) }
 {
-    let bytes = match fetch(alloc, name, Role::Image, shelf) {
+    let bytes = match fetch(alloc, request, Role::Image, shelf) {
         Ok(bytes) => bytes,
         Err(reply) => return Err(reply),
     };

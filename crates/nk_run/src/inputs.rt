@@ -1,19 +1,19 @@
 //! The files that a run takes beside the image: its input, and the plan of the events of the outside.
-ghost use Rattle.std.specs.Prelude.{◌≡◌, ℕ, List, [], ◌∷◌, Ok, MatchResult};
+ghost use Rattle.std.specs.Prelude.{◌≡◌, [], ◌∷◌, Ok, MatchResult};
 ghost use Rattle.irq_plan.specs.PlanFile.{plan_of};
 ghost use Rattle.nk_host.specs.FaultCounts.{NeverFalls};
 ghost use Rattle.nk_host.specs.Told.{IfTold};
-ghost use Rattle.nk_run.specs.NamedCommands.{Names, NamesRun};
 ghost use Rattle.nk_run.specs.Witness.{shelf_change};
 ghost use Rattle.nk_run.specs.Outcome.{file_in, first_verdict, input_checks, passes, plan_checks, planned};
 ghost use Rattle.nk_run.specs.ReplyText.{line_bytes};
 ghost use Rattle.nk_run.specs.Statuses.{status_number};
 ghost use Rattle.nk_run.specs.Replies.{RefusesBy, Stops, StopsIn};
 
-use crate::command_line::{FileName, Role, RunFiles};
+use crate::command_line::Role;
 use crate::image::fetch;
 use crate::lines::plan_line;
 use crate::reply::{Reply, made, no_memory};
+use crate::request::Request;
 use crate::status::Status;
 use irq_plan::{Plan, PlanFault};
 use nk_host::Shelf;
@@ -41,19 +41,17 @@ fn read_plan(alloc: Global, bytes: &[u8]) -> Result<Plan, Reply>
 }
 
 /// The plan, or the reply to the first check on it that doesn't pass.
-fn open_plan<S: Shelf>(alloc: Global, name: FileName<'_>, shelf: &mut S) -> Result<Plan, Reply>
-    ghost words: { List (List ℕ) }
-    requires { Names words Role.Plan name }
+fn open_plan<S: Shelf>(alloc: Global, request: &Request<'_>, shelf: &mut S) -> Result<Plan, Reply>
     ensures files_stay { S.files shelf.new ≡ S.files shelf.old }
     ensures never_falls { NeverFalls (S.faults shelf.old) (S.faults shelf.new) }
     ensures opened { MatchResult result
-        (λ plan. IfTold (S.files shelf.old) (λ files. (plan_of (file_in files words Role.Plan) ≡ Ok plan)
-        × (first_verdict (plan_checks files words) ≡ passes)))
-        (λ reply. Stops words (shelf_change S.files S.faults S.wants shelf.old shelf.new) Role.Plan
-        (λ files. first_verdict (plan_checks files words))
+        (λ plan. IfTold (S.files shelf.old) (λ files. (plan_of (file_in files request.now Role.Plan) ≡ Ok plan)
+        × (first_verdict (plan_checks files request.now) ≡ passes)))
+        (λ reply. Stops request.now (shelf_change S.files S.faults S.wants shelf.old shelf.new) Role.Plan
+        (λ files. first_verdict (plan_checks files request.now))
         (status_number reply.status) (line_bytes reply.line)) }
 {
-    match fetch(alloc, name, Role::Plan, shelf) {
+    match fetch(alloc, request, Role::Plan, shelf) {
         Ok(bytes) => read_plan(alloc, &bytes),
         Err(reply) => Err(reply),
     }
@@ -62,26 +60,24 @@ fn open_plan<S: Shelf>(alloc: Global, name: FileName<'_>, shelf: &mut S) -> Resu
 /// The input and then the plan, or the reply to the first check on either that doesn't pass.
 pub(crate) fn open_outside<S: Shelf>(
     alloc: Global,
-    files: RunFiles<'_>,
+    request: &Request<'_>,
     shelf: &mut S,
 ) -> Result<Outside, Reply>
-    ghost words: { List (List ℕ) }
-    requires { NamesRun words files }
     ensures files_stay { S.files shelf.new ≡ S.files shelf.old }
     ensures never_falls { NeverFalls (S.faults shelf.old) (S.faults shelf.new) }
     ensures opened { MatchResult result
-        (λ outside. IfTold (S.files shelf.old) (λ files. (outside.input.items ≡ file_in files words Role.Input)
-        × (plan_of (file_in files words Role.Plan) ≡ Ok outside.plan)
-        × (first_verdict (input_checks files words) ≡ passes)))
-        (λ reply. StopsIn words (shelf_change S.files S.faults S.wants shelf.old shelf.new)
-        (Role.Input ∷ Role.Plan ∷ []) (λ files. input_checks files words)
+        (λ outside. IfTold (S.files shelf.old) (λ files. (outside.input.items ≡ file_in files request.now Role.Input)
+        × (plan_of (file_in files request.now Role.Plan) ≡ Ok outside.plan)
+        × (first_verdict (input_checks files request.now) ≡ passes)))
+        (λ reply. StopsIn request.now (shelf_change S.files S.faults S.wants shelf.old shelf.new)
+        (Role.Input ∷ Role.Plan ∷ []) (λ files. input_checks files request.now)
         (status_number reply.status) (line_bytes reply.line)) }
 {
-    let input = match fetch(alloc, files.input, Role::Input, shelf) {
+    let input = match fetch(alloc, request, Role::Input, shelf) {
         Ok(input) => input,
         Err(reply) => return Err(reply),
     };
-    match open_plan(alloc, files.plan, shelf) {
+    match open_plan(alloc, request, shelf) {
         Ok(plan) => Ok(Outside { input, plan }),
         Err(reply) => Err(reply),
     }

@@ -6,18 +6,19 @@ ghost use Rattle.nk_host.specs.Told.{IfTold};
 ghost use Rattle.byte_scanner.specs.FirstFound.{first_found};
 ghost use Rattle.code_modules.specs.JoinAnswers.{IsShortFault, join_answer, modules_with};
 ghost use Rattle.code_modules.specs.ModuleList.{list_of};
-ghost use Rattle.nk_run.specs.CommandLine.{command_of, Join};
-ghost use Rattle.nk_run.specs.NamedCommands.{Names, NamesJoin};
+ghost use Rattle.nk_run.specs.declared.command_line.Command.TheVariants.{Join};
+ghost use Rattle.nk_run.specs.CommandLine.{command_of};
 ghost use Rattle.nk_run.specs.Witness.{shelf_change, sink_change};
 ghost use Rattle.nk_run.specs.Outcome.{file_in, first_verdict, joinable, list_checks, listing_checks, module_checks, module_fetches, module_held, modules_in, modules_named, outcome, passes, well_listed};
 ghost use Rattle.nk_run.specs.ReplyText.{line_bytes};
 ghost use Rattle.nk_run.specs.Statuses.{status_number};
 ghost use Rattle.nk_run.specs.Replies.{CommandSays, EndsOwn, IsAnswered, RefusesBy, Stops, StopsIn, TellsBytes};
 
-use crate::command_line::{FileName, JoinFiles, Role};
-use crate::image::{fetch, open, protected};
+use crate::command_line::Role;
+use crate::image::{fetch, fetch_named, open, protected};
 use crate::lines::{empty_line, list_line, nofit_line};
 use crate::reply::{Line, Reply, made, no_memory};
+use crate::request::Request;
 use crate::status::Status;
 use code_modules::{JoinFault, ListFault, read_list};
 use elf_image::Image;
@@ -58,21 +59,19 @@ fn read_names(alloc: Global, bytes: &[u8]) -> Result<code_modules::List, Reply>
 /// The list, or the reply to the first check on it that doesn't pass.
 fn open_list<S: Shelf>(
     alloc: Global,
-    name: FileName<'_>,
+    request: &Request<'_>,
     shelf: &mut S,
 ) -> Result<code_modules::List, Reply>
-    ghost words: { List (List ℕ) }
-    requires { Names words Role.ModuleList name }
     ensures files_stay { S.files shelf.new ≡ S.files shelf.old }
     ensures never_falls { NeverFalls (S.faults shelf.old) (S.faults shelf.new) }
     ensures opened { MatchResult result
-        (λ list. IfTold (S.files shelf.old) (λ files. (list_of (file_in files words Role.ModuleList) ≡ Ok list)
-        × (first_verdict (listing_checks files words) ≡ passes)))
-        (λ reply. Stops words (shelf_change S.files S.faults S.wants shelf.old shelf.new) Role.ModuleList
-        (λ files. first_verdict (listing_checks files words))
+        (λ list. IfTold (S.files shelf.old) (λ files. (list_of (file_in files request.now Role.ModuleList) ≡ Ok list)
+        × (first_verdict (listing_checks files request.now) ≡ passes)))
+        (λ reply. Stops request.now (shelf_change S.files S.faults S.wants shelf.old shelf.new) Role.ModuleList
+        (λ files. first_verdict (listing_checks files request.now))
         (status_number reply.status) (line_bytes reply.line)) }
 {
-    match fetch(alloc, name, Role::ModuleList, shelf) {
+    match fetch(alloc, request, Role::ModuleList, shelf) {
         Ok(bytes) => read_names(alloc, &bytes),
         Err(reply) => Err(reply),
     }
@@ -81,28 +80,26 @@ fn open_list<S: Shelf>(
 /// The image and the list, or the reply to the first check on either that doesn't pass.
 fn open_listed<S: Shelf>(
     alloc: Global,
-    files: JoinFiles<'_>,
+    request: &Request<'_>,
     shelf: &mut S,
 ) -> Result<Listed, Reply>
-    ghost words: { List (List ℕ) }
-    requires { NamesJoin words files }
     ensures files_stay { S.files shelf.new ≡ S.files shelf.old }
     ensures never_falls { NeverFalls (S.faults shelf.old) (S.faults shelf.new) }
     ensures bytes { TellsBytes (S.files shelf.old) }
     ensures opened { MatchResult result
         (λ listed. (first_found listed.image ≡ None)
-        × IfTold (S.files shelf.old) (λ files. (listed.image ≡ file_in files words Role.Image)
-        × (listed.list ≡ modules_named files words)
-        × (first_verdict (list_checks files words) ≡ passes)))
-        (λ reply. StopsIn words (shelf_change S.files S.faults S.wants shelf.old shelf.new)
-        (Role.Image ∷ Role.ModuleList ∷ []) (λ files. list_checks files words)
+        × IfTold (S.files shelf.old) (λ files. (listed.image ≡ file_in files request.now Role.Image)
+        × (listed.list ≡ modules_named files request.now)
+        × (first_verdict (list_checks files request.now) ≡ passes)))
+        (λ reply. StopsIn request.now (shelf_change S.files S.faults S.wants shelf.old shelf.new)
+        (Role.Image ∷ Role.ModuleList ∷ []) (λ files. list_checks files request.now)
         (status_number reply.status) (line_bytes reply.line)) }
 {
-    let image = match open(alloc, files.image, shelf) {
+    let image = match open(alloc, request, shelf) {
         Ok(image) => image,
         Err(reply) => return Err(reply),
     };
-    match open_list(alloc, files.list, shelf) {
+    match open_list(alloc, request, shelf) {
         Ok(list) => Ok(Listed { image, list }),
         Err(reply) => Err(reply),
     }
@@ -114,22 +111,21 @@ fn fetch_modules<S: Shelf>(
     list: &code_modules::List,
     shelf: &mut S,
 ) -> Result<Vec<Vec<u8>>, Reply>
-    ghost words: { List (List ℕ) }
-    requires { IfTold (S.files shelf.old) (λ files. list.now ≡ modules_named files words) }
     ensures files_stay { S.files shelf.new ≡ S.files shelf.old }
     ensures count { IfOk result (λ modules. length modules.items ≡ length list.now) }
     ensures fetched { MatchResult result
         (λ modules. IfTold (S.files shelf.old) (λ files.
         (map (λ m. m.items) modules.items ≡ map (λ it. (module_held files it).bytes) list.now)
         × (first_verdict (module_fetches files 0 list.now) ≡ passes)))
-        (λ reply. StopsIn words (shelf_change S.files S.faults S.wants shelf.old shelf.new)
+        (λ reply. (words : List (List ℕ)) → IfTold (S.files shelf.old) (λ files. list.now ≡ modules_named files words)
+        → StopsIn words (shelf_change S.files S.faults S.wants shelf.old shelf.new)
         (map Role.Module (range_with_len 0 32)) (λ files. module_fetches files 0 list.now)
         (status_number reply.status) (line_bytes reply.line)) }
 {
     let mut modules = Vec::new(alloc);
     for i in 0..list.len() {
-        let name = FileName { text: list.name(i) };
-        let bytes = match fetch(alloc, name, Role::Module(i as u32), shelf) {
+        let name = list.name(i);
+        let bytes = match fetch_named(alloc, name, Role::Module(i as u32), shelf) {
             Ok(bytes) => bytes,
             Err(reply) => return Err(reply),
         };
@@ -141,22 +137,20 @@ fn fetch_modules<S: Shelf>(
 }
 
 /// All files of a join, or the reply to the first check on them that doesn't pass.
-fn hold<S: Shelf>(alloc: Global, files: JoinFiles<'_>, shelf: &mut S) -> Result<Held, Reply>
-    ghost words: { List (List ℕ) }
-    requires { NamesJoin words files }
+fn hold<S: Shelf>(alloc: Global, request: &Request<'_>, shelf: &mut S) -> Result<Held, Reply>
     ensures files_stay { S.files shelf.new ≡ S.files shelf.old }
     ensures bytes { TellsBytes (S.files shelf.old) }
     ensures count { IfOk result (λ held. length held.modules.items ≡ length held.listed.list) }
     ensures held { MatchResult result
         (λ held. (first_found held.listed.image ≡ None)
-        × IfTold (S.files shelf.old) (λ files. (held.listed.image ≡ file_in files words Role.Image)
-        × (modules_with (map (λ it. it.guard) held.listed.list) (map (λ m. m.items) held.modules.items) ≡ modules_in files words)
-        × (first_verdict (module_checks files words) ≡ passes)))
-        (λ reply. StopsIn words (shelf_change S.files S.faults S.wants shelf.old shelf.new)
-        (Role.Image ∷ Role.ModuleList ∷ map Role.Module (range_with_len 0 32)) (λ files. module_checks files words)
+        × IfTold (S.files shelf.old) (λ files. (held.listed.image ≡ file_in files request.now Role.Image)
+        × (modules_with (map (λ it. it.guard) held.listed.list) (map (λ m. m.items) held.modules.items) ≡ modules_in files request.now)
+        × (first_verdict (module_checks files request.now) ≡ passes)))
+        (λ reply. StopsIn request.now (shelf_change S.files S.faults S.wants shelf.old shelf.new)
+        (Role.Image ∷ Role.ModuleList ∷ map Role.Module (range_with_len 0 32)) (λ files. module_checks files request.now)
         (status_number reply.status) (line_bytes reply.line)) }
 {
-    let listed = match open_listed(alloc, files, shelf) {
+    let listed = match open_listed(alloc, request, shelf) {
         Ok(listed) => listed,
         Err(reply) => return Err(reply),
     };
@@ -220,20 +214,18 @@ fn join_held(alloc: Global, held: &Held) -> Result<Vec<u8>, Reply>
 /// The file of the joined image, or the reply where there is none.
 fn make_joined<S: Shelf>(
     alloc: Global,
-    files: JoinFiles<'_>,
+    request: &Request<'_>,
     shelf: &mut S,
 ) -> Result<Vec<u8>, Reply>
-    ghost words: { List (List ℕ) }
-    requires asked { command_of words ≡ Some Join }
-    requires named { NamesJoin words files }
+    requires { command_of request.now ≡ Some Join }
     ensures files_stay { S.files shelf.new ≡ S.files shelf.old }
     ensures bytes { TellsBytes (S.files shelf.old) }
     ensures made { MatchResult result
-        (λ file. IfTold (S.files shelf.old) (λ files. outcome words files ≡ Some (record { status = 0; text = file.items })))
-        (λ reply. CommandSays words (shelf_change S.files S.faults S.wants shelf.old shelf.new)
+        (λ file. IfTold (S.files shelf.old) (λ files. outcome request.now files ≡ Some (record { status = 0; text = file.items })))
+        (λ reply. CommandSays request.now (shelf_change S.files S.faults S.wants shelf.old shelf.new)
         (status_number reply.status) (line_bytes reply.line)) }
 {
-    let held = match hold(alloc, files, shelf) {
+    let held = match hold(alloc, request, shelf) {
         Ok(held) => held,
         Err(reply) => return Err(reply),
     };
@@ -247,21 +239,19 @@ fn make_joined<S: Shelf>(
 #[inline(never)]
 pub(crate) fn join<S: Shelf, O: Sink>(
     alloc: Global,
-    files: JoinFiles<'_>,
+    request: &Request<'_>,
     shelf: &mut S,
     sink: &mut O,
 ) -> Status
-    ghost words: { List (List ℕ) }
-    requires asked { command_of words ≡ Some Join }
-    requires named { NamesJoin words files }
+    requires { command_of request.now ≡ Some Join }
     ensures bytes { TellsBytes (S.files shelf.old) }
     ensures answered { IsAnswered (record {
-      words = words;
+      words = request.now;
       shelf = shelf_change S.files S.faults S.wants shelf.old shelf.new;
       sink = sink_change O.taken O.faults sink.old sink.new;
     }) (status_number result) }
 {
-    match make_joined(alloc, files, shelf) {
+    match make_joined(alloc, request, shelf) {
         Ok(file) => Status::Done.unless_cut(put_all(sink, &file)),
         Err(reply) => reply.write(sink),
     }

@@ -1,12 +1,13 @@
-//! The top call: reads the words, fetches what they name from a shelf of files or makes it, judges the
-//! image, shows what was asked of it, runs it, or makes a run's calls again, and writes one text to a sink.
-//! Its promises are `specs/Clauses`, over the outcome of `specs/Outcome`. It touches the outside through
-//! the shelf and the sink alone, which `nk_program` makes those of the machine. Floor: program.
+//! The top call, behind every command of the program `nkrun` and not behind `run` alone: it reads the words, fetches what
+//! they name from a shelf of files or makes it, judges the image, shows what was asked of it, runs it, or makes a run's
+//! calls again, and writes one text to a sink. Its promises are `specs/Clauses`, over the outcome of `specs/Outcome`. It
+//! touches the outside through the shelf and the sink alone, which `nk_program` makes those of the machine. Floor: program.
 #![tactic(auto)]
 
 // The words.
 mod command_line;
 mod numbers;
+mod request;
 
 // What is said, and how it goes out.
 mod lines;
@@ -49,9 +50,10 @@ mod top;
 // The whole over the machine.
 mod program;
 
-pub use crate::command_line::Role;
+pub use crate::command_line::{Command, Role};
 pub use crate::image::FILE_LIMIT;
-pub use crate::opening::{Opened, begin};
+pub use crate::opening::{Opened, ReadyRun, begin};
 pub use crate::program::nk_program;
-pub use crate::ready::{ReadyRun, Refusal, ready_run};
+pub use crate::ready::{Refusal, ready_run};
+pub use crate::request::Request;
 pub use crate::top::nk_main;

@@ -1,18 +1,18 @@
 //! The command `list IMAGE ADDR COUNT`.
-ghost use Rattle.std.specs.Prelude.{◌≡◌, ◌/◌, ℕ, List, Some, true, MatchOption, MatchResult};
+ghost use Rattle.std.specs.Prelude.{◌≡◌, ◌/◌, Some, true, MatchOption, MatchResult};
 ghost use Rattle.elf_image.specs.Pages.{is_executable};
-ghost use Rattle.nk_run.specs.CommandLine.{command_of, Listing};
-ghost use Rattle.nk_run.specs.NamedCommands.{Names};
+ghost use Rattle.nk_run.specs.declared.command_line.Command.TheVariants.{Listing};
+ghost use Rattle.nk_run.specs.CommandLine.{command_of};
 ghost use Rattle.nk_run.specs.Witness.{shelf_change, sink_change};
 ghost use Rattle.nk_run.specs.Outcome.{addressed};
 ghost use Rattle.nk_run.specs.ReplyText.{line_bytes};
 ghost use Rattle.nk_run.specs.Statuses.{status_number};
 ghost use Rattle.nk_run.specs.Replies.{CommandSays, IsAnswered, IsListable, RefusesBy};
 
-use crate::command_line::{FileName, Role};
 use crate::image::open_formed;
 use crate::lines::noaddress_line;
 use crate::reply::{Reply, made};
+use crate::request::Request;
 use crate::status::Status;
 use elf_image::Image;
 use nk_host::{Shelf, Sink};
@@ -35,21 +35,19 @@ fn find_code(alloc: Global, image: &Image, address: u64) -> Option<Reply>
 /// An image that has code at the address, or the reply to the first check that doesn't pass.
 fn open_code<S: Shelf>(
     alloc: Global,
-    image: FileName<'_>,
+    request: &Request<'_>,
     address: u64,
     count: u32,
     shelf: &mut S,
 ) -> Result<Image, Reply>
-    ghost words: { List (List ℕ) }
-    requires asked { command_of words ≡ Some (Listing address count) }
-    requires named { Names words Role.Image image }
+    requires { command_of request.now ≡ Some (Listing address count) }
     ensures files_stay { S.files shelf.new ≡ S.files shelf.old }
     ensures made { MatchResult result
-        (λ image. IsListable words (S.files shelf.old) address count image)
-        (λ reply. CommandSays words (shelf_change S.files S.faults S.wants shelf.old shelf.new)
+        (λ image. IsListable request.now (S.files shelf.old) address count image)
+        (λ reply. CommandSays request.now (shelf_change S.files S.faults S.wants shelf.old shelf.new)
         (status_number reply.status) (line_bytes reply.line)) }
 {
-    let image = match open_formed(alloc, image, shelf) {
+    let image = match open_formed(alloc, request, shelf) {
         Ok(image) => image,
         Err(reply) => return Err(reply),
     };
@@ -63,22 +61,20 @@ fn open_code<S: Shelf>(
 #[inline(never)]
 pub(crate) fn list_code<S: Shelf, O: Sink>(
     alloc: Global,
-    image: FileName<'_>,
+    request: &Request<'_>,
     address: u64,
     count: u32,
     shelf: &mut S,
     sink: &mut O,
 ) -> Status
-    ghost words: { List (List ℕ) }
-    requires asked { command_of words ≡ Some (Listing address count) }
-    requires named { Names words Role.Image image }
+    requires { command_of request.now ≡ Some (Listing address count) }
     ensures { IsAnswered (record {
-      words = words;
+      words = request.now;
       shelf = shelf_change S.files S.faults S.wants shelf.old shelf.new;
       sink = sink_change O.taken O.faults sink.old sink.new;
     }) (status_number result) }
 {
-    match open_code(alloc, image, address, count, shelf) {
+    match open_code(alloc, request, address, count, shelf) {
         Ok(image) => Status::Done.unless_cut(list(sink, &image, address, count)),
         Err(reply) => reply.write(sink),
     }

@@ -1,6 +1,7 @@
 //! The command `make NUMBER`.
 ghost use Rattle.std.specs.Prelude.{◌≡◌, ℕ, List, Some};
-ghost use Rattle.nk_run.specs.CommandLine.{command_of, IsBounded, Make};
+ghost use Rattle.nk_run.specs.declared.command_line.Command.TheVariants.{Make};
+ghost use Rattle.nk_run.specs.CommandLine.{command_of, IsBounded};
 ghost use Rattle.nk_run.specs.Replies.{IsAnswered};
 ghost use Rattle.nk_run.specs.Statuses.{status_number};
 ghost use Rattle.nk_run.specs.Witness.{Change, ShelfState, sink_change};
@@ -14,14 +15,13 @@ use std::alloc::Global;
 /// Writes the image of a number, in pieces. The shelf isn't looked at.
 #[inline(never)]
 pub(crate) fn make<O: Sink>(alloc: Global, number: u64, sink: &mut O) -> Status
-    ghost words: { List (List ℕ) }
-    requires asked { command_of words ≡ Some (Make number) }
-    requires bounds { IsBounded (Make number) }
-    ensures { (shelf : Change ShelfState) → shelf.after.files ≡ shelf.before.files → IsAnswered (record {
-      words = words;
-      shelf = shelf;
-      sink = sink_change O.taken O.faults sink.old sink.new;
-    }) (status_number result) }
+    requires { IsBounded (Make number) }
+    ensures { (words : List (List ℕ)) (shelf : Change ShelfState) → command_of words ≡ Some (Make number)
+        → shelf.after.files ≡ shelf.before.files → IsAnswered (record {
+          words = words;
+          shelf = shelf;
+          sink = sink_change O.taken O.faults sink.old sink.new;
+        }) (status_number result) }
 {
     match make_image(alloc, number) {
         Ok(file) => Status::Done.unless_cut(put_all(sink, &file)),

@@ -1,23 +1,23 @@
 //! The command `map IMAGE FRAMES VA`.
-ghost use Rattle.std.specs.Prelude.{◌≡◌, ◌<◌, ◌*◌, ◌/◌, ℕ, List, length, Some, IsTrue};
+ghost use Rattle.std.specs.Prelude.{◌≡◌, ◌<◌, ◌*◌, ◌/◌, length, Some, IsTrue};
 ghost use Rattle.phys_mem.specs.Memory.{entry_in};
 ghost use Rattle.nk_bits.specs.Paging.{is_canonical, page_of, walk};
 ghost use Rattle.boot_map.specs.Division.{need};
 ghost use Rattle.nk_bits.specs.KernelLayout.{opening_root};
-ghost use Rattle.nk_run.specs.CommandLine.{command_of, IsBounded, Map};
+ghost use Rattle.nk_run.specs.declared.command_line.Command.TheVariants.{Map};
+ghost use Rattle.nk_run.specs.CommandLine.{command_of, IsBounded};
 ghost use Rattle.nk_run.specs.Lines.{walk_line};
-ghost use Rattle.nk_run.specs.NamedCommands.{Names};
 ghost use Rattle.nk_run.specs.Witness.{shelf_change};
 ghost use Rattle.nk_run.specs.Outcome.{roomy, translation_of};
 ghost use Rattle.nk_run.specs.ReplyText.{line_bytes};
 ghost use Rattle.nk_run.specs.Statuses.{status_number};
 ghost use Rattle.nk_run.specs.Replies.{CommandSays, Concludes, ShowsWalk};
 
-use crate::command_line::{FileName, Role};
 use crate::image::open;
 use crate::lines::{frame_line, missing_line};
 use crate::opening::divide;
 use crate::reply::{Reply, made, no_memory};
+use crate::request::Request;
 use crate::status::Status;
 use boot_map::{prepare, tables_law};
 use elf_image::Image;
@@ -63,21 +63,19 @@ fn translate(alloc: Global, image: Image, frames: u32, va: u64) -> Reply
 #[inline(never)]
 pub(crate) fn map<S: Shelf>(
     alloc: Global,
-    image: FileName<'_>,
+    request: &Request<'_>,
     frames: u32,
     va: u64,
     shelf: &mut S,
 ) -> Reply
-    ghost words: { List (List ℕ) }
-    requires asked { command_of words ≡ Some (Map frames va) }
-    requires named { Names words Role.Image image }
+    requires asked { command_of request.now ≡ Some (Map frames va) }
     requires bounds { IsBounded (Map frames va) }
     ensures files_stay { S.files shelf.new ≡ S.files shelf.old }
-    ensures says { CommandSays words
+    ensures says { CommandSays request.now
         (shelf_change S.files S.faults S.wants shelf.old shelf.new)
         (status_number result.status) (line_bytes result.line) }
 {
-    match open(alloc, image, shelf) {
+    match open(alloc, request, shelf) {
         Ok(image) => translate(alloc, image, frames, va),
         Err(reply) => reply,
     }

@@ -21,6 +21,7 @@ use crate::status::Status;
 use boot_map::{Layout, prepare};
 use elf_image::Image;
 use gate_state::OuterMachine;
+use irq_plan::Plan;
 use nk_body::Kernel;
 use phys_mem::{PhysMem, mask_law};
 use std::alloc::Global;
@@ -30,6 +31,15 @@ use std::alloc::Global;
 pub struct Opened {
     pub image: Image,
     pub layout: Layout,
+}
+
+/// A run that may begin: the image with its memory's division, the input, the plan, and the most turns.
+#[derive(Drop)]
+pub struct ReadyRun {
+    pub opened: Opened,
+    pub input: Vec<u8>,
+    pub plan: Plan,
+    pub steps: u64,
 }
 
 /// The opening's memory with the books in it, and what the nested kernel keeps beside it.

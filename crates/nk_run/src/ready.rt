@@ -1,27 +1,17 @@
 //! What a run begins from, for a program that takes the run's steps itself.
-ghost use Rattle.std.specs.Prelude.{◌≡◌, ◌≤◌, ℕ, List, map, IfErr, IfOk};
-ghost use Rattle.std.specs.String.{string_bytes};
+ghost use Rattle.std.specs.Prelude.{◌≡◌, ◌≤◌, IfErr, IfOk};
 ghost use Rattle.nk_run.specs.RunsBegun.{IsAnswerPut, IsRefusedRun, MayRun};
 ghost use Rattle.nk_run.specs.Witness.{shelf_change, sink_change};
 
 use crate::answer::usage;
-use crate::command_line::Request;
-use crate::opening::Opened;
+use crate::command_line::Command;
+use crate::opening::ReadyRun;
 use crate::reply::Reply;
+use crate::request::Request;
 use crate::run::make_ready;
-use irq_plan::Plan;
 use nk_host::{Shelf, Sink};
 use std::alloc::Global;
 use std::marker::Model;
-
-/// A run that may begin: the image with its memory's division, the input, the plan, and the most turns.
-#[derive(Drop)]
-pub struct ReadyRun {
-    pub opened: Opened,
-    pub input: Vec<u8>,
-    pub plan: Plan,
-    pub steps: u64,
-}
 
 /// What the top call answers where a run doesn't begin: its exit status, and its text.
 #[derive(Drop)]
@@ -49,36 +39,25 @@ impl Refusal {
     }
 }
 
-/// What the run of these words begins from, or what the top call answers where they aren't those of a run, or where it
+/// What the run of this request begins from, or what the top call answers where it asks for no run, or where the run
 /// doesn't begin.
 pub fn ready_run<S: Shelf>(
     alloc: Global,
-    words: &[String],
+    request: &Request<'_>,
     shelf: &mut S,
 ) -> Result<ReadyRun, Refusal>
-    ghost names: { List (List ℕ) }
-    requires { names ≡ map string_bytes words.now }
     ensures files_stay { S.files shelf.new ≡ S.files shelf.old }
-    ensures ready { IfOk result (λ it. MayRun names (S.files shelf.old) it.steps it.opened.image it.opened.layout
+    ensures ready { IfOk result (λ it. MayRun request.now (S.files shelf.old) it.steps it.opened.image it.opened.layout
         it.input.items it.plan) }
-    ensures refused { IfErr result (IsRefusedRun names (shelf_change S.files S.faults S.wants shelf.old shelf.new)) }
+    ensures refused { IfErr result (IsRefusedRun request.now (shelf_change S.files S.faults S.wants shelf.old shelf.new)) }
 {
-    match Request::read(words) {
-        Some(
-            Request::Run {
-                files,
-                steps,
-                frames,
-            },
-        ) => match make_ready(alloc, files, steps, frames, shelf) {
-            Ok(ready) => Ok(ReadyRun {
-                opened: ready.opened,
-                input: ready.outside.input,
-                plan: ready.outside.plan,
-                steps,
-            }),
-            Err(reply) => Err(Refusal { reply }),
-        },
+    match request.command() {
+        Some(Command::Run { steps, frames }) => {
+            match make_ready(alloc, request, steps, frames, shelf) {
+                Ok(ready) => Ok(ready),
+                Err(reply) => Err(Refusal { reply }),
+            }
+        }
         _ => Err(Refusal { reply: usage() }),
     }
 }

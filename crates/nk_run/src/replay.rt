@@ -1,23 +1,24 @@
 //! The command `replay IMAGE FRAMES JOURNAL`, and what an audit has in common with it.
-ghost use Rattle.std.specs.Prelude.{◌≡◌, ◌*◌, ℕ, List, None, length, MatchResult, Some, [], ◌∷◌};
+ghost use Rattle.std.specs.Prelude.{◌≡◌, ◌*◌, None, length, MatchResult, Some, [], ◌∷◌};
 ghost use Rattle.byte_scanner.specs.FirstFound.{first_found};
 ghost use Rattle.boot_map.specs.Division.{IsLayout};
 ghost use Rattle.nk_body.specs.NestedRecord.{HoldsBooks, nested_held};
 ghost use Rattle.report_text.specs.ClosingSection.{section};
 ghost use Rattle.replay_core.specs.ReplayedCalls.{replay_of};
-ghost use Rattle.nk_run.specs.CommandLine.{command_of, IsBounded, Replay};
-ghost use Rattle.nk_run.specs.NamedCommands.{NamesReplay};
+ghost use Rattle.nk_run.specs.declared.command_line.Command.TheVariants.{Replay};
+ghost use Rattle.nk_run.specs.CommandLine.{command_of, IsBounded};
 ghost use Rattle.nk_run.specs.Witness.{shelf_change, sink_change};
 ghost use Rattle.nk_run.specs.Outcome.{checks_of, journal_checks, journaled, opened};
 ghost use Rattle.nk_run.specs.ReplyText.{line_bytes};
 ghost use Rattle.nk_run.specs.Statuses.{status_number};
 ghost use Rattle.nk_run.specs.Replies.{HoldsReplay, IsAnswered, IsTextPut, IsReplayedFrom, RefusesBy, StopsIn};
 
-use crate::command_line::{ReplayFiles, Role};
+use crate::command_line::Role;
 use crate::image::{fetch, open};
 use crate::lines::journal_line;
 use crate::opening::{Guarded, Opened, divide, guard};
 use crate::reply::{Reply, made, no_memory};
+use crate::request::Request;
 use crate::status::Status;
 use elf_image::Image;
 use nk_host::{Shelf, Sink, SinkFault};
@@ -40,22 +41,20 @@ pub(crate) struct Replayed {
 }
 
 /// The files of a replay, or the reply to the first check on them that doesn't pass.
-fn hold<S: Shelf>(alloc: Global, files: ReplayFiles<'_>, shelf: &mut S) -> Result<Held, Reply>
-    ghost words: { List (List ℕ) }
-    requires { NamesReplay words files }
+fn hold<S: Shelf>(alloc: Global, request: &Request<'_>, shelf: &mut S) -> Result<Held, Reply>
     ensures files_stay { S.files shelf.new ≡ S.files shelf.old }
     ensures held { MatchResult result
         (λ held. (first_found held.image ≡ None)
-        × HoldsReplay words (S.files shelf.old) held.image held.journal.items (λ files. journal_checks files words))
-        (λ reply. StopsIn words (shelf_change S.files S.faults S.wants shelf.old shelf.new)
-        (Role.Image ∷ Role.Journal ∷ []) (λ files. journal_checks files words)
+        × HoldsReplay request.now (S.files shelf.old) held.image held.journal.items (λ files. journal_checks files request.now))
+        (λ reply. StopsIn request.now (shelf_change S.files S.faults S.wants shelf.old shelf.new)
+        (Role.Image ∷ Role.Journal ∷ []) (λ files. journal_checks files request.now)
         (status_number reply.status) (line_bytes reply.line)) }
 {
-    let image = match open(alloc, files.image, shelf) {
+    let image = match open(alloc, request, shelf) {
         Ok(image) => image,
         Err(reply) => return Err(reply),
     };
-    match fetch(alloc, files.journal, Role::Journal, shelf) {
+    match fetch(alloc, request, Role::Journal, shelf) {
         Ok(journal) => Ok(Held { image, journal }),
         Err(reply) => Err(reply),
     }
@@ -96,22 +95,20 @@ fn make_calls(alloc: Global, opening: &Opened, journal: &[u8]) -> Result<Guarded
 /// What the calls of the journal left, or the reply to the first check of a replay that doesn't pass.
 pub(crate) fn make_replay<S: Shelf>(
     alloc: Global,
-    files: ReplayFiles<'_>,
+    request: &Request<'_>,
     frames: u32,
     shelf: &mut S,
 ) -> Result<Replayed, Reply>
-    ghost words: { List (List ℕ) }
-    requires named { NamesReplay words files }
-    requires bounds { IsBounded (Replay frames) }
+    requires { IsBounded (Replay frames) }
     ensures files_stay { S.files shelf.new ≡ S.files shelf.old }
     ensures made { MatchResult result
-        (λ it. IsReplayedFrom words (S.files shelf.old) frames it.opened.image it.journal.items
+        (λ it. IsReplayedFrom request.now (S.files shelf.old) frames it.opened.image it.journal.items
         it.opened.layout it.left.kernel it.left.memory)
-        (λ reply. StopsIn words (shelf_change S.files S.faults S.wants shelf.old shelf.new)
-        (Role.Image ∷ Role.Journal ∷ []) (λ files. checks_of (Replay frames) files words)
+        (λ reply. StopsIn request.now (shelf_change S.files S.faults S.wants shelf.old shelf.new)
+        (Role.Image ∷ Role.Journal ∷ []) (λ files. checks_of (Replay frames) files request.now)
         (status_number reply.status) (line_bytes reply.line)) }
 {
-    let held = match hold(alloc, files, shelf) {
+    let held = match hold(alloc, request, shelf) {
         Ok(held) => held,
         Err(reply) => return Err(reply),
     };
@@ -134,22 +131,20 @@ pub(crate) fn make_replay<S: Shelf>(
 #[inline(never)]
 pub(crate) fn replay<S: Shelf, O: Sink>(
     alloc: Global,
-    files: ReplayFiles<'_>,
+    request: &Request<'_>,
     frames: u32,
     shelf: &mut S,
     sink: &mut O,
 ) -> Status
-    ghost words: { List (List ℕ) }
-    requires asked { command_of words ≡ Some (Replay frames) }
-    requires named { NamesReplay words files }
+    requires asked { command_of request.now ≡ Some (Replay frames) }
     requires bounds { IsBounded (Replay frames) }
     ensures { IsAnswered (record {
-      words = words;
+      words = request.now;
       shelf = shelf_change S.files S.faults S.wants shelf.old shelf.new;
       sink = sink_change O.taken O.faults sink.old sink.new;
     }) (status_number result) }
 {
-    let replayed = match make_replay(alloc, files, frames, shelf) {
+    let replayed = match make_replay(alloc, request, frames, shelf) {
         Ok(replayed) => replayed,
         Err(reply) => return reply.write(sink),
     };

@@ -1,24 +1,26 @@
 //! The command `run IMAGE INPUT PLAN STEPS FRAMES`.
-ghost use Rattle.std.specs.Prelude.{◌≡◌, ◌≤◌, ℕ, List, None, IfSome, MatchResult, Ok, Some, [], ◌∷◌};
+ghost use Rattle.std.specs.Prelude.{◌≡◌, ◌≤◌, None, IfSome, MatchResult, Ok, Some, [], ◌∷◌};
 ghost use Rattle.irq_plan.specs.PlanFile.{plan_of};
 ghost use Rattle.nk_host.specs.Told.{IfTold};
 ghost use Rattle.byte_scanner.specs.FirstFound.{first_found};
 ghost use Rattle.boot_map.specs.Division.{IsLayout, need};
 ghost use Rattle.gate_state.specs.MachineOpening.{opening_state};
-ghost use Rattle.nk_run.specs.CommandLine.{command_of, IsBounded, Run};
-ghost use Rattle.nk_run.specs.NamedCommands.{NamesRun};
+ghost use Rattle.nk_run.specs.declared.command_line.Command.TheVariants.{Run};
+ghost use Rattle.nk_run.specs.CommandLine.{command_of, IsBounded};
 ghost use Rattle.nk_run.specs.Witness.{shelf_change, sink_change};
 ghost use Rattle.nk_run.specs.Outcome.{file_in, first_verdict, passes, roomy, run_checks};
 ghost use Rattle.nk_run.specs.ReplyText.{line_bytes};
 ghost use Rattle.nk_run.specs.Statuses.{status_number};
-ghost use Rattle.nk_run.specs.Replies.{CommandSays, IsAnswered, IsReady, RefusesBy, StopsIn, TellsBytes};
+ghost use Rattle.nk_run.specs.Replies.{CommandSays, IsAnswered, RefusesBy, StopsIn, TellsBytes};
+ghost use Rattle.nk_run.specs.RunsBegun.{MayRun};
 
-use crate::command_line::{Role, RunFiles};
+use crate::command_line::Role;
 use crate::drive::drive;
 use crate::image::open;
 use crate::inputs::{Outside, open_outside};
-use crate::opening::{Opened, begin, divide};
+use crate::opening::{ReadyRun, begin, divide};
 use crate::reply::{Reply, no_memory};
+use crate::request::Request;
 use crate::status::Status;
 use elf_image::Image;
 use gate_state::Machine;
@@ -32,34 +34,25 @@ struct Held {
     outside: Outside,
 }
 
-/// What a run begins from.
-#[derive(Drop)]
-pub(crate) struct Ready {
-    pub opened: Opened,
-    pub outside: Outside,
-}
-
 /// The files of a run, or the reply to the first check on them that doesn't pass.
-fn hold<S: Shelf>(alloc: Global, files: RunFiles<'_>, shelf: &mut S) -> Result<Held, Reply>
-    ghost words: { List (List ℕ) }
-    requires { NamesRun words files }
+fn hold<S: Shelf>(alloc: Global, request: &Request<'_>, shelf: &mut S) -> Result<Held, Reply>
     ensures files_stay { S.files shelf.new ≡ S.files shelf.old }
     ensures bytes { TellsBytes (S.files shelf.old) }
     ensures held { MatchResult result
         (λ held. (first_found held.image ≡ None)
-        × IfTold (S.files shelf.old) (λ files. (held.image ≡ file_in files words Role.Image)
-        × (held.outside.input.items ≡ file_in files words Role.Input)
-        × (plan_of (file_in files words Role.Plan) ≡ Ok held.outside.plan)
-        × (first_verdict (run_checks files words) ≡ passes)))
-        (λ reply. StopsIn words (shelf_change S.files S.faults S.wants shelf.old shelf.new)
-        (Role.Image ∷ Role.Input ∷ Role.Plan ∷ []) (λ files. run_checks files words)
+        × IfTold (S.files shelf.old) (λ files. (held.image ≡ file_in files request.now Role.Image)
+        × (held.outside.input.items ≡ file_in files request.now Role.Input)
+        × (plan_of (file_in files request.now Role.Plan) ≡ Ok held.outside.plan)
+        × (first_verdict (run_checks files request.now) ≡ passes)))
+        (λ reply. StopsIn request.now (shelf_change S.files S.faults S.wants shelf.old shelf.new)
+        (Role.Image ∷ Role.Input ∷ Role.Plan ∷ []) (λ files. run_checks files request.now)
         (status_number reply.status) (line_bytes reply.line)) }
 {
-    let image = match open(alloc, files.image, shelf) {
+    let image = match open(alloc, request, shelf) {
         Ok(image) => image,
         Err(reply) => return Err(reply),
     };
-    match open_outside(alloc, files, shelf) {
+    match open_outside(alloc, request, shelf) {
         Ok(outside) => Ok(Held { image, outside }),
         Err(reply) => Err(reply),
     }
@@ -68,30 +61,34 @@ fn hold<S: Shelf>(alloc: Global, files: RunFiles<'_>, shelf: &mut S) -> Result<H
 /// What the run begins from, or the reply where it doesn't.
 pub(crate) fn make_ready<S: Shelf>(
     alloc: Global,
-    files: RunFiles<'_>,
+    request: &Request<'_>,
     steps: u64,
     frames: u32,
     shelf: &mut S,
-) -> Result<Ready, Reply>
-    ghost words: { List (List ℕ) }
-    requires asked { command_of words ≡ Some (Run steps frames) }
-    requires named { NamesRun words files }
+) -> Result<ReadyRun, Reply>
+    requires asked { command_of request.now ≡ Some (Run steps frames) }
     requires bounds { IsBounded (Run steps frames) }
     ensures files_stay { S.files shelf.new ≡ S.files shelf.old }
     ensures bytes { TellsBytes (S.files shelf.old) }
     ensures ready { MatchResult result
-        (λ it. IsReady words (S.files shelf.old) steps frames it.opened.image it.opened.layout
-        it.outside.input.items it.outside.plan)
-        (λ reply. CommandSays words (shelf_change S.files S.faults S.wants shelf.old shelf.new)
+        (λ it. MayRun request.now (S.files shelf.old) it.steps it.opened.image it.opened.layout
+        it.input.items it.plan)
+        (λ reply. CommandSays request.now (shelf_change S.files S.faults S.wants shelf.old shelf.new)
         (status_number reply.status) (line_bytes reply.line)) }
 {
-    let held = match hold(alloc, files, shelf) {
+    let held = match hold(alloc, request, shelf) {
         Ok(held) => held,
         Err(reply) => return Err(reply),
     };
     let Held { image, outside } = held;
+    let Outside { input, plan } = outside;
     match divide(alloc, image, frames) {
-        Ok(opened) => Ok(Ready { opened, outside }),
+        Ok(opened) => Ok(ReadyRun {
+            opened,
+            input,
+            plan,
+            steps,
+        }),
         Err(reply) => Err(reply),
     }
 }
@@ -100,29 +97,31 @@ pub(crate) fn make_ready<S: Shelf>(
 #[inline(never)]
 pub(crate) fn run<S: Shelf, O: Sink>(
     alloc: Global,
-    files: RunFiles<'_>,
+    request: &Request<'_>,
     steps: u64,
     frames: u32,
     shelf: &mut S,
     sink: &mut O,
 ) -> Status
-    ghost words: { List (List ℕ) }
-    requires asked { command_of words ≡ Some (Run steps frames) }
-    requires named { NamesRun words files }
+    requires asked { command_of request.now ≡ Some (Run steps frames) }
     requires bounds { IsBounded (Run steps frames) }
     ensures bytes { TellsBytes (S.files shelf.old) }
     ensures answered { IsAnswered (record {
-      words = words;
+      words = request.now;
       shelf = shelf_change S.files S.faults S.wants shelf.old shelf.new;
       sink = sink_change O.taken O.faults sink.old sink.new;
     }) (status_number result) }
 {
-    let ready = match make_ready(alloc, files, steps, frames, shelf) {
+    let ready = match make_ready(alloc, request, steps, frames, shelf) {
         Ok(ready) => ready,
         Err(reply) => return reply.write(sink),
     };
-    let Ready { opened, outside } = ready;
-    let Outside { input, plan } = outside;
+    let ReadyRun {
+        opened,
+        input,
+        plan,
+        steps,
+    } = ready;
     match begin(alloc, &opened, input) {
         Some(machine) => {
             let machine = Machine::Outer(machine);

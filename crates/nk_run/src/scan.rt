@@ -1,19 +1,20 @@
 //! The command `scan IMAGE`, which holds neither the file nor the image.
-ghost use Rattle.std.specs.Prelude.{◌≡◌, ◌≤◌, ℕ, List, Some};
-ghost use Rattle.nk_run.specs.CommandLine.{command_of, Scan};
-ghost use Rattle.nk_run.specs.NamedCommands.{Names};
+ghost use Rattle.std.specs.Prelude.{◌≡◌, ◌≤◌, Some};
+ghost use Rattle.nk_run.specs.declared.command_line.Command.TheVariants.{Scan};
+ghost use Rattle.nk_run.specs.CommandLine.{command_of};
 ghost use Rattle.nk_run.specs.Witness.{shelf_change};
 ghost use Rattle.nk_run.specs.ReplyText.{line_bytes};
 ghost use Rattle.nk_run.specs.Statuses.{status_number};
 ghost use Rattle.nk_run.specs.Replies.{CommandSays};
 ghost use Rattle.nk_run.specs.ScanStops.{IsReplyTo, IsShort};
 
-use crate::command_line::{FileName, Role};
+use crate::command_line::Role;
 use crate::image::{faulty, protected};
 use crate::lines::{longer_line, unread_line};
 use crate::page_pieces::scan_file;
 use crate::pieces::Stop;
 use crate::reply::{Line, Reply, no_memory};
+use crate::request::Request;
 use crate::status::Status;
 use nk_host::Shelf;
 use report_text::admitted_line;
@@ -41,16 +42,14 @@ fn stopped(stop: Stop) -> Reply
 
 /// Admits or refuses the image. Takes no memory but the shelf's.
 #[inline(never)]
-pub(crate) fn scan<S: Shelf>(alloc: Global, image: FileName<'_>, shelf: &mut S) -> Reply
-    ghost words: { List (List ℕ) }
-    requires asked { command_of words ≡ Some Scan }
-    requires named { Names words Role.Image image }
+pub(crate) fn scan<S: Shelf>(alloc: Global, request: &Request<'_>, shelf: &mut S) -> Reply
+    requires { command_of request.now ≡ Some Scan }
     ensures files_stay { S.files shelf.new ≡ S.files shelf.old }
-    ensures says { CommandSays words
+    ensures says { CommandSays request.now
         (shelf_change S.files S.faults S.wants shelf.old shelf.new)
         (status_number result.status) (line_bytes result.line) }
 {
-    match scan_file(alloc, image.text, shelf) {
+    match scan_file(alloc, request.name(Role::Image), shelf) {
         Ok(it) => Reply {
             status: Status::Done,
             line: Line::Short(admitted_line(it.entry, it.pages)),

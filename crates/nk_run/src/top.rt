@@ -6,6 +6,7 @@ ghost use Rattle.nk_run.specs.Clauses.{Promises};
 
 use crate::answer::answer;
 use crate::laws::{join_law, run_law};
+use crate::request::Request;
 use nk_host::{Shelf, Sink};
 use std::alloc::Global;
 
@@ -34,5 +35,5 @@ pub fn nk_main<S: Shelf, O: Sink>(
 {
     run_law();
     join_law();
-    answer(alloc, words, shelf, sink).number()
+    answer(alloc, &Request::new(words), shelf, sink).number()
 }

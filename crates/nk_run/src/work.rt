@@ -1,6 +1,7 @@
 //! The command `work NUMBER`: the image of a number is made and run, and what the run showed is counted.
 ghost use Rattle.std.specs.Prelude.{◌≡◌, ◌≤◌, ℕ, List, [], IfSome, Some};
-ghost use Rattle.nk_run.specs.CommandLine.{command_of, IsBounded, Work};
+ghost use Rattle.nk_run.specs.declared.command_line.Command.TheVariants.{Work};
+ghost use Rattle.nk_run.specs.CommandLine.{command_of, IsBounded};
 ghost use Rattle.nk_run.specs.Replies.{IsAnswered, IsWorkable};
 ghost use Rattle.nk_run.specs.Statuses.{status_number};
 ghost use Rattle.nk_run.specs.Witness.{Change, ShelfState, sink_change};
@@ -54,14 +55,13 @@ fn quiet(alloc: Global) -> Option<Plan>
 /// Runs the image of a number, and writes the counts. The shelf isn't looked at.
 #[inline(never)]
 pub(crate) fn work<O: Sink>(alloc: Global, number: u64, sink: &mut O) -> Status
-    ghost words: { List (List ℕ) }
-    requires asked { command_of words ≡ Some (Work number) }
-    requires bounds { IsBounded (Work number) }
-    ensures { (shelf : Change ShelfState) → shelf.after.files ≡ shelf.before.files → IsAnswered (record {
-      words = words;
-      shelf = shelf;
-      sink = sink_change O.taken O.faults sink.old sink.new;
-    }) (status_number result) }
+    requires { IsBounded (Work number) }
+    ensures { (words : List (List ℕ)) (shelf : Change ShelfState) → command_of words ≡ Some (Work number)
+        → shelf.after.files ≡ shelf.before.files → IsAnswered (record {
+          words = words;
+          shelf = shelf;
+          sink = sink_change O.taken O.faults sink.old sink.new;
+        }) (status_number result) }
 {
     let opened = match make_ready(alloc, number) {
         Some(opened) => opened,

@@ -9,12 +9,13 @@ mod words;
 mod run;
 
 use nk_host::{FileShelf, StdSink};
+use nk_run::Request;
 use run::trace;
 use std::env::{self, Env};
 use std::io;
 use std::process::ExitCode;
 use std::rt::Files;
-use words::{Request, read_words};
+use words::{Asked, read_words};
 
 /// The status where help or the version was asked for.
 const TOLD: u8 = 0;
@@ -36,16 +37,17 @@ fn answer<R: Env + AllocGlobal + Files + Print + Eprint>(rt: &R) -> u8 {
         return NO_WORDS;
     };
     match read_words(rt.alloc(), words.as_slice()) {
-        Request::Trace(run, shown) => {
+        Asked::Trace(words, shown) => {
+            let request = Request::new(&words);
             let mut shelf = FileShelf::new(rt);
             let mut sink = StdSink::new(rt);
-            trace(rt.alloc(), &run, &shown, &mut shelf, &mut sink)
+            trace(rt.alloc(), &request, &shown, &mut shelf, &mut sink)
         }
-        Request::Told(error) => {
+        Asked::Told(error) => {
             let _ = error.print(rt);
             if error.use_stderr() { MISUSED } else { TOLD }
         }
-        Request::NoMemory => NO_WORDS,
+        Asked::NoMemory => NO_WORDS,
     }
 }
 

@@ -1,7 +1,6 @@
 //! The trace of a run: the run's own refusals, or its steps as far as they are shown.
 
-ghost use Rattle.std.specs.Prelude.{◌≡◌, ◌≤◌, None, MatchResult, map};
-ghost use Rattle.std.specs.String.{string_bytes};
+ghost use Rattle.std.specs.Prelude.{◌≡◌, ◌≤◌, None, MatchResult};
 ghost use Rattle.byte_scanner.specs.FirstFound.{first_found};
 ghost use Rattle.boot_map.specs.Division.{IsLayout};
 ghost use Rattle.nk_run.specs.Witness.{shelf_change, sink_change};
@@ -10,7 +9,7 @@ ghost use Rattle.nktrace.specs.TracedRuns.{IsTraced, IsTraceStatus};
 use gate_state::Machine;
 use irq_plan::Plan;
 use nk_host::{Shelf, Sink, SinkFault, put_all};
-use nk_run::{ReadyRun, begin, ready_run};
+use nk_run::{ReadyRun, Request, begin, ready_run};
 use phys_mem::PhysMem;
 use std::alloc::Global;
 use step_trace::{Shown, drive_shown};
@@ -91,21 +90,21 @@ fn show_run<O: Sink>(alloc: Global, ready: ReadyRun, shown: &Shown, sink: &mut O
     }
 }
 
-/// Shows the run of these words, or answers as the top call of `nkrun` does where they aren't those of a run, or it
-/// doesn't begin. Status 4 comes only where the sink failed, and 5 where there is no memory for the run.
+/// Shows the run that is asked for, or answers as the top call of `nkrun` does where none is, or where it doesn't begin.
+/// Status 4 comes only where the sink failed, and 5 where there is no memory for the run.
 pub fn trace<S: Shelf, O: Sink>(
     alloc: Global,
-    words: &[String],
+    request: &Request<'_>,
     shown: &Shown,
     shelf: &mut S,
     sink: &mut O,
 ) -> u8
     ensures files_stay { S.files shelf.new ≡ S.files shelf.old }
-    ensures traced { IsTraced (map string_bytes words.now)
+    ensures traced { IsTraced request.now
         (shelf_change S.files S.faults S.wants shelf.old shelf.new)
         (sink_change O.taken O.faults sink.old sink.new) result }
 {
-    match ready_run(alloc, words, shelf) {
+    match ready_run(alloc, request, shelf) {
         Ok(ready) => show_run(alloc, ready, shown, sink),
         Err(refusal) => refusal.write(sink),
     }

@@ -62,7 +62,7 @@ static WORDS: [(&str, Form, &str); 11] = [
 
 /// What the words ask for.
 #[derive(Drop)]
-pub enum Request {
+pub enum Asked {
     /// The words of a run, and what is shown of it.
     Trace(Vec<String>, Shown),
     /// Help or the version, or what is wrong with the words.
@@ -167,34 +167,34 @@ fn shown_of(matches: &ArgMatches<'_>) -> Result<Shown, &'static str> {
 }
 
 /// What the words that match ask for.
-fn asked_by(alloc: Global, matches: &ArgMatches<'_>) -> Result<Request, AllocError> {
+fn asked_by(alloc: Global, matches: &ArgMatches<'_>) -> Result<Asked, AllocError> {
     match shown_of(matches) {
-        Ok(shown) => Ok(Request::Trace(run_words(alloc, matches)?, shown)),
+        Ok(shown) => Ok(Asked::Trace(run_words(alloc, matches)?, shown)),
         Err(wrong) => {
             let mut command = whole_command(alloc)?;
-            Ok(Request::Told(command.error(ErrorKind::ValueValidation, wrong)?))
+            Ok(Asked::Told(command.error(ErrorKind::ValueValidation, wrong)?))
         }
     }
 }
 
 /// What a parse that gave no matches tells.
-fn told_by(error: Error) -> Request {
+fn told_by(error: Error) -> Asked {
     if error.kind() == ErrorKind::OutOfMemory {
-        Request::NoMemory
+        Asked::NoMemory
     } else {
-        Request::Told(error)
+        Asked::Told(error)
     }
 }
 
 /// What the words ask for; the first of them is the program's own name.
-pub fn read_words(alloc: Global, words: &[String]) -> Request {
+pub fn read_words(alloc: Global, words: &[String]) -> Asked {
     let Ok(command) = whole_command(alloc) else {
-        return Request::NoMemory;
+        return Asked::NoMemory;
     };
     match command.try_get_matches_from(words) {
         Ok(matches) => match asked_by(alloc, &matches) {
             Ok(asked) => asked,
-            Err(_) => Request::NoMemory,
+            Err(_) => Asked::NoMemory,
         },
         Err(error) => told_by(error),
     }

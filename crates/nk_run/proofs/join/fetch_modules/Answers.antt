@@ -10,16 +10,16 @@ abbrev bytes_of : Vec ℕ Global → List ℕ
 bytes_of m = m.items
 
 pub returns-in-Err-clause-fetched : goal.returns-in-Err-clause-fetched
-returns-in-Err-clause-fetched g c =
-    module_stops _ _ _ _ c.args.list.now c.loop-i.i _ _ _ _ (omega arith) c.loop-i.invariant.falls c.loop-i.invariant.same_files
-    c.name.ensures c.loop-i.invariant.fetched c.in-Err.ensures.fetched
+returns-in-Err-clause-fetched g c = λ words listed.
+    module_stops words _ _ _ c.args.list.now c.loop-i.i _ _ _ _ (omega arith) c.loop-i.invariant.falls c.loop-i.invariant.same_files
+    listed c.name.ensures c.loop-i.invariant.fetched c.in-Err.ensures.fetched
 
 pub loop-i-preserved : goal.loop-i-preserved
 loop-i-preserved g c =
     let pushed = c.in_default.ensures.items in
     record {
-      same_files = c.fetch.ensures.files_stay ∙ c.loop-i.invariant.same_files;
-      falls = λ n. omega (arith, c.loop-i.invariant.falls n, c.fetch.ensures.never_falls n);
+      same_files = c.fetch_named.ensures.files_stay ∙ c.loop-i.invariant.same_files;
+      falls = λ n. omega (arith, c.loop-i.invariant.falls n, c.fetch_named.ensures.never_falls n);
       count = omega (arith, ap length pushed, length-append c.loop-i.modules.items (c.in-Ok.bytes ∷ []), c.loop-i.invariant.count);
       fetched = if_told _ _ (λ files e.
           let held = told_at _ _ files (c.loop-i.invariant.same_files ∙ e) c.in-Ok.ensures.fetched in
@@ -29,7 +29,7 @@ loop-i-preserved g c =
     }
 
 pub returns-in-Err-push-clause-fetched : goal.returns-in-Err-push-clause-fetched
-returns-in-Err-push-clause-fetched g c = inr (inl c.no_memory.ensures)
+returns-in-Err-push-clause-fetched g c = λ words listed. inr (inl c.no_memory.ensures)
 
 pub returns-clause-fetched : goal.returns-clause-fetched
 returns-clause-fetched g c =

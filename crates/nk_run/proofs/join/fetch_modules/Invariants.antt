@@ -4,9 +4,6 @@ use Rattle.nk_host.specs.Told.{IfTold}
 use Rattle.nk_run.proofs.ModuleFetches.{IsFetched}
 use Rattle.nk_run.proofs.join.fetch_modules.Given as goal
 
-abbrev pub ghost-fetch : goal.ghost-fetch
-ghost-fetch g a = g.words
-
 abbrev pub invariant-loop-i : goal.invariant-loop-i
 invariant-loop-i g l = record {
   same_files : g.S.Shelf.files l.shelf ≡ g.S.Shelf.files l.initial.shelf;

@@ -8,5 +8,5 @@ use Rattle.nk_run.proofs.join.open_listed.Goals as goal
 pub returns-in-Err-open_list-clause-opened : goal.returns-in-Err-open_list-clause-opened
 returns-in-Err-open_list-clause-opened g c =
     stops_behind _ _ _ _ c.in-Ok.image _ _ _ _ c.in-Ok.ensures.never_falls c.in-Ok.ensures.files_stay c.in-Ok.ensures.opened
-    (first_stops _ _ ModuleList (λ files. test (well_listed (list_of (file_in files g.words ModuleList))) ∷ []) _ _ refl
+    (first_stops _ _ ModuleList (λ files. test (well_listed (list_of (file_in files c.args.request.now ModuleList))) ∷ []) _ _ refl
     c.in-Err-open_list.ensures.opened)

@@ -5,20 +5,20 @@ use Rattle.nk_run.proofs.Texts.{put_written}
 use Rattle.nk_run.proofs.make.make.Goals as goal
 
 pub returns-in-Ok : goal.returns-in-Ok
-returns-in-Ok g c = λ shelf same. record {
+returns-in-Ok g c = λ words shelf asked same. record {
   status = 0;
   text = image_of_number c.args.number;
-  says = inr (make_says _ c.args.number c.requires.1.0 shelf);
+  says = inr (make_says words c.args.number asked shelf);
   written = put_written _ _ _ _ _ _ (c.deref.ensures.value ∙ c.in-Ok.ensures) c.put_all.ensures.all c.put_all.ensures.failed c.put_all.ensures.some
       c.unless_cut.ensures;
   files_stay = same;
 }
 
 pub returns-in-Err : goal.returns-in-Err
-returns-in-Err g c = λ shelf same. record {
+returns-in-Err g c = λ words shelf asked same. record {
   status = _;
   text = _;
-  says = inr (make_wants _ c.args.number c.requires.1.0 shelf _ _ c.no_memory.ensures);
+  says = inr (make_wants words c.args.number asked shelf _ _ c.no_memory.ensures);
   written = c.write.ensures.written;
   files_stay = same;
 }

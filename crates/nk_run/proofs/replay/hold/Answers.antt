@@ -5,4 +5,4 @@ use Rattle.nk_run.proofs.replay.hold.Goals as goal
 pub returns-in-Err-fetch-clause-held : goal.returns-in-Err-fetch-clause-held
 returns-in-Err-fetch-clause-held g c =
     stops_behind _ _ _ _ c.in-Ok.image _ _ _ _ c.in-Ok.ensures.never_falls c.in-Ok.ensures.files_stay c.in-Ok.ensures.opened
-    (fetch_stops _ _ _ _ [] (λ files. []) _ _ refl c.requires.1.journal c.in-Err-fetch.ensures.fetched)
+    (fetch_stops _ _ _ _ [] (λ files. []) _ _ refl refl c.in-Err-fetch.ensures.fetched)

@@ -1,6 +1,7 @@
 use Rattle.std.proofs.Common.{refl, subst, sym}
-use Rattle.nk_run.specs.Replies.{IsReady}
+use Rattle.nk_run.specs.RunsBegun.{MayRun}
 use Rattle.nk_run.proofs.RunRows.{ready_says, run_room_says, run_row_says}
+use Rattle.nk_run.proofs.RunsBegun.{may_run}
 use Rattle.nk_run.proofs.run.make_ready.Goals as goal
 
 pub returns-in-Err-clause-ready : goal.returns-in-Err-clause-ready
@@ -16,12 +17,10 @@ returns-in-Ok-divide-clause-ready g c =
     let held = c.in-Ok.held in
     let opened = c.in-Ok-divide.opened in
     let (same, layout_is, frames_are, fits) = c.in-Ok-divide.ensures in
-    subst (λ image. IsReady g.words (g.S.Shelf.files c.args.shelf.now) c.args.steps c.args.frames image opened.layout held.outside.input.items held.outside.plan)
+    subst
+    (λ image. MayRun c.args.request.now (g.S.Shelf.files c.args.shelf.now) c.args.steps image opened.layout held.outside.input.items held.outside.plan)
     (sym same)
-    (record {
-      layout_is = layout_is;
-      frames_are = frames_are;
-      clean = c.in-Ok.ensures.held.0;
-      outcome_is = ready_says g.words c.args.steps c.args.frames c.requires.1.0
-          _ held.image held.outside.input.items held.outside.plan c.in-Ok.ensures.held.1 fits;
-    })
+    (may_run c.args.request.now _ c.args.steps c.args.frames held.image opened.layout held.outside.input.items held.outside.plan
+    c.requires.1.0 c.requires.1.1.0 layout_is frames_are c.in-Ok.ensures.held.0
+    (ready_says c.args.request.now c.args.steps c.args.frames c.requires.1.0
+    _ held.image held.outside.input.items held.outside.plan c.in-Ok.ensures.held.1 fits))

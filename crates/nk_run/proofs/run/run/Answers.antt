@@ -1,9 +1,8 @@
-use Rattle.std.proofs.Common.{inr}
+use Rattle.std.proofs.Common.{ap, inr}
 use Rattle.gate_state.specs.MachineOpening.{opening_state}
-use Rattle.gate_state.specs.MachineStates.{Opening}
+use Rattle.gate_state.specs.MachineStates.{MachineState, Opening}
 use Rattle.nk_run.specs.RunStates.{run_text}
 use Rattle.nk_run.proofs.RunRows.{ran_says}
-use Rattle.nk_run.proofs.Runs.{text_begun}
 use Rattle.nk_run.proofs.Texts.{put_written}
 use Rattle.nk_run.proofs.run.run.Goals as goal
 
@@ -23,13 +22,12 @@ pub returns-in-Some-clause-answered : goal.returns-in-Some-clause-answered
 returns-in-Some-clause-answered g c =
     let ready = c.in-Ok.ready in
     let it = c.in-Ok.ensures.ready in
-    let o : Opening = record { image = ready.opened.image; frames = c.args.frames } in
-    let text_is = text_begun c.args.steps ready.outside.plan ready.opened.image ready.outside.input.items ready.opened.layout.frames c.args.frames
-    c.in-Some.machine.state c.in-Some.ensures.state it.frames_are in
+    let o : Opening = record { image = ready.opened.image; frames = ready.opened.layout.frames } in
+    let text_is = ap (λ (s : MachineState). run_text o ready.steps ready.plan s) c.in-Some.ensures.state in
     record {
       status = 0;
-      text = run_text o c.args.steps ready.outside.plan (opening_state o ready.outside.input.items);
-      says = inr (ran_says _ c.args.steps c.args.frames c.requires.1.1.0 _ _ it.outcome_is);
+      text = run_text o ready.steps ready.plan (opening_state o ready.input.items);
+      says = inr (ran_says _ ready.steps ready.opened.layout.frames it.asked _ _ it.outcome_is);
       written =
           let put = c.drive.ensures.written in
           put_written _ _ _ _ _ _ text_is put.0 put.1 put.2 c.unless_cut.ensures;

@@ -9,7 +9,7 @@ use Rattle.nk_run.proofs.Texts.{put_written}
 use Rattle.nk_run.proofs.work.work.Goals as goal
 
 pub returns-in-Some-begin : goal.returns-in-Some-begin
-returns-in-Some-begin g c = λ shelf same.
+returns-in-Some-begin g c = λ words shelf asked same.
     let image = c.in-Some.opened.image in
     let frames = c.in-Some.opened.layout.frames in
     let it = c.in-Some.ensures in
@@ -22,7 +22,7 @@ returns-in-Some-begin g c = λ shelf same.
     record {
       status = 0;
       text = worked image;
-      says = inr (work_says _ c.args.number c.requires.1.0 image it.made shelf);
+      says = inr (work_says words c.args.number asked image it.made shelf);
       written =
           let put = c.count.ensures.written in
           put_written _ _ _ _ _ _ text put.0 put.1 put.2 c.unless_cut.ensures;
