@@ -7,25 +7,12 @@ use Rattle.code_modules.specs.JoinedParts.{JoinedPart}
 use Rattle.code_modules.specs.ListReading.{IsListLength}
 use Rattle.code_modules.specs.ModuleList.{Listed}
 
--- the whole home, and a byte that may be read, at its end
+-- the whole home
 abbrev whole_home : JoinedPart
 whole_home = record { flags = 5; address = home_start; memory_size = 0x40000000; bytes = [] }
 
 whole_home_is_loadable : IsLoadable whole_home
 whole_home_is_loadable = record {
-  flags = omega arith;
-  rights = refl;
-  takes = omega arith;
-  backed = omega arith;
-  above = omega arith;
-  below = omega arith;
-}
-
-abbrev last_byte : JoinedPart
-last_byte = record { flags = 4; address = 0xFFFFFFFFBFFFFFFF; memory_size = 1; bytes = 0x90 ∷ [] }
-
-last_byte_is_loadable : IsLoadable last_byte
-last_byte_is_loadable = record {
   flags = omega arith;
   rights = refl;
   takes = omega arith;

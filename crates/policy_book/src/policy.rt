@@ -14,7 +14,7 @@ ghost use Rattle.write_log.specs.LogRecords.{logged, room_of};
 
 use nk_bits::Rule;
 use phys_mem::PhysMem;
-use region_book::{Regions, Region, apart_law, held_regions_law};
+use region_book::{Region, Regions, apart_law, held_regions_law};
 use write_log::{Log, held_log_law};
 
 const WRITE_ONCE: u8 = 1;

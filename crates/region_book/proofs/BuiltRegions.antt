@@ -1,5 +1,5 @@
 -- Regions at the bounds of what a region may be.
-use Rattle.std.proofs.Common.{◌≡◌, ◌+◌, ◌<◌, ◌≤◌, ◌⊎◌, ℕ, true, false, Bool, [], ◌∷◌, replicate, refl, sym, inl, inr, arith}
+use Rattle.std.proofs.Common.{◌≡◌, ◌<◌, ◌≤◌, ◌⊎◌, ℕ, true, false, Bool, [], ◌∷◌, replicate, refl, sym, inl, inr, arith}
 use Rattle.std.proofs.lemmas.Bool.{false≢true}
 use Rattle.std.proofs.lemmas.List.{length-replicate}
 use Rattle.std.proofs.lemmas.List.Elements.{All-cons, All-nil}
@@ -30,33 +30,6 @@ whole_pool_is_a_region = record {
   policy = (omega arith, omega arith);
   size = (omega arith, omega arith);
   written = length-replicate {A = Bool} 65536 false;
-  tail = omega arith;
-  held = omega arith;
-  pooled = λ is. (omega arith, omega arith, refl, refl);
-  declared = λ is. absurd (false≢true (sym is));
-}
-
--- the last byte of the pool
-abbrev last_byte : RegionRecord
-last_byte = record {
-  id = 256;
-  policy = 1;
-  pooled = true;
-  first = pool_start + 65535;
-  size = 1;
-  frames = 25 ∷ [];
-  place = 4095;
-  written = false ∷ [];
-  tail = 0;
-}
-
-last_byte_is_a_region : IsRegion 257 last_byte
-last_byte_is_a_region = record {
-  least = omega arith;
-  below = omega arith;
-  policy = (omega arith, omega arith);
-  size = (omega arith, omega arith);
-  written = refl;
   tail = omega arith;
   held = omega arith;
   pooled = λ is. (omega arith, omega arith, refl, refl);

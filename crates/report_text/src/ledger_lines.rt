@@ -21,7 +21,7 @@ use nk_body::Kernel;
 use nk_host::{Pieces, Sink, SinkFault, pieces_law};
 use page_desc::held_tables_law;
 use phys_mem::{PhysMem, mask_law};
-use region_book::{Regions, Region};
+use region_book::{Region, Regions};
 use write_log::{Log, Noted, Spot, held_log_law};
 
 /// Writes the regions that live, and the log.
