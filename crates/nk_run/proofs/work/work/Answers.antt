@@ -23,8 +23,6 @@ returns-in-Some-begin g c = λ words shelf asked same.
       status = 0;
       text = worked image;
       says = inr (work_says words c.args.number asked image it.made shelf);
-      written =
-          let put = c.count.ensures.written in
-          put_written _ _ _ _ _ _ text put.0 put.1 put.2 c.unless_cut.ensures;
+      written = put_written g.O.Sink.taken g.O.Sink.faults _ _ _ _ _ _ _ text c.count.ensures c.unless_cut.ensures;
       files_stay = same;
     }
