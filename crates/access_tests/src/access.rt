@@ -13,6 +13,7 @@ ghost use Rattle.nk_bits.specs.Accesses.{IsAccessSize, IsTarget};
 ghost use Rattle.nk_bits.specs.Translations.{NamesFramesIn};
 
 use mem_access::{AccessFault, Control, Target};
+use memory_kit::{CONTROL, PAGES, store_words};
 use phys_mem::{NoMemory, PhysMem};
 use std::alloc::Global;
 use tlb_model::Tlb;
@@ -24,21 +25,9 @@ pub const READ_ONLY: u64 = 0x5;
 
 pub const ABSENT: u64 = 0x6;
 
-/// WP and SMEP are set.
-pub const CONTROL: Control = Control {
-    cr0: 0x8001_0011,
-    cr2: 0,
-    root: 1,
-    cr4: 0x10_0020,
-    efer: 0xD00,
-};
-
 pub const WITHOUT_WP: Control = Control {
     cr0: 0x8000_0011,
-    cr2: 0,
-    root: 1,
-    cr4: 0x10_0020,
-    efer: 0xD00,
+    ..CONTROL
 };
 
 /// A memory of sixteen frames.
@@ -58,9 +47,7 @@ pub fn start(mem: &mut PhysMem, first: u64, second: u64)
     for frame in 0..16 {
         mem.zero_frame(frame);
     }
-    mem.store64(0x1000, 0x2007);
-    mem.store64(0x2000, 0x3007);
-    mem.store64(0x3000, 0x4007);
+    store_words(mem, &PAGES);
     mem.store64(0x4000, 0x8000 + first);
     mem.store64(0x4008, 0x9000 + second);
 }

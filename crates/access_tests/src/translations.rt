@@ -8,7 +8,7 @@ use steps::Step::{
     Count, DropFault, DropPage, Fill, FillEach, FillInTurn, Flush, Forget, Invalidate, Keep,
     KeepAll, KeepEach, Kept, Look,
 };
-use steps::{Step, first_wrong};
+use steps::{Step, wrong_case};
 
 #[test]
 fn translations_are_kept(rt: HostRuntime) {
@@ -58,7 +58,7 @@ fn translations_are_kept(rt: HostRuntime) {
             Look(u64::MAX, None),
         ],
     ];
-    assert_eq!(rt; first_wrong(rt.alloc(), cases), None);
+    assert_eq!(rt; wrong_case(rt.alloc(), cases), None);
 }
 
 #[test]
@@ -102,7 +102,7 @@ fn oldest_translation_goes(rt: HostRuntime) {
             Look(1025, Some(4)),
         ],
     ];
-    assert_eq!(rt; first_wrong(rt.alloc(), cases), None);
+    assert_eq!(rt; wrong_case(rt.alloc(), cases), None);
 }
 
 #[test]
@@ -166,7 +166,7 @@ fn upper_entries_are_kept(rt: HostRuntime) {
             Kept(2, 32768, Some(9)),
         ],
     ];
-    assert_eq!(rt; first_wrong(rt.alloc(), cases), None);
+    assert_eq!(rt; wrong_case(rt.alloc(), cases), None);
 }
 
 /// The second case begins with nothing kept, and its second step is wrong.
@@ -177,5 +177,5 @@ fn wrong_step_is_found(rt: HostRuntime) {
         &[Look(5, None), Look(5, Some(1)), Look(5, None)],
         &[Look(5, None)],
     ];
-    assert_eq!(rt; first_wrong(rt.alloc(), cases), Some((1, 1)));
+    assert_eq!(rt; wrong_case(rt.alloc(), cases), Some((1, 1)));
 }

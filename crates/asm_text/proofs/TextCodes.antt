@@ -1,5 +1,5 @@
 -- The code of a text is that of its lines, one after another, or the first line without code is told.
-use Rattle.std.proofs.Common.{◌≡◌, ℕ, ◌+◌, ◌≤◌, List, [], ◌∷◌, ◌++◌, length, take, Option, None, Some, Result, Ok, Err, MatchOption, inl, inr, refl, sym, subst, arith}
+use Rattle.std.proofs.Common.{ℕ, ◌+◌, List, [], ◌∷◌, length, Option, None, Some, Result, Ok, Err, MatchOption, inl, inr, refl, sym, subst, arith}
 use Rattle.std.specs.Prelude.{MatchResult}
 use Rattle.std.proofs.lemmas.List.{take_all}
 use Rattle.text_lines.specs.TextLines.{lines}

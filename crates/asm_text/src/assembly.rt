@@ -2,13 +2,12 @@
 
 ghost use Rattle.std.specs.Prelude.{◌≡◌, ◌≤◌, ◌+◌, ◌++◌, ◌∷◌, [], length};
 ghost use Rattle.arrayvec.specs.ArrayVec.{array_vec_len};
-ghost use Rattle.decode_fields.specs.ModRm.{displacement_size, has_sib, is_register, is_rip_relative, lacks_base};
 ghost use Rattle.x86_decode.specs.Spelling.{opcode_bytes};
 ghost use Rattle.asm_text.specs.Assembly.{byte_if, front_of, number_bytes_of, operand_bytes, place_bytes, rep_bytes, rex_bytes};
 ghost use Rattle.asm_text.specs.Fitting.{asks_sib};
 
 use arrayvec::ArrayVec;
-use decode_fields::Rep;
+use decode_fields::{Rep, needs_sib, size_of_displacement};
 use x86_decode::{Map, RowLayout};
 
 /// Bytes that are put together: four prefix bytes, two of the opcode, ModRM and SIB, four of displacement and eight of
@@ -115,19 +114,6 @@ pub(crate) fn tail(size: usize, number: u64) -> Bytes
     bytes
 }
 
-/// Whether mod is 3.
-pub(crate) fn names_register(modrm: u8) -> bool
-    ensures { result ≡ is_register modrm }
-{
-    modrm >> 6 == 3
-}
-
-fn needs_sib(modrm: u8) -> bool
-    ensures { result ≡ has_sib modrm }
-{
-    !names_register(modrm) & (modrm & 7 == 4)
-}
-
 /// Whether ModRM asks for SIB, by the layout of the row.
 pub(crate) fn asks_sib(layout: RowLayout, modrm: u8) -> bool
     ensures { result ≡ asks_sib layout modrm }
@@ -135,34 +121,6 @@ pub(crate) fn asks_sib(layout: RowLayout, modrm: u8) -> bool
     match layout {
         RowLayout::Plain | RowLayout::Ignored => false,
         RowLayout::AnyForm | RowLayout::Memory | RowLayout::Register => needs_sib(modrm),
-    }
-}
-
-fn follows_rip(modrm: u8) -> bool
-    ensures { result ≡ is_rip_relative modrm }
-{
-    (modrm >> 6 == 0) & (modrm & 7 == 5)
-}
-
-fn has_no_base(modrm: u8, sib: u8) -> bool
-    ensures { result ≡ lacks_base modrm sib }
-{
-    needs_sib(modrm) & (modrm >> 6 == 0) & (sib & 7 == 5)
-}
-
-/// The bytes of the displacement.
-fn size_of_displacement(modrm: u8, sib: u8) -> usize
-    ensures value { result ≡ displacement_size modrm sib }
-    ensures few { result ≤ 4 }
-{
-    match modrm >> 6 {
-        1 => 1,
-        2 => 4,
-        _ => if follows_rip(modrm) | has_no_base(modrm, sib) {
-            4
-        } else {
-            0
-        },
     }
 }
 

@@ -5,9 +5,8 @@ ghost use Rattle.std.specs.Prelude.{◌≡◌, ◌<◌, true};
 ghost use Rattle.decode_fields.specs.Widths.{IsWidth};
 ghost use Rattle.asm_text.specs.Fitting.{address_fits, wanted_form, has_bit, has_high_bit, is_by_number, is_by_reg, is_by_rm, is_byte_register, is_general, is_ignored_layout, is_memory_place, is_no_place, is_numbered, is_option_of, is_plain_layout, is_value, letter_fits, low_of, low_or, modrm_fits, place_disp, reg_fits, reg_place, rex_fits, rm_fits, rm_place, row_fits, sib_low, size_fits, wanted_reg};
 
-use crate::assembly::names_register;
 use crate::operation::is_same_op;
-use decode_fields::{Place, Prefixes, Rep};
+use decode_fields::{Place, Prefixes, Rep, names_register, reg_field, rm_field};
 use x86_decode::{Instr, Number, Operand, RowLayout, Shape, TableRow, row_width};
 
 /// What ModRM has to say.
@@ -238,10 +237,11 @@ fn rm_fits(layout: RowLayout, place: Place, modrm: u8) -> bool
 {
     match place {
         Place::Reg(number) => {
-            (is_ignored_layout(layout) | names_register(modrm)) & (number % 8 == modrm % 8)
+            (is_ignored_layout(layout) | names_register(modrm)) & (number % 8 == rm_field(modrm))
         }
         Place::High(number) => {
-            (is_ignored_layout(layout) | names_register(modrm)) & (number % 4 + 4 == modrm % 8)
+            (is_ignored_layout(layout) | names_register(modrm))
+                & (number % 4 + 4 == rm_field(modrm))
         }
         Place::Mem(_) => !names_register(modrm),
         Place::Nothing | Place::Value => false,
@@ -252,7 +252,7 @@ fn rm_fits(layout: RowLayout, place: Place, modrm: u8) -> bool
 pub(crate) fn modrm_fits(form: &Form, modrm: u8) -> bool
     ensures { result ≡ modrm_fits form.now modrm }
 {
-    if !reg_fits(form.reg, modrm / 8 % 8) {
+    if !reg_fits(form.reg, reg_field(modrm)) {
         return false;
     }
     rm_fits(form.layout, form.place, modrm)

@@ -37,6 +37,6 @@ mod assembling;
 
 pub use assembling::{TextFault, assemble, assembly_law};
 pub use least::encode;
-pub use printing::print;
+pub use printing::{hex_digit, print};
 pub use reading::read;
 pub use text_laws::{round_trip, text_law};

@@ -7,38 +7,8 @@ ghost use Rattle.x86_decode.specs.WellFormed.{HasCondition};
 ghost use Rattle.asm_text.specs.OperationNames.{op_name};
 ghost use Rattle.asm_text.specs.ParsedTexts.{name_at, op_at, op_named, place_of_name};
 
-use crate::operation::{ALL_OPS, op_number};
+use crate::operation::{ALL_OPS, OP_NAMES, op_number};
 use x86_decode::Op;
-
-/// The names of all operations, in the order of `ALL_OPS`.
-#[rattlefmt::skip]
-static OP_NAMES: [&str; 136] = [
-    "add", "or", "adc", "sbb", "and", "sub", "xor", "cmp", "test", "not", "neg", "inc", "dec", "mul", "imul",
-    "imul3", "div", "idiv", "rol", "ror", "shl", "shr", "sar", "bt", "bts", "btr", "btc", "bsf", "bsr",
-    "mov", "movsxd", "movzx8", "movzx16", "movsx8", "movsx16", "lea", "xchg", "xadd", "cmpxchg", "bswap", "cbw",
-    "cwde", "cdqe", "cwd", "cdq", "cqo",
-    "push", "pop", "pushfq", "popfq", "leave",
-    "movs", "cmps", "stos", "lods", "scas",
-    "jmp", "call", "ret", "loop", "loope", "loopne", "jrcxz", "int3", "int", "iretq", "ud2", "nop",
-    "cmc", "clc", "stc", "cli", "sti", "cld", "std",
-    "hlt", "in", "out", "movfc", "movtc", "movtd", "wrmsr", "lldt", "ltr", "lgdt", "lidt", "lmsw", "invlpg",
-    "cmov0", "set0", "j0",
-    "cmov1", "set1", "j1",
-    "cmov2", "set2", "j2",
-    "cmov3", "set3", "j3",
-    "cmov4", "set4", "j4",
-    "cmov5", "set5", "j5",
-    "cmov6", "set6", "j6",
-    "cmov7", "set7", "j7",
-    "cmov8", "set8", "j8",
-    "cmov9", "set9", "j9",
-    "cmova", "seta", "ja",
-    "cmovb", "setb", "jb",
-    "cmovc", "setc", "jc",
-    "cmovd", "setd", "jd",
-    "cmove", "sete", "je",
-    "cmovf", "setf", "jf",
-];
 
 fn name_in(names: &[&'static str], place: usize) -> &'static str
     requires { place < length names.now }

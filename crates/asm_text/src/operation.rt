@@ -1,4 +1,4 @@
-//! The operations in a row, and the number of each.
+//! The operations in a row, with the number and the name of each.
 
 ghost use Rattle.std.specs.Prelude.{◌≡◌};
 ghost use Rattle.asm_text.specs.OperationNumbers.{is_operation, number_of_operation};
@@ -6,134 +6,104 @@ ghost use Rattle.asm_text.specs.OperationNumbers.{is_operation, number_of_operat
 use x86_decode::Op;
 use x86_decode::Op::*;
 
+/// The table of operations, for a macro that reads it: in brackets the number of one without a condition, the operation
+/// and its name in a text; then in parentheses a condition and the names of CMOVcc, SETcc and Jcc with it.
+macro_rules! operations {
+    ($reader:ident $($of:ident)?) => {
+        $reader! {
+            $($of)?
+            // arithmetic and logic
+            [0 Add "add"] [1 Or "or"] [2 Adc "adc"] [3 Sbb "sbb"] [4 And "and"] [5 Sub "sub"] [6 Xor "xor"]
+            [7 Cmp "cmp"] [8 Test "test"] [9 Not "not"] [10 Neg "neg"] [11 Inc "inc"] [12 Dec "dec"]
+            [13 Mul "mul"] [14 Imul "imul"] [15 Imul3 "imul3"] [16 Div "div"] [17 Idiv "idiv"] [18 Rol "rol"]
+            [19 Ror "ror"] [20 Shl "shl"] [21 Shr "shr"] [22 Sar "sar"] [23 Bt "bt"] [24 Bts "bts"]
+            [25 Btr "btr"] [26 Btc "btc"] [27 Bsf "bsf"] [28 Bsr "bsr"]
+            // moves
+            [29 Mov "mov"] [30 Movsxd "movsxd"] [31 Movzx8 "movzx8"] [32 Movzx16 "movzx16"] [33 Movsx8 "movsx8"]
+            [34 Movsx16 "movsx16"] [35 Lea "lea"] [36 Xchg "xchg"] [37 Xadd "xadd"] [38 Cmpxchg "cmpxchg"]
+            [39 Bswap "bswap"] [40 Cbw "cbw"] [41 Cwde "cwde"] [42 Cdqe "cdqe"] [43 Cwd "cwd"] [44 Cdq "cdq"]
+            [45 Cqo "cqo"]
+            // the stack
+            [46 Push "push"] [47 Pop "pop"] [48 Pushfq "pushfq"] [49 Popfq "popfq"] [50 Leave "leave"]
+            // strings
+            [51 Movs "movs"] [52 Cmps "cmps"] [53 Stos "stos"] [54 Lods "lods"] [55 Scas "scas"]
+            // flow
+            [56 Jmp "jmp"] [57 Call "call"] [58 Ret "ret"] [59 Loop "loop"] [60 Loope "loope"]
+            [61 Loopne "loopne"] [62 Jrcxz "jrcxz"] [63 Int3 "int3"] [64 Int "int"] [65 Iretq "iretq"]
+            [66 Ud2 "ud2"] [67 Nop "nop"]
+            // flags
+            [68 Cmc "cmc"] [69 Clc "clc"] [70 Stc "stc"] [71 Cli "cli"] [72 Sti "sti"] [73 Cld "cld"]
+            [74 Std "std"]
+            // the system
+            [75 Hlt "hlt"] [76 In "in"] [77 Out "out"] [78 Movfc "movfc"] [79 Movtc "movtc"] [80 Movtd "movtd"]
+            [81 Wrmsr "wrmsr"] [82 Lldt "lldt"] [83 Ltr "ltr"] [84 Lgdt "lgdt"] [85 Lidt "lidt"]
+            [86 Lmsw "lmsw"] [87 Invlpg "invlpg"]
+            // by condition
+            (0 "cmov0" "set0" "j0")
+            (1 "cmov1" "set1" "j1")
+            (2 "cmov2" "set2" "j2")
+            (3 "cmov3" "set3" "j3")
+            (4 "cmov4" "set4" "j4")
+            (5 "cmov5" "set5" "j5")
+            (6 "cmov6" "set6" "j6")
+            (7 "cmov7" "set7" "j7")
+            (8 "cmov8" "set8" "j8")
+            (9 "cmov9" "set9" "j9")
+            (10 "cmova" "seta" "ja")
+            (11 "cmovb" "setb" "jb")
+            (12 "cmovc" "setc" "jc")
+            (13 "cmovd" "setd" "jd")
+            (14 "cmove" "sete" "je")
+            (15 "cmovf" "setf" "jf")
+        }
+    };
+}
+
+macro_rules! in_a_row {
+    (
+        $([$number:literal $op:ident $name:literal])*
+        $(($condition:literal $cmov:literal $set:literal $jump:literal))*
+    ) => {
+        [$($op,)* $(Cmov($condition), Set($condition), J($condition),)*]
+    };
+}
+
+macro_rules! names_in_a_row {
+    (
+        $([$number:literal $op:ident $name:literal])*
+        $(($condition:literal $cmov:literal $set:literal $jump:literal))*
+    ) => {
+        [$($name,)* $($cmov, $set, $jump,)*]
+    };
+}
+
+macro_rules! number {
+    (
+        $of:ident
+        $([$number:literal $op:ident $name:literal])*
+        $(($condition:literal $cmov:literal $set:literal $jump:literal))*
+    ) => {
+        match $of {
+            $($op => $number,)*
+            Cmov(condition) => 88 + 3 * condition as u16,
+            Set(condition) => 89 + 3 * condition as u16,
+            J(condition) => 90 + 3 * condition as u16,
+        }
+    };
+}
+
 /// All operations: first those without a condition, then by condition the three that have one.
-#[rattlefmt::skip]
-pub(crate) static ALL_OPS: [Op; 136] = [
-    Add, Or, Adc, Sbb, And, Sub, Xor, Cmp, Test, Not, Neg, Inc, Dec, Mul, Imul, Imul3, Div, Idiv, Rol, Ror, Shl,
-    Shr, Sar, Bt, Bts, Btr, Btc, Bsf, Bsr,
-    Mov, Movsxd, Movzx8, Movzx16, Movsx8, Movsx16, Lea, Xchg, Xadd, Cmpxchg, Bswap, Cbw, Cwde, Cdqe, Cwd, Cdq,
-    Cqo,
-    Push, Pop, Pushfq, Popfq, Leave,
-    Movs, Cmps, Stos, Lods, Scas,
-    Jmp, Call, Ret, Loop, Loope, Loopne, Jrcxz, Int3, Int, Iretq, Ud2, Nop,
-    Cmc, Clc, Stc, Cli, Sti, Cld, Std,
-    Hlt, In, Out, Movfc, Movtc, Movtd, Wrmsr, Lldt, Ltr, Lgdt, Lidt, Lmsw, Invlpg,
-    Cmov(0), Set(0), J(0),
-    Cmov(1), Set(1), J(1),
-    Cmov(2), Set(2), J(2),
-    Cmov(3), Set(3), J(3),
-    Cmov(4), Set(4), J(4),
-    Cmov(5), Set(5), J(5),
-    Cmov(6), Set(6), J(6),
-    Cmov(7), Set(7), J(7),
-    Cmov(8), Set(8), J(8),
-    Cmov(9), Set(9), J(9),
-    Cmov(10), Set(10), J(10),
-    Cmov(11), Set(11), J(11),
-    Cmov(12), Set(12), J(12),
-    Cmov(13), Set(13), J(13),
-    Cmov(14), Set(14), J(14),
-    Cmov(15), Set(15), J(15),
-];
+pub(crate) static ALL_OPS: [Op; 136] = operations!(in_a_row);
+
+/// The names of all operations, in the same order.
+pub(crate) static OP_NAMES: [&str; 136] = operations!(names_in_a_row);
 
 /// The place of an operation in `ALL_OPS`. A condition past the sixteen that there are has its number too, past the
 /// last place, so that no two operations have one number.
 pub(crate) fn op_number(op: Op) -> u16
     ensures { result ≡ number_of_operation op }
 {
-    match op {
-        Add => 0,
-        Or => 1,
-        Adc => 2,
-        Sbb => 3,
-        And => 4,
-        Sub => 5,
-        Xor => 6,
-        Cmp => 7,
-        Test => 8,
-        Not => 9,
-        Neg => 10,
-        Inc => 11,
-        Dec => 12,
-        Mul => 13,
-        Imul => 14,
-        Imul3 => 15,
-        Div => 16,
-        Idiv => 17,
-        Rol => 18,
-        Ror => 19,
-        Shl => 20,
-        Shr => 21,
-        Sar => 22,
-        Bt => 23,
-        Bts => 24,
-        Btr => 25,
-        Btc => 26,
-        Bsf => 27,
-        Bsr => 28,
-        Mov => 29,
-        Movsxd => 30,
-        Movzx8 => 31,
-        Movzx16 => 32,
-        Movsx8 => 33,
-        Movsx16 => 34,
-        Lea => 35,
-        Xchg => 36,
-        Xadd => 37,
-        Cmpxchg => 38,
-        Bswap => 39,
-        Cbw => 40,
-        Cwde => 41,
-        Cdqe => 42,
-        Cwd => 43,
-        Cdq => 44,
-        Cqo => 45,
-        Push => 46,
-        Pop => 47,
-        Pushfq => 48,
-        Popfq => 49,
-        Leave => 50,
-        Movs => 51,
-        Cmps => 52,
-        Stos => 53,
-        Lods => 54,
-        Scas => 55,
-        Jmp => 56,
-        Call => 57,
-        Ret => 58,
-        Loop => 59,
-        Loope => 60,
-        Loopne => 61,
-        Jrcxz => 62,
-        Int3 => 63,
-        Int => 64,
-        Iretq => 65,
-        Ud2 => 66,
-        Nop => 67,
-        Cmc => 68,
-        Clc => 69,
-        Stc => 70,
-        Cli => 71,
-        Sti => 72,
-        Cld => 73,
-        Std => 74,
-        Hlt => 75,
-        In => 76,
-        Out => 77,
-        Movfc => 78,
-        Movtc => 79,
-        Movtd => 80,
-        Wrmsr => 81,
-        Lldt => 82,
-        Ltr => 83,
-        Lgdt => 84,
-        Lidt => 85,
-        Lmsw => 86,
-        Invlpg => 87,
-        Cmov(condition) => 88 + 3 * condition as u16,
-        Set(condition) => 89 + 3 * condition as u16,
-        J(condition) => 90 + 3 * condition as u16,
-    }
+    operations!(number op)
 }
 
 /// Whether two operations are the same, their conditions included.

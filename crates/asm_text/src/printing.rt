@@ -23,16 +23,16 @@ fn push_decimal(text: &mut Text, number: u8)
     text.push_str(Buffer::new().format(number));
 }
 
-/// A hexadecimal digit.
-fn digit(value: u8) -> char
+/// The hexadecimal digit of a value, in lower case.
+pub fn hex_digit(value: u8) -> u8
     requires { value < 16 }
     ensures value { result ≡ digit_glyph false value }
     ensures ascii { result < 128 }
 {
     if value < 10 {
-        (b'0' + value) as char
+        b'0' + value
     } else {
-        (b'a' - 10 + value) as char
+        b'a' - 10 + value
     }
 }
 
@@ -41,7 +41,7 @@ fn push_digit(text: &mut Text, value: u8)
     requires room { length text.old.bytes + 1 ≤ 128 }
     ensures { text.new.bytes ≡ text.old.bytes ++ (digit_glyph false value ∷ []) }
 {
-    text.push(digit(value));
+    text.push(hex_digit(value) as char);
 }
 
 /// The digits of a number, from the first to the last.

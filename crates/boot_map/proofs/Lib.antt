@@ -16,5 +16,7 @@ pub mod SlotUppers
 pub mod WalkLaws
 pub mod WalkSchema
 mod WorkedValues
+mod BuiltLayouts
 mod RefutedLayouts
+mod RefutedOpenings
 mod WorkedGateTable

@@ -5,6 +5,8 @@ ghost use Rattle.decode_fields.specs.Protected.{is_protected_at, is_refused_with
 ghost use Rattle.byte_scanner.specs.FirstFound.{found_with};
 ghost use Rattle.byte_scanner.specs.FoundBytes.{IsFoundOf};
 
+use decode_fields::{names_register, reg_field};
+
 /// A protected encoding in an image.
 #[derive(Clone, Copy, Debug, PartialEq, Eq)]
 pub struct Found {
@@ -26,13 +28,12 @@ const WRMSR: u8 = 0x30;
 fn is_refused_with_modrm(opcode: u8, modrm: u8) -> bool
     ensures { result ≡ is_refused_with opcode modrm }
 {
-    let mode = modrm >> 6;
-    let reg = (modrm >> 3) & 7;
+    let reg = reg_field(modrm);
     match opcode {
         // MOV to CRn, MOV to DRn
         0x22 | 0x23 => true,
         // LGDT and LIDT from memory, LMSW
-        0x01 => ((reg == 2 || reg == 3) && mode != 3) || reg == 6,
+        0x01 => ((reg == 2 || reg == 3) && !names_register(modrm)) || reg == 6,
         // LLDT, LTR
         0x00 => reg == 2 || reg == 3,
         _ => false,

@@ -10,8 +10,10 @@ pub mod LoadedBytes
 pub mod NameText
 pub mod PlacedParts
 pub mod PlacingSteps
+mod BuiltParts
 mod RefutedJoins
 mod RefutedPages
+mod RefutedParts
 mod WorkedLists
 mod WorkedNames
 mod WorkedParts

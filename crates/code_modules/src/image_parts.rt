@@ -1,6 +1,6 @@
 //! The segments of an image as parts.
 
-ghost use Rattle.std.specs.Prelude.{◌≡◌, ◌+◌, ◌*◌, ◌^◌, ◌<◌, ◌≤◌, [], drop, length, map, option_map, slice_get, take, Some};
+ghost use Rattle.std.specs.Prelude.{◌≡◌, ◌+◌, ◌*◌, ◌^◌, ◌<◌, ◌≤◌, [], length, map, option_map, slice_get, Some};
 ghost use Rattle.arrayvec.specs.ArrayVec.{array_vec_len};
 ghost use Rattle.elf_image.specs.Elf.{segments};
 ghost use Rattle.elf_image.specs.FileParts.{IsImage};
@@ -10,19 +10,10 @@ ghost use Rattle.code_modules.specs.PartWords.{Leads, as_file_part, as_part};
 
 use crate::layout::Layout;
 use crate::part::JoinedPart;
-use elf_image::{Headers, Image, PAGE_SIZE, form_law};
+use elf_image::{Headers, Image, PAGE_SIZE, form_law, run};
 
 /// The flags of a segment that a joined image keeps: PF_X, PF_W and PF_R.
 const FLAGS: u32 = 8;
-
-/// The `size` bytes from `at` on.
-fn run(bytes: &[u8], at: usize, size: usize) -> &[u8]
-    requires { at + size ≤ length bytes.now }
-    ensures run { result.now ≡ take size (drop at bytes.now) }
-    ensures length { length result.now ≡ size }
-{
-    &bytes.split_at(at).1[..size]
-}
 
 /// Segment number `i` of a file in form, in the order of its program header table.
 fn segment_part<'a>(bytes: &'a [u8], headers: &Headers, i: usize) -> JoinedPart<'a>

@@ -2,12 +2,11 @@
 
 ghost use Rattle.std.specs.Prelude.{◌≡◌, option_map};
 ghost use Rattle.std.specs.List.{list_all};
-ghost use Rattle.std.specs.Str.{bytes_eq};
 ghost use Rattle.code_modules.specs.ListReading.{as_listed};
 ghost use Rattle.code_modules.specs.ModuleList.{guard_word, is_module_name, is_name_byte, listed_of, listed_with};
 ghost use Rattle.text_lines.specs.TextLines.{words};
 
-use text_lines::split_words;
+use text_lines::{is_text, split_words};
 
 /// The most bytes of a name.
 const MOST_NAME: usize = 64;
@@ -18,12 +17,6 @@ pub struct ListLine<'a> {
     /// Whether a guard page stands before the module.
     pub guard: bool,
     pub name: &'a str,
-}
-
-fn is_text(word: &[u8], text: &[u8]) -> bool
-    ensures { result ≡ bytes_eq word.now text.now }
-{
-    word == text
 }
 
 fn is_name_byte(byte: u8) -> bool

@@ -10,9 +10,7 @@ use elf_image::Image;
 use std::alloc::{AllocError, Global};
 use std::process::Abort;
 use std::test::Fail;
-
-/// The first linear address of an image's home.
-const HOME: u64 = 0xFFFF_FFFF_8000_0000;
+use test_kit::{HOME, SegmentHeader, push_head, push_segment};
 
 /// Where the directory stands.
 const DIRECTORY: u64 = 0xFFFF_FFFF_BFFF_F000;
@@ -59,21 +57,19 @@ const MOV_AT_SEAM: Found = Found {
     count: 3,
 };
 
-/// Puts numbers of eight bytes at the end of a file.
-fn put_numbers(file: &mut Vec<u8>, numbers: &[u64]) -> Result<(), AllocError> {
-    for number in numbers.iter() {
-        file.extend_from_slice(&number.to_le_bytes())?;
-    }
-    Ok(())
-}
-
 /// Puts the program header of a segment.
 fn put_row(file: &mut Vec<u8>, row: &Row) -> Result<(), AllocError> {
     let (flags, offset, address, file_size, memory_size) = *row;
-    let kind = 1 + 0x1_0000_0000 * (flags % 8);
-    put_numbers(
+    let flags = (flags % 8) as u32;
+    push_segment(
         file,
-        &[kind, offset, address, address, file_size, memory_size, 4096],
+        &SegmentHeader {
+            flags,
+            offset,
+            address,
+            file_size,
+            memory_size,
+        },
     )
 }
 
@@ -81,20 +77,7 @@ fn put_row(file: &mut Vec<u8>, row: &Row) -> Result<(), AllocError> {
 /// entry is the home's first address.
 fn headers(alloc: Global, rows: &[Row], count: usize) -> Result<Vec<u8>, AllocError> {
     let mut file = Vec::new(alloc);
-    let sizes = 0x0038_0040_0000_0000;
-    put_numbers(
-        &mut file,
-        &[
-            0x01_01_02_46_4C_45_7F,
-            0,
-            0x1_003E_0002,
-            HOME,
-            64,
-            0,
-            sizes,
-            count as u64,
-        ],
-    )?;
+    push_head(&mut file, count as u16)?;
     for i in 0..count {
         let further = (
             6,

@@ -17,16 +17,7 @@ use replay_core::{ReplayFault, replay};
 use std::alloc::{AllocError, Global};
 use std::process::Abort;
 use std::test::Fail;
-
-/// A file's one header loads the byte at offset 4,096 to FFFFFFFF80000000, the entry, readable and executable.
-#[rattlefmt::skip]
-static HEADERS: [u8; 120] = [
-    0x7F, 0x45, 0x4C, 0x46, 2, 1, 1, 0, 0, 0, 0, 0, 0, 0, 0, 0, 2, 0, 62, 0, 1, 0, 0, 0,
-    0, 0, 0, 0x80, 0xFF, 0xFF, 0xFF, 0xFF, 64, 0, 0, 0, 0, 0, 0, 0, 0, 0, 0, 0, 0, 0, 0, 0,
-    0, 0, 0, 0, 64, 0, 56, 0, 1, 0, 0, 0, 0, 0, 0, 0, 1, 0, 0, 0, 5, 0, 0, 0,
-    0, 0x10, 0, 0, 0, 0, 0, 0, 0, 0, 0, 0x80, 0xFF, 0xFF, 0xFF, 0xFF, 0, 0, 0, 0x80, 0xFF, 0xFF, 0xFF, 0xFF,
-    1, 0, 0, 0, 0, 0, 0, 0, 1, 0, 0, 0, 0, 0, 0, 0, 0, 0x10, 0, 0, 0, 0, 0, 0,
-];
+use test_kit::halting_file;
 
 /// The handler at the opening: the halt loop of the gates' text.
 const HALTS: u64 = 0xFFFF_FF80_0000_11DA;
@@ -41,27 +32,12 @@ struct Opened {
     mem: PhysMem,
 }
 
-fn file(alloc: Global) -> Result<Vec<u8>, AllocError> {
-    let mut file = Vec::new(alloc);
-    for k in 0..4097 {
-        let byte = if k == 4096 {
-            0xF4
-        } else if k < 120 {
-            HEADERS[k]
-        } else {
-            0
-        };
-        file.push(byte)?;
-    }
-    Ok(file)
-}
-
 /// Memory and books of the opening; None for want of memory.
 fn open(alloc: Global) -> Option<Opened>
     ensures books { IfSome result (λ it. HoldsBooks it.kernel it.mem) }
     ensures ledger { IfSome result (λ it. (books_in it.kernel it.mem).ledger ≡ opening_ledger) }
 {
-    let Ok(file) = file(alloc) else {
+    let Ok(file) = halting_file(alloc) else {
         return None;
     };
     let Ok(image) = Image::read(file) else {

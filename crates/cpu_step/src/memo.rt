@@ -107,7 +107,7 @@ fn answers(alloc: Global) -> Result<Vec<KeptAnswer>, NoMemory>
     ensures length { IfOk result (λ answers. length answers.items ≡ 4096) }
     ensures right { IfOk result (λ answers. All IsRight answers.items) }
 {
-    let kept = answer_of(0, 0);
+    let kept = kept_answer(0, 0);
     match vec![in alloc; kept; ANSWERS] {
         Ok(answers) => Ok(answers),
         Err(_) => Err(NoMemory),
@@ -119,7 +119,7 @@ fn forms(alloc: Global) -> Result<Vec<KeptForm>, NoMemory>
     ensures length { IfOk result (λ forms. length forms.items ≡ 16384) }
     ensures right { IfOk result (λ forms. All IsRightForm forms.items) }
 {
-    let form = form_of(0, 0, &decode_words(0, 0));
+    let form = kept_form(0, 0, &decode_words(0, 0));
     match vec![in alloc; form; QUICK_FORMS] {
         Ok(forms) => Ok(forms),
         Err(_) => Err(NoMemory),
@@ -163,7 +163,7 @@ fn replace_answer(answers: &mut Vec<KeptAnswer>, slot: usize, low: u64, high: u6
     ensures right { All IsRight answers.new.items }
     ensures answer { (d : KeptAnswer) → IsAnswerOf low high (slice_index_or answers.new.items slot d).answer }
 {
-    answers[slot] = answer_of(low, high);
+    answers[slot] = kept_answer(low, high);
 }
 
 /// Makes a quick form that of two words and their answer, if it isn't theirs already.
@@ -189,11 +189,11 @@ fn replace_form(forms: &mut Vec<KeptForm>, slot: usize, low: u64, high: u64, ans
     ensures length { length forms.new.items ≡ length forms.old.items }
     ensures right { All IsRightForm forms.new.items }
 {
-    forms[slot] = form_of(low, high, answer);
+    forms[slot] = kept_form(low, high, answer);
 }
 
 /// The answer of two words.
-fn answer_of(low: u64, high: u64) -> KeptAnswer
+fn kept_answer(low: u64, high: u64) -> KeptAnswer
     ensures right { IsRight result }
     ensures low { result.low ≡ low }
     ensures high { result.high ≡ high }
@@ -203,7 +203,7 @@ fn answer_of(low: u64, high: u64) -> KeptAnswer
 }
 
 /// The quick form of two words and their answer.
-fn form_of(low: u64, high: u64, answer: &Decoded) -> KeptForm
+fn kept_form(low: u64, high: u64, answer: &Decoded) -> KeptForm
     requires answer { IsAnswerOf low high answer.now }
     ensures right { IsRightForm result }
 {

@@ -1,7 +1,6 @@
 //! A turn.
 
 ghost use Rattle.std.specs.Prelude.{◌≡◌, ◌⊎◌, ℕ, ◌%◌, ◌≤◌, false, IsSome, IfOk, length};
-ghost use Rattle.nk_bits.specs.Accesses.{wp_of};
 ghost use Rattle.nk_bits.specs.Translations.{faulted};
 ghost use Rattle.nk_bits.specs.Outcomes.{outcome_of};
 ghost use Rattle.x86_regs.specs.Effects.{FitsIn, HasAccessSize, LeavesToDelivery, LoadsFrameIn, memory_after};
@@ -19,13 +18,10 @@ use nk_bits::{BODY, NESTED_STACK_TOP, named_law};
 use page_walk::places_law;
 use phys_mem::{PhysMem, memory_law};
 use x86_decode::Decoded;
-use x86_regs::{Effect, Fault, Regs, Write, bit};
+use x86_regs::{Effect, Fault, Regs, Write};
 
 /// Where the body's first push lies, on the nested stack, which isn't writable.
 const BODY_STACK: u64 = NESTED_STACK_TOP - 8;
-
-/// Bit 16 of CR0: the supervisor's writes need a writable page (SDM volume 3, 2.5).
-const WP: u8 = 16;
 
 impl Cpu {
     /// One turn: an interrupt that is delivered, or an instruction. A fault is delivered, and an interrupt and a return
@@ -71,7 +67,7 @@ impl Cpu {
     pub fn enters_body(&self) -> bool
         ensures { result ≡ enters_body self.now }
     {
-        is_at_body(&self.regs) && !keeps_supervisor(self.control.cr0)
+        is_at_body(&self.regs) && !self.control.write_protect()
     }
 
     /// Makes an instruction, unless RIP is at the body's place.
@@ -228,14 +224,6 @@ pub(crate) fn is_at_body(regs: &Regs) -> bool
     ensures { result ≡ is_at_body regs.now }
 {
     regs.rip == BODY && regs.cpl == 0
-}
-
-/// Whether WP is set.
-#[tactic(auto, unfolding(nk_bits::specs::Accesses::wp_of))]
-fn keeps_supervisor(cr0: u64) -> bool
-    ensures { result ≡ wp_of cr0 }
-{
-    bit(cr0, WP)
 }
 
 /// Makes the one write of an instruction.

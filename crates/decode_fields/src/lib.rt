@@ -18,7 +18,10 @@ pub use front::prefixes;
 
 mod operand;
 
-pub use operand::modrm;
+pub use operand::{
+    modrm, names_register, needs_sib, reg_field, register_by_reg, register_by_rm, rm_field,
+    size_of_displacement,
+};
 
 mod number;
 

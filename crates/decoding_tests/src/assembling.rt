@@ -2,6 +2,7 @@
 
 use asm_text::{TextFault, assemble};
 use std::alloc::Global;
+use test_kit::first_wrong;
 
 /// A text, and its code or the number of its first line without code.
 type Row = (&'static str, Result<&'static [u8], u64>);
@@ -13,16 +14,6 @@ fn is_assembled(alloc: Global, row: &Row) -> bool {
         (Err(TextFault::Line(number)), Err(wanted)) => number == wanted,
         _ => false,
     }
-}
-
-/// The index of the first row that isn't so.
-fn first_wrong(alloc: Global, rows: &[Row]) -> Option<usize> {
-    for (index, row) in rows.iter().enumerate() {
-        if !is_assembled(alloc, row) {
-            return Some(index);
-        }
-    }
-    None
 }
 
 #[rattlefmt::skip]
@@ -40,7 +31,10 @@ static ROWS: [Row; 9] = [
 
 #[test]
 fn texts_of_lines(rt: HostRuntime) {
-    assert_eq!(rt; first_wrong(rt.alloc(), &ROWS), None);
+    assert_eq!(rt;
+        first_wrong(&ROWS, |row| is_assembled(rt.alloc(), row)),
+        None
+    );
 }
 
 /// A row with other code, or another line, is found at its place.
@@ -49,6 +43,12 @@ fn wrong_rows_are_found(rt: HostRuntime) {
     let right: Row = ("mov.8 r0 value 41", Ok(&[0xB0, 0x41]));
     let longer: Row = ("mov.8 r0 value 41", Ok(&[0xC6, 0xC0, 0x41]));
     let later: Row = ("mov.9 r0 r1 0", Err(2));
-    assert_eq!(rt; first_wrong(rt.alloc(), &[right, longer]), Some(1));
-    assert_eq!(rt; first_wrong(rt.alloc(), &[right, right, later]), Some(2));
+    assert_eq!(rt;
+        first_wrong(&[right, longer], |row| is_assembled(rt.alloc(), row)),
+        Some(1)
+    );
+    assert_eq!(rt;
+        first_wrong(&[right, right, later], |row| is_assembled(rt.alloc(), row)),
+        Some(2)
+    );
 }

@@ -3,6 +3,7 @@
 
 use asm_text::encode;
 use decode_fields::{Address, Place, Rep};
+use test_kit::first_wrong;
 use x86_decode::{Instr, Op};
 
 /// An instruction without prefixes that count: operation, width, operands and number; and its bytes.
@@ -57,19 +58,14 @@ fn is_encoded(instr: &Instr, bytes: &[u8]) -> bool {
     }
 }
 
-/// The index of the first row that isn't so.
-fn first_wrong(rows: &[Row]) -> Option<usize> {
-    for (index, row) in rows.iter().enumerate() {
-        if !is_encoded(&instruction(row), row.5) {
-            return Some(index);
-        }
-    }
-    None
+/// Whether a row's bytes are the least that spell its instruction.
+fn is_so(row: &Row) -> bool {
+    is_encoded(&instruction(row), row.5)
 }
 
 #[test]
 fn registers_numbers_and_control_registers(rt: HostRuntime) {
-    assert_eq!(rt; first_wrong(&ROWS), None);
+    assert_eq!(rt; first_wrong(&ROWS, is_so), None);
 }
 
 /// A row with a longer spelling, or one that comes later, is found at its place.
@@ -78,8 +74,8 @@ fn wrong_rows_are_found(rt: HostRuntime) {
     let right: Row = (Op::Mov, 8, RAX, Place::Value, 0x41, &[0xB0, 0x41]);
     let longer: Row = (Op::Mov, 8, RAX, Place::Value, 0x41, &[0xC6, 0xC0, 0x41]);
     let later: Row = (Op::Mov, 32, RAX, Place::Reg(1), 0, &[0x8B, 0xC1]);
-    assert_eq!(rt; first_wrong(&[right, longer, right]), Some(1));
-    assert_eq!(rt; first_wrong(&[right, right, later]), Some(2));
+    assert_eq!(rt; first_wrong(&[right, longer, right], is_so), Some(1));
+    assert_eq!(rt; first_wrong(&[right, right, later], is_so), Some(2));
 }
 
 #[test]

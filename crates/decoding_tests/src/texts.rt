@@ -2,6 +2,7 @@
 
 use asm_text::{print, read, round_trip};
 use decode_fields::{Address, Place, Rep};
+use test_kit::first_wrong;
 use x86_decode::{Instr, Op};
 
 /// An instruction without prefixes.
@@ -27,17 +28,16 @@ fn at(base: Option<u8>, index: Option<u8>, scale: u8, disp: u64, rip: bool) -> P
     })
 }
 
-/// Whether the text is read as this instruction, which is printed as the text.
-fn is_text_of(text: &str, instr: &Instr) -> bool {
+/// A text and an instruction.
+type Row<'t> = (&'t str, Instr);
+
+/// Whether the text is read as the instruction, which is printed as the text.
+fn is_so(row: &Row) -> bool {
+    let (text, instr) = *row;
     match read(text.as_bytes()) {
-        Some(found) => found == *instr && print(&found).as_str() == text,
+        Some(found) => found == instr && print(&found).as_str() == text,
         None => false,
     }
-}
-
-/// The place of the first row whose text isn't the instruction's.
-fn first_wrong(rows: &[(&str, Instr)]) -> Option<usize> {
-    rows.iter().position(|row| !is_text_of(row.0, &row.1))
 }
 
 #[test]
@@ -78,7 +78,7 @@ fn registers_and_numbers(rt: HostRuntime) {
             plain(Op::Add, 255, Place::Reg(255), Place::High(255), u64::MAX),
         ),
     ];
-    assert_eq!(rt; first_wrong(&rows), None);
+    assert_eq!(rt; first_wrong(&rows, is_so), None);
 }
 
 #[test]
@@ -130,7 +130,7 @@ fn places_in_memory(rt: HostRuntime) {
             ),
         ),
     ];
-    assert_eq!(rt; first_wrong(&rows), None);
+    assert_eq!(rt; first_wrong(&rows, is_so), None);
 }
 
 #[test]
@@ -166,7 +166,7 @@ fn prefixes(rt: HostRuntime) {
             },
         ),
     ];
-    assert_eq!(rt; first_wrong(&rows), None);
+    assert_eq!(rt; first_wrong(&rows, is_so), None);
 }
 
 #[test]
@@ -188,7 +188,7 @@ fn a_wrong_row_is_found(rt: HostRuntime) {
             plain(Op::Mov, 8, Place::Reg(0), Place::Value, 0x42),
         ),
     ];
-    assert_eq!(rt; first_wrong(&rows), Some(1));
+    assert_eq!(rt; first_wrong(&rows, is_so), Some(1));
 }
 
 static NAMES_TO_MOVS: [(&str, Op); 47] = [

@@ -38,5 +38,6 @@ pub use file_shape::Shape;
 pub use image_file::Image;
 pub use image_headers::{Headers, Segment};
 pub use laws::{entry_law, form_law, headers_law, image_law, pages_law, parts_law, written_law};
+pub use page_bytes::run;
 pub use page_info::{PageInfo, Part};
 pub use written::{file_header_byte, number_byte, program_header_byte};

@@ -12,7 +12,7 @@ use x86_alu::{Out, scan_bit};
 use x86_decode::{Instr, Op};
 use x86_regs::{
     Act, Change, RAX, RDX, Regs, combination, comparison, difference, extended, flags_changed,
-    going_on, held, low, movement, ones, sign, source_width, sum, written,
+    going_on, held, is_forward, low, movement, ones, sign, source_width, sum, written,
 };
 
 /// A change of registers alone.
@@ -162,15 +162,6 @@ pub(crate) fn scan_bits(instr: &Instr, next: u64, regs: &Regs, from: u64) -> Cha
     }
     let general = written(&regs.general, &instr.to, instr.width, it.value);
     quietly(going_on(regs, general, it.flags, next))
-}
-
-fn is_forward(op: Op) -> bool
-    ensures { result ≡ is_forward op }
-{
-    match op {
-        Op::Bsf => true,
-        _ => false,
-    }
 }
 
 /// CBW, CWDE and CDQE.

@@ -7,26 +7,17 @@ ghost use Rattle.x86_alu.specs.SignedNumbers.{bit, cut};
 ghost use Rattle.x86_alu.specs.Flags.{zero_flag};
 ghost use Rattle.x86_alu.specs.Sums.{difference_flags};
 ghost use Rattle.x86_regs.specs.Registers.{held, written};
-ghost use Rattle.x86_regs.specs.OperandPlans.{is_idle, is_repeated};
+ghost use Rattle.x86_regs.specs.OperandPlans.{is_idle};
 ghost use Rattle.x86_regs.specs.OperandOutcomes.{counted, is_again, is_asked, pointer_moved, string_turn, unless_idle_turn};
 
 use crate::changes::quietly;
-use decode_fields::{Place, Rep};
+use decode_fields::Place;
 use x86_alu::ZF;
 use x86_decode::Instr;
 use x86_regs::{
-    Act, Change, DF, RAX, RCX, RDI, RSI, Regs, bit, difference, going_on, held, low, lowered,
-    with_register, written,
+    Act, Change, DF, RAX, RCX, RDI, RSI, Regs, bit, difference, going_on, held, is_asked,
+    is_repeated, low, lowered, with_register, written,
 };
-
-fn is_repeated(rep: Rep) -> bool
-    ensures { result ≡ is_repeated rep }
-{
-    match rep {
-        Rep::No => false,
-        Rep::WhileEqual | Rep::WhileNot => true,
-    }
-}
 
 /// A repeated instruction whose count is 0 does nothing.
 pub(crate) fn is_idle(instr: &Instr, regs: &Regs) -> bool
@@ -58,16 +49,6 @@ fn counted(instr: &Instr, general: &[u64; 16]) -> [u64; 16]
         with_register(general, RCX, lowered(general[RCX as usize], 1))
     } else {
         *general
-    }
-}
-
-fn is_asked(rep: Rep, zero: bool) -> bool
-    ensures { result ≡ is_asked rep zero }
-{
-    match rep {
-        Rep::No => false,
-        Rep::WhileEqual => zero,
-        Rep::WhileNot => !zero,
     }
 }
 

@@ -1,57 +1,23 @@
 //! Products and quotients of twice the width.
 
 ghost use Rattle.std.specs.Prelude.{◌≡◌, Ok};
-ghost use Rattle.decode_fields.specs.Bounds.{IsPlace};
 ghost use Rattle.decode_fields.specs.Widths.{IsWidth};
 ghost use Rattle.x86_decode.specs.WellFormed.{IsWellFormed};
 ghost use Rattle.x86_alu.specs.SignedNumbers.{cut};
-ghost use Rattle.x86_regs.specs.OperandOutcomes.{divided, halves_written, is_signed, multiplied_wide, upper_half, upper_place};
+ghost use Rattle.x86_regs.specs.OperandOutcomes.{divided, halves_written, is_signed, multiplied_wide};
 
 use crate::changes::quietly;
-use decode_fields::Place;
 use x86_alu::{divide, multiply};
-use x86_decode::{Instr, Op};
-use x86_regs::{Change, Fault, RAX, RDX, Regs, going_on, written};
-
-fn is_signed(op: Op) -> bool
-    ensures { result ≡ is_signed op }
-{
-    match op {
-        Op::Imul | Op::Idiv => true,
-        _ => false,
-    }
-}
-
-/// Where the upper half stands: in AH, or in RDX.
-fn upper_place(width: u8) -> Place
-    ensures upper { result ≡ upper_place width }
-    ensures is_place { IsPlace result }
-{
-    if width == 8 {
-        Place::High(0)
-    } else {
-        Place::Reg(RDX)
-    }
-}
-
-/// A number whose low bits are the upper half.
-fn upper_half(general: &[u64; 16], width: u8) -> u64
-    requires { IsWidth width }
-    ensures { cut width result ≡ upper_half general.now width }
-{
-    if width == 8 {
-        general[RAX as usize] >> 8
-    } else {
-        general[RDX as usize]
-    }
-}
+use x86_decode::Instr;
+use x86_regs::{Change, Fault, RAX, Regs, going_on, is_signed, set_halves, upper_half};
 
 fn halves_written(general: &[u64; 16], width: u8, low: u64, high: u64) -> [u64; 16]
     requires { IsWidth width }
     ensures { result ≡ halves_written general.now width low high }
 {
-    let general = written(general, &Place::Reg(RAX), width, low);
-    written(&general, &upper_place(width), width, high)
+    let mut after = *general;
+    set_halves(&mut after, width, low, high);
+    after
 }
 
 /// MUL, and IMUL of one operand.

@@ -1,27 +1,27 @@
-//! The effect of an instruction: its conditions, its accesses in order, its outcome, and the check of its write.
+//! The effect of an instruction of flow: its conditions, and then IRETQ, or its execution over the accesses of
+//! `mem_access`.
 
 ghost use Rattle.std.specs.Prelude.{◌≡◌, IfOk, length};
 ghost use Rattle.nk_bits.specs.Translations.{IsAccessible, NamesFramesIn};
 ghost use Rattle.nk_bits.specs.Outcomes.{outcome_of};
-ghost use Rattle.page_walk.specs.AccessPlans.{IsChecked, IsAccessPlan};
 ghost use Rattle.page_walk.specs.MemoryAccess.{view_of};
 ghost use Rattle.x86_decode.specs.WellFormed.{IsWellFormed};
 ghost use Rattle.x86_regs.specs.declared.form.Form.TheVariants.{Flow};
 ghost use Rattle.x86_regs.specs.OperationForms.{IsFlow};
 ghost use Rattle.x86_regs.specs.OperandPlans.{instr_form};
-ghost use Rattle.x86_regs.specs.Effects.{FitsIn, HasAccessSize, concluded, effect_by, effect_of, planned_effect};
+ghost use Rattle.x86_regs.specs.Effects.{FitsIn, HasAccessSize, effect_by, effect_of};
 
 use crate::interrupt_returns::return_effect;
 use crate::outcomes::flow_outcome;
 use crate::plans::flow_plan;
 use mem_access::{check_span, gather};
-use nk_bits::Control;
-use page_walk::{AccessPlan, Gathered};
+use nk_bits::{Control, Target};
+use page_walk::{AccessPlan, Gathered, Span, SpanFault};
 use phys_mem::PhysMem;
 use tlb_model::Tlb;
 use x86_decode::Instr;
 use x86_regs::{
-    Change, Effect, Fault, FlowForm, Form, Regs, instr_form, next_of, raised, refusal, write_of,
+    Change, Effect, Execution, Fault, FlowForm, Regs, flow_form, next_of, planned_effect, refusal,
 };
 
 /// What an instruction of flow or of the system does, which has this length in bytes: the registers after it, its one
@@ -47,13 +47,11 @@ pub fn effect(
     ensures places { IfOk result (λ effect. FitsIn (length mem.now) effect.write) }
     ensures sized { IfOk result (λ effect. HasAccessSize effect.write) }
 {
-    match instr_form(instr) {
-        Form::Data(_) => unreachable!(),
-        Form::Flow(form) => effect_of(form, instr, size, regs, control, mem, tlb),
-    }
+    effect_of(flow_form(instr), instr, size, regs, control, mem, tlb)
 }
 
 /// The effect of an instruction whose form is known: the fault of its conditions, or what its form makes.
+#[inline(always)]
 #[tactic(auto, unfolding(x86_regs::specs::Effects::effect_of))]
 pub fn effect_of(
     form: FlowForm,
@@ -99,68 +97,62 @@ fn effect_by(
 {
     match form {
         FlowForm::TrapReturn => return_effect(next_of(regs, size), regs, control, mem, tlb),
-        _ => planned_effect(form, instr, size, regs, control, mem, tlb),
+        _ => planned_effect(
+            &FlowExecution { form },
+            instr,
+            size,
+            regs,
+            control,
+            mem,
+            tlb,
+        ),
     }
 }
 
-fn planned_effect(
+/// The execution of an instruction of this form.
+#[derive(Clone, Copy)]
+struct FlowExecution {
     form: FlowForm,
-    instr: &Instr,
-    size: u8,
-    regs: &Regs,
-    control: &Control,
-    mem: &PhysMem,
-    tlb: &mut Tlb,
-) -> Result<Effect, Fault>
-    requires formed { IsWellFormed instr.now }
-    requires context { IsAccessible (length mem.now) control.now.root tlb.old }
-    ensures outcome { outcome_of result tlb.new
-        ≡ planned_effect (Flow form) instr.now size regs.now control.now mem.now
-        (view_of mem.now control.now regs.now.cpl) tlb.old }
-    ensures frames { NamesFramesIn (length mem.now) tlb.new }
-    ensures places { IfOk result (λ effect. FitsIn (length mem.now) effect.write) }
-    ensures sized { IfOk result (λ effect. HasAccessSize effect.write) }
-{
-    let plan = flow_plan(form, instr, size, regs);
-    let found = match gather(mem, tlb, control, regs.cpl, &plan) {
-        Ok(found) => found,
-        Err(fault) => return Err(raised(fault)),
-    };
-    let next = next_of(regs, size);
-    let change = flow_outcome(form, instr, next, regs, control, mem.frames(), &found);
-    conclude(mem, tlb, control, regs.cpl, &plan, &found, change)
 }
 
-/// The outcome's fault, or its change once its write is checked.
-fn conclude(
-    mem: &PhysMem,
-    tlb: &mut Tlb,
-    control: &Control,
-    cpl: u8,
-    plan: &AccessPlan,
-    found: &Gathered,
-    change: Result<Change, Fault>,
-) -> Result<Effect, Fault>
-    requires plan { IsAccessPlan plan.now }
-    requires both { IsChecked (length mem.now) plan.now.both found.now.both }
-    requires context { IsAccessible (length mem.now) control.now.root tlb.old }
-    ensures outcome { outcome_of result tlb.new
-        ≡ concluded (view_of mem.now control.now cpl) plan.now found.now change tlb.old }
-    ensures frames { NamesFramesIn (length mem.now) tlb.new }
-    ensures places { IfOk result (λ effect. FitsIn (length mem.now) effect.write) }
-    ensures sized { IfOk result (λ effect. HasAccessSize effect.write) }
-{
-    let change = match change {
-        Ok(change) => change,
-        Err(fault) => return Err(fault),
-    };
-    let last = match check_span(mem, tlb, control, cpl, plan.last) {
-        Ok(last) => last,
-        Err(fault) => return Err(raised(fault)),
-    };
-    Ok(Effect {
-        regs: change.regs,
-        write: write_of(plan, found, last, change.value),
-        act: change.act,
-    })
+impl Execution for FlowExecution {
+    ghost use Rattle.x86_regs.specs.declared.form.Form.TheVariants.{Flow};
+
+    ghost form = { λ execution. Flow execution.form };
+
+    fn plan(&self, instr: &Instr, size: u8, regs: &Regs) -> AccessPlan {
+        flow_plan(self.form, instr, size, regs)
+    }
+
+    fn outcome(
+        &self,
+        instr: &Instr,
+        next: u64,
+        regs: &Regs,
+        control: &Control,
+        frames: u32,
+        found: &Gathered,
+    ) -> Result<Change, Fault> {
+        flow_outcome(self.form, instr, next, regs, control, frames, found)
+    }
+
+    fn gather(
+        mem: &PhysMem,
+        tlb: &mut Tlb,
+        control: &Control,
+        cpl: u8,
+        plan: &AccessPlan,
+    ) -> Result<Gathered, SpanFault> {
+        gather(mem, tlb, control, cpl, plan)
+    }
+
+    fn check(
+        mem: &PhysMem,
+        tlb: &mut Tlb,
+        control: &Control,
+        cpl: u8,
+        span: Option<Span>,
+    ) -> Result<Option<Target>, SpanFault> {
+        check_span(mem, tlb, control, cpl, span)
+    }
 }

@@ -1,13 +1,11 @@
 //! Products and quotients of twice the width: a quotient is made where its divisor isn't 0 and it fits.
 
 ghost use Rattle.std.specs.Prelude.{◌≡◌, true, false, length};
-ghost use Rattle.decode_fields.specs.Widths.{IsWidth};
 ghost use Rattle.nk_bits.specs.Translations.{NamesFramesIn};
 ghost use Rattle.x86_alu.specs.SignedNumbers.{cut};
 ghost use Rattle.x86_regs.specs.declared.form.Form.TheVariants.{Data};
 ghost use Rattle.x86_regs.specs.declared.form.DataForm.TheVariants as DataForm;
-ghost use Rattle.x86_regs.specs.Registers.{written};
-ghost use Rattle.x86_regs.specs.OperandOutcomes.{divided, halves_written, is_signed, multiplied_wide, quietly, upper_half, upper_place};
+ghost use Rattle.x86_regs.specs.OperandOutcomes.{divided, is_signed, multiplied_wide, quietly};
 ghost use Rattle.exec_quick.specs.declared.quick.Kind.TheVariants as Kind;
 ghost use Rattle.mem_access.specs.Windows.{IsWindow};
 ghost use Rattle.exec_quick.specs.QuickForms.{IsQuick, effect_made, instruction_of, quiet_outcome, width_by};
@@ -15,56 +13,11 @@ ghost use Rattle.exec_quick.specs.QuickForms.{IsQuick, effect_made, instruction_
 use crate::kept::load;
 use crate::operands::{address, first};
 use crate::quick::Quick;
-use decode_fields::Place;
 use mem_access::Window;
 use nk_bits::Control;
 use phys_mem::PhysMem;
 use tlb_model::Tlb;
-use x86_decode::Op;
-use x86_regs::{RAX, RDX, Regs, next_of, set_place};
-
-#[inline(always)]
-fn is_signed(op: Op) -> bool
-    ensures { result ≡ is_signed op }
-{
-    matches!(op, Op::Imul | Op::Idiv)
-}
-
-/// A number whose low bits are the upper half: what stands in AH, or in RDX.
-#[inline(always)]
-fn upper_half(general: &[u64; 16], width: u8) -> u64
-    requires { IsWidth width }
-    ensures { cut width result ≡ upper_half general.now width }
-{
-    if width == 8 {
-        general[usize::from(RAX)] >> 8
-    } else {
-        general[usize::from(RDX)]
-    }
-}
-
-/// Writes AH, or RDX.
-#[inline(always)]
-fn set_upper(general: &mut [u64; 16], width: u8, value: u64)
-    requires { IsWidth width }
-    ensures { general.new ≡ written general.old (upper_place width) width value }
-{
-    if width == 8 {
-        set_place(general, &Place::High(0), width, value);
-    } else {
-        set_place(general, &Place::Reg(RDX), width, value);
-    }
-}
-
-/// Writes both halves of a number of two operands' bits.
-#[inline(always)]
-fn set_halves(general: &mut [u64; 16], width: u8, low: u64, high: u64)
-    requires { IsWidth width }
-    ensures { general.new ≡ halves_written general.old width low high }
-{
-    set_place(general, &Place::Reg(RAX), width, low);
-    set_upper(general, width, high);
-}
+use x86_regs::{RAX, Regs, is_signed, next_of, set_halves, upper_half};
 
 /// The accumulator times a number, into both halves, with CF and OF; and on to the next instruction.
 #[inline(always)]

@@ -19,15 +19,7 @@ use nk_bits::Control;
 use phys_mem::PhysMem;
 use tlb_model::Tlb;
 use x86_alu::scan_bit;
-use x86_decode::Op;
-use x86_regs::{Regs, low, next_of, set_place};
-
-#[inline(always)]
-fn is_forward(op: Op) -> bool
-    ensures { result ≡ is_forward op }
-{
-    matches!(op, Op::Bsf)
-}
+use x86_regs::{Regs, is_forward, low, next_of, set_place};
 
 /// The place of the first or the last set bit of a number, into the register, and on to the next instruction; where no
 /// bit is set the register keeps its whole value.

@@ -6,34 +6,24 @@ ghost use Rattle.decode_fields.specs.Widths.{IsWidth};
 ghost use Rattle.nk_bits.specs.Translations.{NamesFramesIn};
 ghost use Rattle.x86_regs.specs.declared.form.Form.TheVariants.{Data};
 ghost use Rattle.x86_regs.specs.declared.form.DataForm.TheVariants as DataForm;
-ghost use Rattle.x86_regs.specs.OperandPlans.{is_idle, is_repeated};
-ghost use Rattle.x86_regs.specs.OperandOutcomes.{counted, is_again, is_asked, pointer_moved};
+ghost use Rattle.x86_regs.specs.OperandPlans.{is_idle};
+ghost use Rattle.x86_regs.specs.OperandOutcomes.{counted, is_again, pointer_moved};
 ghost use Rattle.exec_quick.specs.declared.quick.Kind.TheVariants as Kind;
 ghost use Rattle.mem_access.specs.Windows.{IsWindow};
 ghost use Rattle.exec_quick.specs.QuickForms.{IsQuick, effect_made, instruction_of, quiet_outcome};
 
 use crate::kept::{load, store};
 use crate::quick::Quick;
-use decode_fields::{Place, Rep};
+use decode_fields::Place;
 use mem_access::Window;
 use nk_bits::Control;
 use phys_mem::PhysMem;
 use tlb_model::Tlb;
 use x86_alu::ZF;
 use x86_regs::{
-    DF, RAX, RCX, RDI, RSI, Regs, bit, difference, held, low, lowered, next_of, set_place,
-    set_register,
+    DF, RAX, RCX, RDI, RSI, Regs, bit, difference, held, is_asked, is_repeated, low, lowered,
+    next_of, set_place, set_register,
 };
-
-#[inline(always)]
-fn is_repeated(rep: Rep) -> bool
-    ensures { result ≡ is_repeated rep }
-{
-    match rep {
-        Rep::No => false,
-        Rep::WhileEqual | Rep::WhileNot => true,
-    }
-}
 
 /// A repeated instruction whose count is 0 does nothing.
 #[inline(always)]
@@ -83,18 +73,6 @@ fn go_on(quick: &Quick, regs: &mut Regs, next: u64, asked: bool)
     count(quick, regs);
     if !(is_repeated(quick.rep) & (regs.general[usize::from(RCX)] != 0) & asked) {
         regs.rip = next;
-    }
-}
-
-/// Whether ZF is what the prefix of an instruction that compares asks.
-#[inline(always)]
-fn is_asked(rep: Rep, zero: bool) -> bool
-    ensures { result ≡ is_asked rep zero }
-{
-    match rep {
-        Rep::No => false,
-        Rep::WhileEqual => zero,
-        Rep::WhileNot => !zero,
     }
 }
 

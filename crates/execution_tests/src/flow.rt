@@ -11,6 +11,7 @@ ghost use Rattle.std.specs.Prelude.{◌≡◌, ◌⊎◌, ◌<◌, IfOk, length}
 ghost use Rattle.nk_bits.specs.Translations.{NamesFramesIn};
 
 use exec_flow::effect;
+use memory_kit::{PAGES, memory_with};
 use nk_bits::Control;
 use phys_mem::{NoMemory, PhysMem};
 use std::alloc::Global;
@@ -19,11 +20,8 @@ use x86_decode::{Decoded, decode};
 use x86_regs::{Effect, Fault, Form, Regs, instr_form};
 
 const CONTROL: Control = Control {
-    cr0: 0x8001_0011,
     cr2: 0x1234,
-    root: 1,
-    cr4: 0x10_0020,
-    efer: 0xD00,
+    ..memory_kit::CONTROL
 };
 
 /// RAX 5000, RCX 2, RDX 100EA, RBX 40, RSP 800, at address 1000.
@@ -50,12 +48,7 @@ const RSP: u8 = 4;
 fn memory(alloc: Global) -> Result<PhysMem, NoMemory>
     ensures { IfOk result (λ mem. length mem ≡ 40960) }
 {
-    let mut mem = PhysMem::new(alloc, 10)?;
-    mem.store64(0x1000, 0x2007);
-    mem.store64(0x2000, 0x3007);
-    mem.store64(0x3000, 0x4007);
-    mem.store64(0x4000, 0x8007);
-    mem.store64(0x4008, 0x9005);
+    let mut mem = memory_with(alloc, 10, &PAGES)?;
     mem.store64(0x8040, 0x7000);
     mem.store64(0x8800, 0x6000);
     mem.store64(0x8808, 0x1B);

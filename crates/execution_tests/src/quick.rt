@@ -17,7 +17,7 @@ ghost use Rattle.exec_quick.specs.QuickForms.{IsQuick, has_register_first};
 
 use exec_quick::{Kind, Quick, make, quick_of};
 use mem_access::{Window, load};
-use nk_bits::Control;
+use memory_kit::{CONTROL, PAGES, memory_with};
 use phys_mem::{NoMemory, PhysMem};
 use std::alloc::Global;
 use tlb_model::Tlb;
@@ -29,14 +29,6 @@ const RBX: u8 = 3;
 
 /// What address 40 holds at first. Address 48 holds 0.
 const HELD: u64 = 0x8877_6655_4433_2211;
-
-const CONTROL: Control = Control {
-    cr0: 0x8001_0011,
-    cr2: 0,
-    root: 1,
-    cr4: 0x10_0020,
-    efer: 0xD00,
-};
 
 /// RAX 1122334455667788, RCX 3, RBX 40 and RSP 48, at address 1000 and CPL 3.
 const REGS: Regs = Regs {
@@ -68,12 +60,7 @@ const REGS: Regs = Regs {
 fn memory(alloc: Global) -> Result<PhysMem, NoMemory>
     ensures { IfOk result (λ mem. length mem ≡ 40960) }
 {
-    let mut mem = PhysMem::new(alloc, 10)?;
-    mem.store64(0x1000, 0x2007);
-    mem.store64(0x2000, 0x3007);
-    mem.store64(0x3000, 0x4007);
-    mem.store64(0x4000, 0x8007);
-    mem.store64(0x4008, 0x9005);
+    let mut mem = memory_with(alloc, 10, &PAGES)?;
     mem.store64(0x8040, 0x8877_6655_4433_2211);
     mem.store64(0x8100, 0x5A);
     Ok(mem)

@@ -10,6 +10,7 @@ mod shutdowns;
 
 ghost use Rattle.std.specs.Prelude.{◌≡◌, ◌⊎◌, ◌<◌, IfOk, length};
 
+use memory_kit::memory_with;
 use nk_bits::Control;
 use phys_mem::{NoMemory, PhysMem};
 use std::alloc::Global;
@@ -20,18 +21,12 @@ use x86_regs::{Regs, Tables};
 /// WP is set, and the root is frame 1.
 const CONTROL: Control = Control {
     cr0: 0x8001_0001,
-    cr2: 0,
-    root: 1,
-    cr4: 0x10_0020,
-    efer: 0xD00,
+    ..memory_kit::CONTROL
 };
 
 const WITHOUT_WP: Control = Control {
     cr0: 0x8000_0001,
-    cr2: 0,
-    root: 1,
-    cr4: 0x10_0020,
-    efer: 0xD00,
+    ..CONTROL
 };
 
 /// The last gate is that of vector 47.
@@ -106,27 +101,29 @@ type Outcome = (Result<(), Shut>, Regs, [u64; 6]);
 /// The tables stand in frames 1 to 4. Page 0 of the kernel slot is frame 8, which is read alone and
 /// has the gates of 0, 13 and 47 and the task-state segment; page 3 and the last page of all are
 /// frame 9, the trap stack; page 4 is frame 10, which is read alone; pages 1 and 2 are absent.
+static WORDS: [(u64, u64); 16] = [
+    (0x1FF8, 0x2027),
+    (0x2000, 0x3027),
+    (0x3000, 0x4027),
+    (0x4000, 0x8021),
+    (0x4018, 0x9063),
+    (0x4020, 0xA021),
+    (0x2FF8, 0x3027),
+    (0x3FF8, 0x4027),
+    (0x4FF8, 0x9063),
+    (0x8000, 0x0000_8E01_0008_1040),
+    (0x8008, 0xFFFF_FF80),
+    (0x80D0, 0x0000_8E01_0008_10A8),
+    (0x80D8, 0xFFFF_FF80),
+    (0x82F0, 0x0000_EE01_0008_11B8),
+    (0x82F8, 0xFFFF_FF80),
+    (0x8424, 0xFFFF_FF80_0000_4000),
+];
+
 fn memory(alloc: Global) -> Result<PhysMem, NoMemory>
     ensures { IfOk result (λ mem. length mem ≡ 69632) }
 {
-    let mut mem = PhysMem::new(alloc, 17)?;
-    mem.store64(0x1FF8, 0x2027);
-    mem.store64(0x2000, 0x3027);
-    mem.store64(0x3000, 0x4027);
-    mem.store64(0x4000, 0x8021);
-    mem.store64(0x4018, 0x9063);
-    mem.store64(0x4020, 0xA021);
-    mem.store64(0x2FF8, 0x3027);
-    mem.store64(0x3FF8, 0x4027);
-    mem.store64(0x4FF8, 0x9063);
-    mem.store64(0x8000, 0x0000_8E01_0008_1040);
-    mem.store64(0x8008, 0xFFFF_FF80);
-    mem.store64(0x80D0, 0x0000_8E01_0008_10A8);
-    mem.store64(0x80D8, 0xFFFF_FF80);
-    mem.store64(0x82F0, 0x0000_EE01_0008_11B8);
-    mem.store64(0x82F8, 0xFFFF_FF80);
-    mem.store64(0x8424, 0xFFFF_FF80_0000_4000);
-    Ok(mem)
+    memory_with(alloc, 17, &WORDS)
 }
 
 /// What the delivery of a vector leaves of this machine, over memory with these numbers, two at

@@ -4,16 +4,18 @@ ghost use Rattle.std.specs.Prelude.{◌≡◌, ◌<◌, ◌≤◌, false, length
 ghost use Rattle.phys_mem.specs.MaskedMemory.{seen};
 ghost use Rattle.page_desc.specs.DescriptorBytes.{kinds_in};
 ghost use Rattle.nk_body.specs.NestedRecord.{HoldsBooks, books_in};
+ghost use Rattle.cpu_step.specs.FramesTouched.{StaysOutside};
 ghost use Rattle.cpu_step.specs.Turns.{enters_body};
-ghost use Rattle.gate_state.specs.MachineOf.{IsStanding, IsInGates, IsOf, whole_of};
+ghost use Rattle.gate_state.specs.MachineOf.{IsStanding, IsInGates, IsOf, real_of, whole_of};
 ghost use Rattle.gate_state.specs.MachineSteps.{move_of, seen_by};
 ghost use Rattle.gate_state.specs.SafeStates.{IsSafe};
-ghost use Rattle.gate_state.specs.WholeMachine.{is_rest, known_of, next_whole};
+ghost use Rattle.gate_state.specs.WholeMachine.{is_rest, known_of, next_whole, touched_by_move};
 ghost use Rattle.gate_state.specs.WindowLeft.{ComesNearer, left};
 
 use crate::machine::{Machine, step};
 use crate::seen::Seen;
 use crate::whole::{Finished, Whole};
+use cpu_step::Touched;
 use irq_plan::Plan;
 use std::marker::Model;
 
@@ -49,6 +51,25 @@ impl<'i> GateMachine<'i> {
         ensures sorted { IsOf result.0 }
         ensures nearer { ComesNearer (move_of plan.now self.entry.state) self.entry.state.processor
             (whole_of result.0).state.processor }
+    {
+        let (machine, seen, _) = self.step_touching(plan);
+        (machine, seen)
+    }
+
+    /// The same step, with the frames that it may have changed: every byte of memory outside them is as it was.
+    pub(crate) fn step_touching(self, plan: &Plan) -> (Machine<'i>, Seen, Touched)
+        requires turns { self.state.turns < 4294967296 }
+        ensures next { whole_of result.0 ≡ next_whole plan.now (known_of self.entry) }
+        ensures seen { result.1 ≡ seen_by (move_of plan.now self.entry.state) self.entry.state }
+        ensures no_body { enters_body self.entry.state.processor ≡ false }
+        ensures safe { IsSafe self.entry.opening self.entry.state }
+        ensures in_gates { IsStanding IsInGates self.entry.opening self.entry.state }
+        ensures sorted { IsOf result.0 }
+        ensures nearer { ComesNearer (move_of plan.now self.entry.state) self.entry.state.processor
+            (whole_of result.0).state.processor }
+        ensures touched { StaysOutside result.2 self.entry.real (real_of result.0) }
+        ensures told { result.2 ≡ touched_by_move (move_of plan.now self.entry.state) self.entry.state.processor
+            self.entry.real }
     {
         let GateMachine { whole } = self;
         whole.in_gates_law();

@@ -91,9 +91,15 @@ impl<'i> Machine<'i> {
             (whole_of self.entry).state.processor (real_of self.entry) }
     {
         match self {
-            Machine::Outer(OuterMachine { whole }) => step_any(whole, plan),
-            Machine::Gate(GateMachine { whole }) => step_any(whole, plan),
-            Machine::Nested(NestedMachine { whole }) => step_any(whole, plan),
+            Machine::Outer(machine) => step_outer(machine, plan),
+            Machine::Gate(machine) => {
+                let (next, seen, touched) = machine.step_touching(plan);
+                (next, Step::Seen(seen), touched)
+            }
+            Machine::Nested(machine) => {
+                let (next, called) = machine.serve();
+                (Machine::Gate(next), Step::Called(called), Touched::Any)
+            }
         }
     }
 
@@ -187,11 +193,33 @@ fn sorted<'i>(whole: Box<Whole<'i>>) -> Machine<'i>
     }
 }
 
-/// The step of a machine, where one is left, with what it shows.
-fn step_any<'i>(whole: Box<Whole<'i>>, plan: &Plan) -> (Machine<'i>, Step, Touched)
+/// The step of the outer kernel's machine, with what it shows, unless it rests for good.
+fn step_outer<'i>(machine: OuterMachine<'i>, plan: &Plan) -> (Machine<'i>, Step, Touched)
+    requires turns { machine.state.turns < 4294967296 }
+    ensures next { whole_of result.0 ≡ stepped_whole plan.now (known_of machine.entry) }
+    ensures step { result.1 ≡ step_by (move_of plan.now machine.entry.state) machine.entry.state }
+    ensures safe { IsSafe machine.entry.opening machine.entry.state }
+    ensures sorted { IsOf result.0 }
+    ensures touched { StaysOutside result.2 machine.entry.real (real_of result.0) }
+    ensures told { result.2 ≡ touched_by_move (move_of plan.now machine.entry.state) machine.entry.state.processor
+        machine.entry.real }
+{
+    if machine.done(plan) {
+        machine.whole.safe_law();
+        return (Machine::Outer(machine), Step::Rested, Touched::Nothing);
+    }
+    let (next, seen, touched) = machine.step_touching(plan);
+    (next, Step::Seen(seen), touched)
+}
+
+/// The step of a machine that doesn't rest and at which no body is to run, with what it shows, and the frames that it may
+/// have changed.
+pub(crate) fn step<'i>(whole: Box<Whole<'i>>, plan: &Plan) -> (Machine<'i>, Seen, Touched)
+    requires no_body { enters_body whole.value.state.processor ≡ false }
+    requires left { is_rest (move_of plan.now whole.value.state) ≡ false }
     requires turns { whole.value.state.turns < 4294967296 }
-    ensures next { whole_of result.0 ≡ stepped_whole plan.now (known_of whole.entry.value) }
-    ensures step { result.1 ≡ step_by (move_of plan.now whole.entry.value.state) whole.entry.value.state }
+    ensures next { whole_of result.0 ≡ next_whole plan.now (known_of whole.entry.value) }
+    ensures seen { result.1 ≡ seen_by (move_of plan.now whole.entry.value.state) whole.entry.value.state }
     ensures safe { IsSafe whole.entry.value.opening whole.entry.value.state }
     ensures sorted { IsOf result.0 }
     ensures touched { StaysOutside result.2 whole.entry.value.real (real_of result.0) }
@@ -200,22 +228,6 @@ fn step_any<'i>(whole: Box<Whole<'i>>, plan: &Plan) -> (Machine<'i>, Step, Touch
 {
     whole.safe_law();
     let mut whole = whole;
-    let (step, touched) = whole.step_touching(plan);
-    (sorted(whole), step, touched)
-}
-
-/// The step of a machine for which no body is to run, with what it shows.
-pub(crate) fn step<'i>(whole: Box<Whole<'i>>, plan: &Plan) -> (Machine<'i>, Seen)
-    requires no_body { enters_body whole.value.state.processor ≡ false }
-    requires left { is_rest (move_of plan.now whole.value.state) ≡ false }
-    requires turns { whole.value.state.turns < 4294967296 }
-    ensures next { whole_of result.0 ≡ next_whole plan.now (known_of whole.entry.value) }
-    ensures seen { result.1 ≡ seen_by (move_of plan.now whole.entry.value.state) whole.entry.value.state }
-    ensures safe { IsSafe whole.entry.value.opening whole.entry.value.state }
-    ensures sorted { IsOf result.0 }
-{
-    whole.safe_law();
-    let mut whole = whole;
-    let seen = whole.advance(plan);
-    (sorted(whole), seen)
+    let (seen, touched) = whole.advance(plan);
+    (sorted(whole), seen, touched)
 }

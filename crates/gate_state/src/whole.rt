@@ -12,15 +12,15 @@ ghost use Rattle.nk_body.specs.BooksTouched.{LeavesBooks};
 ghost use Rattle.nk_body.specs.NestedRecord.{HoldsBooks, books_in};
 ghost use Rattle.gate_state.specs.EventMoves.{IfTaken, IsBodyBy};
 ghost use Rattle.gate_state.specs.MachineOf.{IsStanding, IsAtBody, IsInGates, IsOuter};
-ghost use Rattle.gate_state.specs.MachineSteps.{after_event, after_turn, answered_with, asked_in, call_in, called_in, move_by, move_of, next, seen_by, served, shown_by_turn, step_by, turn_of, verdict_in, waits};
+ghost use Rattle.gate_state.specs.MachineSteps.{after_event, after_turn, answered_with, asked_in, call_in, called_in, move_by, move_of, next, seen_by, served, shown_by_turn, turn_of, verdict_in, waits};
 ghost use Rattle.gate_state.specs.QuietSteps.{IsHurried};
 ghost use Rattle.gate_state.specs.SafeStates.{IsSafe, TakesTurn};
-ghost use Rattle.gate_state.specs.WholeMachine.{is_rest, known_of, next_whole, served_whole, stepped_whole, touched_by_move};
+ghost use Rattle.gate_state.specs.WholeMachine.{is_rest, known_of, next_whole, served_whole, touched_by_move};
 ghost use Rattle.gate_state.specs.WindowLeft.{ComesNearer, left};
 
 use crate::laws::{steps_law, window_law};
 use crate::moves::Move;
-use crate::seen::{Called, Seen, Step};
+use crate::seen::{Called, Seen};
 use crate::source::{source_place, sourced, take_source};
 use crate::turns_left::left;
 use boot_map::Layout;
@@ -31,7 +31,7 @@ use nk_bits::{Answer, CallWords, EXIT};
 use nk_body::{Kernel, held_law};
 use phys_mem::{PhysMem, mask_law};
 use std::marker::Model;
-use x86_regs::{Regs, bit};
+use x86_regs::Regs;
 
 /// Processor, memory with the books in it, and what the nested kernel keeps beside it, with how many turns and events were taken.
 pub(crate) struct Whole<'i> {
@@ -93,37 +93,21 @@ impl<'i> Whole<'i> {
         move_by(&self.cpu, plan, self.turns, self.taken)
     }
 
-    /// Takes the step from this state, where one is left, and tells the frames that it may have changed: every byte
-    /// of memory outside them is as it was.
-    pub fn step_touching(&mut self, plan: &Plan) -> (Step, Touched)
-        requires turns { self.old.state.turns < 4294967296 }
-        ensures next { known_of self.new ≡ stepped_whole plan.now (known_of self.old) }
-        ensures step { result.0 ≡ step_by (move_of plan.now self.old.state) self.old.state }
-        ensures touched { StaysOutside result.1 self.old.real self.new.real }
-        ensures told { result.1 ≡ touched_by_move (move_of plan.now self.old.state) self.old.state.processor self.old.real }
-    {
-        match self.next_move(plan) {
-            Move::Serve => (Step::Called(self.serve()), Touched::Any),
-            Move::Take(what) => (Step::Seen(self.take(what)), Touched::Nothing),
-            Move::Turn => {
-                let (seen, touched) = self.turn();
-                (Step::Seen(seen), touched)
-            }
-            Move::Rest => (Step::Rested, Touched::Nothing),
-        }
-    }
-
-    /// Takes the step from a state at which no body is to run.
-    pub fn advance(&mut self, plan: &Plan) -> Seen
+    /// Takes the step from a state that doesn't rest and at which no body is to run, and tells the frames that it may have
+    /// changed: every byte of memory outside them is as it was.
+    pub fn advance(&mut self, plan: &Plan) -> (Seen, Touched)
         requires no_body { enters_body self.old.state.processor ≡ false }
         requires left { is_rest (move_of plan.now self.old.state) ≡ false }
         requires turns { self.old.state.turns < 4294967296 }
         ensures next { known_of self.new ≡ next_whole plan.now (known_of self.old) }
-        ensures seen { result ≡ seen_by (move_of plan.now self.old.state) self.old.state }
+        ensures seen { result.0 ≡ seen_by (move_of plan.now self.old.state) self.old.state }
+        ensures touched { StaysOutside result.1 self.old.real self.new.real }
+        ensures told { result.1 ≡ touched_by_move (move_of plan.now self.old.state) self.old.state.processor self.old.real }
     {
-        match self.step_touching(plan).0 {
-            Step::Seen(seen) => seen,
-            Step::Called(_) | Step::Rested => unreachable!(),
+        match self.next_move(plan) {
+            Move::Take(what) => (self.take(what), Touched::Nothing),
+            Move::Turn => self.turn(),
+            Move::Serve | Move::Rest => unreachable!(),
         }
     }
 
@@ -211,11 +195,10 @@ impl<'i> Whole<'i> {
     }
 
     /// Whether WP is set.
-    #[tactic(auto, unfolding(nk_bits::specs::Accesses::wp_of))]
     pub fn keeps_supervisor(&self) -> bool
         ensures { result ≡ wp_of self.now.state.processor.control.cr0 }
     {
-        bit(self.cpu.control().cr0, WP)
+        self.cpu.control().write_protect()
     }
 
     /// Whether the nested kernel's body is to run.
@@ -355,9 +338,6 @@ pub struct Finished {
     pub mem: PhysMem,
     pub kernel: Kernel,
 }
-
-/// Bit 16 of CR0: the supervisor's writes need a writable page (SDM volume 3, 2.5).
-const WP: u8 = 16;
 
 /// The step that the next event of the plan decides, or that none is left.
 fn move_by(cpu: &Cpu, plan: &Plan, turns: u64, taken: usize) -> Move

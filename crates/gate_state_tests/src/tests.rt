@@ -33,17 +33,8 @@ use nk_bits::{BODY, Delivery, GATE};
 use nk_body::Kernel;
 use phys_mem::PhysMem;
 use std::alloc::{AllocError, Global};
+use test_kit::image_file;
 use x86_regs::Regs;
-
-/// A file's one header loads 256 bytes at offset 4,096 to FFFFFFFF80000000, the entry, readable and executable.
-#[rattlefmt::skip]
-const HEADERS: [u8; 120] = [
-    0x7F, 0x45, 0x4C, 0x46, 2, 1, 1, 0, 0, 0, 0, 0, 0, 0, 0, 0, 2, 0, 62, 0, 1, 0, 0, 0,
-    0, 0, 0, 0x80, 0xFF, 0xFF, 0xFF, 0xFF, 64, 0, 0, 0, 0, 0, 0, 0, 0, 0, 0, 0, 0, 0, 0, 0,
-    0, 0, 0, 0, 64, 0, 56, 0, 1, 0, 0, 0, 0, 0, 0, 0, 1, 0, 0, 0, 5, 0, 0, 0,
-    0, 0x10, 0, 0, 0, 0, 0, 0, 0, 0, 0, 0x80, 0xFF, 0xFF, 0xFF, 0xFF, 0, 0, 0, 0x80, 0xFF, 0xFF, 0xFF, 0xFF,
-    0, 1, 0, 0, 0, 0, 0, 0, 0, 1, 0, 0, 0, 0, 0, 0, 0, 0x10, 0, 0, 0, 0, 0, 0,
-];
 
 /// The handler at the opening: the halt loop of the gates' text.
 const HALTS: u64 = 0xFFFF_FF80_0000_11DA;
@@ -51,13 +42,11 @@ const HALTS: u64 = 0xFFFF_FF80_0000_11DA;
 /// More turns than a test takes.
 const MOST: u64 = 1_000_000;
 
-/// The text of a program, and zeros behind it.
+/// The file of a program's text with zeros behind it, 256 bytes.
 fn file(alloc: Global, text: &[u8]) -> Result<Vec<u8>, AllocError> {
-    let mut file = HEADERS.to_vec(alloc)?;
-    file.resize(4096, 0)?;
-    file.extend_from_slice(text)?;
-    file.resize(4352, 0)?;
-    Ok(file)
+    let mut text = text.to_vec(alloc)?;
+    text.resize(256, 0)?;
+    image_file(alloc, &text, 256)
 }
 
 /// What the steps of a run showed.

@@ -1,14 +1,13 @@
 //! One line of a plan file.
 
 ghost use Rattle.std.specs.Prelude.{◌≡◌};
-ghost use Rattle.std.specs.Str.{bytes_eq};
 ghost use Rattle.irq_plan.specs.PlanFile.{due_of, event_word, entry_with, event_of, event_with, level_word, page_address_of, vector_word, what_of};
 ghost use Rattle.irq_plan.specs.declared.event.What.TheVariants.{Forget, Keep};
 ghost use Rattle.text_lines.specs.TextLines.{words};
 
 use crate::event::{Event, What};
 use nk_bits::canonical;
-use text_lines::{decimal, hexadecimal, split_words};
+use text_lines::{decimal, hexadecimal, is_text, split_words};
 
 /// The most turns after which an event may be due.
 const MOST_DUE: u64 = 4_294_967_296;
@@ -22,12 +21,6 @@ const FIRST_LEVEL: u64 = 2;
 const LAST_LEVEL: u64 = 4;
 
 const PAGE_SIZE: u64 = 4096;
-
-fn is_text(word: &[u8], text: &[u8]) -> bool
-    ensures { result ≡ bytes_eq word.now text.now }
-{
-    word == text
-}
 
 /// The number of turns after which the event is due, at least so many.
 fn due(word: &[u8], least: u64) -> Option<u64>

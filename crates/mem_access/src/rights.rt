@@ -13,7 +13,7 @@ pub fn may(access: Access, rights: Rights, control: &Control, cpl: u8) -> bool
     let is_supervisor = cpl == 0;
     match access {
         Access::Read => is_supervisor || rights.user,
-        Access::Write if is_supervisor => rights.can_write || !write_protect(control.cr0),
+        Access::Write if is_supervisor => rights.can_write || !control.write_protect(),
         Access::Write => rights.user && rights.can_write,
         Access::Fetch if is_supervisor => rights.exec && !(smep(control.cr4) && rights.user),
         Access::Fetch => rights.exec && rights.user,
@@ -32,14 +32,6 @@ pub fn fault_code(access: Access, cpl: u8, is_present: bool) -> u64
         Access::Fetch => 16,
     };
     present + 4 * user + access
-}
-
-/// Bit 16 of CR0, WP.
-#[tactic(auto, unfolding(nk_bits::specs::Accesses::wp_of))]
-fn write_protect(cr0: u64) -> bool
-    ensures { result ≡ wp_of cr0 }
-{
-    (cr0 >> 16) & 1 == 1
 }
 
 /// Bit 20 of CR4, SMEP.

@@ -7,48 +7,11 @@ use elf_image::Image;
 use nk_bits::Kind;
 use phys_mem::PhysMem;
 use std::alloc::Global;
-
-const HOME: u64 = 0xFFFF_FFFF_8000_0000;
-
-/// The fields of a file whose one header, readable and executable, loads from offset 4,096 to the home's start.
-static FIELDS: [(usize, u64); 11] = [
-    (0, 0x01_01_02_46_4C_45_7F),
-    (16, 0x3E_0002),
-    (24, HOME),
-    (32, 64),
-    (54, 0x1_0038),
-    (64, 0x5_0000_0001),
-    (72, 4096),
-    (80, HOME),
-    (96, 1),
-    (104, 1),
-    (4096, 0xF4),
-];
-
-/// Puts a number at a place, least significant byte first. False where it has no room.
-fn set(file: &mut [u8], place: usize, value: u64) -> bool {
-    for (k, byte) in value.to_le_bytes().iter().enumerate() {
-        if place >= file.len() || k >= file.len() - place {
-            return false;
-        }
-        file[place + k] = *byte;
-    }
-    true
-}
+use test_kit::{first_wrong, image_file};
 
 /// An image of one byte, F4, whose segment takes this many bytes of memory. Want of memory is None.
 fn halting(alloc: Global, size: u64) -> Option<Image> {
-    let mut file = vec![in alloc; 0u8; 4104].ok()?;
-    for (place, value) in &FIELDS {
-        if !set(&mut file, *place, *value) {
-            return None;
-        }
-    }
-    if set(&mut file, 104, size) {
-        Image::read(file).ok()
-    } else {
-        None
-    }
+    Image::read(image_file(alloc, &[0xF4], size).ok()?).ok()
 }
 
 /// How many bytes of memory a segment takes, the frames of a memory, and the first that is free at the opening there.
@@ -163,7 +126,7 @@ fn are_bytes(memory: &Option<PhysMem>, frame: u32, offset: u64, bytes: &[u8]) ->
 
 /// The index of the first sight that isn't so, in a memory of so many frames, which is made where it is small. Want of
 /// room fails at 0.
-fn first_wrong(alloc: Global, frames: u32, sights: &[Sight]) -> Option<usize> {
+fn wrong_sight(alloc: Global, frames: u32, sights: &[Sight]) -> Option<usize> {
     let Some(image) = halting(alloc, 1) else {
         return Some(0);
     };
@@ -178,12 +141,7 @@ fn first_wrong(alloc: Global, frames: u32, sights: &[Sight]) -> Option<usize> {
     } else {
         None
     };
-    for (index, sight) in sights.iter().enumerate() {
-        if !is_seen(&image, &layout, &memory, sight) {
-            return Some(index);
-        }
-    }
-    None
+    first_wrong(sights, |sight| is_seen(&image, &layout, &memory, sight))
 }
 
 /// The frames of a memory, sights of it, and the index of the first that is to be wrong.
@@ -301,6 +259,6 @@ static CASES: [Case; 11] = [
 #[test]
 fn opens_memory(rt: HostRuntime) {
     for (frames, sights, wrong) in &CASES {
-        assert!(rt; first_wrong(rt.alloc(), *frames, sights) == *wrong);
+        assert!(rt; wrong_sight(rt.alloc(), *frames, sights) == *wrong);
     }
 }

@@ -4,6 +4,7 @@ ghost use Rattle.std.specs.Prelude.{◌≡◌, ◌≤◌, ◌+◌, length, true}
 
 use phys_mem::PhysMem;
 use std::alloc::Global;
+use test_kit::first_wrong;
 
 /// What is done with the memory and the plain vector, and what they are to give.
 #[derive(Clone, Copy)]
@@ -211,16 +212,14 @@ fn is_told(both: &Both, step: &Step) -> bool {
 
 /// The index of the first step that gives something else, or after which memory isn't as the plain vector. Want of memory
 /// fails at 0.
-fn first_wrong(alloc: Global, frames: u32, steps: &[Step]) -> Option<usize> {
+fn wrong_step(alloc: Global, frames: u32, steps: &[Step]) -> Option<usize> {
     let Some(mut both) = begin(alloc, frames) else {
         return Some(0);
     };
-    for (index, step) in steps.iter().enumerate() {
-        if !is_met(&mut both, step) || first_other(&both.memory, &both.plain).is_some() {
-            return Some(index);
-        }
-    }
-    None
+    first_wrong(
+        steps,
+        |step| is_met(&mut both, step) && first_other(&both.memory, &both.plain).is_none(),
+    )
 }
 
 /// How many frames the memory has, steps, and the index of the first that is answered otherwise.
@@ -324,6 +323,6 @@ static CASES: [Case; 9] = [
 #[test]
 fn memory_is_as_the_plain_vector(rt: HostRuntime) {
     for (frames, steps, wrong) in &CASES {
-        assert!(rt; first_wrong(rt.alloc(), *frames, steps) == *wrong);
+        assert!(rt; wrong_step(rt.alloc(), *frames, steps) == *wrong);
     }
 }

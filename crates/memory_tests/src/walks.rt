@@ -6,6 +6,7 @@ use nk_bits::{Leaf, Rights, Upper, canonical};
 use page_walk::{Missing, upper, walk, walk_below};
 use phys_mem::PhysMem;
 use std::alloc::Global;
+use test_kit::first_wrong;
 
 /// What is done with a memory of sixteen frames, and what it is to give.
 #[derive(Clone, Copy)]
@@ -20,6 +21,19 @@ enum Step {
     Names(u64, u8, Option<Upper>),
     /// A level, what its entry names, an address, and what the walk below the entry finds.
     Below(u8, Upper, u64, Result<Leaf, Missing>),
+}
+
+/// A memory of sixteen frames.
+#[derive(Drop)]
+struct Small {
+    memory: PhysMem,
+    ghost sized: { length memory ≡ 65536 },
+}
+
+impl Small {
+    fn is_met(&mut self, step: &Step) -> bool {
+        is_met(&mut self.memory, step)
+    }
 }
 
 /// Whether a step gives what it is to give.
@@ -69,16 +83,12 @@ fn is_below(
 }
 
 /// The index of the first step that gives something else. Want of memory fails at 0.
-fn first_wrong(alloc: Global, steps: &[Step]) -> Option<usize> {
-    let Ok(mut memory) = PhysMem::new(alloc, 16) else {
+fn wrong_step(alloc: Global, steps: &[Step]) -> Option<usize> {
+    let Ok(memory) = PhysMem::new(alloc, 16) else {
         return Some(0);
     };
-    for (index, step) in steps.iter().enumerate() {
-        if !is_met(&mut memory, step) {
-            return Some(index);
-        }
-    }
-    None
+    let mut small = Small { memory };
+    first_wrong(steps, |step| small.is_met(step))
 }
 
 /// The address of the gate's text.
@@ -271,6 +281,6 @@ static CASES: [Case; 11] = [
 #[test]
 fn walks_over_small_memories(rt: HostRuntime) {
     for (steps, wrong) in &CASES {
-        assert!(rt; first_wrong(rt.alloc(), steps) == *wrong);
+        assert!(rt; wrong_step(rt.alloc(), steps) == *wrong);
     }
 }

@@ -3,7 +3,7 @@
 
 use crate::openings::Run;
 use crate::steps::Step::{Bytes, Frames, Is, Links, Loose, Replace, Set};
-use crate::steps::{Step, first_wrong};
+use crate::steps::{Step, wrong_step};
 use nk_bits::Kind;
 
 /// A root, the kernel slot's tables 6 to 10, a table of each level from 3 down, and the books.
@@ -122,6 +122,6 @@ static CASES: [Case; 5] = [
 #[test]
 fn counts_and_kinds_are_kept(rt: HostRuntime) {
     for (wrong, steps) in &CASES {
-        assert!(rt; first_wrong(rt.alloc(), &RUNS, &ENTRIES, steps) == *wrong);
+        assert!(rt; wrong_step(rt.alloc(), &RUNS, &ENTRIES, steps) == *wrong);
     }
 }

@@ -3,8 +3,10 @@
 ghost use Rattle.std.specs.Prelude.{◌≡◌, ◌*◌, ◌≤◌, length};
 ghost use Rattle.write_log.specs.LogBytes.{HoldsLog};
 
+use memory_kit::byte_at;
 use phys_mem::PhysMem;
 use std::alloc::Global;
+use test_kit::first_wrong;
 use write_log::{Log, Noted};
 
 /// What is done or asked, and what it is to give.
@@ -103,19 +105,10 @@ static TWO: [u8; 64] = *b"\
 \x01\0\0\0\0\0\0\0\x34\0\0\0\0\0\0\x80\xff\x0f\0\0\x02\0\0\0\x07\x08\
 \0\0\0\0\0\0\0\0\0";
 
-/// The byte of memory at a place, or 0 past its end.
-fn load(mem: &PhysMem, at: u64) -> u8 {
-    if at < 4096 * u64::from(mem.frames()) {
-        mem.load8(at)
-    } else {
-        0
-    }
-}
-
 /// The first byte of the log that isn't one of `TWO`.
 fn first_other(mem: &PhysMem) -> Option<usize> {
     for (at, value) in TWO.iter().enumerate() {
-        if load(mem, 0x1A000 + (at as u64 & 0xFFFF)) != *value {
+        if byte_at(mem, 0x1A000 + (at as u64 & 0xFFFF)) != *value {
             return Some(at);
         }
     }
@@ -153,7 +146,21 @@ fn is_met(alloc: Global, log: &mut Log, mem: &mut PhysMem, step: &Step) -> bool
         Entry(i, noted) => entry(log, mem, i) == noted,
         Byte(i, at, value) => byte(log, mem, i, at) == value,
         Other(at) => first_other(mem) == at,
-        Holds(at, value) => load(mem, at) == value,
+        Holds(at, value) => byte_at(mem, at) == value,
+    }
+}
+
+/// A memory, and the log in it.
+#[derive(Drop)]
+struct Logged {
+    mem: PhysMem,
+    log: Log,
+    ghost held: { HoldsLog log mem },
+}
+
+impl Logged {
+    fn is_met(&mut self, alloc: Global, step: &Step) -> bool {
+        is_met(alloc, &mut self.log, &mut self.mem, step)
     }
 }
 
@@ -162,7 +169,7 @@ type Case = (u8, Option<usize>, &'static [Step]);
 
 /// The index of the first step that gives something else. Where the log can't start, or memory before it is another, it is
 /// the largest number.
-fn first_wrong(alloc: Global, case: &Case) -> Option<usize> {
+fn wrong_step(alloc: Global, case: &Case) -> Option<usize> {
     let Ok(mut mem) = PhysMem::new(alloc, 80) else {
         return Some(usize::MAX);
     };
@@ -170,13 +177,9 @@ fn first_wrong(alloc: Global, case: &Case) -> Option<usize> {
     if first_other(&mem) != case.1 {
         return Some(usize::MAX);
     }
-    let mut log = Log::start(&mut mem);
-    for (index, step) in case.2.iter().enumerate() {
-        if !is_met(alloc, &mut log, &mut mem, step) {
-            return Some(index);
-        }
-    }
-    None
+    let log = Log::start(&mut mem);
+    let mut logged = Logged { mem, log };
+    first_wrong(case.2, |step| logged.is_met(alloc, step))
 }
 
 #[rattlefmt::skip]
@@ -253,6 +256,6 @@ static CASES: [Case; 5] = [
 #[test]
 fn records_are_kept_in_order_byte_by_byte(rt: HostRuntime) {
     for case in &CASES {
-        assert!(rt; first_wrong(rt.alloc(), case).is_none());
+        assert!(rt; wrong_step(rt.alloc(), case).is_none());
     }
 }

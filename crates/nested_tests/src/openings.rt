@@ -7,6 +7,7 @@ ghost use Rattle.page_desc.specs.FrameCounts.{IsSlotFixed};
 ghost use Rattle.phys_mem.specs.MaskedMemory.{is_book_frame};
 ghost use Rattle.phys_mem.specs.Memory.{byte_at, entry_in};
 
+use memory_kit::memory_with;
 use nk_bits::{Entry, Kind};
 use phys_mem::{NoMemory, PhysMem};
 use std::alloc::Global;
@@ -37,29 +38,7 @@ pub fn kinds(runs: &[Run]) -> [Kind; 80] {
 pub fn memory(alloc: Global, entries: &[(u64, u64)]) -> Result<PhysMem, NoMemory>
     ensures { IfOk result (λ memory. length memory ≡ 4096 * 80) }
 {
-    let mut memory = PhysMem::new(alloc, 80)?;
-    for (at, value) in entries {
-        store(&mut memory, *at, *value);
-    }
-    Ok(memory)
-}
-
-/// Stores eight bytes, where they lie below 10000 and in memory.
-fn store(memory: &mut PhysMem, at: u64, value: u64)
-    ensures { length memory.new ≡ length memory.old }
-{
-    if at < 0xFFFF && at + 8 <= 4096 * u64::from(memory.frames()) {
-        memory.store64(at, value);
-    }
-}
-
-/// The number of eight bytes at a place; the largest past the end of memory.
-pub fn load(memory: &PhysMem, at: u64) -> u64 {
-    if at < 0xFFFF_FFFF && at + 8 <= 4096 * u64::from(memory.frames()) {
-        memory.load64(at)
-    } else {
-        u64::MAX
-    }
+    memory_with(alloc, 80, entries)
 }
 
 /// The entry of the table in a frame of memory.

@@ -3,7 +3,7 @@
 
 use crate::openings::Run;
 use crate::steps::Step::{Clear, Judge, Set};
-use crate::steps::{Step, first_wrong};
+use crate::steps::{Step, wrong_step};
 use nk_bits::Kind;
 
 /// The kinds of the frames, but that those of tables 3 and 4 are fixed, as those of the kernel slot are at the start.
@@ -97,5 +97,5 @@ static STEPS: [Step; 67] = [
 
 #[test]
 fn values_and_the_rules_they_break(rt: HostRuntime) {
-    assert!(rt; first_wrong(rt.alloc(), &RUNS, &[], &STEPS).is_none());
+    assert!(rt; wrong_step(rt.alloc(), &RUNS, &[], &STEPS).is_none());
 }

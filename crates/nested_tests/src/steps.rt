@@ -8,12 +8,14 @@ ghost use Rattle.nk_bits.specs.Kinds.{kind_of};
 ghost use Rattle.page_desc.specs.DescriptorBytes.{HoldsDescriptors};
 ghost use Rattle.page_desc.specs.FrameCounts.{IsSlotFixed};
 
-use crate::openings::{Run, are_books_hidden, are_zero, is_slot_fixed, kinds, load, memory};
+use crate::openings::{Run, are_books_hidden, are_zero, is_slot_fixed, kinds, memory};
+use memory_kit::word_at;
 use nk_bits::{Entry, Kind};
 use page_desc::Frames;
 use phys_mem::PhysMem;
 use std::alloc::Global;
 use table_rules::judge_entry;
+use test_kit::first_wrong;
 
 /// What is done or asked, and what it is to give.
 #[derive(Clone, Copy)]
@@ -52,9 +54,23 @@ fn begin(memory: &mut PhysMem, kinds: &[Kind]) -> Option<Frames>
     }
 }
 
+/// A memory, and its descriptors.
+#[derive(Drop)]
+struct Described {
+    memory: PhysMem,
+    frames: Frames,
+    ghost held: { HoldsDescriptors frames memory },
+}
+
+impl Described {
+    fn is_met(&mut self, step: &Step) -> bool {
+        is_met(&mut self.frames, &mut self.memory, step)
+    }
+}
+
 /// The index of the first step that gives something else, over a memory with these kinds and entries. Where that can't be
 /// made it is the largest number.
-pub fn first_wrong(
+pub fn wrong_step(
     alloc: Global,
     runs: &[Run],
     entries: &[(u64, u64)],
@@ -63,15 +79,11 @@ pub fn first_wrong(
     let Ok(mut memory) = memory(alloc, entries) else {
         return Some(usize::MAX);
     };
-    let Some(mut frames) = begin(&mut memory, &kinds(runs)) else {
+    let Some(frames) = begin(&mut memory, &kinds(runs)) else {
         return Some(usize::MAX);
     };
-    for (index, step) in steps.iter().enumerate() {
-        if !is_met(&mut frames, &mut memory, step) {
-            return Some(index);
-        }
-    }
-    None
+    let mut described = Described { memory, frames };
+    first_wrong(steps, |step| described.is_met(step))
 }
 
 /// Whether a step gives what it is to give.
@@ -99,7 +111,7 @@ fn is_met(frames: &mut Frames, memory: &mut PhysMem, step: &Step) -> bool
 /// The sixteen bytes of a frame's descriptor, as one number.
 fn descriptor(memory: &PhysMem, frame: u32) -> u128 {
     let at = 0x40000 + 16 * u64::from(frame);
-    u128::from(load(memory, at + 8)) << 64 | u128::from(load(memory, at))
+    u128::from(word_at(memory, at + 8)) << 64 | u128::from(word_at(memory, at))
 }
 
 /// Gives a frame a kind, where it is in memory.

@@ -9,11 +9,13 @@ ghost use Rattle.phys_mem.specs.MaskedMemory.{is_book_frame};
 ghost use Rattle.phys_mem.specs.Memory.{byte_at, entry_in};
 ghost use Rattle.page_desc.specs.DescriptorBytes.{HoldsTables};
 
-use crate::openings::{Run, are_books_hidden, are_zero, entry, is_fixed, kinds, load, memory};
+use crate::openings::{Run, are_books_hidden, are_zero, entry, is_fixed, kinds, memory};
+use memory_kit::word_at;
 use nk_bits::Kind;
 use page_desc::{Frames, descriptor_law, stored_law};
 use phys_mem::{PhysMem, mask_law};
 use std::alloc::Global;
+use test_kit::first_wrong;
 use vmmu::Tables4;
 
 /// The root, the kernel slot's tables, the handler and the books.
@@ -144,7 +146,7 @@ fn serve(tables: &mut Tables4, mem: &mut PhysMem, call: Call) -> u64
         Write(frame, index, value) => tables.write_entry(mem, frame, index, value),
         Remove(frame) => tables.remove_table(mem, frame),
         Root(frame) => tables.load_root(mem, frame),
-        Holds(at) => return load(mem, at),
+        Holds(at) => return word_at(mem, at),
         RootFrame => return u64::from(tables.root),
     };
     match answer {
@@ -153,20 +155,31 @@ fn serve(tables: &mut Tables4, mem: &mut PhysMem, call: Call) -> u64
     }
 }
 
+/// A memory, and the tables in it.
+#[derive(Drop)]
+struct Opened {
+    mem: PhysMem,
+    tables: Tables4,
+    ghost held: { HoldsTables tables.frames tables.root mem },
+}
+
+impl Opened {
+    /// Whether a call or a question has this answer.
+    fn is_answered(&mut self, row: &Row) -> bool {
+        serve(&mut self.tables, &mut self.mem, row.0) == row.1
+    }
+}
+
 /// The index of the first row with another answer, over the opening. Where that can't be made it is the largest number.
-fn first_wrong(alloc: Global, rows: &[Row]) -> Option<usize> {
+fn wrong_row(alloc: Global, rows: &[Row]) -> Option<usize> {
     let Ok(mut mem) = memory(alloc, &ENTRIES) else {
         return Some(usize::MAX);
     };
-    let Some(mut tables) = begin(&mut mem, &kinds(&RUNS)) else {
+    let Some(tables) = begin(&mut mem, &kinds(&RUNS)) else {
         return Some(usize::MAX);
     };
-    for (index, (call, number)) in rows.iter().enumerate() {
-        if serve(&mut tables, &mut mem, *call) != *number {
-            return Some(index);
-        }
-    }
-    None
+    let mut opened = Opened { mem, tables };
+    first_wrong(rows, |row| opened.is_answered(row))
 }
 
 /// Rows, and the index of the first with another answer.
@@ -338,6 +351,6 @@ static CASES: [Case; 6] = [
 #[test]
 fn calls_are_answered(rt: HostRuntime) {
     for (wrong, rows) in &CASES {
-        assert!(rt; first_wrong(rt.alloc(), rows) == *wrong);
+        assert!(rt; wrong_row(rt.alloc(), rows) == *wrong);
     }
 }

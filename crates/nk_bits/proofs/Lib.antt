@@ -10,6 +10,7 @@ mod TranslationLaws
 mod UpperLaws
 mod WalkLaws
 mod RefutedTranslations
+mod RefutedWalks
 mod WorkedAccesses
 mod WorkedRights
 mod WorkedUppers

@@ -1,5 +1,8 @@
 //! The control registers.
 
+ghost use Rattle.std.specs.Prelude.{◌≡◌};
+ghost use Rattle.nk_bits.specs.Accesses.{wp_of};
+
 /// The control registers, and EFER: SDM volume 3, 2.5.
 #[derive(Clone, Copy, Debug, PartialEq, Eq)]
 pub struct Control {
@@ -13,4 +16,15 @@ pub struct Control {
     pub cr4: u64,
     /// Bit 11, NXE, is set on this machine, so that XD counts.
     pub efer: u64,
+}
+
+impl Control {
+    /// Whether WP is set.
+    #[tactic(auto, unfolding(crate::specs::Accesses::wp_of))]
+    #[inline]
+    pub fn write_protect(&self) -> bool
+        ensures { result ≡ wp_of self.now.cr0 }
+    {
+        (self.cr0 >> 16) & 1 == 1
+    }
 }

@@ -1,9 +1,8 @@
-//! The words of the processor and of the nested kernel, and the definitions that the crates above cite: canonical addresses
-//! and table indices, page-table entries and their rights, the layout of the nested kernel, the kinds of frames, control
-//! registers, accesses and their faults, the rules of the nested kernel's calls and the words in which a call and its
-//! answer travel; in `specs/` the walk over page tables, the translations that the processor keeps, and the judgement of an
-//! access. It touches nothing but its arguments and takes no memory; reading tables, keeping translations and judging calls
-//! is left to others. Floor: words.
+//! Paging, as words and as definitions that the crates above cite: canonical addresses and table indices, page-table entries
+//! and their rights, control registers, accesses and their faults; in `specs/` the walk over page tables, the translations
+//! that the processor keeps, and the judgement of an access. Beside it the words of the nested kernel: its layout, the kinds
+//! of frames, the rules of its calls and the words in which a call and its answer travel. It touches nothing but its
+//! arguments and takes no memory; reading tables, keeping translations and judging calls is left to others. Floor: words.
 #![tactic(auto)]
 
 // Linear addresses, and the entries that they select.

@@ -32,5 +32,6 @@ pub mod BesideRegions
 pub mod BesidePages
 pub mod CallsBeside
 pub mod OpeningBeside
+mod RefutedCalls
 mod RefutedLedgers
 mod RefutedHeldBooks

@@ -16,21 +16,13 @@ ghost use Rattle.nk_body.specs.SourceWords.{sourced_of};
 
 use boot_map::{Layout, prepare};
 use elf_image::Image;
+use memory_kit::CONTROL;
 use nk_bits::{Answer, CallWords, Control};
 use nk_body::{Kernel, Source};
 use phys_mem::PhysMem;
-use std::alloc::{AllocError, Global};
+use std::alloc::Global;
+use test_kit::halting_file;
 use tlb_model::Tlb;
-
-/// A file's one header loads the byte at offset 4,096 to FFFFFFFF80000000, the entry, readable and executable.
-#[rattlefmt::skip]
-const HEADERS: [u8; 120] = [
-    0x7F, 0x45, 0x4C, 0x46, 2, 1, 1, 0, 0, 0, 0, 0, 0, 0, 0, 0, 2, 0, 62, 0, 1, 0, 0, 0,
-    0, 0, 0, 0x80, 0xFF, 0xFF, 0xFF, 0xFF, 64, 0, 0, 0, 0, 0, 0, 0, 0, 0, 0, 0, 0, 0, 0, 0,
-    0, 0, 0, 0, 64, 0, 56, 0, 1, 0, 0, 0, 0, 0, 0, 0, 1, 0, 0, 0, 5, 0, 0, 0,
-    0, 0x10, 0, 0, 0, 0, 0, 0, 0, 0, 0, 0x80, 0xFF, 0xFF, 0xFF, 0xFF, 0, 0, 0, 0x80, 0xFF, 0xFF, 0xFF, 0xFF,
-    1, 0, 0, 0, 0, 0, 0, 0, 1, 0, 0, 0, 0, 0, 0, 0, 0, 0x10, 0, 0, 0, 0, 0, 0,
-];
 
 /// The handler at the opening: the halt loop of the gates' text.
 const HALTS: u64 = 0xFFFF_FF80_0000_11DA;
@@ -54,20 +46,6 @@ struct Opened {
     mem: PhysMem,
 }
 
-fn file(alloc: Global) -> Result<Vec<u8>, AllocError> {
-    let mut file = HEADERS.to_vec(alloc)?;
-    file.resize(4096, 0)?;
-    file.push(0xF4)?;
-    Ok(file)
-}
-
-fn image(alloc: Global) -> Option<Image> {
-    match file(alloc) {
-        Ok(file) => Image::read(file).ok(),
-        Err(_) => None,
-    }
-}
-
 /// Memory and books of the opening in so many frames; None for another number than a machine has, and for want of memory.
 fn open(alloc: Global, frames: u32) -> Option<Opened>
     ensures { IfSome result (λ it. HoldsBooks it.kernel it.mem) }
@@ -75,7 +53,10 @@ fn open(alloc: Global, frames: u32) -> Option<Opened>
     if frames < 512 || frames > 65_536 {
         return None;
     }
-    let Some(image) = image(alloc) else {
+    let Ok(file) = halting_file(alloc) else {
+        return None;
+    };
+    let Ok(image) = Image::read(file) else {
         return None;
     };
     let Ok(layout) = Layout::of(&image, frames) else {
@@ -132,10 +113,8 @@ fn control_of(root: u32) -> Control
 {
     Control {
         cr0: 0x8001_0001,
-        cr2: 0,
         root,
-        cr4: 0x10_0020,
-        efer: 0xD00,
+        ..CONTROL
     }
 }
 
@@ -228,15 +207,6 @@ fn play(alloc: Global, kernel: &mut Kernel, mem: &mut PhysMem, rows: &[(Row, u64
         }
     }
     rows.len()
-}
-
-/// The number at a place of memory.
-fn load(mem: &PhysMem, at: u64) -> u64 {
-    if at < 0x1000_0000 && at + 8 <= 4096 * u64::from(mem.frames()) {
-        mem.load64(at)
-    } else {
-        u64::MAX
-    }
 }
 
 /// Regions of a byte each, 256 of them, and some more that are refused; None where fewer are made.

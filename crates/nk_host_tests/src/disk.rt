@@ -8,6 +8,7 @@ use nk_host::{FetchFault, FileShelf, PieceFault, Shelf};
 use std::alloc::Global;
 use std::fs;
 use std::rt::Files;
+use test_kit::first_wrong_case;
 
 /// What is done with the machine's files, or asked of a shelf of them.
 #[derive(Clone, Copy)]
@@ -74,13 +75,8 @@ fn wrong_step<R: Files>(rt: &R, alloc: Global, steps: &[Step]) -> Option<usize> 
 }
 
 /// The index of the first case that has a wrong step, and of that step in it.
-fn first_wrong<R: Files>(rt: &R, alloc: Global, cases: &[&[Step]]) -> Option<(usize, usize)> {
-    for (index, steps) in cases.iter().enumerate() {
-        if let Some(step) = wrong_step(rt, alloc, steps) {
-            return Some((index, step));
-        }
-    }
-    None
+fn wrong_case<R: Files>(rt: &R, alloc: Global, cases: &[&[Step]]) -> Option<(usize, usize)> {
+    first_wrong_case(cases, |steps| wrong_step(rt, alloc, steps))
 }
 
 static FETCHED: [&[Step]; 2] = [
@@ -103,7 +99,7 @@ static FETCHED: [&[Step]; 2] = [
 
 #[test]
 fn the_machine_s_files_are_fetched(rt: HostRuntime) {
-    assert_eq!(rt; first_wrong(&rt, rt.alloc(), &FETCHED), None);
+    assert_eq!(rt; wrong_case(&rt, rt.alloc(), &FETCHED), None);
 }
 
 static IN_PIECES: [&[Step]; 4] = [
@@ -165,7 +161,7 @@ static IN_PIECES: [&[Step]; 4] = [
 
 #[test]
 fn files_on_disk_are_read_in_pieces(rt: HostRuntime) {
-    assert_eq!(rt; first_wrong(&rt, rt.alloc(), &IN_PIECES), None);
+    assert_eq!(rt; wrong_case(&rt, rt.alloc(), &IN_PIECES), None);
 }
 
 /// The second case's steps 1 and 2 are wrong.
@@ -181,5 +177,5 @@ static WRONG: [&[Step]; 2] = [
 
 #[test]
 fn a_wrong_step_is_found(rt: HostRuntime) {
-    assert_eq!(rt; first_wrong(&rt, rt.alloc(), &WRONG), Some((1, 1)));
+    assert_eq!(rt; wrong_case(&rt, rt.alloc(), &WRONG), Some((1, 1)));
 }

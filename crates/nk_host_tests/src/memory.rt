@@ -6,6 +6,7 @@ use Out::{All, Line};
 use nk_host::FetchFault::{Failed, Longer};
 use nk_host::{FetchFault, MemShelf, MemSink, PIECE, Pieces, Shelf, Sink, SinkFault, put_all};
 use std::alloc::Global;
+use test_kit::first_wrong;
 
 /// A file's name, the most bytes that it may have, and the file.
 type Fetch = (&'static str, u64, Result<Content, FetchFault>);
@@ -29,12 +30,7 @@ pub(crate) fn four_files(alloc: Global, failing: &[u64]) -> Option<MemShelf> {
 // Over any shelf, which hides the exact contract of one: the tests run the code, and their proofs
 // stay short.
 fn wrong_of<S: Shelf>(shelf: &mut S, alloc: Global, rows: &[Fetch]) -> Option<usize> {
-    for (index, row) in rows.iter().enumerate() {
-        if !is_file(shelf.fetch(alloc, row.0, row.1), row.2) {
-            return Some(index);
-        }
-    }
-    None
+    first_wrong(rows, |row| is_file(shelf.fetch(alloc, row.0, row.1), row.2))
 }
 
 /// The index of the first fetch that is answered otherwise, where those of some numbers fail. Want
@@ -119,12 +115,10 @@ fn wrong_put(alloc: Global, rows: &[Put]) -> Option<usize> {
     let Some(mut out) = sink(alloc, 10, &[2, 4], 3) else {
         return Some(0);
     };
-    for (index, row) in rows.iter().enumerate() {
-        if put(&mut out, row.0) != row.1 || !is_taken(&out, row.2) {
-            return Some(index);
-        }
-    }
-    None
+    first_wrong(
+        rows,
+        |row| put(&mut out, row.0) == row.1 && is_taken(&out, row.2),
+    )
 }
 
 #[test]
@@ -202,19 +196,9 @@ fn is_met(alloc: Global, row: &Going) -> bool {
         && out.taken().ends_with(row.5)
 }
 
-/// The index of the first row that goes out otherwise.
-fn first_wrong(alloc: Global, rows: &[Going]) -> Option<usize> {
-    for (index, row) in rows.iter().enumerate() {
-        if !is_met(alloc, row) {
-            return Some(index);
-        }
-    }
-    None
-}
-
 #[test]
 fn texts_go_out_in_pieces(rt: HostRuntime) {
-    assert_eq!(rt; first_wrong(rt.alloc(), &TEXTS), None);
+    assert_eq!(rt; first_wrong(&TEXTS, |row| is_met(rt.alloc(), row)), None);
 }
 
 /// The second put is answered otherwise, and the third leaves other bytes.
@@ -234,5 +218,8 @@ static WRONG_TEXTS: [Going; 3] = [
 #[test]
 fn a_wrong_row_of_output_is_found(rt: HostRuntime) {
     assert_eq!(rt; wrong_put(rt.alloc(), &WRONG_PUTS), Some(1));
-    assert_eq!(rt; first_wrong(rt.alloc(), &WRONG_TEXTS), Some(1));
+    assert_eq!(rt;
+        first_wrong(&WRONG_TEXTS, |row| is_met(rt.alloc(), row)),
+        Some(1)
+    );
 }

@@ -8,6 +8,7 @@ use Step::{Get, Read, Size};
 use nk_host::FetchFault::{Failed, Longer};
 use nk_host::{FetchFault, MemShelf, PieceFault, Shelf};
 use std::alloc::Global;
+use test_kit::first_wrong;
 
 /// What is asked of the shelf, and what it is to answer.
 #[derive(Clone, Copy)]
@@ -65,16 +66,11 @@ fn is_met(shelf: &mut MemShelf, alloc: Global, step: &Step) -> bool {
 
 /// The index of the first step that is answered otherwise, where the reads of some numbers fail.
 /// Want of memory fails at 0.
-fn first_wrong(alloc: Global, failing: &[u64], steps: &[Step]) -> Option<usize> {
+fn wrong_step(alloc: Global, failing: &[u64], steps: &[Step]) -> Option<usize> {
     let Some(mut shelf) = four_files(alloc, failing) else {
         return Some(0);
     };
-    for (index, step) in steps.iter().enumerate() {
-        if !is_met(&mut shelf, alloc, step) {
-            return Some(index);
-        }
-    }
-    None
+    first_wrong(steps, |step| is_met(&mut shelf, alloc, step))
 }
 
 /// The reads that fail, steps, and the index of the first that is answered otherwise.
@@ -127,6 +123,6 @@ static CASES: [Case; 3] = [
 #[test]
 fn reads_are_answered(rt: HostRuntime) {
     for (failing, steps, wrong) in &CASES {
-        assert!(rt; first_wrong(rt.alloc(), failing, steps) == *wrong);
+        assert!(rt; wrong_step(rt.alloc(), failing, steps) == *wrong);
     }
 }

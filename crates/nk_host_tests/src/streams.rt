@@ -6,6 +6,7 @@ use nk_host::{
 };
 use std::alloc::Global;
 use std::io::{Cursor, Error, ErrorKind, Read, Result as IoResult, Seek, SeekFrom, Write};
+use test_kit::first_wrong;
 
 /// A reader and a writer of so many single bytes, which then fails.
 #[derive(Drop)]
@@ -100,14 +101,9 @@ fn is_met(alloc: Global, stream: &mut Counted<Halting>, step: &Step) -> bool {
 }
 
 /// The index of the first step that is answered otherwise, of a stream that had five faults before.
-fn first_wrong(alloc: Global, left: u64, kind: ErrorKind, steps: &[Step]) -> Option<usize> {
+fn wrong_step(alloc: Global, left: u64, kind: ErrorKind, steps: &[Step]) -> Option<usize> {
     let mut stream = Counted::after(Halting { left, kind }, 5);
-    for (index, step) in steps.iter().enumerate() {
-        if !is_met(alloc, &mut stream, step) {
-            return Some(index);
-        }
-    }
-    None
+    first_wrong(steps, |step| is_met(alloc, &mut stream, step))
 }
 
 /// How many bytes the stream takes or gives before it fails, and how; steps, and the index of the
@@ -174,7 +170,7 @@ static CASES: [Case; 6] = [
 #[test]
 fn what_halts_is_a_fault(rt: HostRuntime) {
     for (left, kind, steps, wrong) in &CASES {
-        assert!(rt; first_wrong(rt.alloc(), *left, *kind, steps) == *wrong);
+        assert!(rt; wrong_step(rt.alloc(), *left, *kind, steps) == *wrong);
     }
 }
 

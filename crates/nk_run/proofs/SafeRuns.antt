@@ -24,7 +24,7 @@ use Rattle.nk_run.specs.declared.command_line.Command.{Command}
 use Rattle.nk_run.specs.declared.command_line.Command.TheVariants.{Scan, Map, Run, Replay, Make, Work, Join, Audit, Assemble, Listing}
 use Rattle.nk_run.specs.CommandLine.{both, command_of, name_in}
 use Rattle.nk_run.specs.NumberWords.{address_word, bounded, decimal_within, is_numeral}
-use Rattle.replay_core.specs.JournalLines.{is_least}
+use Rattle.text_lines.specs.Numerals.{is_least}
 use Rattle.nk_run.specs.JournalLaw.{IsReplayedRun}
 use Rattle.nk_run.specs.Lines.{longest_file}
 use Rattle.nk_run.specs.Outcome.{Answer, checks_of, clean, ends, events_in, fetch_verdict, file_in, first_verdict, formed, opening_in, passes, planned, roomy}

@@ -12,9 +12,9 @@ use Rattle.std.proofs.Math.Nat.{pow-suc}
 use Rattle.std.proofs.lemmas.List.{get_or_append_left, length-append, length-replicate}
 use Rattle.std.proofs.lemmas.List.Elements.{All-append, All-cons, All-nil, All-replicate}
 use Rattle.std.proofs.lemmas.Str.Parse.{digit_from_value}
-use Rattle.text_lines.specs.Numerals.{in_64_bits, numeral}
+use Rattle.text_lines.specs.Numerals.{in_64_bits, is_least, numeral}
 use Rattle.report_text.specs.RunLines.{hex_16}
-use Rattle.replay_core.specs.JournalLines.{hex_of_16, is_least, least_decimal, least_hex}
+use Rattle.replay_core.specs.JournalLines.{hex_of_16, least_decimal, least_hex}
 use Rattle.nk_run.proofs.Glyphs.{AreGlyphs, IsGlyph, glyph_is, glyphs_lower}
 
 -- a word of digits is the number that they write

@@ -4,7 +4,7 @@ use Rattle.std.specs.Char.{is_digit}
 use Rattle.std.specs.List.{list_all}
 use Rattle.std.specs.Str.Parse.{digits_value}
 use Rattle.nk_bits.specs.Paging.{is_canonical}
-use Rattle.replay_core.specs.JournalLines.{is_least}
+use Rattle.text_lines.specs.Numerals.{is_least}
 
 -- one digit in the radix or more, and nothing else
 abbrev pub is_numeral : ℕ → List ℕ → Bool

@@ -1,6 +1,6 @@
 -- The outcome of words and files: status and text without a fault of the outside and without want of memory. It is a
 -- list of checks in order; the first that doesn't pass decides, and where all pass the command's text is written.
-use Rattle.std.specs.Prelude.{◌≡◌, ◌⊎◌, ℕ, ◌+◌, ◌/◌, ◌==◌, ◌&&◌, Bool, true, false, List, [], ◌∷◌, ◌++◌, length, map, take, slice_get, Option, None, Some, Result, Ok, Err, if◌then◌else◌, nat_lt, nat_le, unwrap_or}
+use Rattle.std.specs.Prelude.{◌≡◌, ◌⊎◌, ℕ, ◌+◌, ◌/◌, ◌==◌, Bool, true, false, List, [], ◌∷◌, ◌++◌, length, map, take, slice_get, Option, None, Some, Result, Ok, Err, if◌then◌else◌, nat_lt, nat_le, unwrap_or}
 use Rattle.std.specs.Option.{option_map}
 use Rattle.elf_image.specs.declared.fault.ImageFault.{ImageFault}
 use Rattle.elf_image.specs.ImageFaults.{fault_number, name_of}

@@ -18,7 +18,7 @@ use crate::ending::Ending;
 use crate::progress::{Progress, go_on};
 use gate_state::{Machine, Seen, Step, moves_law};
 use irq_plan::Plan;
-use nk_bits::{Answer, Kind};
+use nk_bits::Answer;
 use nk_body::Kernel;
 use nk_host::{Sink, SinkFault};
 use page_desc::{Frames, stored_law};
@@ -171,14 +171,7 @@ fn count_tables(frames: &Frames, mem: &PhysMem) -> u64
     stored_law();
     let mut count = 0;
     for frame in 0..frames.frames() {
-        count += u64::from(is_table(frames.kind(mem, frame)));
+        count += u64::from(frames.kind(mem, frame).is_table());
     }
     count
-}
-
-/// Whether a frame of this kind is a page table.
-fn is_table(kind: Kind) -> bool
-    ensures { result ≡ is_table kind }
-{
-    matches!(kind, Kind::Table(1..))
 }

@@ -1,7 +1,7 @@
-//! The top call: reads the words, fetches what they name from a shelf of files or makes it, judges the
-//! image, shows what was asked of it, runs it, or makes a run's calls again, and writes one text to a sink.
-//! Its promises are `specs/Clauses`, over the outcome of `specs/Outcome`. It touches the outside through
-//! the shelf and the sink alone, which `nk_program` makes those of the machine. Floor: program.
+//! The top call, behind every command of the program `nkrun` and not behind `run` alone: it reads the words, fetches what
+//! they name from a shelf of files or makes it, judges the image, shows what was asked of it, runs it, or makes a run's
+//! calls again, and writes one text to a sink. Its promises are `specs/Clauses`, over the outcome of `specs/Outcome`. It
+//! touches the outside through the shelf and the sink alone, which `nk_program` makes those of the machine. Floor: program.
 #![tactic(auto)]
 
 // The words.

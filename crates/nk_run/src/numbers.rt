@@ -2,20 +2,10 @@
 ghost use Rattle.std.specs.Prelude.{◌≡◌, ◌≤◌, ◌^◌, ◌-◌, true, IsTrue, IfSome};
 ghost use Rattle.nk_bits.specs.Paging.{is_canonical};
 ghost use Rattle.nk_run.specs.NumberWords.{address_word, bounded, decimal_within, is_numeral};
-ghost use Rattle.replay_core.specs.JournalLines.{is_least};
 ghost use Rattle.std.specs.Str.Parse.{digits_value};
-ghost use Rattle.std.specs.Char.{is_digit};
-ghost use Rattle.std.specs.List.{list_all};
 
 use nk_bits::canonical;
-
-fn all_digits(word: &[u8], radix: u32) -> bool
-    requires low { 2 ≤ radix }
-    requires high { radix ≤ 36 }
-    ensures { result ≡ list_all (λ c. is_digit c radix) word.now }
-{
-    word.iter().all(|c| (*c as char).is_digit(radix))
-}
+use text_lines::{all_digits, is_least};
 
 /// Whether the word is one digit or more, and nothing else.
 fn is_numeral(word: &[u8], radix: u32) -> bool
@@ -24,13 +14,6 @@ fn is_numeral(word: &[u8], radix: u32) -> bool
     ensures { result ≡ is_numeral radix word.now }
 {
     !word.is_empty() && all_digits(word, radix)
-}
-
-/// Whether no zero leads other digits.
-fn is_least(word: &[u8]) -> bool
-    ensures { result ≡ is_least word.now }
-{
-    word.len() == 1 || word.first() != Some(&b'0')
 }
 
 /// The number that a numeral writes, where it has at most 64 bits.

@@ -28,12 +28,10 @@ use nk_host::{MemShelf, MemSink};
 use nk_run::nk_main;
 use std::alloc::{AllocError, Global};
 use std::test::Fail;
+use test_kit::{HOME, SegmentHeader, image_file, push_head, push_segment};
 
 /// The name of the file that holds the image.
 const NAME: &str = "kernel.elf";
-
-/// Where images under test are linked.
-const HOME: u64 = 0xffff_ffff_8000_0000;
 
 /// The flags of a segment: what may be done with it.
 const READ: u32 = 4;
@@ -77,27 +75,17 @@ const CODE: Segment = Segment {
     bytes: &[0x90, 0xf4],
 };
 
-/// Adds the numbers, eight bytes each.
-fn push_numbers(file: &mut Vec<u8>, numbers: &[u64]) -> Result<(), AllocError> {
-    for number in numbers {
-        file.extend_from_slice(&u64::to_le_bytes(*number))?;
-    }
-    Ok(())
-}
-
 /// Adds a segment's program header.
 fn push_header(file: &mut Vec<u8>, segment: &Segment) -> Result<(), AllocError> {
-    push_numbers(
+    push_segment(
         file,
-        &[
-            1 | u64::from(segment.flags) << 32,
-            segment.offset,
-            segment.address,
-            segment.address,
-            segment.nops.saturating_add(segment.bytes.len()) as u64,
-            segment.memory,
-            4096,
-        ],
+        &SegmentHeader {
+            flags: segment.flags,
+            offset: segment.offset,
+            address: segment.address,
+            file_size: segment.nops.saturating_add(segment.bytes.len()) as u64,
+            memory_size: segment.memory,
+        },
     )
 }
 
@@ -112,9 +100,7 @@ fn push_bytes(file: &mut Vec<u8>, segment: &Segment) -> Result<(), AllocError> {
 /// FFFFFFFF80000000.
 fn image_of(alloc: Global, segments: &[Segment]) -> Result<Vec<u8>, AllocError> {
     let mut file = Vec::new(alloc);
-    file.extend_from_slice(b"\x7fELF\x02\x01\x01\0\0\0\0\0\0\0\0\0\x02\0\x3e\0\x01\0\0\0")?;
-    let sizes = 64 << 32 | 56 << 48;
-    push_numbers(&mut file, &[HOME, 64, 0, sizes, segments.len() as u64])?;
+    push_head(&mut file, segments.len() as u16)?;
     for segment in segments {
         push_header(&mut file, segment)?;
     }
@@ -127,12 +113,7 @@ fn image_of(alloc: Global, segments: &[Segment]) -> Result<Vec<u8>, AllocError> 
 /// An ELF file with one program header, which loads the text from file offset 4,096 to FFFFFFFF80000000, the entry
 /// there.
 fn image(alloc: Global, text: &[u8]) -> Result<Vec<u8>, AllocError> {
-    let segment = Segment {
-        memory: text.len() as u64,
-        bytes: text,
-        ..CODE
-    };
-    image_of(alloc, &[segment])
+    image_file(alloc, text, text.len() as u64)
 }
 
 fn owned(alloc: Global, words: &[&str]) -> Result<Vec<String>, AllocError> {

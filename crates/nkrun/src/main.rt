@@ -1,4 +1,5 @@
-//! `nkrun`: the top call over the machine, which ends with its status. Floor: program.
+//! `main` of the program `nkrun`, and nothing else: the top call over the machine (nk_run), which ends with its status.
+//! Floor: program.
 #![tactic(auto)]
 
 use nk_run::nk_program;

@@ -21,6 +21,7 @@ pub mod RecordWalk
 mod RefutedDescriptors
 mod RefutedCounts
 mod RefutedEntries
+mod RefutedLaws
 mod RefutedTables
 pub mod ReplacedCounts
 pub mod SeenTables

@@ -18,16 +18,6 @@ use phys_mem::PhysMem;
 /// The number of entries of a table.
 const ENTRIES: u32 = 512;
 
-/// The level of a table; 0 for every other kind.
-fn level_of(kind: Kind) -> u8
-    ensures { result ≡ level_of kind }
-{
-    match kind {
-        Kind::Table(level) => level,
-        _ => 0,
-    }
-}
-
 /// An entry of the table in a frame of memory.
 #[tactic(auto, unfolding(phys_mem::specs::Memory::entry_in))]
 pub fn entry(mem: &PhysMem, frame: u32, index: u32) -> Entry
@@ -82,7 +72,7 @@ fn add_links(mem: &mut PhysMem, count: u32, frame: u32)
 fn holds_leaves(kind: Kind, frame: u32, mark: u32) -> bool
     ensures { result ≡ (level_of kind == 1 || (frame == 8 || nat_lt 0 mark)) }
 {
-    (level_of(kind) == 1) | ((frame == AREA_TABLE) | (mark > 0))
+    (kind.level() == 1) | ((frame == AREA_TABLE) | (mark > 0))
 }
 
 /// Counts each loose leaf in a frame, where it holds leaves.
@@ -112,7 +102,7 @@ fn count_links_in(mem: &mut PhysMem, count: u32, kinds: &[Kind], frame: u32)
         + sum_below 512 (λ i. count_if (holds_links kinds.now frame && is_link_to other (entry_in mem.old frame i))) }
     ensures differs { DiffersInField count 8 mem.old mem.new }
 {
-    if is_link_level(level_of(kind_at(kinds, frame))) {
+    if is_link_level(kind_at(kinds, frame).level()) {
         add_links(mem, count, frame);
     }
 }

@@ -1,11 +1,11 @@
 //! The descriptors of the frames, as memory holds them, carried from one change of the tables to the next.
 
-ghost use Rattle.std.specs.Prelude.{◌≡◌, ◌<◌, ◌≤◌, ℕ, ◌*◌, ◌/◌, true, length, slice_index, slice_set};
+ghost use Rattle.std.specs.Prelude.{◌≡◌, ◌<◌, ◌≤◌, ℕ, ◌*◌, ◌/◌, true, nat_lt, length, slice_index, slice_set};
 ghost use Rattle.phys_mem.specs.MaskedMemory.{is_book_frame};
 ghost use Rattle.phys_mem.specs.Memory.{byte_at, entry_in};
 ghost use Rattle.nk_bits.specs.declared.kind.Kind.TheVariants.{Hidden};
 ghost use Rattle.nk_bits.specs.Kinds.{kind_of};
-ghost use Rattle.page_desc.specs.DescriptorBytes.{DiffersInDescriptors, HoldsDescriptors, descriptors_in};
+ghost use Rattle.page_desc.specs.DescriptorBytes.{DiffersInDescriptors, HoldsDescriptors, descriptors_in, kinds_in};
 ghost use Rattle.page_desc.specs.FrameCounts.{IsSlotFixed};
 ghost use Rattle.page_desc.specs.FrameDescriptors.{AreCounted, IsReplaceable, IsReplaced};
 
@@ -60,6 +60,26 @@ impl Frames {
         ensures bounds { (65 ≤ result) × (result ≤ 65536) }
     {
         self.count
+    }
+
+    /// Whether a number names a frame of memory.
+    pub fn is_inside(&self, mem: &PhysMem, frame: u64) -> bool
+        requires held { HoldsDescriptors self.now mem.now }
+        ensures inside { result ≡ nat_lt frame (length (kinds_in mem.now)) }
+        ensures bounds { result ≡ true → (frame < self.now) × (frame < 65536) }
+    {
+        frame < u64::from(self.frames())
+    }
+
+    /// The kind of the frame that a number names; Hidden past the end of memory.
+    pub fn kind_named(&self, mem: &PhysMem, frame: u64) -> Kind
+        requires held { HoldsDescriptors self.now mem.now }
+        ensures { result ≡ kind_of (kinds_in mem.now) frame }
+    {
+        if !self.is_inside(mem, frame) {
+            return Kind::Hidden;
+        }
+        self.kind(mem, frame as u32)
     }
 
     /// The kind of a frame; Hidden past the end of memory.

@@ -3,6 +3,7 @@ mod FrameBytes
 mod MaskedBytes
 mod MemoryLaws
 mod Patches
+mod RefutedMasks
 mod Rows
 mod RunLaws
 mod Sharing

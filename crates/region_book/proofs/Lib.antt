@@ -25,7 +25,9 @@ pub mod OnceFrames
 pub mod PageRanges
 pub mod PoolPlaces
 pub mod PoolRegions
+mod BuiltRegions
 pub mod RefutedBooks
+mod RefutedChanges
 pub mod RefutedRows
 mod RefutedSlots
 pub mod RegionReads

@@ -1,5 +1,5 @@
 -- Books of regions that are not sound.
-use Rattle.std.proofs.Common.{◌≡◌, ℕ, ◌+◌, ◌<◌, ◌≤◌, true, false, [], ◌∷◌, length, arith, sym, ◌∙◌, inl, inr}
+use Rattle.std.proofs.Common.{◌≡◌, ℕ, ◌+◌, ◌<◌, ◌≤◌, true, false, List, [], ◌∷◌, length, replicate, arith, refl, sym, ap, ◌∙◌, inl, inr}
 use Rattle.std.specs.Prelude.{slice_index}
 use Rattle.std.specs.List.{Contains, sum_by}
 use Rattle.nk_bits.specs.KernelLayout.{pool_start}
@@ -36,6 +36,52 @@ module _ (next : ℕ) (r : RegionRecord) where
 
   pub region_of_the_pool_passes_no_end : r.pooled ≡ true → pool_start + 65536 < r.first + r.size → IsRegion next r → ⊥
   region_of_the_pool_passes_no_end pooled past is = omega (arith, (is.pooled pooled).1, past)
+
+  pub region_of_the_pool_begins_no_byte_below_it : r.pooled ≡ true → r.first + 1 ≡ pool_start → IsRegion next r → ⊥
+  region_of_the_pool_begins_no_byte_below_it pooled below is = omega (arith, (is.pooled pooled).0, below)
+
+  pub region_of_the_pool_has_no_65537th_byte : r.pooled ≡ true → r.first ≡ pool_start + 65535 → r.size ≡ 2 →
+      IsRegion next r → ⊥
+  region_of_the_pool_has_no_65537th_byte pooled last two is = omega (arith, (is.pooled pooled).1, last, two)
+
+  pub region_of_the_pool_has_no_other_place : r.pooled ≡ true → r.first ≡ pool_start + 4096 → r.place ≡ 1 →
+      IsRegion next r → ⊥
+  region_of_the_pool_has_no_other_place pooled second one is =
+      let place = (is.pooled pooled).2 in omega (arith, place, second, one)
+
+  pub declared_region_begins_with_its_frame : r.pooled ≡ false → r.place ≡ 1 → IsRegion next r → ⊥
+  declared_region_begins_with_its_frame declared one is = let zero = (is.declared declared).0 in omega (arith, one, zero)
+
+  pub declared_region_has_no_part_of_a_frame : r.pooled ≡ false → r.size ≡ 4095 → IsRegion next r → ⊥
+  declared_region_has_no_part_of_a_frame declared size is =
+      let whole = (is.declared declared).1 in omega (arith, size, whole)
+
+  pub declared_region_has_no_frame_behind_its_bytes : r.pooled ≡ false → r.size ≡ 4096 → length r.frames ≡ 2 →
+      IsRegion next r → ⊥
+  declared_region_has_no_frame_behind_its_bytes declared size two is =
+      let whole = (is.declared declared).1 in omega (arith, size, two, whole)
+
+-- sixteen bytes at the beginning of the pool, in these frames
+abbrev first_of_the_pool : List ℕ → RegionRecord
+first_of_the_pool frames = record {
+  id = 256;
+  policy = 1;
+  pooled = true;
+  first = pool_start;
+  size = 16;
+  frames = frames;
+  place = 0;
+  written = replicate 16 false;
+  tail = 0;
+}
+
+pub region_of_the_pool_lies_in_no_other_frame : IsRegion 257 (first_of_the_pool (11 ∷ [])) → ⊥
+region_of_the_pool_lies_in_no_other_frame is =
+    let no : 11 ≡ 10 = ap (λ (frames : List ℕ). slice_index frames 0) (is.pooled refl).3 in omega (arith, no)
+
+pub region_of_the_pool_has_no_frame_behind_its_bytes : IsRegion 257 (first_of_the_pool (10 ∷ 11 ∷ [])) → ⊥
+region_of_the_pool_has_no_frame_behind_its_bytes is =
+    let no : 2 ≡ 1 = ap (λ (frames : List ℕ). length frames) (is.pooled refl).3 in omega (arith, no)
 
 pub no_129_pages_are_declared : (book : Book) → sum_by pages_of_region book.regions ≡ 129 → IsBook book → ⊥
 no_129_pages_are_declared book pages is = omega (arith, pages, is.pages, is.most)

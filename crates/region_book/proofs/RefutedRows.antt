@@ -1,5 +1,5 @@
 -- Rows of regions that no memory holds, and changes that no call makes of them.
-use Rattle.std.proofs.Common.{◌≡◌, ℕ, ◌*◌, true, false, List, [], ◌∷◌, map, replicate, arith, refl, sym, ap, ◌∙◌, subst}
+use Rattle.std.proofs.Common.{◌≡◌, ℕ, ◌*◌, true, false, List, [], ◌∷◌, map, replicate, arith, refl, subst}
 use Rattle.nk_bits.specs.KernelLayout.{pool_start}
 use Rattle.region_book.specs.declared.row.Row.{Row}
 use Rattle.region_book.specs.RegionBytes.{HoldsRegions, KeepsSlots, RegionIndex, row_in}

@@ -24,4 +24,4 @@ mod regions;
 mod laws;
 
 pub use laws::{apart_law, declared_law, held_regions_law, numbered_law};
-pub use regions::{Granted, Regions, Region};
+pub use regions::{Granted, Region, Regions};

@@ -120,23 +120,13 @@ fn has_twice(list: &[u16]) -> bool
     false
 }
 
-/// The frame holds data.
-fn is_data(frames: &Frames, mem: &PhysMem, frame: u16) -> bool
-    requires held { HoldsDescriptors frames.now mem.now }
-    ensures { result ≡ is_data (kind_of (kinds_in mem.now) frame) }
-{
-    match frames.kind(mem, u32::from(frame)) {
-        Kind::Data => true,
-        _ => false,
-    }
-}
-
 /// A frame of the list isn't data.
 fn has_other(frames: &Frames, mem: &PhysMem, list: &[u16]) -> bool
     requires held { HoldsDescriptors frames.now mem.now }
     ensures { result ≡ list_any (λ f. not (is_data (kind_of (kinds_in mem.now) f))) list.now }
 {
-    list.iter().any(|frame| !is_data(frames, mem, *frame))
+    list.iter()
+        .any(|frame| !frames.kind(mem, u32::from(*frame)).is_data())
 }
 
 /// A loose leaf names a frame of the list.

@@ -6,10 +6,12 @@ ghost use Rattle.region_book.specs.RegionBytes.{HoldsRegions, book_in};
 ghost use Rattle.region_book.specs.RegionRecords.{IsBook, region_of};
 ghost use Rattle.write_log.specs.LogBytes.{HoldsLog};
 
+use memory_kit::byte_at;
 use phys_mem::PhysMem;
 use policy_book::write;
 use region_book::{Regions, held_regions_law};
 use std::alloc::Global;
+use test_kit::first_wrong;
 use write_log::{Log, held_log_law};
 
 /// An empty log beside the regions.
@@ -124,15 +126,6 @@ fn part(bytes: &[u8], first: usize, count: usize) -> &[u8] {
     &left[..count.min(left.len())]
 }
 
-/// The byte at a place; 255 past the end of memory.
-fn load(mem: &PhysMem, at: u64) -> u8 {
-    if at < 4096 * u64::from(mem.frames()) {
-        mem.load8(at)
-    } else {
-        255
-    }
-}
-
 fn has_tail(regions: &Regions, mem: &PhysMem, id: u64, answer: u32) -> bool
     requires { HoldsRegions regions.now mem.now }
 {
@@ -179,7 +172,7 @@ fn is_answered(
         Write(id, offset, first, count, answer) => {
             put(regions, log, mem, id, offset, part(bytes, first, count)) == answer
         }
-        Stored(at, answer) => load(mem, at) == answer,
+        Stored(at, answer) => byte_at(mem, at) == answer,
         Tail(id, answer) => has_tail(regions, mem, id, answer),
         Room(answer) => log.room() == answer,
         Logged(i, region, offset, count) => is_logged(log, mem, i, (region, offset, count)),
@@ -194,22 +187,47 @@ fn bytes_of(alloc: Global) -> Option<Vec<u8>> {
     Some(bytes)
 }
 
+/// A memory with regions and a log, and the bytes that are written.
+#[derive(Drop)]
+struct Books {
+    mem: PhysMem,
+    regions: Regions,
+    log: Log,
+    bytes: Vec<u8>,
+    ghost held: { HoldsRegions regions mem },
+    ghost held_log: { HoldsLog log mem },
+    ghost book: { IsBook (book_in regions mem) },
+}
+
+impl Books {
+    fn is_met(&mut self, step: &Step) -> bool {
+        is_answered(
+            &mut self.regions,
+            &mut self.log,
+            &mut self.mem,
+            &self.bytes,
+            step,
+        )
+    }
+}
+
 /// The index of the first step that isn't answered so. Want of memory fails at 0.
-fn first_wrong(alloc: Global, steps: &[Step]) -> Option<usize> {
+fn wrong_step(alloc: Global, steps: &[Step]) -> Option<usize> {
     let Some(bytes) = bytes_of(alloc) else {
         return Some(0);
     };
     let Ok(mut mem) = PhysMem::new(alloc, 80) else {
         return Some(0);
     };
-    let mut regions = Regions::start(&mut mem);
-    let mut log = start_log(&regions, &mut mem);
-    for (index, step) in steps.iter().enumerate() {
-        if !is_answered(&mut regions, &mut log, &mut mem, &bytes, step) {
-            return Some(index);
-        }
-    }
-    None
+    let regions = Regions::start(&mut mem);
+    let log = start_log(&regions, &mut mem);
+    let mut books = Books {
+        mem,
+        regions,
+        log,
+        bytes,
+    };
+    first_wrong(steps, |step| books.is_met(step))
 }
 
 /// Steps, and the index of the first that is answered otherwise.
@@ -405,6 +423,6 @@ static CASES: [Case; 9] = [
 #[test]
 fn writes_are_judged_by_their_policies(rt: HostRuntime) {
     for (wrong, steps) in &CASES {
-        assert!(rt; first_wrong(rt.alloc(), steps) == *wrong);
+        assert!(rt; wrong_step(rt.alloc(), steps) == *wrong);
     }
 }

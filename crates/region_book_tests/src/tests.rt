@@ -8,10 +8,12 @@ ghost use Rattle.phys_mem.specs.MaskedMemory.{is_book_frame};
 ghost use Rattle.region_book.specs.RegionBytes.{HoldsRegions, book_in};
 ghost use Rattle.region_book.specs.RegionRecords.{IsBook, region_of};
 
+use memory_kit::{byte_at, memory_with, word_at};
 use nk_bits::Rule;
 use phys_mem::PhysMem;
-use region_book::{Regions, Region};
+use region_book::{Region, Regions};
 use std::alloc::Global;
+use test_kit::first_wrong;
 
 /// The first linear address of the pool.
 const POOL: u64 = 0xFFFF_FF80_0001_0000;
@@ -146,29 +148,11 @@ fn found(regions: &Regions, mem: &PhysMem, id: u64) -> Option<(u32, u8, u32)>
     }
 }
 
-/// The byte at a place; 255 past the end of memory.
-fn load(mem: &PhysMem, at: u64) -> u8 {
-    if at < 4096 * u64::from(mem.frames()) {
-        mem.load8(at)
-    } else {
-        255
-    }
-}
-
-/// The number of eight bytes from a place on; the largest past the end of memory.
-fn word(mem: &PhysMem, at: u64) -> u64 {
-    if at < 1 << 32 && at + 8 <= 4096 * u64::from(mem.frames()) {
-        mem.load64(at)
-    } else {
-        u64::MAX
-    }
-}
-
 /// How many bits are set in all.
 fn bits_set(mem: &PhysMem) -> u32 {
     let mut count: u32 = 0;
     for i in 0..9216 {
-        count = count.saturating_add(word(mem, 0x2A000 + 8 * i).count_ones());
+        count = count.saturating_add(word_at(mem, 0x2A000 + 8 * i).count_ones());
     }
     count
 }
@@ -178,7 +162,7 @@ fn are_zero(mem: &PhysMem, at: u64, count: u64) -> bool
     requires { (at ≤ 0x40000) × (count ≤ 8) }
 {
     for i in 0..count {
-        if word(mem, at + 8 * i) != 0 {
+        if word_at(mem, at + 8 * i) != 0 {
             return false;
         }
     }
@@ -191,10 +175,10 @@ fn is_row_of(mem: &PhysMem, at: u64, region: &Region) -> bool
 {
     let sizes = u64::from(region.size) + (u64::from(region.tail) << 32);
     let marks = u64::from(region.policy) + (u64::from(region.pooled) << 8);
-    word(mem, at) == region.id
-        && word(mem, at + 8) == region.place
-        && word(mem, at + 16) == sizes
-        && word(mem, at + 24) == marks
+    word_at(mem, at) == region.id
+        && word_at(mem, at + 8) == region.place
+        && word_at(mem, at + 16) == sizes
+        && word_at(mem, at + 24) == marks
         && are_zero(mem, at + 32, 4)
 }
 
@@ -203,7 +187,7 @@ fn is_slot_right(regions: &Regions, mem: &PhysMem, at: u64) -> bool
     requires held { HoldsRegions regions.now mem.now }
     requires at { at ≤ 0x3FFC0 }
 {
-    let id = word(mem, at);
+    let id = word_at(mem, at);
     match regions.find(mem, id) {
         Some(region) => is_row_of(mem, at, &region),
         None => are_zero(mem, at, 8),
@@ -220,7 +204,7 @@ fn are_slots_right(regions: &Regions, mem: &PhysMem) -> bool
         if !is_slot_right(regions, mem, at) {
             return false;
         }
-        if word(mem, at) != 0 {
+        if word_at(mem, at) != 0 {
             count = count.saturating_add(1);
         }
     }
@@ -341,7 +325,7 @@ fn is_answered(regions: &mut Regions, mem: &mut PhysMem, step: &Step) -> bool
         }
         Found(id, answer) => found(regions, mem, id) == answer,
         Byte(id, offset, answer) => byte(regions, mem, id, offset) == answer,
-        Stored(at, answer) => load(mem, at) == answer,
+        Stored(at, answer) => byte_at(mem, at) == answer,
         Bits(answer) => bits_set(mem) == answer,
         Fill(count, size, space) => is_filled(regions, mem, count, size, space),
         Holes(size) => are_holes_filled(regions, mem, size.min(256)),
@@ -351,23 +335,40 @@ fn is_answered(regions: &mut Regions, mem: &mut PhysMem, step: &Step) -> bool
     }
 }
 
-/// The index of the first step that isn't answered so, with slots that tell the live regions after each. Before the book
-/// starts something stands where slots and bits will. Want of memory fails at 0.
-fn first_wrong(alloc: Global, steps: &[Step]) -> Option<usize> {
-    let Ok(mut mem) = PhysMem::new(alloc, 80) else {
+/// A memory, and the regions in it.
+#[derive(Drop)]
+struct Small {
+    mem: PhysMem,
+    regions: Regions,
+    ghost held: { HoldsRegions regions mem },
+    ghost book: { IsBook (book_in regions mem) },
+}
+
+impl Small {
+    /// Whether a step is answered so, and the slots tell the live regions after it.
+    fn is_met(&mut self, step: &Step) -> bool {
+        is_answered(&mut self.regions, &mut self.mem, step)
+            && are_slots_right(&self.regions, &self.mem)
+    }
+}
+
+/// What stands in memory before the book starts, where slots and bits will.
+static BEFORE: [(u64, u64); 4] = [
+    (0x2A000, u64::MAX),
+    (0x3BFF8, u64::MAX),
+    (0x3C000, u64::MAX),
+    (0x3FFF8, u64::MAX),
+];
+
+/// The index of the first step that isn't answered so, with slots that tell the live regions after each. Want of memory
+/// fails at 0.
+fn wrong_step(alloc: Global, steps: &[Step]) -> Option<usize> {
+    let Ok(mut mem) = memory_with(alloc, 80, &BEFORE) else {
         return Some(0);
     };
-    mem.store64(0x2A000, u64::MAX);
-    mem.store64(0x3BFF8, u64::MAX);
-    mem.store64(0x3C000, u64::MAX);
-    mem.store64(0x3FFF8, u64::MAX);
-    let mut regions = Regions::start(&mut mem);
-    for (index, step) in steps.iter().enumerate() {
-        if !is_answered(&mut regions, &mut mem, step) || !are_slots_right(&regions, &mem) {
-            return Some(index);
-        }
-    }
-    None
+    let regions = Regions::start(&mut mem);
+    let mut small = Small { mem, regions };
+    first_wrong(steps, |step| small.is_met(step))
 }
 
 /// Steps, and the index of the first that is answered otherwise.
@@ -536,6 +537,6 @@ static CASES: [Case; 8] = [
 #[test]
 fn steps_are_answered(rt: HostRuntime) {
     for (wrong, steps) in &CASES {
-        assert!(rt; first_wrong(rt.alloc(), steps) == *wrong);
+        assert!(rt; wrong_step(rt.alloc(), steps) == *wrong);
     }
 }

@@ -2,6 +2,7 @@
 
 use port_bus::Ports;
 use std::alloc::Global;
+use test_kit::first_wrong;
 
 /// What is done, and what it is to give.
 #[derive(Clone, Copy)]
@@ -15,18 +16,13 @@ enum Step {
 use Step::{Give, Take};
 
 /// The index of the first step that gives something else over this input. Want of memory fails at 0.
-fn first_wrong(alloc: Global, input: &[u8], steps: &[Step]) -> Option<usize> {
+fn wrong_step(alloc: Global, input: &[u8], steps: &[Step]) -> Option<usize> {
     let mut bytes = Vec::new(alloc);
     if bytes.extend_from_slice(input).is_err() {
         return Some(0);
     }
     let mut ports = Ports::new(bytes);
-    for (index, step) in steps.iter().enumerate() {
-        if !is_met(&mut ports, step) {
-            return Some(index);
-        }
-    }
-    None
+    first_wrong(steps, |step| is_met(&mut ports, step))
 }
 
 fn is_met(ports: &mut Ports, step: &Step) -> bool {
@@ -103,6 +99,6 @@ static CASES: [Case; 4] = [
 #[test]
 fn each_port_gives_its_own(rt: HostRuntime) {
     for (input, steps) in &CASES {
-        assert!(rt; first_wrong(rt.alloc(), input, steps).is_none());
+        assert!(rt; wrong_step(rt.alloc(), input, steps).is_none());
     }
 }

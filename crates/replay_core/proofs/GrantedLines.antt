@@ -10,7 +10,7 @@ use Rattle.nk_bits.specs.Rules.{rule_number}
 use Rattle.region_book.specs.RegionCalls.{alloc_rule, is_policy, pool_region, room, with_one_more}
 use Rattle.region_book.specs.RegionRecords.{Book, RegionRecord}
 use Rattle.text_lines.specs.TextLines.{lines, words}
-use Rattle.nk_body.specs.CallRules.{Sourced, accepted_answer, after_call, answer_by, answer_to, made_unless, stand_of, verdict, with_pool}
+use Rattle.nk_body.specs.CallRules.{Sourced, after_call, answer_by, answer_to, made_unless, stand_of, verdict, with_pool}
 use Rattle.nk_body.specs.declared.call.Call.{Call}
 use Rattle.nk_body.specs.declared.call.Call.TheVariants.{Allocate}
 use Rattle.nk_body.specs.Calls.{call_of}

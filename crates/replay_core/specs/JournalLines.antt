@@ -1,7 +1,7 @@
 -- The lines of a journal by their words, spelled as a run's text spells them: those of calls, those of the console and
 -- of deliveries, and the line that ends it. Digits are in lower case, and no zero leads a number but in words of a fixed
 -- length.
-use Rattle.std.specs.Prelude.{ℕ, Bool, false, not, ◌&&◌, ◌||◌, ◌==◌, nat_le, is_some, if◌then◌else◌, List, [], ◌∷◌, length, slice_index, codes, Option, None, Some, Result, Ok, Err}
+use Rattle.std.specs.Prelude.{ℕ, Bool, false, not, ◌&&◌, ◌||◌, ◌==◌, nat_le, is_some, if◌then◌else◌, List, [], ◌∷◌, length, codes, Option, None, Some, Result, Ok, Err}
 use Rattle.std.specs.List.{list_any}
 use Rattle.std.specs.Option.{option_map}
 use Rattle.std.specs.Str.{bytes_eq}
@@ -9,7 +9,7 @@ use Rattle.hex.specs.Hex.{decode_of}
 use Rattle.hex.specs.declared.error.FromHexError.{FromHexError}
 use Rattle.nk_bits.specs.declared.call.CallWords.{CallWords}
 use Rattle.nk_body.specs.CallRules.{Bytes, NotTaken, Sourced, Unreadable}
-use Rattle.text_lines.specs.Numerals.{numeral}
+use Rattle.text_lines.specs.Numerals.{is_least, numeral}
 
 -- what a line says of a call: its number and arguments, what it took, its answer, and the place of a region
 pub record Noted : Type 0 where
@@ -27,10 +27,6 @@ pub data Heard : Type 0 where
 -- no letter from `A` to `Z` stands in the word
 abbrev pub is_lower : List ℕ → Bool
 is_lower word = not (list_any (λ c. nat_le 65 c && nat_le c 90) word)
-
--- no zero leads other digits
-abbrev pub is_least : List ℕ → Bool
-is_least word = length word == 1 || not (slice_index word 0 == 48)
 
 -- the word is this text
 abbrev pub is_text : List ℕ → List ℕ → Bool

@@ -5,9 +5,9 @@ ghost use Rattle.replay_core.specs.JournalLines.{call_with, heard_of, is_text, l
 ghost use Rattle.replay_core.specs.HeardLines.{heard_in};
 ghost use Rattle.text_lines.specs.TextLines.{words};
 
-use crate::word::{is_byte, is_delivery, is_text, least_decimal, least_hex, place};
+use crate::word::{is_byte, is_delivery, least_decimal, least_hex, place};
 use nk_bits::CallWords;
-use text_lines::split_words;
+use text_lines::{is_text, split_words};
 
 /// What a line says of a call: the call; the word of its source, which isn't read yet; the answer, and the place of a
 /// region.

@@ -7,8 +7,9 @@ ghost use Rattle.nk_body.specs.SourceWords.{sourced_of};
 ghost use Rattle.replay_core.specs.JournalLines.{bytes_of_word, decoded, source_of_word};
 ghost use Rattle.replay_core.specs.HeardLines.{given_source, put_in, so_many, source_in, source_where};
 
-use crate::word::{is_lower, is_text};
+use crate::word::is_lower;
 use nk_body::Source;
+use text_lines::is_text;
 
 /// Puts the bytes of a word of two digits each, of either case, into a buffer of as many.
 fn is_decoded(buffer: &mut [u8], word: &[u8]) -> bool

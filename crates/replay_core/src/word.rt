@@ -2,10 +2,9 @@
 
 ghost use Rattle.std.specs.Prelude.{◌≡◌, ◌&&◌, nat_le};
 ghost use Rattle.std.specs.List.{list_any};
-ghost use Rattle.std.specs.Str.{bytes_eq};
-ghost use Rattle.replay_core.specs.JournalLines.{hex_of_16, is_byte, is_code_word, is_delivery, is_least, is_lower, is_vector_word, least_decimal, least_hex, place_of_word};
+ghost use Rattle.replay_core.specs.JournalLines.{hex_of_16, is_byte, is_code_word, is_delivery, is_lower, is_vector_word, least_decimal, least_hex, place_of_word};
 
-use text_lines::{decimal, hexadecimal};
+use text_lines::{decimal, hexadecimal, is_least, is_text};
 
 /// The last vector of the machine.
 const LAST_VECTOR: u64 = 47;
@@ -15,12 +14,6 @@ const PAGE_FAULT: u64 = 14;
 
 /// What stands for nothing.
 const NOTHING: &[u8] = b"-";
-
-pub(crate) fn is_text(word: &[u8], text: &[u8]) -> bool
-    ensures { result ≡ bytes_eq word.now text.now }
-{
-    word == text
-}
 
 /// A letter from `A` to `Z` stands in the word.
 fn has_capital(word: &[u8]) -> bool
@@ -33,13 +26,6 @@ pub(crate) fn is_lower(word: &[u8]) -> bool
     ensures { result ≡ is_lower word.now }
 {
     !has_capital(word)
-}
-
-/// No zero leads other digits.
-fn is_least(word: &[u8]) -> bool
-    ensures { result ≡ is_least word.now }
-{
-    word.len() == 1 || !matches!(word, [b'0', ..])
 }
 
 /// A hexadecimal number without leading zeros.

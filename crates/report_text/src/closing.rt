@@ -248,7 +248,7 @@ fn is_table_now(mem: &PhysMem, kernel: &Kernel, frame: u32) -> bool
     requires { HoldsBooks kernel.now mem.now }
     ensures { result ≡ is_table (kind_of (kinds_in mem.now) frame) }
 {
-    is_table(kernel.tables().frames.kind(mem, frame))
+    kernel.tables().frames.kind(mem, frame).is_table()
 }
 
 /// Writes the entries of a page table that changed.
@@ -325,18 +325,11 @@ fn opening_value(image: &Image, layout: &Layout, frame: u32, index: u32) -> u64
     requires index { index ≤ 511 }
     ensures { result ≡ table_value image.now layout.now.frames frame index }
 {
-    if is_table(layout.kind(image, frame)) {
+    if layout.kind(image, frame).is_table() {
         layout.entry(image, frame, index as usize)
     } else {
         0
     }
-}
-
-/// Whether a frame of this kind is a page table.
-fn is_table(kind: Kind) -> bool
-    ensures { result ≡ is_table kind }
-{
-    matches!(kind, Kind::Table(1..))
 }
 
 /// Whether two kinds are one.

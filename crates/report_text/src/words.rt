@@ -1,9 +1,11 @@
 //! Words of a line. Each is put before the one behind it, so that the line stands at the end of its room, which is on
 //! the stack. A text of hexadecimal digits has room for just its bytes, so that its encoding never fails.
 ghost use Rattle.std.specs.Prelude.{◌≡◌, ◌+◌, ◌*◌, ◌<◌, ◌≤◌, ◌++◌, false, drop, length, codes, decimal};
-ghost use Rattle.std.specs.Fmt.{digit_glyph, digits};
+ghost use Rattle.std.specs.Fmt.{digits};
 ghost use Rattle.hex.specs.Hex.{encode_lower};
 ghost use Rattle.report_text.specs.RunLines.{hex_16, hex_16_word, hex_word};
+
+use asm_text::hex_digit;
 
 /// Puts a text before a place of the room, and gives the place where it starts.
 pub(crate) fn put(room: &mut [u8], end: usize, text: &[u8]) -> usize
@@ -67,23 +69,11 @@ pub(crate) fn put_least(room: &mut [u8], end: usize, number: u64) -> usize
     let mut rest = number;
     loop {
         start -= 1;
-        room[start] = digit((rest % 16) as u8);
+        room[start] = hex_digit((rest % 16) as u8);
         rest /= 16;
         if rest == 0 {
             return start;
         }
-    }
-}
-
-/// A hexadecimal digit.
-fn digit(value: u8) -> u8
-    requires { value < 16 }
-    ensures { result ≡ digit_glyph false value }
-{
-    if value < 10 {
-        b'0' + value
-    } else {
-        b'a' - 10 + value
     }
 }
 

@@ -14,31 +14,8 @@ use nk_body::{Kernel, Source};
 use nk_host::{MemSink, SinkFault};
 use phys_mem::PhysMem;
 use report_text::section;
-use std::alloc::{AllocError, Global};
-
-/// A file's one header loads the byte at offset 4,096 to FFFFFFFF80000000, the entry, readable and executable.
-#[rattlefmt::skip]
-const HEADERS: [u8; 120] = [
-    0x7F, 0x45, 0x4C, 0x46, 2, 1, 1, 0, 0, 0, 0, 0, 0, 0, 0, 0, 2, 0, 62, 0, 1, 0, 0, 0,
-    0, 0, 0, 0x80, 0xFF, 0xFF, 0xFF, 0xFF, 64, 0, 0, 0, 0, 0, 0, 0, 0, 0, 0, 0, 0, 0, 0, 0,
-    0, 0, 0, 0, 64, 0, 56, 0, 1, 0, 0, 0, 0, 0, 0, 0, 1, 0, 0, 0, 5, 0, 0, 0,
-    0, 0x10, 0, 0, 0, 0, 0, 0, 0, 0, 0, 0x80, 0xFF, 0xFF, 0xFF, 0xFF, 0, 0, 0, 0x80, 0xFF, 0xFF, 0xFF, 0xFF,
-    1, 0, 0, 0, 0, 0, 0, 0, 1, 0, 0, 0, 0, 0, 0, 0, 0, 0x10, 0, 0, 0, 0, 0, 0,
-];
-
-fn file(alloc: Global) -> Result<Vec<u8>, AllocError> {
-    let mut file = HEADERS.to_vec(alloc)?;
-    file.resize(4096, 0)?;
-    file.push(0xF4)?;
-    Ok(file)
-}
-
-fn image(alloc: Global) -> Option<Image> {
-    match file(alloc) {
-        Ok(file) => Image::read(file).ok(),
-        Err(_) => None,
-    }
-}
+use std::alloc::Global;
+use test_kit::halting_file;
 
 /// A call's number and its four arguments.
 pub(crate) type Call = [u64; 5];
@@ -89,7 +66,10 @@ pub(crate) fn close(
     data: &[u8],
     sink: &mut MemSink,
 ) -> Option<Result<(), SinkFault>> {
-    let Some(image) = image(alloc) else {
+    let Ok(file) = halting_file(alloc) else {
+        return None;
+    };
+    let Ok(image) = Image::read(file) else {
         return None;
     };
     let Ok(layout) = Layout::of(&image, 512) else {

@@ -8,6 +8,7 @@ use nk_bits::Delivery;
 use nk_body::Source;
 use nk_host::{MemSink, SinkFault};
 use std::alloc::Global;
+use test_kit::first_wrong;
 
 /// What is written to a sink.
 #[derive(Clone, Copy)]
@@ -59,13 +60,8 @@ fn is_taken(alloc: Global, text: &Text, taken: &Taken) -> bool {
 }
 
 /// The first row whose text isn't taken so.
-fn first_wrong(alloc: Global, rows: &[Row]) -> Option<usize> {
-    for (index, row) in rows.iter().enumerate() {
-        if !is_taken(alloc, &row.0, &row.1) {
-            return Some(index);
-        }
-    }
-    None
+fn wrong_row(alloc: Global, rows: &[Row]) -> Option<usize> {
+    first_wrong(rows, |(text, taken)| is_taken(alloc, text, taken))
 }
 
 /// The second row has another text, the fourth one isn't cut.
@@ -81,8 +77,8 @@ static WRONG: [Row; 4] = [
 
 #[test]
 fn a_wrong_text_is_found(rt: HostRuntime) {
-    assert_eq!(rt; first_wrong(rt.alloc(), &WRONG), Some(1));
-    assert_eq!(rt; first_wrong(rt.alloc(), &WRONG[2..]), Some(1));
+    assert_eq!(rt; wrong_row(rt.alloc(), &WRONG), Some(1));
+    assert_eq!(rt; wrong_row(rt.alloc(), &WRONG[2..]), Some(1));
 }
 
 /// The last one is cut in its second line.
@@ -155,7 +151,7 @@ static LINES: [Row; 5] = [
 
 #[test]
 fn lines_of_a_run(rt: HostRuntime) {
-    assert_eq!(rt; first_wrong(rt.alloc(), &LINES), None);
+    assert_eq!(rt; wrong_row(rt.alloc(), &LINES), None);
 }
 
 /// Regions and records; kinds and entries, where frame 71 is read alone, becomes a page table, and maps itself, and the
@@ -197,7 +193,7 @@ static SECTIONS: [Row; 3] = [
 
 #[test]
 fn closing_sections(rt: HostRuntime) {
-    assert_eq!(rt; first_wrong(rt.alloc(), &SECTIONS), None);
+    assert_eq!(rt; wrong_row(rt.alloc(), &SECTIONS), None);
 }
 
 /// Three slots, of processes 0, 1 and 7, in a chain.
@@ -386,20 +382,15 @@ static AUDITS: [Row; 8] = [
 
 #[test]
 fn audits_of_regions(rt: HostRuntime) {
-    assert_eq!(rt; first_wrong(rt.alloc(), &AUDITS), None);
+    assert_eq!(rt; wrong_row(rt.alloc(), &AUDITS), None);
 }
 
 /// What a line on an image tells, and the line.
 type Shown = (OnImage<'static>, &'static [u8]);
 
-/// The first row with another line.
-fn first_other(rows: &[Shown]) -> Option<usize> {
-    for (index, row) in rows.iter().enumerate() {
-        if line_on(&row.0).as_bytes() != row.1 {
-            return Some(index);
-        }
-    }
-    None
+/// Whether a row's line is told.
+fn is_told((line, text): &Shown) -> bool {
+    line_on(line).as_bytes() == *text
 }
 
 static OTHER: [Shown; 3] = [
@@ -432,6 +423,6 @@ static ON_IMAGES: [Shown; 6] = [
 
 #[test]
 fn lines_on_an_image(rt: HostRuntime) {
-    assert_eq!(rt; first_other(&OTHER), Some(1));
-    assert_eq!(rt; first_other(&ON_IMAGES), None);
+    assert_eq!(rt; first_wrong(&OTHER, is_told), Some(1));
+    assert_eq!(rt; first_wrong(&ON_IMAGES, is_told), None);
 }

@@ -1,15 +1,15 @@
 //! The rules on a value, in order.
 
-ghost use Rattle.std.specs.Prelude.{◌≡◌, ◌<◌, ◌≤◌, ◌==◌, ◌/◌, ◌%◌, true, nat_lt, length};
+ghost use Rattle.std.specs.Prelude.{◌≡◌, ◌≤◌, ◌==◌, ◌/◌, ◌%◌};
 ghost use Rattle.nk_bits.specs.EntryForms.{has_form, has_leaf_form, has_table_form};
-ghost use Rattle.nk_bits.specs.Kinds.{allows, is_hidden, kind_of, level_of};
+ghost use Rattle.nk_bits.specs.Kinds.{allows, is_hidden, kind_of};
 ghost use Rattle.nk_bits.specs.Paging.{frame_of, is_present, rights_of};
 ghost use Rattle.nk_bits.specs.Rules.{rule_of};
 ghost use Rattle.page_desc.specs.DescriptorBytes.{HoldsDescriptors, kinds_in};
 ghost use Rattle.table_rules.specs.ValueRules.{is_target, value_rule};
 
 use nk_bits::{Entry, Kind, Rights, Rule};
-use page_desc::{Frames, stored_law};
+use page_desc::Frames;
 use phys_mem::PhysMem;
 
 /// The bits 8 and 7, which are clear in every form.
@@ -50,16 +50,6 @@ fn has_form(level: u8, entry: Entry) -> bool
     }
 }
 
-/// The level of a table; 0 for every other kind.
-fn level_of(kind: Kind) -> u8
-    ensures { result ≡ level_of kind }
-{
-    match kind {
-        Kind::Table(level) => level,
-        _ => 0,
-    }
-}
-
 /// Whether no leaf may name a frame of this kind.
 fn is_hidden(kind: Kind) -> bool
     ensures { result ≡ is_hidden kind }
@@ -84,41 +74,19 @@ fn allows(kind: Kind, rights: Rights) -> bool
     }
 }
 
-/// The frame is one of memory's.
-fn is_inside(frames: &Frames, mem: &PhysMem, frame: u64) -> bool
-    requires held { HoldsDescriptors frames.now mem.now }
-    ensures inside { result ≡ nat_lt frame (length (kinds_in mem.now)) }
-    ensures bound { result ≡ true → frame < 65536 }
-{
-    stored_law();
-    frame < u64::from(frames.frames())
-}
-
-/// The kind of a frame; Hidden past the end of memory.
-fn kind_of(frames: &Frames, mem: &PhysMem, frame: u64) -> Kind
-    requires held { HoldsDescriptors frames.now mem.now }
-    ensures { result ≡ kind_of (kinds_in mem.now) frame }
-{
-    if is_inside(frames, mem, frame) {
-        frames.kind(mem, frame as u32)
-    } else {
-        Kind::Hidden
-    }
-}
-
 /// Whether the value names a frame in memory: for a leaf one that isn't hidden, for a link a table one level below.
 fn is_target(frames: &Frames, mem: &PhysMem, level: u8, entry: Entry) -> bool
     requires held { HoldsDescriptors frames.now mem.now }
     ensures { result ≡ is_target (kinds_in mem.now) level entry.0 }
 {
     let frame = entry.frame();
-    let kind = kind_of(frames, mem, frame);
+    let kind = frames.kind_named(mem, frame);
     let is_named = if level == 1 {
         !is_hidden(kind)
     } else {
-        u16::from(level_of(kind)) + 1 == u16::from(level)
+        u16::from(kind.level()) + 1 == u16::from(level)
     };
-    is_inside(frames, mem, frame) & is_named
+    frames.is_inside(mem, frame) & is_named
 }
 
 /// Whether a leaf grants no right that the kind of its frame forbids.
@@ -126,7 +94,7 @@ fn is_allowed(frames: &Frames, mem: &PhysMem, entry: Entry) -> bool
     requires held { HoldsDescriptors frames.now mem.now }
     ensures { result ≡ allows (kind_of (kinds_in mem.now) (frame_of entry.0)) (rights_of entry.0) }
 {
-    allows(kind_of(frames, mem, entry.frame()), entry.rights())
+    allows(frames.kind_named(mem, entry.frame()), entry.rights())
 }
 
 /// Judges a value that is to stand in a table of this level, 1 to 4: the first rule that it breaks is the error.

@@ -13,5 +13,5 @@ mod words;
 mod number;
 
 pub use line::cut_line;
-pub use number::{decimal, hexadecimal};
-pub use words::{MOST_WORDS, split_words};
+pub use number::{all_digits, decimal, hexadecimal, is_least};
+pub use words::{MOST_WORDS, is_text, split_words};

@@ -4,7 +4,7 @@ ghost use Rattle.std.specs.Prelude.{◌≡◌, ◌≤◌, ◌+◌, ◌*◌, true
 ghost use Rattle.std.specs.Char.{digit_value, is_digit};
 ghost use Rattle.std.specs.List.{list_all};
 ghost use Rattle.std.specs.Str.Parse.{digits_value};
-ghost use Rattle.text_lines.specs.Numerals.{are_digits, in_64_bits, numeral};
+ghost use Rattle.text_lines.specs.Numerals.{are_digits, in_64_bits, is_least, numeral};
 
 /// The number that a word of 1 to `most` decimal digits writes; None where the word has another form, or the number
 /// more than 64 bits. Zeros may stand in front, and are digits too.
@@ -34,12 +34,20 @@ fn number(word: &[u8], radix: u32, most: usize) -> Option<u64>
     }
 }
 
-fn all_digits(word: &[u8], radix: u32) -> bool
+/// Whether each byte of a word is a digit in the radix, of either case. A word without bytes passes.
+pub fn all_digits(word: &[u8], radix: u32) -> bool
     requires low { 2 ≤ radix }
     requires high { radix ≤ 36 }
     ensures { result ≡ list_all (λ c. is_digit c radix) word.now }
 {
     word.iter().all(|byte| (*byte as char).is_digit(radix))
+}
+
+/// Whether no zero leads other digits. A word without bytes passes; whether the bytes are digits isn't asked.
+pub fn is_least(word: &[u8]) -> bool
+    ensures { result ≡ is_least word.now }
+{
+    word.len() == 1 || !matches!(word, [b'0', ..])
 }
 
 fn are_digits(word: &[u8], radix: u32, most: usize) -> bool

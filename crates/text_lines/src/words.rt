@@ -1,6 +1,7 @@
 //! The words of a line.
 
 ghost use Rattle.std.specs.Prelude.{◌≡◌, ◌<◌, length, map, MatchOption};
+ghost use Rattle.std.specs.Str.{bytes_eq};
 ghost use Rattle.text_lines.specs.TextLines.{words};
 
 use crate::cut::cut_at;
@@ -29,4 +30,11 @@ pub fn split_words(line: &[u8]) -> Option<ArrayVec<&[u8], MOST_WORDS>>
         return None;
     }
     Some(found)
+}
+
+/// Whether a word is this text, byte for byte.
+pub fn is_text(word: &[u8], text: &[u8]) -> bool
+    ensures { result ≡ bytes_eq word.now text.now }
+{
+    word == text
 }

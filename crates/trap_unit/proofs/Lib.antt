@@ -1,5 +1,6 @@
 mod AlikeReads
 mod DeliveryLaws
+mod RefutedDeliveries
 mod StoresMade
 mod WorkedDeliveries
 mod WorkedGates

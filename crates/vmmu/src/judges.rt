@@ -1,6 +1,6 @@
 //! The rules of the calls, each list in order, by the counts that the descriptors carry.
 
-ghost use Rattle.std.specs.Prelude.{◌≡◌, ◌≤◌, ◌<◌, ℕ, IfNone, ◌+◌, ◌*◌, ◌&&◌, ◌||◌, ◌==◌, false, not, nat_le, nat_lt, length, List, None, slice_index};
+ghost use Rattle.std.specs.Prelude.{◌≡◌, ◌≤◌, ◌<◌, ℕ, IfNone, ◌+◌, ◌*◌, ◌&&◌, ◌||◌, ◌==◌, not, nat_le, nat_lt, length, List, None, slice_index};
 ghost use Rattle.std.specs.List.{list_any, range_with_len};
 ghost use Rattle.phys_mem.specs.Memory.{entry_in};
 ghost use Rattle.nk_bits.specs.declared.rule.Rule.TheVariants.{BadFrame, BadLevel, NotData, NotEmpty, NotTable, StillLinked, StillLoose};
@@ -12,65 +12,20 @@ ghost use Rattle.table_rules.specs.ValueRules.{broken};
 ghost use Rattle.vmmu.specs.TableCalls.{entry_rule, root_rule};
 
 use crate::entries::entry;
-use nk_bits::{Kind, Rule};
-use page_desc::{Frames, stored_law};
+use nk_bits::Rule;
+use page_desc::Frames;
 use phys_mem::PhysMem;
 use table_rules::judge_entry;
 
 /// The number of entries of a table.
 const ENTRIES: u64 = 512;
 
-/// The number of frames, of which each has a kind.
-fn frame_count(frames: &Frames, mem: &PhysMem) -> u64
-    requires held { HoldsDescriptors frames.now mem.now }
-    ensures count { result ≡ length (kinds_in mem.now) }
-    ensures bounds { (result ≡ frames.now) × (result ≤ 65536) }
-{
-    stored_law();
-    u64::from(frames.frames())
-}
-
-/// The frame isn't one of memory's.
-fn is_outside(frames: &Frames, mem: &PhysMem, frame: u64) -> bool
-    requires held { HoldsDescriptors frames.now mem.now }
-    ensures outside { result ≡ not (nat_lt frame (length (kinds_in mem.now))) }
-    ensures bounds { result ≡ false → (frame < frames.now) × (frame < 65536) }
-{
-    frame >= frame_count(frames, mem)
-}
-
-/// The kind of a frame; Hidden past the end of memory.
-fn kind_of(frames: &Frames, mem: &PhysMem, frame: u64) -> Kind
-    requires held { HoldsDescriptors frames.now mem.now }
-    ensures { result ≡ kind_of (kinds_in mem.now) frame }
-{
-    if is_outside(frames, mem, frame) {
-        Kind::Hidden
-    } else {
-        frames.kind(mem, frame as u32)
-    }
-}
-
 /// The level of the table in a frame; 0 where it holds none.
 pub fn level_at(frames: &Frames, mem: &PhysMem, frame: u64) -> u8
     requires held { HoldsDescriptors frames.now mem.now }
     ensures { result ≡ level_of (kind_of (kinds_in mem.now) frame) }
 {
-    match kind_of(frames, mem, frame) {
-        Kind::Table(level) => level,
-        _ => 0,
-    }
-}
-
-/// The frame holds data.
-fn is_data(frames: &Frames, mem: &PhysMem, frame: u64) -> bool
-    requires held { HoldsDescriptors frames.now mem.now }
-    ensures { result ≡ is_data (kind_of (kinds_in mem.now) frame) }
-{
-    match kind_of(frames, mem, frame) {
-        Kind::Data => true,
-        _ => false,
-    }
+    frames.kind_named(mem, frame).level()
 }
 
 /// The level is that of a page table.
@@ -133,13 +88,13 @@ pub fn judge_declare(frames: &Frames, mem: &PhysMem, level: u64, frame: u64) -> 
         (broken (not (is_data (kind_of (kinds_in mem.now) frame))) NotData
         (broken (not (slice_index (descriptors_in mem.now).loose frame == 0)) StillLoose None))) }
 {
-    if is_outside(frames, mem, frame) {
+    if !frames.is_inside(mem, frame) {
         return Some(Rule::BadFrame);
     }
     if !is_level(level) {
         return Some(Rule::BadLevel);
     }
-    if !is_data(frames, mem, frame) {
+    if !frames.kind_named(mem, frame).is_data() {
         return Some(Rule::NotData);
     }
     if is_loose(frames, mem, frame) {
@@ -162,7 +117,7 @@ pub fn judge_write(
     ensures bounds { IfNone result ((frame < frames.now) × (frame < 65536) × (index < 512)) }
     ensures judged { (root : ℕ) (m : List ℕ) → result ≡ entry_rule (tables_in (kinds_in mem.now) root m) frame index value }
 {
-    if is_outside(frames, mem, frame) {
+    if !frames.is_inside(mem, frame) {
         return Some(Rule::BadFrame);
     }
     let level = level_at(frames, mem, frame);
@@ -187,7 +142,7 @@ pub fn judge_remove(frames: &Frames, root: u32, mem: &PhysMem, frame: u64) -> Op
         (broken (not (slice_index (descriptors_in mem.now).links frame == 0) || frame == root) StillLinked
         (broken (list_any (λ i. is_present (entry_in mem.now frame i) && not (is_slot_entry (level_of (kind_of (kinds_in mem.now) frame)) i)) (range_with_len 0 512)) NotEmpty None))) }
 {
-    if is_outside(frames, mem, frame) {
+    if !frames.is_inside(mem, frame) {
         return Some(Rule::BadFrame);
     }
     let level = level_at(frames, mem, frame);
@@ -210,7 +165,7 @@ pub fn judge_root(frames: &Frames, mem: &PhysMem, frame: u64) -> Option<Rule>
     ensures bounds { IfNone result ((frame < frames.now) × (frame < 65536)) }
     ensures judged { (root : ℕ) (m : List ℕ) → result ≡ root_rule (tables_in (kinds_in mem.now) root m) frame }
 {
-    if is_outside(frames, mem, frame) {
+    if !frames.is_inside(mem, frame) {
         Some(Rule::BadFrame)
     } else if level_at(frames, mem, frame) != 4 {
         Some(Rule::NotRoot)

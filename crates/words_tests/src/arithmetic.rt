@@ -70,16 +70,11 @@ fn answer(operation: Operation, width: u8, a: u64, b: u64, before: u64) -> Out
     }
 }
 
-/// The index of the first row that isn't so.
-fn first_wrong(operation: Operation, rows: &[Row]) -> Option<usize> {
-    for (index, row) in rows.iter().enumerate() {
-        let (width, a, b, before, value, flags) = *row;
-        let Some(width) = width_of(width) else {
-            return Some(index);
-        };
-        if answer(operation, width, a, b, before) != out(value, flags) {
-            return Some(index);
-        }
+/// Whether a row is so.
+fn is_so(operation: Operation, row: &Row) -> bool {
+    let (width, a, b, before, value, flags) = *row;
+    match width_of(width) {
+        Some(width) => answer(operation, width, a, b, before) == out(value, flags),
+        None => false,
     }
-    None
 }

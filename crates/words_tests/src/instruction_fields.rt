@@ -2,6 +2,7 @@
 
 use crate::arithmetic::width_of;
 use decode_fields::{Address, ModRm, Place, Prefixes, Rep, immediate, modrm, prefixes};
+use test_kit::first_wrong;
 
 /// ModRM, SIB and displacement; REX; and what they name: reg, base, index, scale and displacement.
 type Form = (&'static [u8], u8, u8, Option<u8>, Option<u8>, u8, u64);
@@ -38,27 +39,22 @@ fn is_form(bytes: &[u8], rex: u8, reg: u8, place: Place) -> bool {
     modrm(bytes, rex) == Some(ModRm { reg, place, length })
 }
 
-/// The index of the first form that isn't so.
-fn first_wrong(forms: &[Form]) -> Option<usize> {
-    for (index, form) in forms.iter().enumerate() {
-        let (bytes, rex, reg, base, index_register, scale, disp) = *form;
-        let address = Address {
-            base,
-            index: index_register,
-            scale,
-            disp,
-            rip: false,
-        };
-        if !is_form(bytes, rex, reg, Place::Mem(address)) {
-            return Some(index);
-        }
-    }
-    None
+/// Whether a row's bytes are its form in memory.
+fn is_so(form: &Form) -> bool {
+    let (bytes, rex, reg, base, index, scale, disp) = *form;
+    let address = Address {
+        base,
+        index,
+        scale,
+        disp,
+        rip: false,
+    };
+    is_form(bytes, rex, reg, Place::Mem(address))
 }
 
 #[test]
 fn base_index_scale_and_displacement(rt: HostRuntime) {
-    assert_eq!(rt; first_wrong(&FORMS), None);
+    assert_eq!(rt; first_wrong(&FORMS, is_so), None);
 }
 
 /// A form that names something else, and one whose cut is a form, each between two that are right.
@@ -78,7 +74,7 @@ static WRONG_FORMS: [[Form; 3]; 2] = [
 #[test]
 fn wrong_forms_are_found(rt: HostRuntime) {
     for forms in &WRONG_FORMS {
-        assert!(rt; first_wrong(forms) == Some(1));
+        assert!(rt; first_wrong(forms, is_so) == Some(1));
     }
 }
 

@@ -9,7 +9,7 @@ ghost use Rattle.x86_decode.specs.Reader.{asks_form, chosen, picked, picked_at, 
 use crate::entry::{GROUPS, OpcodeEntry, Selector, Slot};
 use crate::operation::Op;
 use crate::shape::{RowLayout, Shape};
-use decode_fields::Prefixes;
+use decode_fields::{Prefixes, names_register, reg_field};
 
 #[derive(Clone, Copy)]
 pub(crate) enum Choice {
@@ -55,8 +55,8 @@ fn has_form(layout: RowLayout, modrm: u8) -> bool
     ensures { result ≡ layout_stands layout (modrm ∷ []) }
 {
     match layout {
-        RowLayout::Memory => modrm >> 6 != 3,
-        RowLayout::Register => modrm >> 6 == 3,
+        RowLayout::Memory => !names_register(modrm),
+        RowLayout::Register => names_register(modrm),
         _ => true,
     }
 }
@@ -94,7 +94,7 @@ fn place(by: Selector, prefixes: &Prefixes, modrm: Option<u8>) -> Option<usize>
 {
     match by {
         Selector::Digit => match modrm {
-            Some(byte) => Some((byte >> 3 & 7) as usize),
+            Some(byte) => Some(reg_field(byte) as usize),
             None => None,
         },
         Selector::Size => Some((size(prefixes) / 32) as usize),

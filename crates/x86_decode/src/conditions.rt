@@ -36,58 +36,77 @@ pub struct Conditions {
     pub is_protected: bool,
 }
 
-fn takes_lock(op: Op) -> bool
-    ensures { result ≡ (conditions_of op).takes_lock }
-{
-    match op {
-        Op::Add | Op::Or | Op::Adc | Op::Sbb | Op::And | Op::Sub | Op::Xor => true,
-        Op::Not | Op::Neg | Op::Inc | Op::Dec => true,
-        Op::Xchg | Op::Xadd | Op::Cmpxchg => true,
-        Op::Bts | Op::Btr | Op::Btc => true,
-        _ => false,
-    }
-}
+/// No condition: it may not be locked, runs at each CPL, and loads nothing that is protected.
+const PLAIN: Conditions = Conditions {
+    takes_lock: false,
+    needs_cpl_0: false,
+    undefined: UndefinedWhere::Nowhere,
+    is_protected: false,
+};
 
-fn needs_cpl_0(op: Op) -> bool
-    ensures { result ≡ (conditions_of op).needs_cpl_0 }
-{
-    match op {
-        Op::Cli | Op::Sti | Op::Hlt | Op::In | Op::Out => true,
-        Op::Movfc | Op::Movtc | Op::Movtd | Op::Wrmsr => true,
-        Op::Lldt | Op::Ltr | Op::Lgdt | Op::Lidt | Op::Lmsw | Op::Invlpg => true,
-        _ => false,
-    }
-}
+/// LOCK may stand before it.
+const LOCKABLE: Conditions = Conditions {
+    takes_lock: true,
+    needs_cpl_0: false,
+    undefined: UndefinedWhere::Nowhere,
+    is_protected: false,
+};
 
-fn undefined(op: Op) -> UndefinedWhere
-    ensures { result ≡ (conditions_of op).undefined }
-{
-    match op {
-        Op::Ud2 => UndefinedWhere::Everywhere,
-        Op::Pushfq | Op::Popfq => UndefinedWhere::AtWidth16,
-        Op::Movtd | Op::Wrmsr | Op::Lldt | Op::Ltr | Op::Lgdt | Op::Lmsw => UndefinedWhere::AtCpl0,
-        _ => UndefinedWhere::Nowhere,
-    }
-}
+/// It has no operand size of 16 bits.
+const WIDE: Conditions = Conditions {
+    takes_lock: false,
+    needs_cpl_0: false,
+    undefined: UndefinedWhere::AtWidth16,
+    is_protected: false,
+};
 
-fn is_protected(op: Op) -> bool
-    ensures { result ≡ (conditions_of op).is_protected }
-{
-    match op {
-        Op::Movtc | Op::Movtd | Op::Wrmsr => true,
-        Op::Lldt | Op::Ltr | Op::Lgdt | Op::Lidt | Op::Lmsw => true,
-        _ => false,
-    }
-}
+/// It always raises #UD.
+const UNDEFINED: Conditions = Conditions {
+    takes_lock: false,
+    needs_cpl_0: false,
+    undefined: UndefinedWhere::Everywhere,
+    is_protected: false,
+};
+
+/// It runs at CPL 0 alone.
+const PRIVILEGED: Conditions = Conditions {
+    takes_lock: false,
+    needs_cpl_0: true,
+    undefined: UndefinedWhere::Nowhere,
+    is_protected: false,
+};
+
+/// And it loads what the scan protects.
+const PROTECTED: Conditions = Conditions {
+    takes_lock: false,
+    needs_cpl_0: true,
+    undefined: UndefinedWhere::Nowhere,
+    is_protected: true,
+};
+
+/// And this machine has it in the table of opcodes alone.
+const SPELLED: Conditions = Conditions {
+    takes_lock: false,
+    needs_cpl_0: true,
+    undefined: UndefinedWhere::AtCpl0,
+    is_protected: true,
+};
 
 /// The conditions of an operation, from the pages of the SDM, volume 2.
 pub fn conditions_of(op: Op) -> Conditions
     ensures { result ≡ conditions_of op }
 {
-    Conditions {
-        takes_lock: takes_lock(op),
-        needs_cpl_0: needs_cpl_0(op),
-        undefined: undefined(op),
-        is_protected: is_protected(op),
+    match op {
+        Op::Add | Op::Or | Op::Adc | Op::Sbb | Op::And | Op::Sub | Op::Xor => LOCKABLE,
+        Op::Not | Op::Neg | Op::Inc | Op::Dec => LOCKABLE,
+        Op::Bts | Op::Btr | Op::Btc => LOCKABLE,
+        Op::Xchg | Op::Xadd | Op::Cmpxchg => LOCKABLE,
+        Op::Pushfq | Op::Popfq => WIDE,
+        Op::Ud2 => UNDEFINED,
+        Op::Cli | Op::Sti | Op::Hlt | Op::In | Op::Out => PRIVILEGED,
+        Op::Movfc | Op::Invlpg => PRIVILEGED,
+        Op::Movtc | Op::Lidt => PROTECTED,
+        Op::Movtd | Op::Wrmsr | Op::Lldt | Op::Ltr | Op::Lgdt | Op::Lmsw => SPELLED,
+        _ => PLAIN,
     }
 }

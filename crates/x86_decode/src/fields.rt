@@ -9,7 +9,9 @@ use crate::choice::{rex, size};
 use crate::instruction::Instr;
 use crate::operation::Op;
 use crate::shape::{Number, Operand, RowLayout, Shape, Width};
-use decode_fields::{ModRm, Place, Prefixes, Rep, immediate, modrm};
+use decode_fields::{
+    ModRm, Place, Prefixes, Rep, immediate, modrm, register_by_reg, register_by_rm,
+};
 
 /// The width of a row, in bits.
 pub(crate) fn width(of: Width, prefixes: &Prefixes) -> u8
@@ -106,7 +108,7 @@ fn place_of_byte(rex: Option<u8>, place: Place) -> Place
 fn register_of_opcode(prefixes: &Prefixes, opcode: u8) -> u8
     ensures { result ≡ opcode_register prefixes.now opcode }
 {
-    (opcode & 7) + 8 * (rex(prefixes) & 1)
+    register_by_rm(opcode, rex(prefixes))
 }
 
 /// Where an operand stands.
@@ -151,10 +153,9 @@ fn register_fields(operands: &[u8], rex: u8) -> Option<ModRm>
         return None;
     }
     let byte = operands[0];
-    let reg = (byte >> 3 & 7) + 8 * (rex >> 2 & 1);
     Some(ModRm {
-        reg,
-        place: Place::Reg((byte & 7) + 8 * (rex & 1)),
+        reg: register_by_reg(byte, rex),
+        place: Place::Reg(register_by_rm(byte, rex)),
         length: 1,
     })
 }

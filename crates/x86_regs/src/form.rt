@@ -2,7 +2,8 @@
 
 ghost use Rattle.std.specs.Prelude.{◌≡◌};
 ghost use Rattle.x86_regs.specs.OperandPlans.{instr_form, is_imul, is_nothing};
-ghost use Rattle.x86_regs.specs.OperationForms.{form_of};
+ghost use Rattle.x86_regs.specs.declared.form.Form.TheVariants.{Data, Flow};
+ghost use Rattle.x86_regs.specs.OperationForms.{IsData, IsFlow, form_of};
 
 use decode_fields::Place;
 use x86_decode::{Instr, Op};
@@ -97,6 +98,28 @@ pub fn instr_form(instr: &Instr) -> Form
         Form::Data(DataForm::Multiply)
     } else {
         form_of(instr.op)
+    }
+}
+
+/// The form of an instruction of data.
+pub fn data_form(instr: &Instr) -> DataForm
+    requires row { IsData (instr_form instr.now) }
+    ensures { Data result ≡ instr_form instr.now }
+{
+    match instr_form(instr) {
+        Form::Data(form) => form,
+        Form::Flow(_) => unreachable!(),
+    }
+}
+
+/// The form of an instruction of flow.
+pub fn flow_form(instr: &Instr) -> FlowForm
+    requires row { IsFlow (instr_form instr.now) }
+    ensures { Flow result ≡ instr_form instr.now }
+{
+    match instr_form(instr) {
+        Form::Flow(form) => form,
+        Form::Data(_) => unreachable!(),
     }
 }
 

@@ -3,7 +3,7 @@
 use super::changes::Change::{Flush, MapAll, Put, ReadPages, Start};
 use super::steps::Step::{Check, Commit, Fetch, Holds, Keeps, Lend, Load, Refuse, Set, Store};
 use super::steps::Width::{Eight, Four, One, Two};
-use super::steps::first_wrong;
+use super::steps::wrong_step;
 use super::{ABSENT, ALL, READ_ONLY};
 use mem_access::AccessFault::{NonCanonical, Page};
 use mem_access::Target;
@@ -36,7 +36,7 @@ fn instructions_are_fetched_from_their_page(rt: HostRuntime) {
         Lend(3, 0x1234, Err(Page { code: 0x14, address: 0x1234 })),
         Lend(3, 0x8000_0000_0000, Err(NonCanonical)),
     ];
-    assert_eq!(rt; first_wrong(rt.alloc(), steps), None);
+    assert_eq!(rt; wrong_step(rt.alloc(), steps), None);
 }
 
 /// Stores on one page and over its end.
@@ -70,7 +70,7 @@ fn stores_change_their_own_bytes_alone(rt: HostRuntime) {
         Load(3, 0x13, Two, Ok(0x3456)),
         Load(3, 0x16, One, Ok(0xFF)),
     ];
-    assert_eq!(rt; first_wrong(rt.alloc(), steps), None);
+    assert_eq!(rt; wrong_step(rt.alloc(), steps), None);
 }
 
 /// Page 1 is absent, then it may be read alone, and then it is the supervisor's; the same twice,
@@ -96,7 +96,7 @@ fn second_page_refuses_each_crossing_store(rt: HostRuntime) {
         Refuse(3, Two, true, 7, 1),
         Refuse(3, Eight, true, 7, 7),
     ];
-    assert_eq!(rt; first_wrong(rt.alloc(), steps), None);
+    assert_eq!(rt; wrong_step(rt.alloc(), steps), None);
 }
 
 /// Accesses at the ends of both halves of the addresses.
@@ -126,7 +126,7 @@ fn addresses_wrap_and_are_canonical(rt: HostRuntime) {
         Fetch(0, 0xFFFF_7FFF_FFFF_FFFF, Err(NonCanonical)),
         Fetch(0, 0xFFFF_8000_0000_0000, Err(Page { code: 0x10, address: 0xFFFF_8000_0000_0000 })),
     ];
-    assert_eq!(rt; first_wrong(rt.alloc(), steps), None);
+    assert_eq!(rt; wrong_step(rt.alloc(), steps), None);
 }
 
 /// What is kept counts, whatever memory holds, until a fault or a fill drops it.
@@ -157,5 +157,5 @@ fn translations_are_used_until_they_go(rt: HostRuntime) {
         Holds(0x1FF8, 0x2211_0000_0000_1007),
         Holds(0x1000, 0x8877_6655_4433),
     ];
-    assert_eq!(rt; first_wrong(rt.alloc(), steps), None);
+    assert_eq!(rt; wrong_step(rt.alloc(), steps), None);
 }

@@ -4,8 +4,9 @@ ghost use Rattle.std.specs.Prelude.{◌≡◌, ◌<◌, length};
 ghost use Rattle.nk_bits.specs.Translations.{NamesFramesIn};
 
 use super::steps::Width;
-use super::{CONTROL, load, start};
+use super::{load, start};
 use mem_access::put_kept;
+use memory_kit::CONTROL;
 use nk_bits::{Leaf, Rights, Upper, named_law};
 use phys_mem::PhysMem;
 use tlb_model::Tlb;

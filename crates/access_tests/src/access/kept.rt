@@ -4,7 +4,7 @@ use super::ALL;
 use super::changes::Change::{KeepTable, Put, Start};
 use super::steps::Step::{Load, Set, Store};
 use super::steps::Width::{Eight, One};
-use super::steps::first_wrong;
+use super::steps::wrong_step;
 use mem_access::AccessFault::Page;
 
 /// An entry of level 2 is kept, and the walks of pages 0 to 2 begin at it.
@@ -28,5 +28,5 @@ fn kept_entry_serves_until_a_fault(rt: HostRuntime) {
         Store(3, 0x10, Eight, 5, Err(Page { code: 7, address: 0x10 })),
         Store(3, 0x10, Eight, 5, Ok(())),
     ];
-    assert_eq!(rt; first_wrong(rt.alloc(), steps), None);
+    assert_eq!(rt; wrong_step(rt.alloc(), steps), None);
 }

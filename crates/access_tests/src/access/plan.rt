@@ -9,10 +9,11 @@ ghost use Rattle.page_walk.specs.AccessPlans.{IsSource, IsSized, IsAccessPlan};
 use super::changes::Change::{Put, Start};
 use super::steps::Step::{CheckSpan, Gather, Keeps, Set};
 use super::steps::Width::{Eight, Four, One};
-use super::steps::{Width, first_wrong};
-use super::{ALL, CONTROL, READ_ONLY};
+use super::steps::{Width, wrong_step};
+use super::{ALL, READ_ONLY};
 use mem_access::AccessFault::{NonCanonical, Page};
 use mem_access::{AccessPlan, Gathered, Origin, Span, SpanFault, Target, check_span, gather};
+use memory_kit::CONTROL;
 use phys_mem::PhysMem;
 use tlb_model::Tlb;
 
@@ -148,7 +149,7 @@ fn first_fault_in_order_counts(rt: HostRuntime) {
         Keeps(0, true),
         Keeps(1, false),
     ];
-    assert_eq!(rt; first_wrong(rt.alloc(), steps), None);
+    assert_eq!(rt; wrong_step(rt.alloc(), steps), None);
 }
 
 /// Plans that ask little or nothing of memory, and checks of a write.
@@ -181,5 +182,5 @@ fn each_access_is_its_own(rt: HostRuntime) {
             Err(SpanFault { fault: NonCanonical, stack: false })),
         CheckSpan(3, Data(0xFF8, Eight), Ok(Some(Target { first: 0x8FF8, second: 0 }))),
     ];
-    assert_eq!(rt; first_wrong(rt.alloc(), steps), None);
+    assert_eq!(rt; wrong_step(rt.alloc(), steps), None);
 }

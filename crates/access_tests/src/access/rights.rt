@@ -5,9 +5,11 @@ ghost use Rattle.nk_bits.specs.Translations.{NamesFramesIn};
 
 use super::{fetch_byte, load, memory, start, store};
 use mem_access::Control;
+use memory_kit::CONTROL;
 use nk_bits::Access;
 use phys_mem::PhysMem;
 use std::alloc::Global;
+use test_kit::first_wrong;
 use tlb_model::Tlb;
 
 /// CR0 and CR4, and what is served with them: a row of page rights, each with reads, writes and
@@ -66,8 +68,9 @@ fn served(mem: &mut PhysMem, tlb: &mut Tlb, control: &Control, leaf: u64) -> u8
     16 * read + 4 * write + fetch
 }
 
-/// Whether each leaf serves so with these control registers. Want of memory is no.
-fn is_right(alloc: Global, cr0: u64, cr4: u64, row: &[u8; 8]) -> bool {
+/// Whether each leaf serves so with its control registers. Want of memory is no.
+fn is_right(alloc: Global, setting: &Served) -> bool {
+    let (cr0, cr4, row) = *setting;
     let Ok(mut mem) = memory(alloc) else {
         return false;
     };
@@ -77,27 +80,15 @@ fn is_right(alloc: Global, cr0: u64, cr4: u64, row: &[u8; 8]) -> bool {
     start(&mut mem, 0, 0);
     let control = Control {
         cr0,
-        cr2: 0,
-        root: 1,
         cr4,
-        efer: 0xD00,
+        ..CONTROL
     };
-    for (leaf, wanted) in LEAVES.iter().zip(row) {
+    for (leaf, wanted) in LEAVES.iter().zip(&row) {
         if served(&mut mem, &mut tlb, &control, *leaf) != *wanted {
             return false;
         }
     }
     true
-}
-
-/// The index of the first row that isn't right.
-fn first_wrong(alloc: Global, rows: &[Served]) -> Option<usize> {
-    for (index, (cr0, cr4, row)) in rows.iter().enumerate() {
-        if !is_right(alloc, *cr0, *cr4, row) {
-            return Some(index);
-        }
-    }
-    None
 }
 
 /// CR0 has PG and PE, and WP or not; CR4 has PAE, and SMEP or not.
@@ -114,7 +105,7 @@ fn rights_serve_as_the_manual_lists_them(rt: HostRuntime) {
         (0x8001_0001, 0x10_0020,
             [0b100000, 0b100010, 0b110000, 0b110001, 0b101000, 0b101010, 0b111100, 0b111101]),
     ];
-    assert_eq!(rt; first_wrong(rt.alloc(), rows), None);
+    assert_eq!(rt; first_wrong(rows, |row| is_right(rt.alloc(), row)), None);
 }
 
 /// In the second row the supervisor writes, with WP set, to a page of the user's that isn't
@@ -130,5 +121,5 @@ fn wrong_row_is_found(rt: HostRuntime) {
         (0x8001_0001, 0x20,
             [0b100000, 0b100010, 0b110000, 0b110011, 0b101000, 0b101010, 0b111100, 0b111111]),
     ];
-    assert_eq!(rt; first_wrong(rt.alloc(), rows), Some(1));
+    assert_eq!(rt; first_wrong(rows, |row| is_right(rt.alloc(), row)), Some(1));
 }

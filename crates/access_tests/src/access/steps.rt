@@ -7,11 +7,13 @@ ghost use Rattle.nk_bits.specs.Translations.{NamesFramesIn};
 use super::changes::{Change, is_changed};
 use super::plan::{Operand, Plan, is_checked, is_gathered};
 use super::window::{Question, are_answered};
-use super::{ALL, CONTROL, WITHOUT_WP, check_store, commit, fetch_byte, load, memory, store};
+use super::{ALL, WITHOUT_WP, check_store, commit, fetch_byte, load, memory, store};
 use mem_access::{AccessFault, Gathered, SpanFault, Target, kept_number, page_bytes};
+use memory_kit::CONTROL;
 use nk_bits::Control;
 use phys_mem::PhysMem;
 use std::alloc::Global;
+use test_kit::first_wrong;
 use tlb_model::Tlb;
 
 /// The bytes of an access.
@@ -70,20 +72,31 @@ impl Width {
     }
 }
 
-/// The index of the first step that gives something else. Want of memory fails at 0.
-pub fn first_wrong(alloc: Global, steps: &[Step]) -> Option<usize> {
-    let Ok(mut mem) = memory(alloc) else {
-        return Some(0);
-    };
-    let Ok(mut tlb) = Tlb::new(alloc) else {
-        return Some(0);
-    };
-    for (index, step) in steps.iter().enumerate() {
-        if !is_met(&mut mem, &mut tlb, step) {
-            return Some(index);
-        }
+/// A memory of sixteen frames, and the translations that are kept of it.
+#[derive(Drop)]
+struct Small {
+    mem: PhysMem,
+    tlb: Tlb,
+    ghost sized: { length mem ≡ 65536 },
+    ghost frames: { NamesFramesIn 65536 tlb },
+}
+
+impl Small {
+    fn is_met(&mut self, step: &Step) -> bool {
+        is_met(&mut self.mem, &mut self.tlb, step)
     }
-    None
+}
+
+/// The index of the first step that gives something else. Want of memory fails at 0.
+pub fn wrong_step(alloc: Global, steps: &[Step]) -> Option<usize> {
+    let Ok(mem) = memory(alloc) else {
+        return Some(0);
+    };
+    let Ok(tlb) = Tlb::new(alloc) else {
+        return Some(0);
+    };
+    let mut small = Small { mem, tlb };
+    first_wrong(steps, |step| small.is_met(step))
 }
 
 /// Whether a step gives what it is to give.
@@ -202,7 +215,7 @@ fn wrong_step_is_found(rt: HostRuntime) {
         Step::Holds(0x8000, 1),
         Step::Holds(0x8000, 0),
     ];
-    assert_eq!(rt; first_wrong(rt.alloc(), steps), Some(1));
+    assert_eq!(rt; wrong_step(rt.alloc(), steps), Some(1));
     let steps = &[
         Step::Set(Change::Start(ALL, ALL)),
         Step::Load(3, 0, Width::One, Ok(0)),
@@ -213,5 +226,5 @@ fn wrong_step_is_found(rt: HostRuntime) {
         ]),
         Step::Holds(0x8000, 0),
     ];
-    assert_eq!(rt; first_wrong(rt.alloc(), steps), Some(2));
+    assert_eq!(rt; wrong_step(rt.alloc(), steps), Some(2));
 }

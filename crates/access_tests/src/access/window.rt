@@ -7,7 +7,7 @@ ghost use Rattle.mem_access.specs.Windows.{IsWindow};
 use super::changes::Change::{KeepPage, Put, PutKept, Start};
 use super::steps::Step::{Ask, Holds, HoldsKept, Load, Set};
 use super::steps::Width::{Eight, Four, One, Two};
-use super::steps::{Width, first_wrong};
+use super::steps::{Width, wrong_step};
 use super::{ALL, READ_ONLY};
 use mem_access::{Window, kept_frame};
 use nk_bits::{Access, Control};
@@ -123,5 +123,5 @@ fn places_on_pages_that_are_kept(rt: HostRuntime) {
         HoldsKept(0x8013, Two, 0x3456),
         HoldsKept(0x8010, Eight, 0xFFFF_1234_5678_FFFF),
     ];
-    assert_eq!(rt; first_wrong(rt.alloc(), steps), None);
+    assert_eq!(rt; wrong_step(rt.alloc(), steps), None);
 }

@@ -3,6 +3,7 @@
 
 use nk_bits::{Leaf, Rights, Upper};
 use std::alloc::Global;
+use test_kit::{first_wrong, first_wrong_case};
 use tlb_model::Tlb;
 
 /// A call, or several, and what it is to give. Levels are 2 to 4.
@@ -59,25 +60,15 @@ fn upper(frame: u32) -> Upper {
 
 /// The first case, and in it the first step, that gives something else; each case begins with
 /// nothing kept. Want of memory fails at the case's first step.
-pub fn first_wrong(alloc: Global, cases: &[&[Step]]) -> Option<(usize, usize)> {
-    for (index, steps) in cases.iter().enumerate() {
-        if let Some(step) = first_wrong_step(alloc, steps) {
-            return Some((index, step));
-        }
-    }
-    None
+pub fn wrong_case(alloc: Global, cases: &[&[Step]]) -> Option<(usize, usize)> {
+    first_wrong_case(cases, |steps| wrong_step(alloc, steps))
 }
 
-fn first_wrong_step(alloc: Global, steps: &[Step]) -> Option<usize> {
+fn wrong_step(alloc: Global, steps: &[Step]) -> Option<usize> {
     let Ok(mut tlb) = Tlb::new(alloc) else {
         return Some(0);
     };
-    for (index, step) in steps.iter().enumerate() {
-        if !is_met(&mut tlb, step) {
-            return Some(index);
-        }
-    }
-    None
+    first_wrong(steps, |step| is_met(&mut tlb, step))
 }
 
 /// Whether a step gives what it is to give; a step of another level doesn't.

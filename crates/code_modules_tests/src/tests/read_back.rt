@@ -1,9 +1,10 @@
 //! A joined image read back.
 
-use super::{CODE, DIRECTORY, HALT, HOME, Source, image, joined};
+use super::{CODE, DIRECTORY, HALT, Source, image, joined};
 use elf_image::Image;
 use std::alloc::{AllocError, Global};
 use std::test::Fail;
+use test_kit::HOME;
 
 /// An image of one page of code and two of data.
 const OWN: Source = (&[CODE, (6, 4097, HOME + 0x3001, 5, 0x1800)], 2, HALT);

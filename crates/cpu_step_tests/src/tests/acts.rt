@@ -4,7 +4,7 @@ use super::after::Change::{Cr0, Cr2, Cr4, Flags, Gates, Halted, Register, Root, 
 use super::after::Leaves::{Changed, Console, Delivered, Ran};
 use super::after::Start::{Supervisor, SupervisorBut};
 use super::cases::Step::{Begins, Kept, Looks, Takes, Turn};
-use super::cases::{Row, Step, first_failing, first_wrong};
+use super::cases::{Row, Step, first_failing, wrong_row};
 use super::events::CODE;
 use irq_plan::What;
 use nk_bits::Leaf;
@@ -25,7 +25,7 @@ fn ports(rt: HostRuntime) {
         (Supervisor, b"\xE4\xEB", Changed(2, &[Register(RAX, 1)])),
         (Supervisor, b"\xE4\xE9", Changed(2, &[Register(RAX, 0xFF)])),
     ];
-    assert_eq!(rt; first_wrong(rt.alloc(), rows), None);
+    assert_eq!(rt; wrong_row(rt.alloc(), rows), None);
 }
 
 /// HLT; STI where IF is clear and where it is set; CLI.
@@ -41,7 +41,7 @@ fn halt_and_shield(rt: HostRuntime) {
             Changed(1, &[Flags(2)]),
         ),
     ];
-    assert_eq!(rt; first_wrong(rt.alloc(), rows), None);
+    assert_eq!(rt; wrong_row(rt.alloc(), rows), None);
 }
 
 /// MOV to CR0, CR2, CR3 and CR4 from RAX, where CR0 keeps PE, WP, NW, CD and PG; MOV of CR3 to RAX; and LIDT from RBX,
@@ -95,7 +95,7 @@ fn control_registers_and_gates(rt: HostRuntime) {
             Changed(3, &[Gates(0x11_2233_4455, 0x6677)]),
         ),
     ];
-    assert_eq!(rt; first_wrong(rt.alloc(), rows), None);
+    assert_eq!(rt; wrong_row(rt.alloc(), rows), None);
 }
 
 /// INVLPG at RBX drops the translation of page 1, and each upper entry, also one of the kernel slot's pages.

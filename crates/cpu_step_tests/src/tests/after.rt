@@ -9,10 +9,7 @@ pub(super) const RBX: u8 = 3;
 
 pub(super) const CONTROL: Control = Control {
     cr0: 0x8001_0001,
-    cr2: 0,
-    root: 1,
-    cr4: 0x10_0020,
-    efer: 0xD00,
+    ..memory_kit::CONTROL
 };
 
 /// The last gate is that of vector 47.

@@ -11,6 +11,7 @@ use irq_plan::What;
 use nk_bits::{Leaf, Rights, Upper, canonical};
 use phys_mem::PhysMem;
 use std::alloc::Global;
+use test_kit::first_wrong;
 use x86_regs::RSP;
 
 /// One turn: where it begins, the code from addresses 0 and 6000 on, and what the turn leaves.
@@ -51,42 +52,33 @@ pub(super) enum Step {
 }
 
 /// The index of the first row whose turn leaves something else.
-pub(super) fn first_wrong(alloc: Global, rows: &[Row]) -> Option<usize> {
-    for (index, (start, code, leaves)) in rows.iter().enumerate() {
-        if !is_turn_right(alloc, start, code, leaves) {
-            return Some(index);
-        }
-    }
-    None
+pub(super) fn wrong_row(alloc: Global, rows: &[Row]) -> Option<usize> {
+    first_wrong(
+        rows,
+        |(start, code, leaves)| is_turn_right(alloc, start, code, leaves),
+    )
 }
 
 /// The index of the first code of which a turn from one place leaves something else.
-pub(super) fn first_other(
+pub(super) fn wrong_code(
     alloc: Global,
     start: &Start,
     leaves: &Leaves,
     codes: &[&[u8]],
 ) -> Option<usize> {
-    for (index, code) in codes.iter().enumerate() {
-        if !is_turn_right(alloc, start, code, leaves) {
-            return Some(index);
-        }
-    }
-    None
+    first_wrong(codes, |code| is_turn_right(alloc, start, code, leaves))
 }
 
 /// The index of the first code at the user's address 6008 of which the turn behind an IRETQ to there leaves something else.
-pub(super) fn first_other_behind_iretq(
+pub(super) fn wrong_code_behind_iretq(
     alloc: Global,
     leaves: &Leaves,
     codes: &[&[u8]],
 ) -> Option<usize> {
-    for (index, code) in codes.iter().enumerate() {
-        if !is_turn_right_behind_iretq(alloc, code, leaves) {
-            return Some(index);
-        }
-    }
-    None
+    first_wrong(
+        codes,
+        |code| is_turn_right_behind_iretq(alloc, code, leaves),
+    )
 }
 
 /// Whether an IRETQ of the supervisor goes to the code at the user's address 6008, and the turn there leaves this.

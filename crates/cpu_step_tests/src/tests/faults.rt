@@ -5,7 +5,7 @@ use super::after::Leaves::{Delivered, Exactly, PageFault, Shutdown};
 use super::after::Start::{Supervisor, SupervisorBut, User, UserBut};
 use super::after::{After, CONTROL, RBX, TABLES};
 use super::cases::Step::{Begins, Holds, Put, Store, Turn};
-use super::cases::{Row, Step, first_failing, first_wrong};
+use super::cases::{Row, Step, first_failing, wrong_row};
 use cpu_step::Stepped;
 use nk_bits::{Control, Delivery};
 use x86_regs::{RCX, RSP, Regs};
@@ -72,7 +72,7 @@ fn told_in_full(rt: HostRuntime) {
             Exactly(PAGE_FAULT_OF_THE_SUPERVISOR),
         ),
     ];
-    assert_eq!(rt; first_wrong(rt.alloc(), rows), None);
+    assert_eq!(rt; wrong_row(rt.alloc(), rows), None);
 }
 
 /// div ecx; UD2; LOCK NOP; bytes that begin nothing. Addresses that aren't canonical: push rax; mov eax, [rbx]; jmp rbx; a
@@ -114,7 +114,7 @@ fn faults(rt: HostRuntime) {
             Delivered(13, Some(0)),
         ),
     ];
-    assert_eq!(rt; first_wrong(rt.alloc(), rows), None);
+    assert_eq!(rt; wrong_row(rt.alloc(), rows), None);
 }
 
 /// The code of a page fault: present (bit 0), a write (1), at CPL 3 (2), of a fetch (4). A push that reaches page 2; mov
@@ -151,7 +151,7 @@ fn codes_of_page_faults(rt: HostRuntime) {
             PageFault(0x11, 0x6000),
         ),
     ];
-    assert_eq!(rt; first_wrong(rt.alloc(), rows), None);
+    assert_eq!(rt; wrong_row(rt.alloc(), rows), None);
 }
 
 /// mov eax, 44332211 whose last byte would lie on page 1, which isn't executed: the fault's address is that byte's. HLT at

@@ -4,7 +4,7 @@ use super::after::Change::{Flags, Halted, Register, Rip};
 use super::after::Leaves::{Changed, Delivered, PageFault, Ran};
 use super::after::Start::{Supervisor, SupervisorBut};
 use super::cases::Step::{Begins, Put, Turn};
-use super::cases::{Row, Step, first_failing, first_wrong};
+use super::cases::{Row, Step, first_failing, wrong_row};
 use x86_regs::RAX;
 
 /// One byte; seven; ten; fourteen prefix bytes and NOP; fifteen prefix bytes; bytes that begin nothing.
@@ -35,7 +35,7 @@ fn lengths(rt: HostRuntime) {
         (Supervisor, b"\x64", Delivered(6, None)),
         (Supervisor, b"\x0F\x01\xD8", Delivered(6, None)),
     ];
-    assert_eq!(rt; first_wrong(rt.alloc(), rows), None);
+    assert_eq!(rt; wrong_row(rt.alloc(), rows), None);
 }
 
 /// An instruction that ends with its page needs no other page; one that goes on faults at the next page's first byte, and

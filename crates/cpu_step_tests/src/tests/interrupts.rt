@@ -5,7 +5,7 @@ use super::after::Leaves::{Changed, Delivered, Exactly, Shutdown, Trapped};
 use super::after::Start::{Supervisor, User};
 use super::after::{After, CONTROL, TABLES};
 use super::cases::Step::{Begins, Store, Turn};
-use super::cases::{Row, Step, first_failing, first_wrong};
+use super::cases::{Row, Step, first_failing, wrong_row};
 use cpu_step::Stepped;
 use nk_bits::{Control, Delivery};
 use x86_regs::Regs;
@@ -19,7 +19,7 @@ fn allowed(rt: HostRuntime) {
         (User, b"\xCC", Trapped(3, 0x6001)),
         (User, b"\xCD\x2F", Trapped(47, 0x6002)),
     ];
-    assert_eq!(rt; first_wrong(rt.alloc(), rows), None);
+    assert_eq!(rt; wrong_row(rt.alloc(), rows), None);
 }
 
 /// INT 32 and INT 13 at CPL 3: #GP is delivered in their place, and RIP is theirs. INT 48 and INT 255, at either CPL; INT
@@ -34,7 +34,7 @@ fn refused(rt: HostRuntime) {
         (Supervisor, b"\xCD\x2F", Trapped(47, 2)),
         (Supervisor, b"\xF0\xCC", Delivered(6, None)),
     ];
-    assert_eq!(rt; first_wrong(rt.alloc(), rows), None);
+    assert_eq!(rt; wrong_row(rt.alloc(), rows), None);
 }
 
 /// What INT 14 leaves at address 3, where CR2 is 41.

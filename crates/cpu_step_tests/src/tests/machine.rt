@@ -5,6 +5,7 @@ ghost use Rattle.cpu_step.specs.Processor.{IsSound};
 
 use super::after::After;
 use cpu_step::{Cpu, Stepped};
+use memory_kit::{memory_with, store_word, store_words};
 use phys_mem::{NoMemory, PhysMem};
 use std::alloc::Global;
 
@@ -44,30 +45,9 @@ const GATES: [(u64, u64); 11] = [
 pub(super) fn memory(alloc: Global) -> Result<PhysMem, NoMemory>
     ensures { IfOk result (λ mem. length mem ≡ 40960) }
 {
-    let mut mem = PhysMem::new(alloc, 10)?;
-    store_all(&mut mem, &PAGES);
-    store_all(&mut mem, &GATES);
+    let mut mem = memory_with(alloc, 10, &PAGES)?;
+    store_words(&mut mem, &GATES);
     Ok(mem)
-}
-
-/// Stores numbers of eight bytes, each at its place.
-fn store_all(mem: &mut PhysMem, words: &[(u64, u64)])
-    requires { length mem.old ≡ 40960 }
-    ensures { length mem.new ≡ 40960 }
-{
-    for (at, word) in words {
-        store(mem, *at, *word);
-    }
-}
-
-/// Stores a number of eight bytes; nothing behind the end.
-fn store(mem: &mut PhysMem, at: u64, word: u64)
-    requires { length mem.old ≡ 40960 }
-    ensures { length mem.new ≡ 40960 }
-{
-    if at <= 40952 {
-        mem.store64(at, word);
-    }
 }
 
 /// Stores numbers of eight bytes one behind the other.
@@ -77,7 +57,7 @@ pub(super) fn store_run(mem: &mut PhysMem, from: u64, words: &[u64])
 {
     let mut at = from;
     for word in words {
-        store(mem, at, *word);
+        store_word(mem, at, *word);
         at = at.saturating_add(8);
     }
 }

@@ -5,7 +5,7 @@ use super::after::Change::{Flags, Register};
 use super::after::Leaves::{Changed, Delivered, Ran, Trapped};
 use super::after::RBX;
 use super::after::Start::{Supervisor, User, UserBut};
-use super::cases::{Row, first_other, first_other_behind_iretq, first_wrong};
+use super::cases::{Row, wrong_code, wrong_code_behind_iretq, wrong_row};
 use x86_regs::{RCX, RDI, RDX, RSI, RSP};
 
 /// HLT, CLI, STI; IN and OUT of AL by a number and by DX. MOV of RAX from and to CR0, CR2, CR3 and CR4; LGDT, LIDT and
@@ -39,7 +39,7 @@ static SYSTEM: [&[u8]; 23] = [
 #[test]
 fn refused(rt: HostRuntime) {
     let fault = Delivered(13, Some(0));
-    assert_eq!(rt; first_other(rt.alloc(), &User, &fault, &SYSTEM), None);
+    assert_eq!(rt; wrong_code(rt.alloc(), &User, &fault, &SYSTEM), None);
 }
 
 /// Where CPL 3 was entered by IRETQ they are refused too; NOP isn't, nor is INT3, whose gate is open.
@@ -47,17 +47,17 @@ fn refused(rt: HostRuntime) {
 fn refused_behind_iretq(rt: HostRuntime) {
     let fault = Delivered(13, Some(0));
     let lawful: &[&[u8]] = &[b"\xF4", b"\x90"];
-    assert_eq!(rt; first_other_behind_iretq(rt.alloc(), &fault, &SYSTEM), None);
+    assert_eq!(rt; wrong_code_behind_iretq(rt.alloc(), &fault, &SYSTEM), None);
     assert_eq!(rt;
-        first_other_behind_iretq(rt.alloc(), &fault, lawful),
+        wrong_code_behind_iretq(rt.alloc(), &fault, lawful),
         Some(1)
     );
     assert_eq!(rt;
-        first_other_behind_iretq(rt.alloc(), &Ran(0x6009), &lawful[1..]),
+        wrong_code_behind_iretq(rt.alloc(), &Ran(0x6009), &lawful[1..]),
         None
     );
     assert_eq!(rt;
-        first_other_behind_iretq(rt.alloc(), &Trapped(3, 0x6009), &[b"\xCC"]),
+        wrong_code_behind_iretq(rt.alloc(), &Trapped(3, 0x6009), &[b"\xCC"]),
         None
     );
 }
@@ -76,9 +76,9 @@ fn undefined(rt: HostRuntime) {
         b"\x0F\x01\x13",
     ];
     let fault = Delivered(6, None);
-    assert_eq!(rt; first_other(rt.alloc(), &User, &fault, user), None);
+    assert_eq!(rt; wrong_code(rt.alloc(), &User, &fault, user), None);
     assert_eq!(rt;
-        first_other(rt.alloc(), &Supervisor, &fault, supervisor),
+        wrong_code(rt.alloc(), &Supervisor, &fault, supervisor),
         None
     );
 }
@@ -113,5 +113,5 @@ fn interrupt_flag_of_the_user(rt: HostRuntime) {
             Changed(0x6001, &[Register(RSP, 0x7018), Flags(0x457)]),
         ),
     ];
-    assert_eq!(rt; first_wrong(rt.alloc(), rows), None);
+    assert_eq!(rt; wrong_row(rt.alloc(), rows), None);
 }

@@ -5,7 +5,7 @@ use super::after::Leaves::{Changed, Ran};
 use super::after::RBX;
 use super::after::Start::Supervisor;
 use super::cases::Step::{Begins, Store, Turn};
-use super::cases::{Row, Step, first_failing, first_other, first_wrong};
+use super::cases::{Row, Step, first_failing, wrong_code, wrong_row};
 use x86_regs::RSP;
 
 /// A row that is wrong in its registers alone is found between right ones, and so is one that is wrong in its size, and a
@@ -17,16 +17,16 @@ fn wrong_row_is_found(rt: HostRuntime) {
         (Supervisor, b"\x90", Changed(1, &[Register(RBX, 0)])),
         (Supervisor, b"\x90", Ran(1)),
     ];
-    assert_eq!(rt; first_wrong(rt.alloc(), registers), Some(1));
+    assert_eq!(rt; wrong_row(rt.alloc(), registers), Some(1));
     let size: &[Row] = &[
         (Supervisor, b"\x90", Ran(1)),
         (Supervisor, b"\x90", Ran(2)),
         (Supervisor, b"\x90", Ran(1)),
     ];
-    assert_eq!(rt; first_wrong(rt.alloc(), size), Some(1));
+    assert_eq!(rt; wrong_row(rt.alloc(), size), Some(1));
     let codes: &[&[u8]] = &[b"\x90", b"\xF4", b"\x90"];
     assert_eq!(rt;
-        first_other(rt.alloc(), &Supervisor, &Ran(1), codes),
+        wrong_code(rt.alloc(), &Supervisor, &Ran(1), codes),
         Some(1)
     );
 }

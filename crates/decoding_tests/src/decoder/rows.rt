@@ -186,7 +186,7 @@ fn is_right(row: &[u8]) -> bool {
 }
 
 /// The place among a table's lines, from 0 on, of the first row that isn't right.
-pub(super) fn first_wrong(table: &[u8]) -> Option<usize> {
+pub(super) fn first_wrong_line(table: &[u8]) -> Option<usize> {
     for (line, row) in table.split(|byte| *byte == b'\n').enumerate() {
         if row.first() != Some(&b'#') && !row.is_empty() && !is_right(row) {
             return Some(line);
@@ -214,7 +214,7 @@ fn wrong_rows_are_found(rt: HostRuntime) {
 #[test]
 fn first_of_the_wrong_rows_is_found(rt: HostRuntime) {
     assert_eq!(rt;
-        first_wrong(b"# NOP\n90 = NOP 64 - -\n90 = CMC 64 - -\n90 = Short\n"),
+        first_wrong_line(b"# NOP\n90 = NOP 64 - -\n90 = CMC 64 - -\n90 = Short\n"),
         Some(2)
     );
 }

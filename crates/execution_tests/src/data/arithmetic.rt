@@ -1,7 +1,7 @@
 //! Results and flags of arithmetic (SDM volume 1, 3.4.3, and the instructions' pages of volume 2).
 
 use super::rows::After::{Faults, Goes};
-use super::rows::{FLAGS, Row, first_wrong};
+use super::rows::{FLAGS, Row, wrong_row};
 use x86_regs::{Fault, RAX, RCX, RDX};
 
 /// Sums, logic, products, quotients, shifts, rotations, and single bits and flags.
@@ -140,5 +140,5 @@ static ARITHMETIC: [Row; 41] = [
 
 #[test]
 fn arithmetic(rt: HostRuntime) {
-    assert_eq!(rt; first_wrong(rt.alloc(), &ARITHMETIC), None);
+    assert_eq!(rt; wrong_row(rt.alloc(), &ARITHMETIC), None);
 }

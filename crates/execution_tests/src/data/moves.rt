@@ -2,7 +2,7 @@
 //! XADD, CMPXCHG, CBW).
 
 use super::rows::After::Goes;
-use super::rows::{FLAGS, Row, first_wrong};
+use super::rows::{FLAGS, Row, wrong_row};
 use x86_regs::{RAX, RCX, RDX};
 
 /// Moves, also by a condition, exchanges and extensions.
@@ -86,5 +86,5 @@ static MOVES: [Row; 21] = [
 
 #[test]
 fn moves(rt: HostRuntime) {
-    assert_eq!(rt; first_wrong(rt.alloc(), &MOVES), None);
+    assert_eq!(rt; wrong_row(rt.alloc(), &MOVES), None);
 }

@@ -2,7 +2,7 @@
 //! PUSH, POP, LEAVE).
 
 use super::rows::After::{Faults, Goes, Writes};
-use super::rows::{Row, first_wrong};
+use super::rows::{Row, wrong_row};
 use x86_regs::{Fault, RAX, RBP, RSP};
 
 /// Operands that registers point to, their faults, and the stack.
@@ -122,5 +122,5 @@ static OPERANDS: [Row; 21] = [
 
 #[test]
 fn operands(rt: HostRuntime) {
-    assert_eq!(rt; first_wrong(rt.alloc(), &OPERANDS), None);
+    assert_eq!(rt; wrong_row(rt.alloc(), &OPERANDS), None);
 }

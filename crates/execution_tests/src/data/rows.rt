@@ -3,6 +3,7 @@
 use super::{REGS, run};
 use nk_bits::Target;
 use std::alloc::Global;
+use test_kit::first_wrong;
 use x86_regs::{Act, Effect, Fault, RAX, Regs, Write, with_register};
 
 /// The flags, among the numbers of registers.
@@ -25,18 +26,18 @@ pub(crate) enum After {
 /// An instruction's bytes, what is set before it, and what it does.
 pub(crate) type Row = (&'static [u8], Settings, After);
 
+/// Whether a row's instruction has its effect.
+fn is_right(alloc: Global, (bytes, settings, after): &Row) -> bool {
+    let Some(before) = with_all(&REGS, settings) else {
+        return false;
+    };
+    let expected = outcome(&before, after);
+    expected.is_some() && run(alloc, bytes, &before) == expected
+}
+
 /// The index of the first row whose instruction has another effect.
-pub(crate) fn first_wrong(alloc: Global, rows: &[Row]) -> Option<usize> {
-    for (index, (bytes, settings, after)) in rows.iter().enumerate() {
-        let Some(before) = with_all(&REGS, settings) else {
-            return Some(index);
-        };
-        let expected = outcome(&before, after);
-        if expected.is_none() || run(alloc, bytes, &before) != expected {
-            return Some(index);
-        }
-    }
-    None
+pub(crate) fn wrong_row(alloc: Global, rows: &[Row]) -> Option<usize> {
+    first_wrong(rows, |row| is_right(alloc, row))
 }
 
 /// What these registers give; None where a setting has no register.
@@ -128,6 +129,6 @@ static WRONG: [Row; 7] = [
 #[test]
 fn wrong_rows_are_found(rt: HostRuntime) {
     for wrong in &WRONG {
-        assert_eq!(rt; first_wrong(rt.alloc(), &[RIGHT, *wrong, RIGHT]), Some(1));
+        assert_eq!(rt; wrong_row(rt.alloc(), &[RIGHT, *wrong, RIGHT]), Some(1));
     }
 }

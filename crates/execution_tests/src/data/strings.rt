@@ -2,7 +2,7 @@
 //! STOS, LODS, SCAS).
 
 use super::rows::After::{Faults, Goes, Writes};
-use super::rows::{FLAGS, Row, first_wrong};
+use super::rows::{FLAGS, Row, wrong_row};
 use x86_regs::{Fault, RAX, RCX, RDI, RSI};
 
 /// Moves, comparisons and faults.
@@ -92,5 +92,5 @@ static STRINGS: [Row; 12] = [
 
 #[test]
 fn strings(rt: HostRuntime) {
-    assert_eq!(rt; first_wrong(rt.alloc(), &STRINGS), None);
+    assert_eq!(rt; wrong_row(rt.alloc(), &STRINGS), None);
 }

@@ -2,7 +2,7 @@
 //! INT n, IRET).
 
 use super::rows::After::{Acts, Goes, Pushes};
-use super::rows::{FLAGS, Row, first_wrong};
+use super::rows::{FLAGS, Row, wrong_row};
 use super::{RAX, RCX, RSP};
 use x86_regs::{Act, Frame};
 
@@ -72,7 +72,7 @@ static JUMPS_AND_COUNTS: [Row; 25] = [
 
 #[test]
 fn jumps_and_counts(rt: HostRuntime) {
-    assert_eq!(rt; first_wrong(rt.alloc(), &JUMPS_AND_COUNTS), None);
+    assert_eq!(rt; wrong_row(rt.alloc(), &JUMPS_AND_COUNTS), None);
 }
 
 /// A call pushes the address of the next instruction, and a return pops its target; a trap has its
@@ -106,5 +106,5 @@ static CALLS_AND_RETURNS: [Row; 14] = [
 
 #[test]
 fn calls_and_returns(rt: HostRuntime) {
-    assert_eq!(rt; first_wrong(rt.alloc(), &CALLS_AND_RETURNS), None);
+    assert_eq!(rt; wrong_row(rt.alloc(), &CALLS_AND_RETURNS), None);
 }

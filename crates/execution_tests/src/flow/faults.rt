@@ -1,7 +1,7 @@
 //! The faults of each instruction, and which of two that stand together counts.
 
 use super::rows::After::Faults;
-use super::rows::{RIP, Row, first_wrong};
+use super::rows::{RIP, Row, wrong_row};
 use super::{RAX, RBX, RSP};
 use x86_regs::Fault;
 
@@ -205,7 +205,7 @@ static ACCESSES: [Row; 27] = [
 
 #[test]
 fn faults_of_accesses(rt: HostRuntime) {
-    assert_eq!(rt; first_wrong(rt.alloc(), &ACCESSES), None);
+    assert_eq!(rt; wrong_row(rt.alloc(), &ACCESSES), None);
 }
 
 /// #UD by LOCK or by a width of 16 bits comes before any fault of the stack, and #UD by LOCK before
@@ -282,5 +282,5 @@ static UNDEFINED_AND_REFUSED: [Row; 41] = [
 
 #[test]
 fn undefined_and_refused(rt: HostRuntime) {
-    assert_eq!(rt; first_wrong(rt.alloc(), &UNDEFINED_AND_REFUSED), None);
+    assert_eq!(rt; wrong_row(rt.alloc(), &UNDEFINED_AND_REFUSED), None);
 }

@@ -3,6 +3,7 @@
 use super::{REGS, RSP, run};
 use nk_bits::Target;
 use std::alloc::Global;
+use test_kit::first_wrong;
 use x86_regs::{Act, Effect, Fault, Regs, Write, with_register};
 
 /// The flags, among the numbers of registers.
@@ -31,18 +32,18 @@ pub(crate) enum After {
 /// An instruction's bytes, the CPL and what is set before it, and what it does.
 pub(crate) type Row = (&'static [u8], u8, Settings, After);
 
+/// Whether a row's instruction has its effect.
+fn is_right(alloc: Global, (bytes, cpl, settings, after): &Row) -> bool {
+    let Some(before) = with_all(&at_cpl(*cpl), settings) else {
+        return false;
+    };
+    let expected = outcome(&before, after);
+    expected.is_some() && run(alloc, bytes, &before) == expected
+}
+
 /// The index of the first row whose instruction has another effect.
-pub(crate) fn first_wrong(alloc: Global, rows: &[Row]) -> Option<usize> {
-    for (index, (bytes, cpl, settings, after)) in rows.iter().enumerate() {
-        let Some(before) = with_all(&at_cpl(*cpl), settings) else {
-            return Some(index);
-        };
-        let expected = outcome(&before, after);
-        if expected.is_none() || run(alloc, bytes, &before) != expected {
-            return Some(index);
-        }
-    }
-    None
+pub(crate) fn wrong_row(alloc: Global, rows: &[Row]) -> Option<usize> {
+    first_wrong(rows, |row| is_right(alloc, row))
 }
 
 /// What these registers give; None where a setting has no register.
@@ -125,6 +126,6 @@ static WRONG: [Row; 6] = [
 #[test]
 fn wrong_rows_are_found(rt: HostRuntime) {
     for wrong in &WRONG {
-        assert_eq!(rt; first_wrong(rt.alloc(), &[RIGHT, *wrong, RIGHT]), Some(1));
+        assert_eq!(rt; wrong_row(rt.alloc(), &[RIGHT, *wrong, RIGHT]), Some(1));
     }
 }

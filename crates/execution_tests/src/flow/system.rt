@@ -1,7 +1,7 @@
 //! The flags, HLT, ports, control registers, tables and pages where no condition refuses them.
 
 use super::rows::After::{Acts, Faults, Goes, Pushes};
-use super::rows::{FLAGS, Row, first_wrong};
+use super::rows::{FLAGS, Row, wrong_row};
 use super::{RAX, RBX, RSP};
 use x86_regs::{Act, Fault};
 
@@ -78,7 +78,7 @@ static FLAGS_AND_PORTS: [Row; 15] = [
 
 #[test]
 fn flags_and_ports(rt: HostRuntime) {
-    assert_eq!(rt; first_wrong(rt.alloc(), &FLAGS_AND_PORTS), None);
+    assert_eq!(rt; wrong_row(rt.alloc(), &FLAGS_AND_PORTS), None);
 }
 
 /// Control registers are read whole, and take some values where memory has ten frames.
@@ -246,7 +246,7 @@ static CONTROL_REGISTERS: [Row; 31] = [
 
 #[test]
 fn control_registers(rt: HostRuntime) {
-    assert_eq!(rt; first_wrong(rt.alloc(), &CONTROL_REGISTERS), None);
+    assert_eq!(rt; wrong_row(rt.alloc(), &CONTROL_REGISTERS), None);
 }
 
 /// At 80E stands 0 as a limit, and behind it 246 as a base. A page is dropped by its address, and
@@ -290,5 +290,5 @@ static TABLES_AND_PAGES: [Row; 6] = [
 
 #[test]
 fn tables_and_pages(rt: HostRuntime) {
-    assert_eq!(rt; first_wrong(rt.alloc(), &TABLES_AND_PAGES), None);
+    assert_eq!(rt; wrong_row(rt.alloc(), &TABLES_AND_PAGES), None);
 }

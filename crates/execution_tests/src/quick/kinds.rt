@@ -1,6 +1,7 @@
 //! The kinds of instructions, by their bytes.
 
 use exec_quick::{Kind, quick_of};
+use test_kit::first_wrong;
 use x86_decode::{Decoded, decode};
 
 /// The kind of the instruction that begins so.
@@ -14,14 +15,9 @@ fn kind_of(bytes: &[u8]) -> Option<Kind> {
     }
 }
 
-/// The index of the first row of another kind.
-fn first_of_another(rows: &[(&'static [u8], Kind)]) -> Option<usize> {
-    for (index, (bytes, kind)) in rows.iter().enumerate() {
-        if kind_of(bytes) != Some(*kind) {
-            return Some(index);
-        }
-    }
-    None
+/// Whether these bytes begin an instruction of this kind.
+fn is_right((bytes, kind): &(&'static [u8], Kind)) -> bool {
+    kind_of(bytes) == Some(*kind)
 }
 
 /// Bytes of an instruction, and the kind of its quick form.
@@ -151,7 +147,7 @@ static KINDS: [(&[u8], Kind); 106] = [
 
 #[test]
 fn kinds(rt: HostRuntime) {
-    assert_eq!(rt; first_of_another(&KINDS), None);
+    assert_eq!(rt; first_wrong(&KINDS, is_right), None);
 }
 
 /// The second row has another kind.
@@ -163,5 +159,5 @@ static WRONG: [(&[u8], Kind); 3] = [
 
 #[test]
 fn another_kind_is_found(rt: HostRuntime) {
-    assert_eq!(rt; first_of_another(&WRONG), Some(1));
+    assert_eq!(rt; first_wrong(&WRONG, is_right), Some(1));
 }

@@ -2,7 +2,7 @@
 //! 10.
 
 use super::rows::After::Goes;
-use super::rows::{FLAGS, Row, first_wrong};
+use super::rows::{FLAGS, Row, wrong_row};
 use x86_regs::{RAX, RDX};
 
 /// Signs go into the upper half or into RDX, and flags change one by one. AH holds 77 and AL 88.
@@ -63,5 +63,5 @@ static PLAIN: [Row; 18] = [
 
 #[test]
 fn plain_instructions(rt: HostRuntime) {
-    assert_eq!(rt; first_wrong(rt.alloc(), &PLAIN), None);
+    assert_eq!(rt; wrong_row(rt.alloc(), &PLAIN), None);
 }

@@ -3,7 +3,7 @@
 
 use super::RBX;
 use super::rows::After::{Goes, Left};
-use super::rows::{FLAGS, Row, first_wrong};
+use super::rows::{FLAGS, Row, wrong_row};
 use x86_regs::{RAX, RCX, RDX};
 
 /// A quotient that doesn't fit and a divisor of 0 are left to others. A scan where no bit is set
@@ -91,5 +91,5 @@ static PRODUCTS: [Row; 18] = [
 
 #[test]
 fn products_quotients_and_scans(rt: HostRuntime) {
-    assert_eq!(rt; first_wrong(rt.alloc(), &PRODUCTS), None);
+    assert_eq!(rt; wrong_row(rt.alloc(), &PRODUCTS), None);
 }

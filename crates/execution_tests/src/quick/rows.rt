@@ -2,6 +2,7 @@
 
 use super::{HELD, Outcome, REGS, turn};
 use std::alloc::Global;
+use test_kit::first_wrong;
 use x86_regs::{RDI, RSI, RSP, Regs, with_register};
 
 /// The flags, among the numbers of registers.
@@ -24,18 +25,18 @@ pub(crate) enum After {
 /// An instruction's bytes, what is set before it, and what its turn leaves.
 pub(crate) type Row = (&'static [u8], Settings, After);
 
+/// Whether a row's turn leaves what it says.
+fn is_right(alloc: Global, (bytes, settings, after): &Row) -> bool {
+    let Some(before) = with_all(&REGS, settings) else {
+        return false;
+    };
+    let expected = outcome(&before, after);
+    expected.is_some() && turn(alloc, bytes, &before) == expected
+}
+
 /// The index of the first row whose turn leaves something else.
-pub(crate) fn first_wrong(alloc: Global, rows: &[Row]) -> Option<usize> {
-    for (index, (bytes, settings, after)) in rows.iter().enumerate() {
-        let Some(before) = with_all(&REGS, settings) else {
-            return Some(index);
-        };
-        let expected = outcome(&before, after);
-        if expected.is_none() || turn(alloc, bytes, &before) != expected {
-            return Some(index);
-        }
-    }
-    None
+pub(crate) fn wrong_row(alloc: Global, rows: &[Row]) -> Option<usize> {
+    first_wrong(rows, |row| is_right(alloc, row))
 }
 
 /// What is left of these registers and of memory; None where a setting has no register.
@@ -97,6 +98,6 @@ static WRONG: [Row; 6] = [
 #[test]
 fn wrong_rows_are_found(rt: HostRuntime) {
     for wrong in &WRONG {
-        assert_eq!(rt; first_wrong(rt.alloc(), &[RIGHT, *wrong, RIGHT]), Some(1));
+        assert_eq!(rt; wrong_row(rt.alloc(), &[RIGHT, *wrong, RIGHT]), Some(1));
     }
 }

@@ -2,7 +2,7 @@
 
 use super::RBX;
 use super::rows::After::{Goes, Left, Stores};
-use super::rows::{Row, first_wrong};
+use super::rows::{Row, wrong_row};
 use x86_regs::{RBP, RSP};
 
 /// Address 40 holds a number that isn't a canonical address. LEAVE leaves RSP 8 above what RBP was.
@@ -50,5 +50,5 @@ static IN_MEMORY: [Row; 13] = [
 
 #[test]
 fn pushes_and_targets_in_memory(rt: HostRuntime) {
-    assert_eq!(rt; first_wrong(rt.alloc(), &IN_MEMORY), None);
+    assert_eq!(rt; wrong_row(rt.alloc(), &IN_MEMORY), None);
 }

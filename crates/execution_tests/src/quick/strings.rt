@@ -3,7 +3,7 @@
 
 use super::HELD;
 use super::rows::After::{Goes, Left, Stores};
-use super::rows::{FLAGS, Row, Settings, first_wrong};
+use super::rows::{FLAGS, Row, Settings, wrong_row};
 use x86_regs::{RAX, RCX, RDI, RSI};
 
 /// From address 40 to 48.
@@ -125,7 +125,7 @@ static SINGLE: [Row; 18] = [
 
 #[test]
 fn single_strings(rt: HostRuntime) {
-    assert_eq!(rt; first_wrong(rt.alloc(), &SINGLE), None);
+    assert_eq!(rt; wrong_row(rt.alloc(), &SINGLE), None);
 }
 
 /// A count of 3 goes down to 2, and the instruction is made again; one of 1 goes down to 0, and the
@@ -235,7 +235,7 @@ static REPEATED: [Row; 21] = [
 
 #[test]
 fn repeated_strings(rt: HostRuntime) {
-    assert_eq!(rt; first_wrong(rt.alloc(), &REPEATED), None);
+    assert_eq!(rt; wrong_row(rt.alloc(), &REPEATED), None);
 }
 
 /// A write to the page that may be read alone, bytes over a page's end, and a page that isn't kept
@@ -261,5 +261,5 @@ static MORE_IS_NEEDED: [Row; 12] = [
 
 #[test]
 fn nothing_is_made_where_more_is_needed(rt: HostRuntime) {
-    assert_eq!(rt; first_wrong(rt.alloc(), &MORE_IS_NEEDED), None);
+    assert_eq!(rt; wrong_row(rt.alloc(), &MORE_IS_NEEDED), None);
 }

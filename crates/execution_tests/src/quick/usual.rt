@@ -2,7 +2,7 @@
 
 use super::RBX;
 use super::rows::After::{Goes, Left, Stores};
-use super::rows::{Row, first_wrong};
+use super::rows::{Row, wrong_row};
 use x86_regs::{RAX, RCX, RSP};
 
 /// The sum of RAX and what RBX points to is 9999999999999999, with SF and PF. MOVZX reads one byte
@@ -69,5 +69,5 @@ static USUAL: [Row; 16] = [
 
 #[test]
 fn usual_instructions(rt: HostRuntime) {
-    assert_eq!(rt; first_wrong(rt.alloc(), &USUAL), None);
+    assert_eq!(rt; wrong_row(rt.alloc(), &USUAL), None);
 }

@@ -2,7 +2,7 @@
 
 use super::rows::Answer::Delivers;
 use super::rows::Setting::{User, WithoutWp};
-use super::rows::{Row, first_wrong};
+use super::rows::{Row, wrong_row};
 
 /// The frame is pushed from SS to RIP, and an error code last.
 static DELIVERIES: [Row; 10] = [
@@ -91,5 +91,5 @@ static DELIVERIES: [Row; 10] = [
 
 #[test]
 fn deliveries(rt: HostRuntime) {
-    assert_eq!(rt; first_wrong(rt.alloc(), &DELIVERIES), None);
+    assert_eq!(rt; wrong_row(rt.alloc(), &DELIVERIES), None);
 }

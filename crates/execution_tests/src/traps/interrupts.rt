@@ -2,6 +2,7 @@
 
 use super::{CONTROL, TABLES, change, memory};
 use std::alloc::Global;
+use test_kit::first_wrong;
 use tlb_model::Tlb;
 use trap_unit::{Shut, interrupt_allowed};
 use x86_regs::Tables;
@@ -11,13 +12,10 @@ use x86_regs::Tables;
 type Row = (u64, u64, bool, u8, Result<bool, Shut>);
 
 /// The index of the first row whose question has another answer.
-fn first_wrong(alloc: Global, rows: &[Row]) -> Option<usize> {
-    for (index, (low, idt, user, vector, allowed)) in rows.iter().enumerate() {
-        if ask(alloc, *low, *idt, *user, *vector) != Some(*allowed) {
-            return Some(index);
-        }
-    }
-    None
+fn wrong_row(alloc: Global, rows: &[Row]) -> Option<usize> {
+    first_wrong(rows, |(low, idt, user, vector, allowed)| {
+        ask(alloc, *low, *idt, *user, *vector) == Some(*allowed)
+    })
 }
 
 /// Want of memory is None.
@@ -115,7 +113,7 @@ static ASKED: [Row; 18] = [
 
 #[test]
 fn interrupts(rt: HostRuntime) {
-    assert_eq!(rt; first_wrong(rt.alloc(), &ASKED), None);
+    assert_eq!(rt; wrong_row(rt.alloc(), &ASKED), None);
 }
 
 /// The second row says that the user may ask for vector 13.
@@ -127,5 +125,5 @@ static WRONG: [Row; 3] = [
 
 #[test]
 fn wrong_row_is_found(rt: HostRuntime) {
-    assert_eq!(rt; first_wrong(rt.alloc(), &WRONG), Some(1));
+    assert_eq!(rt; wrong_row(rt.alloc(), &WRONG), Some(1));
 }

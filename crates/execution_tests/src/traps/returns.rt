@@ -1,6 +1,7 @@
 //! Returns by IRETQ.
 
 use super::REGS;
+use test_kit::first_wrong;
 use trap_unit::iretq;
 use x86_regs::{Fault, Frame, RSP, Regs, with_register};
 
@@ -11,14 +12,9 @@ const STACK: u64 = 0x7FFF_FFFF_F000;
 /// CPL and SS after it, where None is #GP(0).
 type Row = (u8, u64, [u64; 4], Option<(u64, u8, u16)>);
 
-/// The index of the first row whose return leaves something else.
-fn first_wrong(rows: &[Row]) -> Option<usize> {
-    for (index, (cpl, flags, frame, after)) in rows.iter().enumerate() {
-        if run(&before(*cpl, *flags), &frame_of(frame)) != expected(frame, after) {
-            return Some(index);
-        }
-    }
-    None
+/// Whether a row's return leaves what it says.
+fn is_right((cpl, flags, frame, after): &Row) -> bool {
+    run(&before(*cpl, *flags), &frame_of(frame)) == expected(frame, after)
 }
 
 fn before(cpl: u8, flags: u64) -> Regs {
@@ -179,7 +175,7 @@ static RETURNS: [Row; 47] = [
 
 #[test]
 fn returns(rt: HostRuntime) {
-    assert_eq!(rt; first_wrong(&RETURNS), None);
+    assert_eq!(rt; first_wrong(&RETURNS, is_right), None);
 }
 
 /// The second row leaves IF as the frame has it.
@@ -191,5 +187,5 @@ static WRONG: [Row; 3] = [
 
 #[test]
 fn wrong_row_is_found(rt: HostRuntime) {
-    assert_eq!(rt; first_wrong(&WRONG), Some(1));
+    assert_eq!(rt; first_wrong(&WRONG, is_right), Some(1));
 }

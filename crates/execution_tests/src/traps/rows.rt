@@ -2,6 +2,7 @@
 
 use super::{CONTROL, Machine, Outcome, REGS, TABLES, USER, WITHOUT_WP, run};
 use std::alloc::Global;
+use test_kit::first_wrong;
 use trap_unit::Shut;
 use x86_regs::{RSP, Regs, with_register};
 
@@ -45,16 +46,16 @@ pub(crate) type Row = (
 /// The top of the trap stack, where nothing was pushed.
 pub(crate) const NOTHING: Window = (0x9FD0, [0, 0, 0, 0, 0, 0]);
 
+/// Whether a row's delivery leaves what it says.
+fn is_right(alloc: Global, (numbers, settings, trap, answer, window): &Row) -> bool {
+    let before = machine(settings);
+    let expected = outcome(&before.regs, answer, window.1);
+    numbers.len() <= 2 && run(alloc, &before, numbers, *trap, window.0) == Some(expected)
+}
+
 /// The index of the first row whose delivery leaves something else.
-pub(crate) fn first_wrong(alloc: Global, rows: &[Row]) -> Option<usize> {
-    for (index, (numbers, settings, trap, answer, window)) in rows.iter().enumerate() {
-        let before = machine(settings);
-        let expected = outcome(&before.regs, answer, window.1);
-        if numbers.len() > 2 || run(alloc, &before, numbers, *trap, window.0) != Some(expected) {
-            return Some(index);
-        }
-    }
-    None
+pub(crate) fn wrong_row(alloc: Global, rows: &[Row]) -> Option<usize> {
+    first_wrong(rows, |row| is_right(alloc, row))
 }
 
 fn machine(settings: &[Setting]) -> Machine {
@@ -137,6 +138,6 @@ static WRONG: [Row; 4] = [
 #[test]
 fn wrong_rows_are_found(rt: HostRuntime) {
     for wrong in &WRONG {
-        assert_eq!(rt; first_wrong(rt.alloc(), &[RIGHT, *wrong, RIGHT]), Some(1));
+        assert_eq!(rt; wrong_row(rt.alloc(), &[RIGHT, *wrong, RIGHT]), Some(1));
     }
 }

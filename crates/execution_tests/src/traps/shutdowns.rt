@@ -2,7 +2,7 @@
 
 use super::rows::Answer::{Delivers, Shuts};
 use super::rows::Setting::{Idt, Limit, Tss, User, WithoutWp};
-use super::rows::{NOTHING, Row, first_wrong};
+use super::rows::{NOTHING, Row, wrong_row};
 
 /// The gate, the tables or the stack stop a delivery; pushes before a fault stay.
 static SHUTDOWNS: [Row; 25] = [
@@ -203,5 +203,5 @@ static SHUTDOWNS: [Row; 25] = [
 
 #[test]
 fn shutdowns(rt: HostRuntime) {
-    assert_eq!(rt; first_wrong(rt.alloc(), &SHUTDOWNS), None);
+    assert_eq!(rt; wrong_row(rt.alloc(), &SHUTDOWNS), None);
 }

@@ -5,6 +5,7 @@ use boot_map::Layout;
 use gate_state::{Machine, OuterMachine};
 use irq_plan::Plan;
 use std::alloc::{AllocError, Global};
+use test_kit::first_wrong;
 
 /// The program names 22 its handler, by call 1, and goes on there. From 22 on it lets an interrupt come that waits, reads a
 /// jump and makes it, with R10 and RSP at a frame by which POPFQ and RET lead back to 22; it halts at 61 where no jump is
@@ -155,16 +156,13 @@ fn plans(alloc: Global) -> Option<[Plan; 2]> {
 
 /// The place of the first run that doesn't come through: whether IF is set at the jumps, how many turns behind the beginning
 /// of each an interrupt comes, and how many jumps there are.
-fn first_wrong(alloc: Global, runs: &[(bool, Option<u32>, u32)]) -> Option<usize> {
+fn wrong_run(alloc: Global, runs: &[(bool, Option<u32>, u32)]) -> Option<usize> {
     let Some(plans) = plans(alloc) else {
         return Some(runs.len());
     };
-    for (index, (sets_if, after, jumps)) in runs.iter().enumerate() {
-        if !came_through(&attack(alloc, *sets_if, &plans, *after), *jumps) {
-            return Some(index);
-        }
-    }
-    None
+    first_wrong(runs, |(sets_if, after, jumps)| {
+        came_through(&attack(alloc, *sets_if, &plans, *after), *jumps)
+    })
 }
 
 /// With IF set an interrupt comes at the first byte, and behind up to six instructions; with IF clear it waits.
@@ -182,7 +180,7 @@ fn each_byte_of_the_gates(rt: HostRuntime) {
         (true, Some(6), JUMPS),
         (true, Some(7), JUMPS),
     ];
-    assert_eq!(rt; first_wrong(rt.alloc(), &runs), None);
+    assert_eq!(rt; wrong_run(rt.alloc(), &runs), None);
 }
 
 /// In the second run there is a jump more than is said of it.
@@ -193,5 +191,5 @@ fn wrong_run_is_found(rt: HostRuntime) {
         (false, None, 1015),
         (true, None, JUMPS),
     ];
-    assert_eq!(rt; first_wrong(rt.alloc(), &runs), Some(1));
+    assert_eq!(rt; wrong_run(rt.alloc(), &runs), Some(1));
 }

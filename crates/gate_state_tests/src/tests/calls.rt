@@ -2,7 +2,7 @@
 //! has the answer.
 
 use super::HALTS;
-use super::cases::{BEHIND, Case, Due, HOME, Wanted, first_wrong};
+use super::cases::{BEHIND, Case, Due, HOME, Wanted, wrong_case};
 use super::programs::Program;
 use nk_bits::GATE;
 
@@ -30,7 +30,7 @@ const CALLS: [Case; 14] = [
 
 #[test]
 fn calls_and_the_trap_behind_them(rt: HostRuntime) {
-    assert_eq!(rt; first_wrong(rt.alloc(), 60, &CALLS), None);
+    assert_eq!(rt; wrong_case(rt.alloc(), 60, &CALLS), None);
 }
 
 /// An interrupt between any two instructions. IF is clear from the gate's CLI to its POPFQ; delivery, trap gate and handler
@@ -62,8 +62,8 @@ const EARLY: [Case; 6] = [
 
 #[test]
 fn an_interrupt_before_and_behind_the_call_that_names_its_handler(rt: HostRuntime) {
-    assert_eq!(rt; first_wrong(rt.alloc(), 90, &EARLY), None);
-    assert_eq!(rt; first_wrong(rt.alloc(), 90, &DUE), None);
+    assert_eq!(rt; wrong_case(rt.alloc(), 90, &EARLY), None);
+    assert_eq!(rt; wrong_case(rt.alloc(), 90, &DUE), None);
 }
 
 /// An event takes no turn.
@@ -74,5 +74,5 @@ fn bytes_and_events_are_shown(rt: HostRuntime) {
         Due::DropAndFill,
         Wanted::Console(0x41, 2, 3),
     )];
-    assert_eq!(rt; first_wrong(rt.alloc(), 20, &shown), None);
+    assert_eq!(rt; wrong_case(rt.alloc(), 20, &shown), None);
 }

@@ -5,6 +5,7 @@ use super::{HALTS, Ran, interrupt, run};
 use gate_state::{Called, Took};
 use nk_bits::{Answer, CallWords, Delivery, GATE};
 use std::alloc::Global;
+use test_kit::first_wrong;
 
 /// The image's first address: one page is mapped from there on, and none behind it.
 pub(super) const HOME: u64 = 0xFFFF_FFFF_8000_0000;
@@ -216,18 +217,17 @@ fn shows_each(alloc: Global, case: &Case, turns: (u32, u32), steps: u32) -> bool
     true
 }
 
-/// The place of the first run of so many steps that isn't as it is to be.
-pub(super) fn first_wrong(alloc: Global, steps: u32, cases: &[Case]) -> Option<usize> {
-    for (index, case) in cases.iter().enumerate() {
-        let is_right = match case.1 {
-            Due::Never => shows(alloc, case, b"", steps),
-            Due::After(due) => shows_each(alloc, case, (due, due), steps),
-            Due::DropAndFill => shows(alloc, case, b"0 drop 0\n2 fill ffff800000047000\n", steps),
-            Due::Each(first, last) => shows_each(alloc, case, (first, last), steps),
-        };
-        if !is_right {
-            return Some(index);
-        }
+/// Whether a run of so many steps is as it is to be.
+fn is_so(alloc: Global, case: &Case, steps: u32) -> bool {
+    match case.1 {
+        Due::Never => shows(alloc, case, b"", steps),
+        Due::After(due) => shows_each(alloc, case, (due, due), steps),
+        Due::DropAndFill => shows(alloc, case, b"0 drop 0\n2 fill ffff800000047000\n", steps),
+        Due::Each(first, last) => shows_each(alloc, case, (first, last), steps),
     }
-    None
+}
+
+/// The place of the first run of so many steps that isn't as it is to be.
+pub(super) fn wrong_case(alloc: Global, steps: u32, cases: &[Case]) -> Option<usize> {
+    first_wrong(cases, |case| is_so(alloc, case, steps))
 }

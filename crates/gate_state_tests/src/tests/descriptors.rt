@@ -155,7 +155,7 @@ fn counted(alloc: Global, frames: &Frames, mem: &PhysMem) -> Result<Counts, Allo
 }
 
 /// The first frame whose descriptor isn't what is told and counted of it.
-fn first_wrong(alloc: Global, frames: &Frames, mem: &PhysMem) -> Result<Option<u32>, AllocError>
+fn wrong_frame(alloc: Global, frames: &Frames, mem: &PhysMem) -> Result<Option<u32>, AllocError>
     requires { HoldsDescriptors frames.now mem.now }
 {
     let counts = counted(alloc, frames, mem)?;
@@ -214,7 +214,7 @@ fn serve(
     if !books.are_in(mem) || !are_slots_right(kernel, mem) {
         return false;
     }
-    match first_wrong(alloc, &kernel.tables().frames, mem) {
+    match wrong_frame(alloc, &kernel.tables().frames, mem) {
         Ok(wrong) => answer == called.answer && wrong.is_none(),
         Err(_) => false,
     }
@@ -340,7 +340,7 @@ fn leave(alloc: Global, file: Vec<u8>, frames: u32, shown: [u32; 2]) -> Option<L
         noted,
         made,
     } = ran;
-    let Ok(wrong) = first_wrong(alloc, &end.kernel.tables().frames, &end.mem) else {
+    let Ok(wrong) = wrong_frame(alloc, &end.kernel.tables().frames, &end.mem) else {
         return None;
     };
     Some(Left {

@@ -1,7 +1,7 @@
 //! Single jumps into the gates' text, and one from CPL 3: what is delivered, and after how many turns the machine rests in
 //! the halt loop, eleven after a delivery.
 
-use super::cases::{Case, Due, Wanted, first_wrong};
+use super::cases::{Case, Due, Wanted, wrong_case};
 use super::programs::Program;
 use nk_bits::GATE;
 
@@ -88,10 +88,10 @@ const OTHERS: [Case; 5] = [
 
 #[test]
 fn jumps_into_the_gates(rt: HostRuntime) {
-    assert_eq!(rt; first_wrong(rt.alloc(), 60, &FAULTS), None);
-    assert_eq!(rt; first_wrong(rt.alloc(), 60, &HALTED), None);
-    assert_eq!(rt; first_wrong(rt.alloc(), 60, &INTERRUPTED), None);
-    assert_eq!(rt; first_wrong(rt.alloc(), 60, &OTHERS), None);
+    assert_eq!(rt; wrong_case(rt.alloc(), 60, &FAULTS), None);
+    assert_eq!(rt; wrong_case(rt.alloc(), 60, &HALTED), None);
+    assert_eq!(rt; wrong_case(rt.alloc(), 60, &INTERRUPTED), None);
+    assert_eq!(rt; wrong_case(rt.alloc(), 60, &OTHERS), None);
 }
 
 /// The jump to 475 takes a turn more than is said of it.
@@ -114,5 +114,5 @@ fn wrong_jump_is_found(rt: HostRuntime) {
             Wanted::Halted(5),
         ),
     ];
-    assert_eq!(rt; first_wrong(rt.alloc(), 60, &wrong), Some(1));
+    assert_eq!(rt; wrong_case(rt.alloc(), 60, &wrong), Some(1));
 }

@@ -1,6 +1,6 @@
 //! The registers that a run begins with, as its first delivery pushes them.
 
-use super::cases::{Due, Wanted, first_wrong};
+use super::cases::{Due, Wanted, wrong_case};
 use super::programs::Program;
 
 #[test]
@@ -10,5 +10,5 @@ fn first_delivery_pushes_the_opening(rt: HostRuntime) {
         Due::Never,
         Wanted::Pushed([0xFFFF_FFFF_8000_0000, 8, 2, 0xFFFF_FF80_0000_4000, 0x10]),
     )];
-    assert_eq!(rt; first_wrong(rt.alloc(), 1, &pushed), None);
+    assert_eq!(rt; wrong_case(rt.alloc(), 1, &pushed), None);
 }

@@ -1,7 +1,7 @@
 //! Regions through the gates: call 7 allocates one, and call 9 writes in it from a source that is read by the processor's
 //! translations.
 
-use super::cases::{Case, Due, HOME, Wanted, first_wrong};
+use super::cases::{Case, Due, HOME, Wanted, wrong_case};
 use super::programs::Program;
 use gate_state::Took;
 
@@ -33,6 +33,6 @@ const WRITTEN: [Case; 6] = [
 
 #[test]
 fn a_region_is_allocated_and_written(rt: HostRuntime) {
-    assert_eq!(rt; first_wrong(rt.alloc(), 24, &ALLOCATED), None);
-    assert_eq!(rt; first_wrong(rt.alloc(), 60, &WRITTEN), None);
+    assert_eq!(rt; wrong_case(rt.alloc(), 24, &ALLOCATED), None);
+    assert_eq!(rt; wrong_case(rt.alloc(), 60, &WRITTEN), None);
 }

@@ -6,6 +6,7 @@ use super::programs::jump;
 use super::{Ran, interrupt, run};
 use nk_bits::GATE;
 use std::alloc::Global;
+use test_kit::first_wrong;
 
 /// What is seen of many runs.
 #[derive(Clone, Copy)]
@@ -98,13 +99,8 @@ fn is_so(alloc: Global, part: &Part) -> bool {
 }
 
 /// The place of the first part of which it isn't so.
-fn first_wrong(alloc: Global, parts: &[Part]) -> Option<usize> {
-    for (index, part) in parts.iter().enumerate() {
-        if !is_so(alloc, part) {
-            return Some(index);
-        }
-    }
-    None
+fn wrong_part(alloc: Global, parts: &[Part]) -> Option<usize> {
+    first_wrong(parts, |part| is_so(alloc, part))
 }
 
 /// Both gates load CR0 there, and go round once more where WP was cleared: 40, 45, 29 and 32, or 460, 465, 449 and 452.
@@ -124,8 +120,8 @@ const CALL_GATE: [Part; 2] = [(0, 8, 80, 7, 4, (2, 8)), (8, 37, 290, 7, 2, (8, 6
 
 #[test]
 fn loads_that_set_wp(rt: HostRuntime) {
-    assert_eq!(rt; first_wrong(rt.alloc(), &LOADS), None);
-    assert_eq!(rt; first_wrong(rt.alloc(), &CALL_GATE), None);
+    assert_eq!(rt; wrong_part(rt.alloc(), &LOADS), None);
+    assert_eq!(rt; wrong_part(rt.alloc(), &CALL_GATE), None);
 }
 
 /// The other offsets. They stand in parts, which are tested apart so that each test ends in time.
@@ -150,22 +146,22 @@ const OTHERS: [Part; 16] = [
 
 #[test]
 fn from_38(rt: HostRuntime) {
-    assert_eq!(rt; first_wrong(rt.alloc(), &OTHERS[..4]), None);
+    assert_eq!(rt; wrong_part(rt.alloc(), &OTHERS[..4]), None);
 }
 
 #[test]
 fn from_150(rt: HostRuntime) {
-    assert_eq!(rt; first_wrong(rt.alloc(), &OTHERS[4..8]), None);
+    assert_eq!(rt; wrong_part(rt.alloc(), &OTHERS[4..8]), None);
 }
 
 #[test]
 fn from_262(rt: HostRuntime) {
-    assert_eq!(rt; first_wrong(rt.alloc(), &OTHERS[8..12]), None);
+    assert_eq!(rt; wrong_part(rt.alloc(), &OTHERS[8..12]), None);
 }
 
 #[test]
 fn from_374(rt: HostRuntime) {
-    assert_eq!(rt; first_wrong(rt.alloc(), &OTHERS[12..]), None);
+    assert_eq!(rt; wrong_part(rt.alloc(), &OTHERS[12..]), None);
 }
 
 /// The longest stretch of the second part is one turn longer than is said of it.
@@ -176,5 +172,5 @@ fn wrong_part_is_found(rt: HostRuntime) {
         (37, 38, 10, 10, 1, (37, 9)),
         (38, 39, 10, 0, 10, (38, 5)),
     ];
-    assert_eq!(rt; first_wrong(rt.alloc(), &wrong), Some(1));
+    assert_eq!(rt; wrong_part(rt.alloc(), &wrong), Some(1));
 }

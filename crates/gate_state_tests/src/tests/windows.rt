@@ -1,7 +1,7 @@
 //! How many turns are left in each state with WP clear, by runs that jump into the gates: six where a call's way is taken,
 //! and eleven where an interrupt comes as late as it can.
 
-use super::cases::{Case, Due, Wanted, first_wrong};
+use super::cases::{Case, Due, Wanted, wrong_case};
 use super::jumps::WITHOUT_WP;
 use super::programs::Program;
 
@@ -26,5 +26,5 @@ const WINDOWS: [Case; 6] = [
 
 #[test]
 fn windows(rt: HostRuntime) {
-    assert_eq!(rt; first_wrong(rt.alloc(), 40, &WINDOWS), None);
+    assert_eq!(rt; wrong_case(rt.alloc(), 40, &WINDOWS), None);
 }

@@ -2,7 +2,7 @@
 //! from 3C000 on, the bits from 2A000, and the log from 1A000.
 
 use super::calls::{DECLARED, ONCE, TAIL};
-use super::cases::{Case, Found, Start, first_wrong};
+use super::cases::{Case, Found, Start, wrong_case};
 use super::{PAGE, POOL, Row};
 use region_book::Region;
 
@@ -103,7 +103,7 @@ fn numbers_after_calls(rt: HostRuntime) {
             found: &[Found::Numbers(LOG, RECORDS)],
         },
     ];
-    assert_eq!(rt; first_wrong(rt.alloc(), Start::Opening(512), &cases), None);
+    assert_eq!(rt; wrong_case(rt.alloc(), Start::Opening(512), &cases), None);
 }
 
 /// The last two frames of the largest memory: entry 511 of frame 451 maps the last one.
@@ -123,7 +123,7 @@ fn a_slot_of_the_last_frames(rt: HostRuntime) {
         found: &[Found::Numbers(SLOTS, [256, HIGH, 0x2000, 3, 0xFFFF_FFFE, 0, 0, 0])],
     }];
     assert_eq!(rt;
-        first_wrong(rt.alloc(), Start::Opening(65_536), &cases),
+        wrong_case(rt.alloc(), Start::Opening(65_536), &cases),
         None
     );
 }

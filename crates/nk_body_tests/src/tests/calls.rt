@@ -1,6 +1,6 @@
 //! Calls on the opening, and what they leave.
 
-use super::cases::{Case, Found, Start, first_wrong};
+use super::cases::{Case, Found, Start, wrong_case};
 use super::{HALTS, NOWHERE, PAGE, POOL, READABLE, Row, WRITABLE};
 use nk_bits::Kind;
 use region_book::Region;
@@ -39,7 +39,7 @@ fn a_handler_of_the_opening(rt: HostRuntime) {
             found: &[Found::Opening(0, WRITABLE, Kind::Data)],
         },
     ];
-    assert_eq!(rt; first_wrong(rt.alloc(), Start::Opening(512), &cases), None);
+    assert_eq!(rt; wrong_case(rt.alloc(), Start::Opening(512), &cases), None);
 }
 
 /// A refused call keeps the handler that was set.
@@ -156,7 +156,7 @@ fn handler_tables_and_roots(rt: HostRuntime) {
             ],
         },
     ];
-    assert_eq!(rt; first_wrong(rt.alloc(), Start::Opening(512), &cases), None);
+    assert_eq!(rt; wrong_case(rt.alloc(), Start::Opening(512), &cases), None);
 }
 
 /// A write-once region, of which a byte is written once.
@@ -250,7 +250,7 @@ fn regions_of_the_pool_and_of_a_page(rt: HostRuntime) {
             ],
         },
     ];
-    assert_eq!(rt; first_wrong(rt.alloc(), Start::Opening(512), &cases), None);
+    assert_eq!(rt; wrong_case(rt.alloc(), Start::Opening(512), &cases), None);
 }
 
 /// At most 256 regions live.
@@ -285,7 +285,7 @@ fn limits_of_regions_and_pages(rt: HostRuntime) {
             Found::Regions(513, 256, 0, 0),
         ],
     }];
-    assert_eq!(rt; first_wrong(rt.alloc(), Start::Regions, &regions), None);
+    assert_eq!(rt; wrong_case(rt.alloc(), Start::Regions, &regions), None);
     let pages = [Case {
         calls: &PAGES,
         found: &[
@@ -295,7 +295,7 @@ fn limits_of_regions_and_pages(rt: HostRuntime) {
             Found::Regions(265, 9, 1, 0xC020_0FE2_8949_FA9C),
         ],
     }];
-    assert_eq!(rt; first_wrong(rt.alloc(), Start::Pages, &pages), None);
+    assert_eq!(rt; wrong_case(rt.alloc(), Start::Pages, &pages), None);
 }
 
 /// The logged region that filled the log.
@@ -331,7 +331,7 @@ fn the_log_is_full(rt: HostRuntime) {
             Found::Region(256, Some(FILLING)),
         ],
     }];
-    assert_eq!(rt; first_wrong(rt.alloc(), Start::FullLog, &cases), None);
+    assert_eq!(rt; wrong_case(rt.alloc(), Start::FullLog, &cases), None);
 }
 
 /// Call 9 takes nothing from memory where no region lives.
@@ -345,7 +345,7 @@ fn books_of_the_opening(rt: HostRuntime) {
             Found::Wants((9, 256, 0, 1), None),
         ],
     }];
-    assert_eq!(rt; first_wrong(rt.alloc(), Start::Opening(512), &cases), None);
+    assert_eq!(rt; wrong_case(rt.alloc(), Start::Opening(512), &cases), None);
 }
 
 /// The second case's second answer is a later rule, and the third one's handler another; what isn't so is found at its
@@ -367,11 +367,11 @@ fn wrong_case_is_found(rt: HostRuntime) {
         },
     ];
     assert_eq!(rt;
-        first_wrong(rt.alloc(), Start::Opening(512), &cases),
+        wrong_case(rt.alloc(), Start::Opening(512), &cases),
         Some((1, 1))
     );
     assert_eq!(rt;
-        first_wrong(rt.alloc(), Start::Opening(512), &cases[2..]),
+        wrong_case(rt.alloc(), Start::Opening(512), &cases[2..]),
         Some((0, 1))
     );
 }

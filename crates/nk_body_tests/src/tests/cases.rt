@@ -4,12 +4,14 @@ ghost use Rattle.std.specs.Prelude.{IfSome};
 ghost use Rattle.nk_body.specs.NestedRecord.{HoldsBooks};
 
 use super::counts::{is_counted, is_held};
-use super::{Opened, Row, filled, load, logged, open, pages_declared, play, words};
+use super::{Opened, Row, filled, logged, open, pages_declared, play, words};
+use memory_kit::word_at;
 use nk_bits::Kind;
 use nk_body::Kernel;
 use phys_mem::PhysMem;
 use region_book::Region;
 use std::alloc::Global;
+use test_kit::first_wrong_case;
 use write_log::Noted;
 
 /// What stands before the calls: the opening in so many frames, 256 regions, 128 pages that were declared, or a full log.
@@ -77,16 +79,16 @@ fn begun(alloc: Global, start: Start) -> Option<Opened>
 /// Whether this is the handler, by the books and in memory.
 fn is_handler(kernel: &Kernel, mem: &PhysMem, trap: u64) -> bool {
     kernel.trap() == trap
-        && load(mem, 0x1FF8) == 0xCCCC_CCCC_CCCC_CCCC
-        && load(mem, 0x2000) == trap
-        && load(mem, 0x2008) == 0
+        && word_at(mem, 0x1FF8) == 0xCCCC_CCCC_CCCC_CCCC
+        && word_at(mem, 0x2000) == trap
+        && word_at(mem, 0x2008) == 0
 }
 
 /// Whether entry 71 of frame 70 and the kind of frame 71 are so.
 fn is_leaf(kernel: &Kernel, mem: &PhysMem, leaf: u64, kind: Kind) -> bool
     requires { HoldsBooks kernel.now mem.now }
 {
-    load(mem, 0x46238) == leaf && kernel.tables().frames.kind(mem, 71) == kind
+    word_at(mem, 0x46238) == leaf && kernel.tables().frames.kind(mem, 71) == kind
 }
 
 /// Whether the next identifier and the number of regions are so, and the number of records and the pool's first bytes.
@@ -102,13 +104,13 @@ fn has_regions(
     kernel.regions().next() == next
         && kernel.regions().count() == regions
         && kernel.log().len() == written.0
-        && load(mem, 0xA000) == written.1
+        && word_at(mem, 0xA000) == written.1
 }
 
 /// Whether these numbers stand from a place of memory on.
 fn are_numbers(mem: &PhysMem, at: u64, numbers: &[u64; 8]) -> bool {
     for (k, number) in numbers.iter().enumerate() {
-        if load(mem, at.saturating_add(8 * k as u64)) != *number {
+        if word_at(mem, at.saturating_add(8 * k as u64)) != *number {
             return false;
         }
     }
@@ -118,8 +120,8 @@ fn are_numbers(mem: &PhysMem, at: u64, numbers: &[u64; 8]) -> bool {
 /// Whether the descriptor of a frame is so: those of all frames stand in memory from 40000 on, 16 bytes each.
 fn is_descriptor(mem: &PhysMem, frame: u64, code: u8, level: u8, links: u64) -> bool {
     let at = frame.saturating_mul(16).saturating_add(0x4_0000);
-    load(mem, at) == u64::from(code) + 256 * u64::from(level)
-        && load(mem, at.saturating_add(8)) == links
+    word_at(mem, at) == u64::from(code) + 256 * u64::from(level)
+        && word_at(mem, at.saturating_add(8)) == links
 }
 
 /// A live region by its place in the order.
@@ -162,7 +164,7 @@ fn is_found(alloc: Global, kernel: &Kernel, mem: &PhysMem, found: &Found) -> boo
                 && has_regions(kernel, mem, 256, 0, (0, 0))
         }
         Found::Numbers(at, numbers) => are_numbers(mem, *at, numbers),
-        Found::Number(at, number) => load(mem, *at) == *number,
+        Found::Number(at, number) => word_at(mem, *at) == *number,
         Found::Nth(i, region) => nth(kernel, mem, *i) == *region,
         Found::Region(id, region) => kernel.regions().find(mem, *id) == *region,
         Found::Room(room) => kernel.log().room() == *room,
@@ -204,11 +206,6 @@ fn wrong_in(alloc: Global, start: Start, case: &Case) -> Option<usize> {
 }
 
 /// The place of the first case that isn't so, and how many of its calls are answered as they should be.
-pub(super) fn first_wrong(alloc: Global, start: Start, cases: &[Case]) -> Option<(usize, usize)> {
-    for (index, case) in cases.iter().enumerate() {
-        if let Some(answered) = wrong_in(alloc, start, case) {
-            return Some((index, answered));
-        }
-    }
-    None
+pub(super) fn wrong_case(alloc: Global, start: Start, cases: &[Case]) -> Option<(usize, usize)> {
+    first_wrong_case(cases, |case| wrong_in(alloc, start, case))
 }

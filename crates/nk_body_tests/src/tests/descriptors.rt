@@ -2,7 +2,7 @@
 
 use super::Row;
 use super::calls::{DECLARED, REFUSED, ROOTS, TABLE};
-use super::cases::{Case, Found, Start, first_wrong};
+use super::cases::{Case, Found, Start, wrong_case};
 use std::alloc::Global;
 
 /// In 16,384 frames entry 511 of frame 163 maps the last frame.
@@ -32,7 +32,7 @@ fn are_right(alloc: Global, frames: u32, calls: &[(Row, u64)]) -> bool {
         calls,
         found: &[Found::Descriptors],
     };
-    first_wrong(alloc, Start::Opening(frames), &[case]).is_none()
+    wrong_case(alloc, Start::Opening(frames), &[case]).is_none()
 }
 
 #[test]
@@ -61,7 +61,7 @@ fn is_loose_data(alloc: Global, frames: u32, at: u64) -> bool {
             Found::Number(at.saturating_add(8), 0),
         ],
     };
-    first_wrong(alloc, Start::Opening(frames), &[case]).is_none()
+    wrong_case(alloc, Start::Opening(frames), &[case]).is_none()
 }
 
 /// The last frame is data, which one leaf of the direct map names, a writable one, and no link. Its descriptor is the last
@@ -108,5 +108,5 @@ fn bytes_after_calls(rt: HostRuntime) {
             found: &[Found::Descriptor(71, 5, 0, 0)],
         },
     ];
-    assert_eq!(rt; first_wrong(rt.alloc(), Start::Opening(512), &cases), None);
+    assert_eq!(rt; wrong_case(rt.alloc(), Start::Opening(512), &cases), None);
 }

@@ -1,7 +1,7 @@
 //! Calls that break two rules at once: the answer is the first of them in the call's order. Each pair of rules that one call
 //! can break is a row, of which the later rule stands behind it.
 
-use super::cases::{Case, Start, first_wrong};
+use super::cases::{Case, Start, wrong_case};
 use super::{NOWHERE, PAGE, POOL, READABLE, Row, WRITABLE, pages_declared, play};
 use std::alloc::Global;
 
@@ -102,7 +102,7 @@ const LOG: [(Row, u64); 2] = [
 
 /// Whether the calls are answered so behind what stands before them.
 fn are_answered(alloc: Global, start: Start, calls: &[(Row, u64)]) -> bool {
-    first_wrong(alloc, start, &[Case { calls, found: &[] }]).is_none()
+    wrong_case(alloc, start, &[Case { calls, found: &[] }]).is_none()
 }
 
 /// So many regions of a byte each behind eight that were declared, and then a declaration where neither a region nor a

@@ -1,8 +1,9 @@
 //! Cases as rows of tables: the words of the command line, the files of its shelf, the call that fails, and what has to
 //! come of it; and shorter rows for runs, for pages that are looked up, and for words without a form.
-use super::{HOME, NAME, Ran, Segment, USAGE, gives, image, image_of, run_over};
+use super::{NAME, Ran, Segment, USAGE, gives, image, image_of, run_over};
 use std::alloc::{AllocError, Global};
 use std::test::Fail;
+use test_kit::HOME;
 
 /// The names of the other files.
 pub(super) const INPUT: &str = "input";

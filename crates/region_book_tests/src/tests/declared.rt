@@ -12,12 +12,14 @@ ghost use Rattle.phys_mem.specs.Memory.{byte_at, entry_in};
 ghost use Rattle.region_book.specs.RegionBytes.{HoldsRegions, book_in};
 ghost use Rattle.region_book.specs.RegionRecords.{IsBook};
 
-use super::{are_zero, load};
+use super::are_zero;
+use memory_kit::{byte_at, memory_with};
 use nk_bits::{Kind, Rule};
 use page_desc::Frames;
 use phys_mem::{NoMemory, PhysMem};
-use region_book::{Regions, Region, held_regions_law};
+use region_book::{Region, Regions, held_regions_law};
 use std::alloc::{AllocError, Global};
+use test_kit::first_wrong;
 
 /// Data but for a table of each level, those of the kernel slot, the pool and the books.
 fn kinds(alloc: Global) -> Result<Vec<Kind>, AllocError>
@@ -51,23 +53,11 @@ static ENTRIES: [(u64, u64); 8] = [
     (0x7020, 0x8000_0000_0000_7021),
 ];
 
-fn store(mem: &mut PhysMem, at: u64, value: u64)
-    ensures { length mem.new ≡ length mem.old }
-{
-    if at < 0xFFFF && at + 8 <= 4096 * u64::from(mem.frames()) {
-        mem.store64(at, value);
-    }
-}
-
 /// A memory of eighty frames with those entries.
 fn memory(alloc: Global) -> Result<PhysMem, NoMemory>
     ensures { IfOk result (λ mem. length mem ≡ 4096 * 80) }
 {
-    let mut mem = PhysMem::new(alloc, 80)?;
-    for (at, value) in &ENTRIES {
-        store(&mut mem, *at, *value);
-    }
-    Ok(mem)
+    memory_with(alloc, 80, &ENTRIES)
 }
 
 /// Whether each of a row of frames is of one kind.
@@ -167,24 +157,41 @@ enum Step {
 
 use Step::{Declare, Empty, Found, Kinds, Loose, Slot};
 
+/// A memory, the regions in it, and its descriptors.
+#[derive(Drop)]
+struct Opened {
+    mem: PhysMem,
+    regions: Regions,
+    frames: Frames,
+    ghost regions_held: { HoldsRegions regions mem },
+    ghost book: { IsBook (book_in regions mem) },
+    ghost held: { HoldsDescriptors frames mem },
+}
+
+impl Opened {
+    fn is_met(&mut self, step: &Step) -> bool {
+        is_met(&mut self.regions, &mut self.frames, &mut self.mem, step)
+    }
+}
+
 /// The index of the first step that gives something else. Where the opening can't be made it is the largest number.
-fn first_wrong(alloc: Global, steps: &[Step]) -> Option<usize> {
+fn wrong_step(alloc: Global, steps: &[Step]) -> Option<usize> {
     let Ok(mut mem) = memory(alloc) else {
         return Some(usize::MAX);
     };
     let Ok(kinds) = kinds(alloc) else {
         return Some(usize::MAX);
     };
-    let mut regions = Regions::start(&mut mem);
-    let Some(mut frames) = begin(&mut mem, &kinds, &regions) else {
+    let regions = Regions::start(&mut mem);
+    let Some(frames) = begin(&mut mem, &kinds, &regions) else {
         return Some(usize::MAX);
     };
-    for (index, step) in steps.iter().enumerate() {
-        if !is_met(&mut regions, &mut frames, &mut mem, step) {
-            return Some(index);
-        }
-    }
-    None
+    let mut opened = Opened {
+        mem,
+        regions,
+        frames,
+    };
+    first_wrong(steps, |step| opened.is_met(step))
 }
 
 /// Whether a step gives what it is to give.
@@ -255,7 +262,7 @@ static SLOT: [u8; 64] = [
 /// The first byte of slot 0 that isn't one of `SLOT`.
 fn first_other(mem: &PhysMem) -> Option<usize> {
     for (at, byte) in SLOT.iter().enumerate() {
-        if load(mem, 0x3C000 + (at as u64 & 63)) != *byte {
+        if byte_at(mem, 0x3C000 + (at as u64 & 63)) != *byte {
             return Some(at);
         }
     }
@@ -333,6 +340,6 @@ static CASES: [Case; 2] = [
 #[test]
 fn declared_pages_are_guarded(rt: HostRuntime) {
     for (wrong, steps) in &CASES {
-        assert!(rt; first_wrong(rt.alloc(), steps) == *wrong);
+        assert!(rt; wrong_step(rt.alloc(), steps) == *wrong);
     }
 }

@@ -2,6 +2,7 @@
 //! Flags that an operation leaves alone, and those that the manual leaves undefined, stay as they were before.
 
 use super::{MOST, ONES, TOP, out, width_of};
+use test_kit::first_wrong;
 use x86_alu::{Divide, Quotient, divide, multiply};
 
 /// Width in bits, a, b, the flags before; the low half, the high half, the flags.
@@ -170,25 +171,15 @@ static QUOTIENTS: [Divisions; 7] = [
 #[test]
 fn multiplies(rt: HostRuntime) {
     for (signed, rows, wrong) in &PRODUCTS {
-        assert!(rt; first_wrong_product(*signed, rows) == *wrong);
+        assert!(rt; first_wrong(rows, |row| is_product(*signed, row)) == *wrong);
     }
 }
 
 #[test]
 fn divides(rt: HostRuntime) {
     for (signed, rows, wrong) in &QUOTIENTS {
-        assert!(rt; first_wrong_quotient(*signed, rows) == *wrong);
+        assert!(rt; first_wrong(rows, |row| is_quotient(*signed, row)) == *wrong);
     }
-}
-
-/// The index of the first row that isn't so.
-fn first_wrong_product(signed: bool, rows: &[Product]) -> Option<usize> {
-    for (index, row) in rows.iter().enumerate() {
-        if !is_product(signed, row) {
-            return Some(index);
-        }
-    }
-    None
 }
 
 fn is_product(signed: bool, row: &Product) -> bool {
@@ -199,16 +190,6 @@ fn is_product(signed: bool, row: &Product) -> bool {
     let is_low = multiply(signed, false, width, a, b, before) == out(low, flags);
     let is_high = multiply(signed, true, width, a, b, before) == out(high, flags);
     is_low & is_high
-}
-
-/// The index of the first row that isn't so.
-fn first_wrong_quotient(signed: bool, rows: &[Division]) -> Option<usize> {
-    for (index, row) in rows.iter().enumerate() {
-        if !is_quotient(signed, row) {
-            return Some(index);
-        }
-    }
-    None
 }
 
 fn is_quotient(signed: bool, row: &Division) -> bool {

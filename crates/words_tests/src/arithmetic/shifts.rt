@@ -1,7 +1,8 @@
 //! Shifts, rotations and bit scans: rows of each width, with operands at its edges and, last, what follows from them.
 
 use super::Operation::{Rotate, Scan, Shift};
-use super::{Case, ONES, TOP, first_wrong};
+use super::{Case, ONES, TOP, is_so};
+use test_kit::first_wrong;
 use x86_alu::Shift::{Left, Right, Signed};
 
 #[rattlefmt::skip]
@@ -203,6 +204,6 @@ static SHIFTS: [Case; 13] = [
 #[test]
 fn shifts_rotates_and_scans_bits(rt: HostRuntime) {
     for (operation, rows, wrong) in &SHIFTS {
-        assert!(rt; first_wrong(*operation, rows) == *wrong);
+        assert!(rt; first_wrong(rows, |row| is_so(*operation, row)) == *wrong);
     }
 }

@@ -1,7 +1,8 @@
 //! Sums, differences and logic: rows of each width, with operands at its edges and, last, what follows from them.
 
 use super::Operation::{Add, Combine, Subtract};
-use super::{Case, MOST, ONES, TOP, first_wrong};
+use super::{Case, MOST, ONES, TOP, is_so};
+use test_kit::first_wrong;
 use x86_alu::Logic;
 
 #[rattlefmt::skip]
@@ -136,6 +137,6 @@ static SUMS: [Case; 15] = [
 #[test]
 fn adds_subtracts_and_combines_bits(rt: HostRuntime) {
     for (operation, rows, wrong) in &SUMS {
-        assert!(rt; first_wrong(*operation, rows) == *wrong);
+        assert!(rt; first_wrong(rows, |row| is_so(*operation, row)) == *wrong);
     }
 }

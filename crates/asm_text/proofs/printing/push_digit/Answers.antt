@@ -4,4 +4,4 @@ use Rattle.asm_text.proofs.printing.push_digit.Goals as goal
 
 pub push-requires : goal.push-requires
 push-requires c =
-    omega (arith, c.requires.room, ap length (encode_ascii c.digit.result c.digit.ensures.ascii))
+    omega (arith, c.requires.room, ap length (encode_ascii c.hex_digit.result c.hex_digit.ensures.ascii))

@@ -6,4 +6,4 @@ use Rattle.cpu_step.proofs.memo.answers.Goals as goal
 pub returns-in-Ok-clause-right : goal.returns-in-Ok-clause-right
 returns-in-Ok-clause-right c =
     subst (All IsRight) (sym (c.in-Ok.ensures.items_if_clones_equal (λ y same. same)))
-    (All-replicate IsRight 4096 c.answer_of-kept.result c.answer_of-kept.ensures.right)
+    (All-replicate IsRight 4096 c.kept_answer-kept.result c.kept_answer-kept.ensures.right)

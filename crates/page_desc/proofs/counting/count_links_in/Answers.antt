@@ -10,7 +10,7 @@ pub returns-then-is_link_level-clause-each : goal.returns-then-is_link_level-cla
 unfolding holds_links
 returns-then-is_link_level-clause-each c =
     let holds : holds_links c.args.kinds.now c.args.frame ≡ true =
-    ap (λ (k : Kind). is_link_level (level_of k)) (sym c.kind_at.ensures) ∙ ap is_link_level (sym c.level_of.ensures)
+    ap (λ (k : Kind). is_link_level (level_of k)) (sym c.kind_at.ensures) ∙ ap is_link_level (sym c.level.ensures)
     ∙ sym c.is_link_level.ensures ∙ c.if-is_link_level.true in
     λ other inside.
     omega (arith, c.add_links.ensures.each other inside, row_counted 512 (holds_links c.args.kinds.now c.args.frame) (λ i. is_link_to other (entry_in c.args.mem.now c.args.frame i)) holds)
@@ -19,7 +19,7 @@ pub returns-else-is_link_level-clause-each : goal.returns-else-is_link_level-cla
 unfolding holds_links
 returns-else-is_link_level-clause-each c =
     let holds : holds_links c.args.kinds.now c.args.frame ≡ false =
-    ap (λ (k : Kind). is_link_level (level_of k)) (sym c.kind_at.ensures) ∙ ap is_link_level (sym c.level_of.ensures)
+    ap (λ (k : Kind). is_link_level (level_of k)) (sym c.kind_at.ensures) ∙ ap is_link_level (sym c.level.ensures)
     ∙ sym c.is_link_level.ensures ∙ c.if-is_link_level.false in
     λ other inside.
     omega (arith, row_passed 512 (holds_links c.args.kinds.now c.args.frame) (λ i. is_link_to other (entry_in c.args.mem.now c.args.frame i)) holds)

@@ -1,5 +1,0 @@
-use Rattle.page_desc.specs.DescriptorBytes.{HoldsTables}
-use Rattle.nested_tests.proofs.tables.first_wrong.Given as goal
-
-abbrev pub invariant-loop-index : goal.invariant-loop-index
-invariant-loop-index l = HoldsTables l.tables.frames l.tables.root l.mem
