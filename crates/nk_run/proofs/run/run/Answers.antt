@@ -18,6 +18,9 @@ returns-in-Err-clause-answered g c = record {
 pub drive-requires-clause-opening : goal.drive-requires-clause-opening
 drive-requires-clause-opening g c = c.in-Some.ensures.opening
 
+pub drive-requires-clause-steps : goal.drive-requires-clause-steps
+drive-requires-clause-steps g c = c.in-Ok.ensures.ready.bounded
+
 pub returns-in-Some-clause-answered : goal.returns-in-Some-clause-answered
 returns-in-Some-clause-answered g c =
     let ready = c.in-Ok.ready in
