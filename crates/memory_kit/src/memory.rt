@@ -26,7 +26,8 @@ pub fn store_words(mem: &mut PhysMem, words: &[(u64, u64)])
 
 /// How many bytes a memory has.
 fn size(mem: &PhysMem) -> u64
-    ensures { result ≡ length mem.now }
+    ensures length { result ≡ length mem.now }
+    ensures least { 4096 ≤ result }
 {
     4096 * u64::from(mem.frames())
 }
