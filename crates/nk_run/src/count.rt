@@ -50,8 +50,8 @@ impl Tally {
 }
 
 /// Takes the steps of a run of a made image, and writes its summary.
-pub(crate) fn count<'i, O: Sink>(
-    machine: Machine<'i>,
+pub(crate) fn count<O: Sink>(
+    machine: Machine<'_>,
     plan: &Plan,
     sink: &mut O,
 ) -> Result<(), SinkFault>
@@ -117,8 +117,8 @@ fn answered(tally: Tally, answer: &Answer) -> Tally
 }
 
 /// Ends the run of a machine, and writes why, how many turns it took, and the counts.
-fn sum_up<'i, O: Sink>(
-    machine: Machine<'i>,
+fn sum_up<O: Sink>(
+    machine: Machine<'_>,
     reason: Ending,
     tally: &Tally,
     sink: &mut O,

@@ -23,8 +23,8 @@ use irq_plan::Plan;
 use nk_host::{Sink, SinkFault};
 
 /// Takes the steps of a run, and writes its text.
-pub(crate) fn drive<'i, O: Sink>(
-    machine: Machine<'i>,
+pub(crate) fn drive<O: Sink>(
+    machine: Machine<'_>,
     opened: &Opened,
     plan: &Plan,
     steps: u64,
@@ -56,7 +56,7 @@ pub(crate) fn drive<'i, O: Sink>(
 }
 
 /// Writes what a step shows that the machine took last.
-fn show<'i, O: Sink>(machine: &Machine<'i>, step: &Step, sink: &mut O) -> Result<(), SinkFault>
+fn show<O: Sink>(machine: &Machine<'_>, step: &Step, sink: &mut O) -> Result<(), SinkFault>
     ensures never_falls { O.faults sink.old ≤ O.faults sink.new }
     ensures failed { OnErr result (RoseTo (O.faults sink.old) (O.faults sink.new)) }
     ensures all { (m : Move) (w : WholeState) → step.now ≡ step_by m w.state → (whole_of machine.now).source ≡ source_after m w
@@ -85,8 +85,8 @@ fn show_seen<O: Sink>(seen: &Seen, sink: &mut O) -> Result<(), SinkFault>
 }
 
 /// Ends the run of a machine, and writes why, how many turns it took, and the closing section.
-fn end<'i, O: Sink>(
-    machine: Machine<'i>,
+fn end<O: Sink>(
+    machine: Machine<'_>,
     opened: &Opened,
     ending: Ending,
     sink: &mut O,
