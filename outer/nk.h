@@ -1,5 +1,5 @@
-/* What an outer kernel knows of the machine and of the nested kernel: the layout, the bits of an entry, the nine calls
- * as functions, the rules that they are answered by. C11 and C++11, and the numbers alone for assembly. The sections
+/* What an outer kernel knows of the machine and of the nested kernel: the layout, the bits of an entry, the calls as
+ * functions, the rules that they are answered by. C11 and C++11, and the numbers alone for assembly. The sections
  * named are those of docs/MACHINE.md. */
 #ifndef NK_H
 #define NK_H

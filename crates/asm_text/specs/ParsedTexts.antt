@@ -12,8 +12,7 @@ use Rattle.text_lines.specs.Numerals.{numeral}
 use Rattle.x86_decode.specs.declared.instruction.Instr.{Instr}
 use Rattle.x86_decode.specs.declared.operation.Op.{Op}
 use Rattle.x86_decode.specs.declared.operation.Op.TheVariants.{Add}
-use Rattle.asm_text.specs.declared.op_names.TheConstants.{OP_NAMES}
-use Rattle.asm_text.specs.declared.operation.TheConstants.{ALL_OPS}
+use Rattle.asm_text.specs.declared.operation.TheConstants.{ALL_OPS, OP_NAMES}
 
 -- the names of all operations
 unfoldable pub all_names : List (List ℕ)

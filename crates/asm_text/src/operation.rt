@@ -60,19 +60,29 @@ macro_rules! operations {
 }
 
 macro_rules! in_a_row {
-    ($([$number:literal $op:ident $name:literal])* $(($condition:literal $cmov:literal $set:literal $jump:literal))*) => {
+    (
+        $([$number:literal $op:ident $name:literal])*
+        $(($condition:literal $cmov:literal $set:literal $jump:literal))*
+    ) => {
         [$($op,)* $(Cmov($condition), Set($condition), J($condition),)*]
     };
 }
 
 macro_rules! names_in_a_row {
-    ($([$number:literal $op:ident $name:literal])* $(($condition:literal $cmov:literal $set:literal $jump:literal))*) => {
+    (
+        $([$number:literal $op:ident $name:literal])*
+        $(($condition:literal $cmov:literal $set:literal $jump:literal))*
+    ) => {
         [$($name,)* $($cmov, $set, $jump,)*]
     };
 }
 
 macro_rules! number {
-    ($of:ident $([$number:literal $op:ident $name:literal])* $(($condition:literal $cmov:literal $set:literal $jump:literal))*) => {
+    (
+        $of:ident
+        $([$number:literal $op:ident $name:literal])*
+        $(($condition:literal $cmov:literal $set:literal $jump:literal))*
+    ) => {
         match $of {
             $($op => $number,)*
             Cmov(condition) => 88 + 3 * condition as u16,

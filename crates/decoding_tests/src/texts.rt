@@ -291,18 +291,15 @@ static NAMES_FROM_MOVS: [(&str, Op); 47] = [
     ("invlpg.64 - - 0", Op::Invlpg),
 ];
 
-/// The place of the first row whose text doesn't name the operation.
-fn first_other(rows: &[(&str, Op)]) -> Option<usize> {
-    rows.iter().position(|row| {
-        let instr = plain(row.1, 64, Place::Nothing, Place::Nothing, 0);
-        !is_text_of(row.0, &instr)
-    })
+/// Whether the text names the operation.
+fn is_name_of((text, op): &(&str, Op)) -> bool {
+    is_so(&(*text, plain(*op, 64, Place::Nothing, Place::Nothing, 0)))
 }
 
 #[test]
 fn each_name(rt: HostRuntime) {
-    assert_eq!(rt; first_other(&NAMES_TO_MOVS), None);
-    assert_eq!(rt; first_other(&NAMES_FROM_MOVS), None);
+    assert_eq!(rt; first_wrong(&NAMES_TO_MOVS, is_name_of), None);
+    assert_eq!(rt; first_wrong(&NAMES_FROM_MOVS, is_name_of), None);
 }
 
 static NO_TEXTS: [&str; 41] = [

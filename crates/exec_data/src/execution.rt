@@ -47,6 +47,7 @@ pub fn effect(
 }
 
 /// The effect of an instruction whose form is known: the fault of its conditions, or what its accesses and its outcome are.
+#[inline(always)]
 #[tactic(auto, unfolding(x86_regs::specs::Effects::effect_of))]
 pub fn effect_of(
     form: DataForm,
@@ -68,19 +69,14 @@ pub fn effect_of(
 {
     match refusal(instr, regs.cpl) {
         Some(fault) => Err(fault),
-        None => planned_effect(
-            &DataExecution { form },
-            instr,
-            size,
-            regs,
-            control,
-            mem,
-            tlb,
-        ),
+        None => {
+            let execution = DataExecution { form };
+            planned_effect(&execution, instr, size, regs, control, mem, tlb)
+        },
     }
 }
 
-/// The execution of an instruction of this form.
+/// The execution of an instruction of data, of this form.
 #[derive(Clone, Copy)]
 struct DataExecution {
     form: DataForm,
@@ -95,6 +91,16 @@ impl Execution for DataExecution {
         data_plan(self.form, instr, size, regs)
     }
 
+    fn gather(
+        mem: &PhysMem,
+        tlb: &mut Tlb,
+        control: &Control,
+        cpl: u8,
+        plan: &AccessPlan,
+    ) -> Result<Gathered, SpanFault> {
+        gather(mem, tlb, control, cpl, plan)
+    }
+
     fn outcome(
         &self,
         instr: &Instr,
@@ -105,16 +111,6 @@ impl Execution for DataExecution {
         found: &Gathered,
     ) -> Result<Change, Fault> {
         data_outcome(self.form, instr, next, regs, found)
-    }
-
-    fn gather(
-        mem: &PhysMem,
-        tlb: &mut Tlb,
-        control: &Control,
-        cpl: u8,
-        plan: &AccessPlan,
-    ) -> Result<Gathered, SpanFault> {
-        gather(mem, tlb, control, cpl, plan)
     }
 
     fn check(

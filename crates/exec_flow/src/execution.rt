@@ -51,6 +51,7 @@ pub fn effect(
 }
 
 /// The effect of an instruction whose form is known: the fault of its conditions, or what its form makes.
+#[inline(always)]
 #[tactic(auto, unfolding(x86_regs::specs::Effects::effect_of))]
 pub fn effect_of(
     form: FlowForm,
@@ -96,19 +97,14 @@ fn effect_by(
 {
     match form {
         FlowForm::TrapReturn => return_effect(next_of(regs, size), regs, control, mem, tlb),
-        _ => planned_effect(
-            &FlowExecution { form },
-            instr,
-            size,
-            regs,
-            control,
-            mem,
-            tlb,
-        ),
+        _ => {
+            let execution = FlowExecution { form };
+            planned_effect(&execution, instr, size, regs, control, mem, tlb)
+        },
     }
 }
 
-/// The execution of an instruction of this form.
+/// The execution of an instruction of flow, of this form.
 #[derive(Clone, Copy)]
 struct FlowExecution {
     form: FlowForm,
@@ -123,6 +119,16 @@ impl Execution for FlowExecution {
         flow_plan(self.form, instr, size, regs)
     }
 
+    fn gather(
+        mem: &PhysMem,
+        tlb: &mut Tlb,
+        control: &Control,
+        cpl: u8,
+        plan: &AccessPlan,
+    ) -> Result<Gathered, SpanFault> {
+        gather(mem, tlb, control, cpl, plan)
+    }
+
     fn outcome(
         &self,
         instr: &Instr,
@@ -133,16 +139,6 @@ impl Execution for FlowExecution {
         found: &Gathered,
     ) -> Result<Change, Fault> {
         flow_outcome(self.form, instr, next, regs, control, frames, found)
-    }
-
-    fn gather(
-        mem: &PhysMem,
-        tlb: &mut Tlb,
-        control: &Control,
-        cpl: u8,
-        plan: &AccessPlan,
-    ) -> Result<Gathered, SpanFault> {
-        gather(mem, tlb, control, cpl, plan)
     }
 
     fn check(

@@ -5,5 +5,5 @@
 mod memory;
 mod pages;
 
-pub use memory::{byte_at, memory_with, store_word, store_words, word_at};
+pub use memory::{memory_with, peek_byte, peek_word, store_word, store_words};
 pub use pages::{CONTROL, PAGES};

@@ -26,7 +26,8 @@ pub fn store_words(mem: &mut PhysMem, words: &[(u64, u64)])
 
 /// How many bytes a memory has.
 fn size(mem: &PhysMem) -> u64
-    ensures { result ≡ length mem.now }
+    ensures length { result ≡ length mem.now }
+    ensures least { 4096 ≤ result }
 {
     4096 * u64::from(mem.frames())
 }
@@ -41,7 +42,7 @@ pub fn store_word(mem: &mut PhysMem, at: u64, word: u64)
 }
 
 /// The number at a place; the largest where that isn't in memory.
-pub fn word_at(mem: &PhysMem, at: u64) -> u64 {
+pub fn peek_word(mem: &PhysMem, at: u64) -> u64 {
     if at <= size(mem) - 8 {
         mem.load64(at)
     } else {
@@ -50,7 +51,7 @@ pub fn word_at(mem: &PhysMem, at: u64) -> u64 {
 }
 
 /// The byte at a place; the largest where that isn't in memory.
-pub fn byte_at(mem: &PhysMem, at: u64) -> u8 {
+pub fn peek_byte(mem: &PhysMem, at: u64) -> u8 {
     if at < size(mem) {
         mem.load8(at)
     } else {

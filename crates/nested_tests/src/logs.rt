@@ -3,7 +3,7 @@
 ghost use Rattle.std.specs.Prelude.{◌≡◌, ◌*◌, ◌≤◌, length};
 ghost use Rattle.write_log.specs.LogBytes.{HoldsLog};
 
-use memory_kit::byte_at;
+use memory_kit::peek_byte;
 use phys_mem::PhysMem;
 use std::alloc::Global;
 use test_kit::first_wrong;
@@ -108,7 +108,7 @@ static TWO: [u8; 64] = *b"\
 /// The first byte of the log that isn't one of `TWO`.
 fn first_other(mem: &PhysMem) -> Option<usize> {
     for (at, value) in TWO.iter().enumerate() {
-        if byte_at(mem, 0x1A000 + (at as u64 & 0xFFFF)) != *value {
+        if peek_byte(mem, 0x1A000 + (at as u64 & 0xFFFF)) != *value {
             return Some(at);
         }
     }
@@ -146,7 +146,7 @@ fn is_met(alloc: Global, log: &mut Log, mem: &mut PhysMem, step: &Step) -> bool
         Entry(i, noted) => entry(log, mem, i) == noted,
         Byte(i, at, value) => byte(log, mem, i, at) == value,
         Other(at) => first_other(mem) == at,
-        Holds(at, value) => byte_at(mem, at) == value,
+        Holds(at, value) => peek_byte(mem, at) == value,
     }
 }
 

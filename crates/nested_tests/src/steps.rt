@@ -9,7 +9,7 @@ ghost use Rattle.page_desc.specs.DescriptorBytes.{HoldsDescriptors};
 ghost use Rattle.page_desc.specs.FrameCounts.{IsSlotFixed};
 
 use crate::openings::{Run, are_books_hidden, are_zero, is_slot_fixed, kinds, memory};
-use memory_kit::word_at;
+use memory_kit::peek_word;
 use nk_bits::{Entry, Kind};
 use page_desc::Frames;
 use phys_mem::PhysMem;
@@ -111,7 +111,7 @@ fn is_met(frames: &mut Frames, memory: &mut PhysMem, step: &Step) -> bool
 /// The sixteen bytes of a frame's descriptor, as one number.
 fn descriptor(memory: &PhysMem, frame: u32) -> u128 {
     let at = 0x40000 + 16 * u64::from(frame);
-    u128::from(word_at(memory, at + 8)) << 64 | u128::from(word_at(memory, at))
+    u128::from(peek_word(memory, at + 8)) << 64 | u128::from(peek_word(memory, at))
 }
 
 /// Gives a frame a kind, where it is in memory.

@@ -10,7 +10,7 @@ ghost use Rattle.phys_mem.specs.Memory.{byte_at, entry_in};
 ghost use Rattle.page_desc.specs.DescriptorBytes.{HoldsTables};
 
 use crate::openings::{Run, are_books_hidden, are_zero, entry, is_fixed, kinds, memory};
-use memory_kit::word_at;
+use memory_kit::peek_word;
 use nk_bits::Kind;
 use page_desc::{Frames, descriptor_law, stored_law};
 use phys_mem::{PhysMem, mask_law};
@@ -146,7 +146,7 @@ fn serve(tables: &mut Tables4, mem: &mut PhysMem, call: Call) -> u64
         Write(frame, index, value) => tables.write_entry(mem, frame, index, value),
         Remove(frame) => tables.remove_table(mem, frame),
         Root(frame) => tables.load_root(mem, frame),
-        Holds(at) => return word_at(mem, at),
+        Holds(at) => return peek_word(mem, at),
         RootFrame => return u64::from(tables.root),
     };
     match answer {

@@ -5,3 +5,5 @@ pub mod InReads
 pub mod HeldBytes
 pub mod RefutedShelves
 mod RefutedCounts
+pub mod RefutedPuts
+mod BuiltPuts

@@ -3,6 +3,7 @@ pub mod FaultCounts
 pub mod Told
 pub mod Files
 pub mod Taken
+pub mod TextPuts
 pub mod PiecesOut
 pub mod CountedStream
 pub mod Streams

@@ -1,10 +1,9 @@
 //! A sink in memory.
-ghost use Rattle.std.specs.Prelude.{◌≡◌, ◌≢◌, ◌+◌, ◌≤◌, ◌↔◌, [], ◌++◌, length, min, if◌then◌else◌, IfOk, IsErr, IsOk, OnOk, OnErr, IsTrue, Some};
+ghost use Rattle.std.specs.Prelude.{◌≡◌, ◌≢◌, ◌+◌, ◌≤◌, ◌↔◌, [], ◌++◌, length, min, if◌then◌else◌, IfOk, IsErr, IsOk, IsTrue, Some};
 ghost use Rattle.nk_host.specs.SinkInMemory.{after_put, put_fails, room_left};
 ghost use Rattle.nk_host.specs.Attempts.{is_due};
-ghost use Rattle.std.specs.Io.KnownBytes.{Appends};
-ghost use Rattle.nk_host.specs.FaultCounts.{RoseTo, raised};
-ghost use Rattle.nk_host.specs.Taken.{AppendsPrefix};
+ghost use Rattle.nk_host.specs.FaultCounts.{raised};
+ghost use Rattle.nk_host.specs.TextPuts.{IsTextPut};
 
 use crate::{NoMemory, Sink, SinkFault};
 use std::alloc::Global;
@@ -134,10 +133,7 @@ impl Sink for MemSink {
     /// Fails exactly where its number is among `failing` or the bytes don't fit. What it takes then,
     /// `count_taken` says.
     fn put(&mut self, bytes: &[u8]) -> Result<(), SinkFault>
-        ensures never_falls { self.old.faults ≤ self.new.faults }
-        ensures failed { OnErr result (RoseTo self.old.faults self.new.faults) }
-        ensures all { OnOk result (Appends (Some self.old.taken) (Some self.new.taken) bytes.now) }
-        ensures some { OnErr result (AppendsPrefix (Some self.old.taken) (Some self.new.taken) bytes.now) }
+        ensures put { IsTextPut (λ s. Some s.taken) (λ s. s.faults) self.old self.new bytes.now result }
         ensures nothing { bytes.now ≡ [] → IsOk result }
 
         // Exactly when it fails, and what stands afterwards.

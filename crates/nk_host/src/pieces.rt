@@ -1,11 +1,11 @@
 //! Texts of any length, put in pieces. `Pieces` takes a text's bytes one by one, so that it needs no
 //! copy of the text.
 ghost use Rattle.std.specs.Prelude.{◌≡◌, ◌<◌, ◌≤◌, ℕ, List, [], ◌∷◌, ◌++◌, length, OnOk, OnErr, IsOk};
-ghost use Rattle.std.specs.Io.KnownBytes.{Appends};
 ghost use Rattle.hex.specs.Hex.{encode_lower};
 ghost use Rattle.nk_host.specs.FaultCounts.{RoseTo};
 ghost use Rattle.nk_host.specs.PiecesOut.{MovedOn};
 ghost use Rattle.nk_host.specs.Taken.{AppendsPrefix};
+ghost use Rattle.nk_host.specs.TextPuts.{IsTextPut};
 ghost use Rattle.nk_host.specs.PieceLaws.{PiecesLaws};
 
 use crate::{Sink, SinkFault};
@@ -18,10 +18,7 @@ pub const PIECE: usize = 4096;
 /// Puts all of the bytes, in pieces of `PIECE` bytes and a rest, and stops at the first fault. So
 /// bytes of at most one piece go out in one put, and none where there are none.
 pub fn put_all<O: Sink>(sink: &mut O, bytes: &[u8]) -> Result<(), SinkFault>
-    ensures never_falls { O.faults sink.old ≤ O.faults sink.new }
-    ensures failed { OnErr result (RoseTo (O.faults sink.old) (O.faults sink.new)) }
-    ensures all { OnOk result (Appends (O.taken sink.old) (O.taken sink.new) bytes.now) }
-    ensures some { OnErr result (AppendsPrefix (O.taken sink.old) (O.taken sink.new) bytes.now) }
+    ensures put { IsTextPut O.taken O.faults sink.old sink.new bytes.now result }
     ensures nothing { bytes.now ≡ [] → IsOk result }
 {
     let mut rest = bytes;

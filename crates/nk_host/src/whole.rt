@@ -1,10 +1,9 @@
 //! A reader read to its end, and bytes written whole.
-ghost use Rattle.std.specs.Prelude.{◌≡◌, ◌≢◌, ◌+◌, ◌-◌, ◌<◌, ◌≤◌, [], length, min, vec_len, IfOk, IsOk, OnOk, OnErr, IfErr};
-ghost use Rattle.std.specs.Io.KnownBytes.{Appends};
+ghost use Rattle.std.specs.Prelude.{◌≡◌, ◌≢◌, ◌+◌, ◌-◌, ◌<◌, ◌≤◌, [], length, min, vec_len, IfOk, IsOk, OnOk, IfErr};
 ghost use Rattle.nk_host.specs.CountedStream.{faults_of, stream_of};
 ghost use Rattle.nk_host.specs.FaultCounts.{RoseTo};
 ghost use Rattle.nk_host.specs.Streams.{GivesAtMost, GivesMore, HadMore, IsAllOf};
-ghost use Rattle.nk_host.specs.Taken.{AppendsPrefix};
+ghost use Rattle.nk_host.specs.TextPuts.{IsTextPut};
 
 use crate::counted::Counted;
 use crate::{FetchFault, SinkFault};
@@ -76,12 +75,9 @@ fn read_more<F: Read>(
 /// Writes all of the bytes, or some first ones and fails. A write that is interrupted, or takes no byte,
 /// is a fault.
 pub fn write_whole<W: Write>(to: &mut Counted<W>, bytes: &[u8]) -> Result<(), SinkFault>
-    ensures all { OnOk result (Appends (W.contents (stream_of to.old)) (W.contents (stream_of to.new)) bytes.now) }
-    ensures some { OnErr result (AppendsPrefix (W.contents (stream_of to.old)) (W.contents (stream_of to.new)) bytes.now) }
+    ensures put { IsTextPut (λ w. W.contents (stream_of w)) faults_of to.old to.new bytes.now result }
     ensures nothing { bytes.now ≡ [] → IsOk result }
-    ensures failed { OnErr result (RoseTo (faults_of to.old) (faults_of to.new)) }
     ensures kept { OnOk result (faults_of to.new ≡ faults_of to.old) }
-    ensures never_falls { faults_of to.old ≤ faults_of to.new }
 {
     let mut rest = bytes;
     while !rest.is_empty() {

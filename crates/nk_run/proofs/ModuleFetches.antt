@@ -114,7 +114,7 @@ pub module_stops : (words : List (List ℕ)) (before mid after : ShelfState) (mo
     → StopsFetch (record { before = mid; after = after }) (Module i) name status text
     → StopsIn words (record { before = before; after = after }) (map Module (range_with_len 0 32))
     (λ files. module_fetches files 0 modules) status text
-module_stops words before mid after modules i bytes name status text few falls same listed is so_far (inl stop) =
+module_stops words before mid after modules i bytes name status text few falls same modules_are is so_far (inl stop) =
     let at = listed_at modules i name is in
     let P : List Listed → Type 0 = λ ms. name_at ms i ≡ Some name in
     inl (record {
@@ -123,8 +123,7 @@ module_stops words before mid after modules i bytes name status text few falls s
       unread = record {
         rose = name_rose_from words before mid after (Module i) falls same (
           name,
-          if_told mid.files _ (λ files e.
-              subst P (told_at before.files _ files (sym same ∙ e) listed) is),
+          if_told mid.files _ (λ files e. subst P (told_at before.files _ files (sym same ∙ e) modules_are) is),
           stop.rose,
         );
         status_is = stop.status_is;
@@ -134,8 +133,8 @@ module_stops words before mid after modules i bytes name status text few falls s
           let Q : List Listed → Type 0 = λ ms. IsReached (Module i) (module_fetches files i ms) in
           (told_at before.files _ files e so_far).reached (Module i) (subst Q (sym at.first) (inl refl)));
     })
-module_stops words before mid after modules i bytes name status text few falls same listed is so_far (inr (inl want)) = inr (inl want)
-module_stops words before mid after modules i bytes name status text few falls same listed is so_far (inr (inr stop)) =
+module_stops words before mid after modules i bytes name status text few falls same modules_are is so_far (inr (inl want)) = inr (inl want)
+module_stops words before mid after modules i bytes name status text few falls same modules_are is so_far (inr (inr stop)) =
     let at = listed_at modules i name is in
     inr (inr (record {
       ended = if_told before.files _ (λ files e.

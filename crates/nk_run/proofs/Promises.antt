@@ -423,46 +423,41 @@ of_command : (seen : Witness) (P : Command → Files → Type 0)
 of_command seen P law =
     if_told seen.shelf.before.files _ (λ files e. if_some (command_of seen.words) (λ command. P command files) (law files e))
 
-pub promised : (seen : Witness) (result : ℕ)
-    → ((words : List (List ℕ)) (files : Files) (command : Command) → HasEnd command words files)
-    → ((words : List (List ℕ)) (files : Files) (command : Command) → command_of words ≡ Some command → ReadsBytes command (Some files) → HasSafeRun command words files)
-    → ((words : List (List ℕ)) (files : Files) (command : Command) → command_of words ≡ Some command → ReadsBytes command (Some files) → HasJournal command words files)
-    → ((words : List (List ℕ)) (files : Files) (command : Command) → ReadsBytes command (Some files) → HasJoined command words files)
-    → IfSome (command_of seen.words) (λ command. ReadsBytes command seen.shelf.before.files)
-    → IsAnswered seen result → Promises seen result
-promised seen result ended law again joined bytes r = record {
-  status_range = status_range seen r.status r.text result r.says r.written;
-  usage = usage seen r.status r.text result r.says r.written;
-  usage_alone = usage_alone seen r.status r.text result r.says r.written;
-  unread_by_count = unread_by_count seen r.status r.text result r.says r.written;
-  cut_by_count = cut_by_count seen r.status r.text result r.says r.written;
-  want_by_count = want_by_count seen r.status r.text result r.says r.written;
-  outcome_status = outcome_status seen r.status r.text result r.says r.written;
-  outcome_text = outcome_text seen r.status r.text result r.says r.written;
-  unread_written = unread_written seen r.status r.text result r.says r.written;
-  want_written = want_written seen r.status r.text result r.says r.written;
-  cut_written = cut_written seen r.status r.text result r.says r.written;
-  files_stay = r.files_stay;
-  complete = complete seen r.status r.text result r.says r.written;
-  done = done seen r.status r.text result r.says r.written;
-  run_ends = of_command seen (λ command files. HasEnd command seen.words files) (λ files e command asked. ended seen.words files command);
-  run_safe = of_command seen (λ command files. HasSafeRun command seen.words files)
-      (λ files e command asked. law seen.words files command asked (read_bytes seen bytes files e command asked));
-  run_replayed = of_command seen (λ command files. HasJournal command seen.words files)
-      (λ files e command asked. again seen.words files command asked (read_bytes seen bytes files e command asked));
-  image_joined = of_command seen (λ command files. HasJoined command seen.words files)
-      (λ files e command asked. joined seen.words files command (read_bytes seen bytes files e command asked));
-}
+module _ (ended : (words : List (List ℕ)) (files : Files) (command : Command) → HasEnd command words files)
+    (law : (words : List (List ℕ)) (files : Files) (command : Command) → command_of words ≡ Some command → ReadsBytes command (Some files) → HasSafeRun command words files)
+    (again : (words : List (List ℕ)) (files : Files) (command : Command) → command_of words ≡ Some command → ReadsBytes command (Some files) → HasJournal command words files)
+    (joined : (words : List (List ℕ)) (files : Files) (command : Command) → ReadsBytes command (Some files) → HasJoined command words files) where
+  kept : (seen : Witness) (result : ℕ) → IfSome (command_of seen.words) (λ command. ReadsBytes command seen.shelf.before.files)
+      → IsAnswered seen result → Promises seen result
+  kept seen result bytes r = record {
+    status_range = status_range seen r.status r.text result r.says r.written;
+    usage = usage seen r.status r.text result r.says r.written;
+    usage_alone = usage_alone seen r.status r.text result r.says r.written;
+    unread_by_count = unread_by_count seen r.status r.text result r.says r.written;
+    cut_by_count = cut_by_count seen r.status r.text result r.says r.written;
+    want_by_count = want_by_count seen r.status r.text result r.says r.written;
+    outcome_status = outcome_status seen r.status r.text result r.says r.written;
+    outcome_text = outcome_text seen r.status r.text result r.says r.written;
+    unread_written = unread_written seen r.status r.text result r.says r.written;
+    want_written = want_written seen r.status r.text result r.says r.written;
+    cut_written = cut_written seen r.status r.text result r.says r.written;
+    files_stay = r.files_stay;
+    complete = complete seen r.status r.text result r.says r.written;
+    done = done seen r.status r.text result r.says r.written;
+    run_ends = of_command seen (λ command files. HasEnd command seen.words files) (λ files e command asked. ended seen.words files command);
+    run_safe = of_command seen (λ command files. HasSafeRun command seen.words files)
+        (λ files e command asked. law seen.words files command asked (read_bytes seen bytes files e command asked));
+    run_replayed = of_command seen (λ command files. HasJournal command seen.words files)
+        (λ files e command asked. again seen.words files command asked (read_bytes seen bytes files e command asked));
+    image_joined = of_command seen (λ command files. HasJoined command seen.words files)
+        (λ files e command asked. joined seen.words files command (read_bytes seen bytes files e command asked));
+  }
 
--- and so it is of the words that a request has
-pub promised_of : (words request : List (List ℕ)) (shelf : Change ShelfState) (sink : Change SinkState) (result : ℕ) → request ≡ words
-    → ((words : List (List ℕ)) (files : Files) (command : Command) → HasEnd command words files)
-    → ((words : List (List ℕ)) (files : Files) (command : Command) → command_of words ≡ Some command → ReadsBytes command (Some files) → HasSafeRun command words files)
-    → ((words : List (List ℕ)) (files : Files) (command : Command) → command_of words ≡ Some command → ReadsBytes command (Some files) → HasJournal command words files)
-    → ((words : List (List ℕ)) (files : Files) (command : Command) → ReadsBytes command (Some files) → HasJoined command words files)
-    → IfSome (command_of request) (λ command. ReadsBytes command shelf.before.files)
-    → IsAnswered (record { words = request; shelf = shelf; sink = sink }) result
-    → Promises (record { words = words; shelf = shelf; sink = sink }) result
-promised_of words request shelf sink result same ended law again joined bytes r =
-    let P : List (List ℕ) → Type 0 = λ it. Promises (record { words = it; shelf = shelf; sink = sink }) result in
-    subst P same (promised (record { words = request; shelf = shelf; sink = sink }) result ended law again joined bytes r)
+  -- of the words that a request has
+  pub promised : (words request : List (List ℕ)) (shelf : Change ShelfState) (sink : Change SinkState) (result : ℕ) → request ≡ words
+      → IfSome (command_of request) (λ command. ReadsBytes command shelf.before.files)
+      → IsAnswered (record { words = request; shelf = shelf; sink = sink }) result
+      → Promises (record { words = words; shelf = shelf; sink = sink }) result
+  promised words request shelf sink result same bytes r =
+      let P : List (List ℕ) → Type 0 = λ it. Promises (record { words = it; shelf = shelf; sink = sink }) result in
+      subst P same (kept (record { words = request; shelf = shelf; sink = sink }) result bytes r)

@@ -6,6 +6,7 @@ use Rattle.std.specs.Io.KnownBytes.{Appends}
 use Rattle.std.proofs.KnownBytes.{Appends-trans, Appends-nil}
 use Rattle.nk_host.specs.FaultCounts.{RoseTo}
 use Rattle.nk_host.specs.Taken.{AppendsPrefix}
+use Rattle.nk_host.specs.TextPuts.{IsTextPut}
 use Rattle.irq_plan.specs.declared.event.Event.{Event}
 use Rattle.gate_state.specs.declared.moves.Move.{Move}
 use Rattle.gate_state.specs.declared.moves.Move.TheVariants as move
@@ -18,7 +19,6 @@ use Rattle.nk_run.specs.declared.ending.Ending.TheVariants as ending
 use Rattle.report_text.specs.ClosingSection.{section}
 use Rattle.report_text.specs.RunLines.{ending_line, turns_line}
 use Rattle.nk_run.specs.Clauses.{SinkRose, TookPrefix}
-use Rattle.nk_run.specs.Replies.{IsTextPut}
 use Rattle.nk_run.specs.RunStates.{closing, ended, ending_at, is_halted, lines_from, one_unless, run_length, run_text, shown_by, steps_within}
 use Rattle.nk_run.specs.Witness.{sink_change}
 use Rattle.nk_run.proofs.Texts.{prefix_behind, prefix_of_both, rose_before, went_on}
@@ -173,10 +173,10 @@ module _ {O : Type 0} (taken : O → Option (List ℕ)) (faults : O → ℕ) (fi
 
     -- the run ended, and the rest was written or cut
     pub closes : {A E : Type 0} (later : O) (reason : Ending) (put : Result A E) → ending_at steps plan w.state ≡ Some reason
-        → IsTextPut (sink_change taken faults now later) (ending_line (is_halted reason)
+        → IsTextPut taken faults now later (ending_line (is_halted reason)
         ++ (turns_line w.state.turns ++ section o.image o.frames (nested_of w.state))) put
-        → IsTextPut (sink_change taken faults first later) whole put
+        → IsTextPut taken faults first later whole put
     closes later reason put e written =
         let text = going.split ∙ ap (λ l. going.done ++ l) (text_ended o steps plan w.state reason e) in
-        subst (λ l. IsTextPut (sink_change taken faults first later) l put) (sym text)
+        subst (λ l. IsTextPut taken faults first later l put) (sym text)
         (went_on taken faults first now later going.done going.done _ put refl going.never_fell going.appended written)

@@ -1,5 +1,5 @@
 -- Texts that go out one behind the other.
-use Rattle.std.proofs.Common.{◌≡◌, ℕ, ◌+◌, ◌≤◌, inl, inr, Option, List, ◌++◌, length, take, sym, ap, subst, arith, length-append, Result, Ok, Err, OnErr, OnOk}
+use Rattle.std.proofs.Common.{◌≡◌, ℕ, ◌+◌, ◌≤◌, inl, inr, Option, List, ◌++◌, length, take, sym, ap, subst, arith, length-append, Result, Ok, Err}
 use Rattle.std.specs.Prelude.{MatchResult}
 use Rattle.std.specs.Io.KnownBytes.{Appends}
 use Rattle.std.proofs.KnownBytes.{Appends-trans}
@@ -7,12 +7,13 @@ use Rattle.std.proofs.Math.Seq.{take-append-add}
 use Rattle.std.proofs.lemmas.List.{take-append-le}
 use Rattle.nk_host.specs.FaultCounts.{RoseTo}
 use Rattle.nk_host.specs.Taken.{AppendsPrefix}
-use Rattle.nk_run.specs.Clauses.{SinkRose, TookAll, TookPrefix}
-use Rattle.nk_run.specs.Replies.{IsTextPut, IsWritten}
+use Rattle.nk_host.specs.TextPuts.{IsTextPut}
+use Rattle.nk_run.specs.Clauses.{TookAll, TookPrefix}
+use Rattle.nk_run.specs.Replies.{IsWritten}
 use Rattle.nk_run.specs.declared.status.Status.{Status}
 use Rattle.nk_run.specs.declared.status.Status.TheVariants.{Cut}
 use Rattle.nk_run.specs.Statuses.{status_number}
-use Rattle.nk_run.specs.Witness.{Change, SinkState, sink_change}
+use Rattle.nk_run.specs.Witness.{sink_change}
 
 -- a count that rose from a later moment on rose
 pub rose_before : (was then_was is : ℕ) → was ≤ then_was → RoseTo then_was is → RoseTo was is
@@ -37,17 +38,26 @@ prefix_of_both a b x y (n, short, appended) = (
 -- a text was put, and what was put behind it is the rest
 pub went_on : {O A E : Type 0} (taken : O → Option (List ℕ)) (faults : O → ℕ) (a b c : O) (bytes x y : List ℕ) (put : Result A E)
     → bytes ≡ x → faults a ≤ faults b → Appends (taken a) (taken b) bytes
-    → IsTextPut (sink_change taken faults b c) y put → IsTextPut (sink_change taken faults a c) (x ++ y) put
-went_on taken faults a b c bytes x y (Ok _) e low whole (done, _, _) =
-    let first = subst (Appends (taken a) (taken b)) e whole in
-    (Appends-trans (taken a) (taken b) (taken c) x y first done, tt, tt)
-went_on taken faults a b c bytes x y (Err _) e low whole (_, rose, cut) =
-    let first = subst (Appends (taken a) (taken b)) e whole in
-    (tt, rose_before (faults a) (faults b) (faults c) low rose, prefix_behind (taken a) (taken b) (taken c) x y first cut)
+    → IsTextPut taken faults b c y put → IsTextPut taken faults a c (x ++ y) put
+went_on taken faults a b c bytes x y (Ok _) e low whole next = record {
+  never_falls = omega (arith, low, next.never_falls);
+  failed = tt;
+  all = Appends-trans (taken a) (taken b) (taken c) x y (subst (Appends (taken a) (taken b)) e whole) next.all;
+  some = tt;
+}
+went_on taken faults a b c bytes x y (Err _) e low whole next = record {
+  never_falls = omega (arith, low, next.never_falls);
+  failed = rose_before (faults a) (faults b) (faults c) low next.failed;
+  all = tt;
+  some = prefix_behind (taken a) (taken b) (taken c) x y (subst (Appends (taken a) (taken b)) e whole) next.some;
+}
 
 -- a text that was put is written with its status, or cut by a fault
-pub put_written : {A E : Type 0} (put : Result A E) (sink : Change SinkState) (own result : Status) (bytes text : List ℕ) → bytes ≡ text
-    → OnOk put (TookAll sink bytes) → OnErr put (SinkRose sink) → OnErr put (TookPrefix sink bytes)
-    → MatchResult put (λ _. result ≡ own) (λ _. result ≡ Cut) → IsWritten sink (status_number own) text (status_number result)
-put_written (Ok _) sink own result bytes text same all rose some is = inl (ap status_number is, subst (TookAll sink) same all)
-put_written (Err _) sink own result bytes text same all rose some is = inr (ap status_number is, rose, subst (TookPrefix sink) same some)
+pub put_written : {O A E : Type 0} (taken : O → Option (List ℕ)) (faults : O → ℕ) (a b : O) (put : Result A E) (own result : Status)
+    (bytes text : List ℕ) → bytes ≡ text → IsTextPut taken faults a b bytes put
+    → MatchResult put (λ _. result ≡ own) (λ _. result ≡ Cut)
+    → IsWritten (sink_change taken faults a b) (status_number own) text (status_number result)
+put_written taken faults a b (Ok _) own result bytes text same it is =
+    inl (ap status_number is, subst (TookAll (sink_change taken faults a b)) same it.all)
+put_written taken faults a b (Err _) own result bytes text same it is =
+    inr (ap status_number is, it.failed, subst (TookPrefix (sink_change taken faults a b)) same it.some)

@@ -1,5 +1,5 @@
 -- What the top call says, and how it is written.
-use Rattle.std.specs.Prelude.{◌≡◌, ◌≢◌, ℕ, ◌+◌, ◌*◌, ◌/◌, ◌==◌, Bool, true, false, ◌<◌, ◌≤◌, ◌⊎◌, List, length, replicate, Contains, Option, None, Some, OnErr, OnOk, Result, IsSome, ⊤}
+use Rattle.std.specs.Prelude.{◌≡◌, ◌≢◌, ℕ, ◌+◌, ◌*◌, ◌/◌, ◌==◌, Bool, true, false, ◌<◌, ◌≤◌, ◌⊎◌, List, length, replicate, Contains, Option, None, Some, Result, IsSome, ⊤}
 use Rattle.std.specs.List.{list_any}
 use Rattle.nk_bits.specs.declared.leaf.Leaf.{Leaf}
 use Rattle.nk_host.specs.FaultCounts.{Rose, RoseTo}
@@ -80,10 +80,6 @@ Says words shelf status text = SaysUsage words status text ⊎ CommandSays words
 abbrev pub IsWritten : Change SinkState → ℕ → List ℕ → ℕ → Type 0
 IsWritten sink status text result =
     ((result ≡ status) × TookAll sink text) ⊎ ((result ≡ 4) × SinkRose sink × TookPrefix sink text)
-
--- a text was put, or cut by a fault of the sink
-abbrev pub IsTextPut : {A E : Type 0} → Change SinkState → List ℕ → Result A E → Type 0
-IsTextPut sink text put = OnOk put (TookAll sink text) × OnErr put (SinkRose sink) × OnErr put (TookPrefix sink text)
 
 -- the top call says something, of a status and a text, and writes it
 pub record IsAnswered (seen : Witness) (result : ℕ) : Type 0 where

@@ -1,5 +1,6 @@
 //! The command `audit IMAGE FRAMES JOURNAL ID`.
 ghost use Rattle.std.specs.Prelude.{◌≡◌, ◌≤◌, None, Some, IfSome, MatchResult, length, replicate};
+ghost use Rattle.nk_host.specs.TextPuts.{IsTextPut};
 ghost use Rattle.write_log.specs.LogBytes.{HoldsLog, log_in};
 ghost use Rattle.report_text.specs.AuditLines.{audit_text};
 ghost use Rattle.nk_body.specs.Calls.{call_of};
@@ -11,7 +12,7 @@ ghost use Rattle.nk_run.specs.Witness.{shelf_change, sink_change};
 ghost use Rattle.nk_run.specs.Outcome.{given, logged_by, logged_size, opened};
 ghost use Rattle.nk_run.specs.ReplyText.{line_bytes};
 ghost use Rattle.nk_run.specs.Statuses.{status_number};
-ghost use Rattle.nk_run.specs.Replies.{CommandSays, IsAnswered, IsAuditable, IsTextPut, LiesWithin, RefusesBy};
+ghost use Rattle.nk_run.specs.Replies.{CommandSays, IsAnswered, IsAuditable, LiesWithin, RefusesBy};
 
 use crate::lines::noregion_line;
 use crate::replay::{Replayed, make_replay};
@@ -169,7 +170,7 @@ fn show<O: Sink>(auditable: &mut Auditable, id: u64, sink: &mut O) -> Result<(),
     requires within { LiesWithin id (length auditable.old.auditing)
         (log_in auditable.old.replayed.left.kernel.log auditable.old.replayed.left.memory) }
     requires fresh { auditable.old.auditing ≡ replicate (length auditable.old.auditing) 0 }
-    ensures { IsTextPut (sink_change O.taken O.faults sink.old sink.new)
+    ensures { IsTextPut O.taken O.faults sink.old sink.new
         (audit_text id (length auditable.old.auditing)
         (log_in auditable.old.replayed.left.kernel.log auditable.old.replayed.left.memory)) result }
 {

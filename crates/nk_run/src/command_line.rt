@@ -50,7 +50,7 @@ pub enum Role {
 }
 
 /// What the words ask for, by the numbers among them; a `Request` has the names of the files beside it.
-#[derive(Clone, Copy, Debug, PartialEq, Eq)]
+#[derive(Clone, Copy)]
 pub enum Command {
     /// Admit or refuse an image.
     Scan,

@@ -1,5 +1,6 @@
 //! The loop of a run that is counted: step after step of the machine, and the summary in the end.
-ghost use Rattle.std.specs.Prelude.{◌≡◌, ◌<◌, ◌≤◌, ◌+◌, ◌++◌, filter, length};
+ghost use Rattle.std.specs.Prelude.{◌≡◌, ◌<◌, ◌+◌, ◌++◌, filter, length};
+ghost use Rattle.nk_host.specs.TextPuts.{IsTextPut};
 ghost use Rattle.page_desc.specs.PageTables.{is_table};
 ghost use Rattle.page_desc.specs.DescriptorBytes.{HoldsDescriptors, kinds_in};
 ghost use Rattle.nk_body.specs.NestedRecord.{HoldsBooks, nested_held};
@@ -9,10 +10,9 @@ ghost use Rattle.gate_state.specs.declared.moves.Move.{Move};
 ghost use Rattle.gate_state.specs.MachineSteps.{next, step_by};
 ghost use Rattle.report_text.specs.RunLines.{ending_line, turns_line};
 ghost use Rattle.report_text.specs.RunSummary.{summary_lines};
-ghost use Rattle.nk_run.specs.Replies.{CanCount, IsTextPut};
+ghost use Rattle.nk_run.specs.Replies.{CanCount};
 ghost use Rattle.nk_run.specs.RunStates.{is_halted};
 ghost use Rattle.nk_run.specs.WorkSummary.{summary_of, with_answer, with_shown, with_step, work_text};
-ghost use Rattle.nk_run.specs.Witness.{sink_change};
 
 use crate::ending::Ending;
 use crate::progress::{Progress, go_on};
@@ -50,14 +50,13 @@ impl Tally {
 }
 
 /// Takes the steps of a run of a made image, and writes its summary.
-pub(crate) fn count<'i, O: Sink>(
-    machine: Machine<'i>,
+pub(crate) fn count<O: Sink>(
+    machine: Machine<'_>,
     plan: &Plan,
     sink: &mut O,
 ) -> Result<(), SinkFault>
     requires turns { (whole_of machine).state.turns ≡ 0 }
-    ensures never_falls { O.faults sink.old ≤ O.faults sink.new }
-    ensures written { IsTextPut (sink_change O.taken O.faults sink.old sink.new)
+    ensures { IsTextPut O.taken O.faults sink.old sink.new
         (work_text 2000000 plan.now (whole_of machine.entry).state) result }
 {
     moves_law();
@@ -118,14 +117,13 @@ fn answered(tally: Tally, answer: &Answer) -> Tally
 }
 
 /// Ends the run of a machine, and writes why, how many turns it took, and the counts.
-fn sum_up<'i, O: Sink>(
-    machine: Machine<'i>,
+fn sum_up<O: Sink>(
+    machine: Machine<'_>,
     reason: Ending,
     tally: &Tally,
     sink: &mut O,
 ) -> Result<(), SinkFault>
-    ensures never_falls { O.faults sink.old ≤ O.faults sink.new }
-    ensures written { IsTextPut (sink_change O.taken O.faults sink.old sink.new)
+    ensures { IsTextPut O.taken O.faults sink.old sink.new
         (ending_line (is_halted reason) ++ (turns_line (whole_of machine.entry).state.turns
         ++ summary_lines (summary_of tally.now (nested_of (whole_of machine.entry).state)))) result }
 {
@@ -140,8 +138,7 @@ fn sum_up<'i, O: Sink>(
 
 /// Writes the counts.
 fn put_counts<O: Sink>(counts: &RunCounts, sink: &mut O) -> Result<(), SinkFault>
-    ensures never_falls { O.faults sink.old ≤ O.faults sink.new }
-    ensures written { IsTextPut (sink_change O.taken O.faults sink.old sink.new) (summary_lines counts.now) result }
+    ensures { IsTextPut O.taken O.faults sink.old sink.new (summary_lines counts.now) result }
 {
     summary(sink, counts)
 }

@@ -3,6 +3,7 @@ ghost use Rattle.std.specs.Prelude.{◌≡◌, ◌<◌, ◌≤◌, ◌*◌, ◌+
 ghost use Rattle.std.specs.Io.KnownBytes.{Appends};
 ghost use Rattle.nk_host.specs.FaultCounts.{RoseTo};
 ghost use Rattle.nk_host.specs.Taken.{AppendsPrefix};
+ghost use Rattle.nk_host.specs.TextPuts.{IsTextPut};
 ghost use Rattle.boot_map.specs.Division.{IsLayout};
 ghost use Rattle.nk_body.specs.NestedRecord.{HoldsBooks, nested_held};
 ghost use Rattle.gate_state.specs.MachineOf.{whole_of};
@@ -12,9 +13,7 @@ ghost use Rattle.gate_state.specs.WholeMachine.{WholeState, source_after};
 ghost use Rattle.gate_state.specs.declared.moves.Move.{Move};
 ghost use Rattle.report_text.specs.ClosingSection.{section};
 ghost use Rattle.report_text.specs.RunLines.{ending_line, turns_line};
-ghost use Rattle.nk_run.specs.Replies.{IsTextPut};
 ghost use Rattle.nk_run.specs.RunStates.{is_halted, run_text, shown, shown_by};
-ghost use Rattle.nk_run.specs.Witness.{sink_change};
 
 use crate::ending::Ending;
 use crate::opening::Opened;
@@ -24,8 +23,8 @@ use irq_plan::Plan;
 use nk_host::{Sink, SinkFault};
 
 /// Takes the steps of a run, and writes its text.
-pub(crate) fn drive<'i, O: Sink>(
-    machine: Machine<'i>,
+pub(crate) fn drive<O: Sink>(
+    machine: Machine<'_>,
     opened: &Opened,
     plan: &Plan,
     steps: u64,
@@ -36,8 +35,7 @@ pub(crate) fn drive<'i, O: Sink>(
     requires layout { IsLayout opened.now.image opened.now.layout }
     requires steps { steps ≤ 4294967296 }
     requires turns { (whole_of machine).state.turns ≡ 0 }
-    ensures never_falls { O.faults sink.old ≤ O.faults sink.new }
-    ensures written { IsTextPut (sink_change O.taken O.faults sink.old sink.new)
+    ensures { IsTextPut O.taken O.faults sink.old sink.new
         (run_text (record { image = opened.now.image; frames = opened.now.layout.frames }) steps plan.now
         (whole_of machine.entry).state) result }
 {
@@ -58,7 +56,7 @@ pub(crate) fn drive<'i, O: Sink>(
 }
 
 /// Writes what a step shows that the machine took last.
-fn show<'i, O: Sink>(machine: &Machine<'i>, step: &Step, sink: &mut O) -> Result<(), SinkFault>
+fn show<O: Sink>(machine: &Machine<'_>, step: &Step, sink: &mut O) -> Result<(), SinkFault>
     ensures never_falls { O.faults sink.old ≤ O.faults sink.new }
     ensures failed { OnErr result (RoseTo (O.faults sink.old) (O.faults sink.new)) }
     ensures all { (m : Move) (w : WholeState) → step.now ≡ step_by m w.state → (whole_of machine.now).source ≡ source_after m w
@@ -77,10 +75,7 @@ fn show<'i, O: Sink>(machine: &Machine<'i>, step: &Step, sink: &mut O) -> Result
 
 /// Writes what a step shows that isn't the nested kernel's.
 fn show_seen<O: Sink>(seen: &Seen, sink: &mut O) -> Result<(), SinkFault>
-    ensures never_falls { O.faults sink.old ≤ O.faults sink.new }
-    ensures failed { OnErr result (RoseTo (O.faults sink.old) (O.faults sink.new)) }
-    ensures all { OnOk result (Appends (O.taken sink.old) (O.taken sink.new) (shown seen.now)) }
-    ensures some { OnErr result (AppendsPrefix (O.taken sink.old) (O.taken sink.new) (shown seen.now)) }
+    ensures { IsTextPut O.taken O.faults sink.old sink.new (shown seen.now) result }
 {
     match seen {
         Seen::Console(byte) => report_text::console(sink, *byte),
@@ -90,8 +85,8 @@ fn show_seen<O: Sink>(seen: &Seen, sink: &mut O) -> Result<(), SinkFault>
 }
 
 /// Ends the run of a machine, and writes why, how many turns it took, and the closing section.
-fn end<'i, O: Sink>(
-    machine: Machine<'i>,
+fn end<O: Sink>(
+    machine: Machine<'_>,
     opened: &Opened,
     ending: Ending,
     sink: &mut O,
@@ -99,8 +94,7 @@ fn end<'i, O: Sink>(
     requires opening { (whole_of machine).opening
         ≡ record { image = opened.now.image; frames = opened.now.layout.frames } }
     requires layout { IsLayout opened.now.image opened.now.layout }
-    ensures never_falls { O.faults sink.old ≤ O.faults sink.new }
-    ensures written { IsTextPut (sink_change O.taken O.faults sink.old sink.new)
+    ensures { IsTextPut O.taken O.faults sink.old sink.new
         (ending_line (is_halted ending) ++ (turns_line (whole_of machine.entry).state.turns
         ++ section opened.now.image opened.now.layout.frames (nested_of (whole_of machine.entry).state))) result }
 {
@@ -120,8 +114,7 @@ fn close<O: Sink>(
     requires layout { IsLayout opened.now.image opened.now.layout }
     requires books { HoldsBooks finished.now.kernel finished.now.mem }
     requires size { length finished.now.mem ≡ 4096 * opened.now.layout.frames }
-    ensures never_falls { O.faults sink.old ≤ O.faults sink.new }
-    ensures written { IsTextPut (sink_change O.taken O.faults sink.old sink.new)
+    ensures { IsTextPut O.taken O.faults sink.old sink.new
         (ending_line (is_halted ending) ++ (turns_line turns
         ++ section opened.now.image opened.now.layout.frames (nested_held finished.now.kernel finished.now.mem))) result }
 {
@@ -136,8 +129,7 @@ fn finish<O: Sink>(finished: &Finished, opened: &Opened, sink: &mut O) -> Result
     requires layout { IsLayout opened.now.image opened.now.layout }
     requires books { HoldsBooks finished.now.kernel finished.now.mem }
     requires size { length finished.now.mem ≡ 4096 * opened.now.layout.frames }
-    ensures never_falls { O.faults sink.old ≤ O.faults sink.new }
-    ensures written { IsTextPut (sink_change O.taken O.faults sink.old sink.new)
+    ensures { IsTextPut O.taken O.faults sink.old sink.new
         (section opened.now.image opened.now.layout.frames (nested_held finished.now.kernel finished.now.mem)) result }
 {
     report_text::section(

@@ -9,6 +9,7 @@ ghost use Rattle.boot_map.specs.OpeningKinds.{kinds};
 ghost use Rattle.page_desc.specs.DescriptorBytes.{kinds_in};
 ghost use Rattle.nk_body.specs.NestedRecord.{HoldsBooks, books_in};
 ghost use Rattle.nk_body.specs.SourceWords.{opening_ledger};
+ghost use Rattle.gate_state.specs.MachineOf.{whole_of};
 ghost use Rattle.gate_state.specs.MachineOpening.{opening_state};
 ghost use Rattle.nk_run.specs.Outcome.{passes, roomy};
 ghost use Rattle.nk_run.specs.ReplyText.{line_bytes};
@@ -20,7 +21,7 @@ use crate::reply::{Reply, made};
 use crate::status::Status;
 use boot_map::{Layout, prepare};
 use elf_image::Image;
-use gate_state::OuterMachine;
+use gate_state::{Machine, OuterMachine};
 use irq_plan::Plan;
 use nk_body::Kernel;
 use phys_mem::{PhysMem, mask_law};
@@ -87,12 +88,12 @@ pub(crate) fn guard(alloc: Global, opened: &Opened) -> Option<Guarded>
 }
 
 /// The machine as a run begins; None where there is no memory for it.
-pub fn begin<'i>(alloc: Global, opened: &'i Opened, input: Vec<u8>) -> Option<OuterMachine<'i>>
+pub fn begin(alloc: Global, opened: &Opened, input: Vec<u8>) -> Option<Machine<'_>>
     requires layout { IsLayout opened.now.image opened.now.layout }
     requires clean { first_found opened.now.image ≡ None }
-    ensures opening { IfSome result (λ machine. machine.opening
+    ensures opening { IfSome result (λ machine. (whole_of machine).opening
         ≡ record { image = opened.now.image; frames = opened.now.layout.frames }) }
-    ensures state { IfSome result (λ machine. machine.state
+    ensures state { IfSome result (λ machine. (whole_of machine).state
         ≡ opening_state (record { image = opened.now.image; frames = opened.now.layout.frames }) input.items) }
 {
     let Guarded { memory, kernel } = match guard(alloc, opened) {
@@ -100,7 +101,7 @@ pub fn begin<'i>(alloc: Global, opened: &'i Opened, input: Vec<u8>) -> Option<Ou
         None => return None,
     };
     match OuterMachine::start(alloc, memory, kernel, &opened.image, &opened.layout, input) {
-        Ok(machine) => Some(machine),
+        Ok(machine) => Some(Machine::Outer(machine)),
         Err(_) => None,
     }
 }

@@ -1,5 +1,6 @@
 //! The command `replay IMAGE FRAMES JOURNAL`, and what an audit has in common with it.
 ghost use Rattle.std.specs.Prelude.{◌≡◌, ◌*◌, None, length, MatchResult, Some, [], ◌∷◌};
+ghost use Rattle.nk_host.specs.TextPuts.{IsTextPut};
 ghost use Rattle.byte_scanner.specs.FirstFound.{first_found};
 ghost use Rattle.boot_map.specs.Division.{IsLayout};
 ghost use Rattle.nk_body.specs.NestedRecord.{HoldsBooks, nested_held};
@@ -11,7 +12,7 @@ ghost use Rattle.nk_run.specs.Witness.{shelf_change, sink_change};
 ghost use Rattle.nk_run.specs.Outcome.{checks_of, journal_checks, journaled, opened};
 ghost use Rattle.nk_run.specs.ReplyText.{line_bytes};
 ghost use Rattle.nk_run.specs.Statuses.{status_number};
-ghost use Rattle.nk_run.specs.Replies.{HoldsReplay, IsAnswered, IsTextPut, IsReplayedFrom, RefusesBy, StopsIn};
+ghost use Rattle.nk_run.specs.Replies.{HoldsReplay, IsAnswered, IsReplayedFrom, RefusesBy, StopsIn};
 
 use crate::command_line::Role;
 use crate::image::{fetch, open};
@@ -156,7 +157,7 @@ fn show<O: Sink>(replayed: &Replayed, sink: &mut O) -> Result<(), SinkFault>
     requires layout { IsLayout replayed.now.opened.image replayed.now.opened.layout }
     requires books { HoldsBooks replayed.now.left.kernel replayed.now.left.memory }
     requires size { length replayed.now.left.memory ≡ 4096 * replayed.now.opened.layout.frames }
-    ensures { IsTextPut (sink_change O.taken O.faults sink.old sink.new)
+    ensures { IsTextPut O.taken O.faults sink.old sink.new
         (section replayed.now.opened.image replayed.now.opened.layout.frames
         (nested_held replayed.now.left.kernel replayed.now.left.memory)) result }
 {

@@ -58,7 +58,6 @@ fn place_of(role: Role) -> usize
 }
 
 /// The word at a place, empty where there is none.
-#[tactic(auto, using(crate::proofs::Forms::no_word))]
 fn word_at<'w>(words: &'w [String], place: usize) -> &'w str
     ensures { result.now ≡ slice_index_or (map string_bytes words.now) place [] }
 {

@@ -23,7 +23,6 @@ use crate::reply::{Reply, no_memory};
 use crate::request::Request;
 use crate::status::Status;
 use elf_image::Image;
-use gate_state::Machine;
 use nk_host::{Shelf, Sink};
 use std::alloc::Global;
 
@@ -123,10 +122,7 @@ pub(crate) fn run<S: Shelf, O: Sink>(
         steps,
     } = ready;
     match begin(alloc, &opened, input) {
-        Some(machine) => {
-            let machine = Machine::Outer(machine);
-            Status::Done.unless_cut(drive(machine, &opened, &plan, steps, sink))
-        }
+        Some(machine) => Status::Done.unless_cut(drive(machine, &opened, &plan, steps, sink)),
         None => no_memory().write(sink),
     }
 }

@@ -12,7 +12,6 @@ use crate::reply::no_memory;
 use crate::status::Status;
 use boot_map::Layout;
 use elf_image::Image;
-use gate_state::Machine;
 use image_maker::{made_image_law, make_image};
 use irq_plan::Plan;
 use nk_host::Sink;
@@ -72,7 +71,7 @@ pub(crate) fn work<O: Sink>(alloc: Global, number: u64, sink: &mut O) -> Status
         None => return no_memory().write(sink),
     };
     match begin(alloc, &opened, Vec::new(alloc)) {
-        Some(machine) => Status::Done.unless_cut(count(Machine::Outer(machine), &plan, sink)),
+        Some(machine) => Status::Done.unless_cut(count(machine, &plan, sink)),
         None => no_memory().write(sink),
     }
 }

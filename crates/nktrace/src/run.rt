@@ -41,9 +41,9 @@ fn no_memory<O: Sink>(sink: &mut O) -> u8
 }
 
 /// Shows the steps of a machine.
-fn show_machine<'i, O: Sink>(
+fn show_machine<O: Sink>(
     alloc: Global,
-    machine: Machine<'i>,
+    machine: Machine<'_>,
     plan: &Plan,
     steps: u64,
     shown: &Shown,
@@ -82,10 +82,7 @@ fn show_run<O: Sink>(alloc: Global, ready: ReadyRun, shown: &Shown, sink: &mut O
         steps,
     } = ready;
     match begin(alloc, &opened, input) {
-        Some(machine) => {
-            let machine = Machine::Outer(machine);
-            show_machine(alloc, machine, &plan, steps, shown, sink)
-        }
+        Some(machine) => show_machine(alloc, machine, &plan, steps, shown, sink),
         None => no_memory(sink),
     }
 }

@@ -6,7 +6,7 @@ ghost use Rattle.region_book.specs.RegionBytes.{HoldsRegions, book_in};
 ghost use Rattle.region_book.specs.RegionRecords.{IsBook, region_of};
 ghost use Rattle.write_log.specs.LogBytes.{HoldsLog};
 
-use memory_kit::byte_at;
+use memory_kit::peek_byte;
 use phys_mem::PhysMem;
 use policy_book::write;
 use region_book::{Regions, held_regions_law};
@@ -172,7 +172,7 @@ fn is_answered(
         Write(id, offset, first, count, answer) => {
             put(regions, log, mem, id, offset, part(bytes, first, count)) == answer
         }
-        Stored(at, answer) => byte_at(mem, at) == answer,
+        Stored(at, answer) => peek_byte(mem, at) == answer,
         Tail(id, answer) => has_tail(regions, mem, id, answer),
         Room(answer) => log.room() == answer,
         Logged(i, region, offset, count) => is_logged(log, mem, i, (region, offset, count)),

@@ -8,7 +8,7 @@ ghost use Rattle.phys_mem.specs.MaskedMemory.{is_book_frame};
 ghost use Rattle.region_book.specs.RegionBytes.{HoldsRegions, book_in};
 ghost use Rattle.region_book.specs.RegionRecords.{IsBook, region_of};
 
-use memory_kit::{byte_at, memory_with, word_at};
+use memory_kit::{memory_with, peek_byte, peek_word};
 use nk_bits::Rule;
 use phys_mem::PhysMem;
 use region_book::{Region, Regions};
@@ -152,7 +152,7 @@ fn found(regions: &Regions, mem: &PhysMem, id: u64) -> Option<(u32, u8, u32)>
 fn bits_set(mem: &PhysMem) -> u32 {
     let mut count: u32 = 0;
     for i in 0..9216 {
-        count = count.saturating_add(word_at(mem, 0x2A000 + 8 * i).count_ones());
+        count = count.saturating_add(peek_word(mem, 0x2A000 + 8 * i).count_ones());
     }
     count
 }
@@ -162,7 +162,7 @@ fn are_zero(mem: &PhysMem, at: u64, count: u64) -> bool
     requires { (at ≤ 0x40000) × (count ≤ 8) }
 {
     for i in 0..count {
-        if word_at(mem, at + 8 * i) != 0 {
+        if peek_word(mem, at + 8 * i) != 0 {
             return false;
         }
     }
@@ -175,10 +175,10 @@ fn is_row_of(mem: &PhysMem, at: u64, region: &Region) -> bool
 {
     let sizes = u64::from(region.size) + (u64::from(region.tail) << 32);
     let marks = u64::from(region.policy) + (u64::from(region.pooled) << 8);
-    word_at(mem, at) == region.id
-        && word_at(mem, at + 8) == region.place
-        && word_at(mem, at + 16) == sizes
-        && word_at(mem, at + 24) == marks
+    peek_word(mem, at) == region.id
+        && peek_word(mem, at + 8) == region.place
+        && peek_word(mem, at + 16) == sizes
+        && peek_word(mem, at + 24) == marks
         && are_zero(mem, at + 32, 4)
 }
 
@@ -187,7 +187,7 @@ fn is_slot_right(regions: &Regions, mem: &PhysMem, at: u64) -> bool
     requires held { HoldsRegions regions.now mem.now }
     requires at { at ≤ 0x3FFC0 }
 {
-    let id = word_at(mem, at);
+    let id = peek_word(mem, at);
     match regions.find(mem, id) {
         Some(region) => is_row_of(mem, at, &region),
         None => are_zero(mem, at, 8),
@@ -204,7 +204,7 @@ fn are_slots_right(regions: &Regions, mem: &PhysMem) -> bool
         if !is_slot_right(regions, mem, at) {
             return false;
         }
-        if word_at(mem, at) != 0 {
+        if peek_word(mem, at) != 0 {
             count = count.saturating_add(1);
         }
     }
@@ -325,7 +325,7 @@ fn is_answered(regions: &mut Regions, mem: &mut PhysMem, step: &Step) -> bool
         }
         Found(id, answer) => found(regions, mem, id) == answer,
         Byte(id, offset, answer) => byte(regions, mem, id, offset) == answer,
-        Stored(at, answer) => byte_at(mem, at) == answer,
+        Stored(at, answer) => peek_byte(mem, at) == answer,
         Bits(answer) => bits_set(mem) == answer,
         Fill(count, size, space) => is_filled(regions, mem, count, size, space),
         Holes(size) => are_holes_filled(regions, mem, size.min(256)),

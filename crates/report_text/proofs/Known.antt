@@ -1,6 +1,13 @@
 -- Results and options that are known.
 use Rattle.std.proofs.Common.{◌≡◌, Option, Some, None, Result, Ok, Err, OnOk, OnErr, IfSome, IsSome, refl, sym, subst}
 
+-- results of these types
+abbrev pub ok_as : {A : Type 0} → (E : Type 0) → A → Result A E
+ok_as E a = Ok a
+
+abbrev pub err_as : {E : Type 0} → (A : Type 0) → E → Result A E
+err_as A e = Err e
+
 -- what holds where a result is an error, or is none, once it is known
 pub on_err : {A E : Type 0} {r : Result A E} {e : E} {P : Type 0} → r ≡ Err e → OnErr r P → P
 on_err {A = A} {E = E} {P = P} is h = let Q : Result A E → Type 0 = λ r. OnErr r P in subst Q is h

@@ -1,11 +1,11 @@
 //! The line of a call. Its source may be long, so it goes out in pieces.
 ghost use Rattle.std.specs.Prelude.{◌≡◌, ◌+◌, ◌≤◌, ◌++◌, drop, false, length, codes, decimal, OnErr, OnOk};
 ghost use Rattle.std.specs.Fmt.{digits};
-ghost use Rattle.std.specs.Io.KnownBytes.{Appends};
 ghost use Rattle.hex.specs.Hex.{encode_lower};
 ghost use Rattle.nk_host.specs.FaultCounts.{RoseTo};
 ghost use Rattle.nk_host.specs.PiecesOut.{MovedOn};
 ghost use Rattle.nk_host.specs.Taken.{AppendsPrefix};
+ghost use Rattle.nk_host.specs.TextPuts.{IsTextPut};
 ghost use Rattle.nk_body.specs.SourceWords.{sourced_of};
 ghost use Rattle.report_text.specs.RunLines.{call_line, hex_16_word, source_word};
 
@@ -21,12 +21,8 @@ pub fn called<O: Sink>(
     source: &Source,
     answer: &Answer,
 ) -> Result<(), SinkFault>
-    ensures never_falls { O.faults sink.old ≤ O.faults sink.new }
-    ensures failed { OnErr result (RoseTo (O.faults sink.old) (O.faults sink.new)) }
-    ensures all { OnOk result (Appends (O.taken sink.old) (O.taken sink.new)
-        (call_line call.now (sourced_of source.now) answer.now)) }
-    ensures some { OnErr result (AppendsPrefix (O.taken sink.old) (O.taken sink.new)
-        (call_line call.now (sourced_of source.now) answer.now)) }
+    ensures { IsTextPut O.taken O.faults sink.old sink.new
+        (call_line call.now (sourced_of source.now) answer.now) result }
 {
     pieces_law();
     let mut pieces = Pieces::new();

@@ -1,9 +1,7 @@
 //! The closing section of a run: root and trap handler, what of kinds and page tables differs from the opening's, and
 //! the ledger.
-ghost use Rattle.std.specs.Prelude.{◌≡◌, ◌+◌, ◌<◌, ◌≤◌, ◌*◌, ◌++◌, length, OnErr, OnOk};
-ghost use Rattle.std.specs.Io.KnownBytes.{Appends};
-ghost use Rattle.nk_host.specs.FaultCounts.{RoseTo};
-ghost use Rattle.nk_host.specs.Taken.{AppendsPrefix};
+ghost use Rattle.std.specs.Prelude.{◌≡◌, ◌+◌, ◌<◌, ◌≤◌, ◌*◌, ◌++◌, length};
+ghost use Rattle.nk_host.specs.TextPuts.{IsTextPut};
 ghost use Rattle.phys_mem.specs.Memory.{entry_in};
 ghost use Rattle.nk_bits.specs.Kinds.{kind_of};
 ghost use Rattle.boot_map.specs.Division.{IsLayout};
@@ -52,12 +50,8 @@ pub fn section<O: Sink>(
     requires layout { IsLayout image.now layout.now }
     requires books { HoldsBooks kernel.now mem.now }
     requires size { length mem.now ≡ 4096 * layout.now.frames }
-    ensures never_falls { O.faults sink.old ≤ O.faults sink.new }
-    ensures failed { OnErr result (RoseTo (O.faults sink.old) (O.faults sink.new)) }
-    ensures all { OnOk result (Appends (O.taken sink.old) (O.taken sink.new)
-        (section image.now layout.now.frames (nested_held kernel.now mem.now))) }
-    ensures some { OnErr result (AppendsPrefix (O.taken sink.old) (O.taken sink.new)
-        (section image.now layout.now.frames (nested_held kernel.now mem.now))) }
+    ensures { IsTextPut O.taken O.faults sink.old sink.new
+        (section image.now layout.now.frames (nested_held kernel.now mem.now)) result }
 {
     match put_books(sink, kernel) {
         Ok(()) => put_changes(sink, image, layout, mem, kernel),
@@ -67,12 +61,8 @@ pub fn section<O: Sink>(
 
 /// Writes the frame of the root, and the address of the trap handler.
 fn put_books<O: Sink>(sink: &mut O, kernel: &Kernel) -> Result<(), SinkFault>
-    ensures never_falls { O.faults sink.old ≤ O.faults sink.new }
-    ensures failed { OnErr result (RoseTo (O.faults sink.old) (O.faults sink.new)) }
-    ensures all { OnOk result (Appends (O.taken sink.old) (O.taken sink.new)
-        (root_line kernel.now.root ++ trap_line kernel.now.trap)) }
-    ensures some { OnErr result (AppendsPrefix (O.taken sink.old) (O.taken sink.new)
-        (root_line kernel.now.root ++ trap_line kernel.now.trap)) }
+    ensures { IsTextPut O.taken O.faults sink.old sink.new
+        (root_line kernel.now.root ++ trap_line kernel.now.trap) result }
 {
     match put_all(sink, root_line(&mut [0; NUMBERED], kernel.root())) {
         Ok(()) => put_all(sink, &trap_line(kernel.trap())),
@@ -91,16 +81,10 @@ fn put_changes<O: Sink>(
     requires layout { IsLayout image.now layout.now }
     requires books { HoldsBooks kernel.now mem.now }
     requires size { length mem.now ≡ 4096 * layout.now.frames }
-    ensures never_falls { O.faults sink.old ≤ O.faults sink.new }
-    ensures failed { OnErr result (RoseTo (O.faults sink.old) (O.faults sink.new)) }
-    ensures all { let nk = nested_held kernel.now mem.now in
-        OnOk result (Appends (O.taken sink.old) (O.taken sink.new)
+    ensures { let nk = nested_held kernel.now mem.now in
+        IsTextPut O.taken O.faults sink.old sink.new
         (kind_lines image.now layout.now.frames nk ++ (entry_lines image.now layout.now.frames nk
-        ++ (region_lines (bytes_of_region nk) nk.ledger.book.regions ++ log_lines 0 nk.ledger.log)))) }
-    ensures some { let nk = nested_held kernel.now mem.now in
-        OnErr result (AppendsPrefix (O.taken sink.old) (O.taken sink.new)
-        (kind_lines image.now layout.now.frames nk ++ (entry_lines image.now layout.now.frames nk
-        ++ (region_lines (bytes_of_region nk) nk.ledger.book.regions ++ log_lines 0 nk.ledger.log)))) }
+        ++ (region_lines (bytes_of_region nk) nk.ledger.book.regions ++ log_lines 0 nk.ledger.log))) result }
 {
     match put_kinds(sink, image, layout, mem, kernel) {
         Ok(()) => put_tables(sink, image, layout, mem, kernel),
@@ -119,16 +103,10 @@ fn put_tables<O: Sink>(
     requires layout { IsLayout image.now layout.now }
     requires books { HoldsBooks kernel.now mem.now }
     requires size { length mem.now ≡ 4096 * layout.now.frames }
-    ensures never_falls { O.faults sink.old ≤ O.faults sink.new }
-    ensures failed { OnErr result (RoseTo (O.faults sink.old) (O.faults sink.new)) }
-    ensures all { let nk = nested_held kernel.now mem.now in
-        OnOk result (Appends (O.taken sink.old) (O.taken sink.new)
+    ensures { let nk = nested_held kernel.now mem.now in
+        IsTextPut O.taken O.faults sink.old sink.new
         (entry_lines image.now layout.now.frames nk
-        ++ (region_lines (bytes_of_region nk) nk.ledger.book.regions ++ log_lines 0 nk.ledger.log))) }
-    ensures some { let nk = nested_held kernel.now mem.now in
-        OnErr result (AppendsPrefix (O.taken sink.old) (O.taken sink.new)
-        (entry_lines image.now layout.now.frames nk
-        ++ (region_lines (bytes_of_region nk) nk.ledger.book.regions ++ log_lines 0 nk.ledger.log))) }
+        ++ (region_lines (bytes_of_region nk) nk.ledger.book.regions ++ log_lines 0 nk.ledger.log)) result }
 {
     match put_entries(sink, image, layout, mem, kernel) {
         Ok(()) => put_ledger(sink, mem, kernel),
@@ -146,14 +124,10 @@ fn put_kinds<O: Sink>(
 ) -> Result<(), SinkFault>
     requires layout { IsLayout image.now layout.now }
     requires books { HoldsBooks kernel.now mem.now }
-    ensures never_falls { O.faults sink.old ≤ O.faults sink.new }
-    ensures failed { OnErr result (RoseTo (O.faults sink.old) (O.faults sink.new)) }
-    ensures all { OnOk result (Appends (O.taken sink.old) (O.taken sink.new) (lines_of
+    ensures { IsTextPut O.taken O.faults sink.old sink.new
+        (lines_of
         (λ f. line_of_kind (kind_at image.now layout.now.frames f) (kind_of (kinds_in mem.now) f) f)
-        layout.now.frames 0)) }
-    ensures some { OnErr result (AppendsPrefix (O.taken sink.old) (O.taken sink.new) (lines_of
-        (λ f. line_of_kind (kind_at image.now layout.now.frames f) (kind_of (kinds_in mem.now) f) f)
-        layout.now.frames 0)) }
+        layout.now.frames 0) result }
 {
     for frame in 0..layout.frames() {
         if let Err(fault) = put_kind(sink, image, layout, mem, kernel, frame) {
@@ -175,12 +149,8 @@ fn put_kind<O: Sink>(
     requires layout { IsLayout image.now layout.now }
     requires books { HoldsBooks kernel.now mem.now }
     requires frame { frame < layout.now.frames }
-    ensures never_falls { O.faults sink.old ≤ O.faults sink.new }
-    ensures failed { OnErr result (RoseTo (O.faults sink.old) (O.faults sink.new)) }
-    ensures all { OnOk result (Appends (O.taken sink.old) (O.taken sink.new)
-        (line_of_kind (kind_at image.now layout.now.frames frame) (kind_of (kinds_in mem.now) frame) frame)) }
-    ensures some { OnErr result (AppendsPrefix (O.taken sink.old) (O.taken sink.new)
-        (line_of_kind (kind_at image.now layout.now.frames frame) (kind_of (kinds_in mem.now) frame) frame)) }
+    ensures { IsTextPut O.taken O.faults sink.old sink.new
+        (line_of_kind (kind_at image.now layout.now.frames frame) (kind_of (kinds_in mem.now) frame) frame) result }
 {
     let kind = kernel.tables().frames.kind(mem, frame);
     if is_same(layout.kind(image, frame), kind) {
@@ -200,12 +170,8 @@ fn put_entries<O: Sink>(
     requires layout { IsLayout image.now layout.now }
     requires books { HoldsBooks kernel.now mem.now }
     requires size { length mem.now ≡ 4096 * layout.now.frames }
-    ensures never_falls { O.faults sink.old ≤ O.faults sink.new }
-    ensures failed { OnErr result (RoseTo (O.faults sink.old) (O.faults sink.new)) }
-    ensures all { OnOk result (Appends (O.taken sink.old) (O.taken sink.new)
-        (entry_lines image.now layout.now.frames (nested_held kernel.now mem.now))) }
-    ensures some { OnErr result (AppendsPrefix (O.taken sink.old) (O.taken sink.new)
-        (entry_lines image.now layout.now.frames (nested_held kernel.now mem.now))) }
+    ensures { IsTextPut O.taken O.faults sink.old sink.new
+        (entry_lines image.now layout.now.frames (nested_held kernel.now mem.now)) result }
 {
     for frame in 0..layout.frames() {
         if let Err(fault) = put_entries_of(sink, image, layout, mem, kernel, frame) {
@@ -228,12 +194,8 @@ fn put_entries_of<O: Sink>(
     requires books { HoldsBooks kernel.now mem.now }
     requires size { length mem.now ≡ 4096 * layout.now.frames }
     requires frame { frame < layout.now.frames }
-    ensures never_falls { O.faults sink.old ≤ O.faults sink.new }
-    ensures failed { OnErr result (RoseTo (O.faults sink.old) (O.faults sink.new)) }
-    ensures all { OnOk result (Appends (O.taken sink.old) (O.taken sink.new)
-        (lines_of_table image.now layout.now.frames (nested_held kernel.now mem.now) frame)) }
-    ensures some { OnErr result (AppendsPrefix (O.taken sink.old) (O.taken sink.new)
-        (lines_of_table image.now layout.now.frames (nested_held kernel.now mem.now) frame)) }
+    ensures { IsTextPut O.taken O.faults sink.old sink.new
+        (lines_of_table image.now layout.now.frames (nested_held kernel.now mem.now) frame) result }
 {
     held_tables_law();
     if is_table_now(mem, kernel, frame) {
@@ -262,14 +224,10 @@ fn put_table<O: Sink>(
     requires layout { IsLayout image.now layout.now }
     requires size { length mem.now ≡ 4096 * layout.now.frames }
     requires frame { frame < layout.now.frames }
-    ensures never_falls { O.faults sink.old ≤ O.faults sink.new }
-    ensures failed { OnErr result (RoseTo (O.faults sink.old) (O.faults sink.new)) }
-    ensures all { OnOk result (Appends (O.taken sink.old) (O.taken sink.new) (lines_of
+    ensures { IsTextPut O.taken O.faults sink.old sink.new
+        (lines_of
         (λ i. line_of_entry (table_value image.now layout.now.frames frame i)
-        (entry_in mem.now frame i) frame i) 512 0)) }
-    ensures some { OnErr result (AppendsPrefix (O.taken sink.old) (O.taken sink.new) (lines_of
-        (λ i. line_of_entry (table_value image.now layout.now.frames frame i)
-        (entry_in mem.now frame i) frame i) 512 0)) }
+        (entry_in mem.now frame i) frame i) 512 0) result }
 {
     for index in 0..ENTRIES {
         if let Err(fault) = put_entry(sink, image, layout, mem, frame, index) {
@@ -292,14 +250,9 @@ fn put_entry<O: Sink>(
     requires size { length mem.now ≡ 4096 * layout.now.frames }
     requires frame { frame < layout.now.frames }
     requires index { index ≤ 511 }
-    ensures never_falls { O.faults sink.old ≤ O.faults sink.new }
-    ensures failed { OnErr result (RoseTo (O.faults sink.old) (O.faults sink.new)) }
-    ensures all { OnOk result (Appends (O.taken sink.old) (O.taken sink.new)
+    ensures { IsTextPut O.taken O.faults sink.old sink.new
         (line_of_entry (table_value image.now layout.now.frames frame index)
-        (entry_in mem.now frame index) frame index)) }
-    ensures some { OnErr result (AppendsPrefix (O.taken sink.old) (O.taken sink.new)
-        (line_of_entry (table_value image.now layout.now.frames frame index)
-        (entry_in mem.now frame index) frame index)) }
+        (entry_in mem.now frame index) frame index) result }
 {
     let value = entry_now(mem, frame, index);
     if opening_value(image, layout, frame, index) == value {

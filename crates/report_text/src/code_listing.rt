@@ -1,8 +1,6 @@
 //! The listing of an image's code.
-ghost use Rattle.std.specs.Prelude.{◌≡◌, ◌+◌, ◌/◌, ◌<◌, ◌≤◌, true, IfSome, OnErr, OnOk, length};
-ghost use Rattle.std.specs.Io.KnownBytes.{Appends};
-ghost use Rattle.nk_host.specs.FaultCounts.{RoseTo};
-ghost use Rattle.nk_host.specs.Taken.{AppendsPrefix};
+ghost use Rattle.std.specs.Prelude.{◌≡◌, ◌+◌, ◌/◌, ◌<◌, ◌≤◌, true, IfSome, length};
+ghost use Rattle.nk_host.specs.TextPuts.{IsTextPut};
 ghost use Rattle.elf_image.specs.Home.{home_end};
 ghost use Rattle.elf_image.specs.Pages.{is_executable};
 ghost use Rattle.byte_scanner.specs.ImageCode.{code_at};
@@ -90,12 +88,7 @@ fn put_found<O: Sink>(
     requires some { 0 < length bytes.now }
     requires few { length bytes.now ≤ 15 }
     requires right { Decodes bytes.now found.now }
-    ensures never_falls { O.faults sink.old ≤ O.faults sink.new }
-    ensures failed { OnErr result (RoseTo (O.faults sink.old) (O.faults sink.new)) }
-    ensures all { OnOk result
-        (Appends (O.taken sink.old) (O.taken sink.new) (found_line address bytes.now found.now)) }
-    ensures some { OnErr result
-        (AppendsPrefix (O.taken sink.old) (O.taken sink.new) (found_line address bytes.now found.now)) }
+    ensures { IsTextPut O.taken O.faults sink.old sink.new (found_line address bytes.now found.now) result }
 {
     text_law();
     match found {
@@ -126,12 +119,7 @@ fn found_size(found: &Decoded) -> u64
 /// Writes the listing of an image's code: at most so many lines from an address on, fewer where its run ends before.
 pub fn list<O: Sink>(sink: &mut O, image: &Image, address: u64, count: u32) -> Result<(), SinkFault>
     requires { is_executable image.now (address / 4096) ≡ true }
-    ensures never_falls { O.faults sink.old ≤ O.faults sink.new }
-    ensures failed { OnErr result (RoseTo (O.faults sink.old) (O.faults sink.new)) }
-    ensures all { OnOk result
-        (Appends (O.taken sink.old) (O.taken sink.new) (code_listing image.now address count)) }
-    ensures some { OnErr result
-        (AppendsPrefix (O.taken sink.old) (O.taken sink.new) (code_listing image.now address count)) }
+    ensures { IsTextPut O.taken O.faults sink.old sink.new (code_listing image.now address count) result }
 {
     home_law(image);
     let mut at = address;

@@ -1,8 +1,6 @@
 //! The summary of a run: counts in place of its lines.
-ghost use Rattle.std.specs.Prelude.{◌≡◌, ◌≤◌, ◌++◌, codes, length, OnErr, OnOk};
-ghost use Rattle.std.specs.Io.KnownBytes.{Appends};
-ghost use Rattle.nk_host.specs.FaultCounts.{RoseTo};
-ghost use Rattle.nk_host.specs.Taken.{AppendsPrefix};
+ghost use Rattle.std.specs.Prelude.{◌≡◌, ◌≤◌, ◌++◌, codes, length};
+ghost use Rattle.nk_host.specs.TextPuts.{IsTextPut};
 ghost use Rattle.report_text.specs.RunSummary.{count_line, counts_line, summary_lines};
 
 use crate::words::{NUMBERED, numbered, put, put_decimal};
@@ -29,10 +27,7 @@ pub struct RunCounts {
 
 /// Writes a summary, a line a count.
 pub fn summary<O: Sink>(sink: &mut O, it: &RunCounts) -> Result<(), SinkFault>
-    ensures never_falls { O.faults sink.old ≤ O.faults sink.new }
-    ensures failed { OnErr result (RoseTo (O.faults sink.old) (O.faults sink.new)) }
-    ensures all { OnOk result (Appends (O.taken sink.old) (O.taken sink.new) (summary_lines it.now)) }
-    ensures some { OnErr result (AppendsPrefix (O.taken sink.old) (O.taken sink.new) (summary_lines it.now)) }
+    ensures { IsTextPut O.taken O.faults sink.old sink.new (summary_lines it.now) result }
 {
     match put_all(
         sink,
@@ -51,16 +46,10 @@ pub fn summary<O: Sink>(sink: &mut O, it: &RunCounts) -> Result<(), SinkFault>
 
 /// Writes the lines behind that of the calls.
 fn put_deliveries<O: Sink>(sink: &mut O, it: &RunCounts) -> Result<(), SinkFault>
-    ensures never_falls { O.faults sink.old ≤ O.faults sink.new }
-    ensures failed { OnErr result (RoseTo (O.faults sink.old) (O.faults sink.new)) }
-    ensures all { OnOk result (Appends (O.taken sink.old) (O.taken sink.new)
+    ensures { IsTextPut O.taken O.faults sink.old sink.new
         (count_line (codes "deliveries ") it.now.deliveries ++ (count_line (codes "tables ") it.now.tables
         ++ (count_line (codes "regions ") it.now.regions
-        ++ counts_line (codes "log ") it.now.records (codes " ") it.now.log_bytes)))) }
-    ensures some { OnErr result (AppendsPrefix (O.taken sink.old) (O.taken sink.new)
-        (count_line (codes "deliveries ") it.now.deliveries ++ (count_line (codes "tables ") it.now.tables
-        ++ (count_line (codes "regions ") it.now.regions
-        ++ counts_line (codes "log ") it.now.records (codes " ") it.now.log_bytes)))) }
+        ++ counts_line (codes "log ") it.now.records (codes " ") it.now.log_bytes))) result }
 {
     match put_all(
         sink,
@@ -73,14 +62,9 @@ fn put_deliveries<O: Sink>(sink: &mut O, it: &RunCounts) -> Result<(), SinkFault
 
 /// Writes the lines behind that of the deliveries.
 fn put_tables<O: Sink>(sink: &mut O, it: &RunCounts) -> Result<(), SinkFault>
-    ensures never_falls { O.faults sink.old ≤ O.faults sink.new }
-    ensures failed { OnErr result (RoseTo (O.faults sink.old) (O.faults sink.new)) }
-    ensures all { OnOk result (Appends (O.taken sink.old) (O.taken sink.new)
+    ensures { IsTextPut O.taken O.faults sink.old sink.new
         (count_line (codes "tables ") it.now.tables ++ (count_line (codes "regions ") it.now.regions
-        ++ counts_line (codes "log ") it.now.records (codes " ") it.now.log_bytes))) }
-    ensures some { OnErr result (AppendsPrefix (O.taken sink.old) (O.taken sink.new)
-        (count_line (codes "tables ") it.now.tables ++ (count_line (codes "regions ") it.now.regions
-        ++ counts_line (codes "log ") it.now.records (codes " ") it.now.log_bytes))) }
+        ++ counts_line (codes "log ") it.now.records (codes " ") it.now.log_bytes)) result }
 {
     match put_all(sink, one_count(&mut [0; NUMBERED], "tables ", it.tables)) {
         Ok(()) => put_regions(sink, it),
@@ -90,14 +74,9 @@ fn put_tables<O: Sink>(sink: &mut O, it: &RunCounts) -> Result<(), SinkFault>
 
 /// Writes the lines of regions and log.
 fn put_regions<O: Sink>(sink: &mut O, it: &RunCounts) -> Result<(), SinkFault>
-    ensures never_falls { O.faults sink.old ≤ O.faults sink.new }
-    ensures failed { OnErr result (RoseTo (O.faults sink.old) (O.faults sink.new)) }
-    ensures all { OnOk result (Appends (O.taken sink.old) (O.taken sink.new)
+    ensures { IsTextPut O.taken O.faults sink.old sink.new
         (count_line (codes "regions ") it.now.regions
-        ++ counts_line (codes "log ") it.now.records (codes " ") it.now.log_bytes)) }
-    ensures some { OnErr result (AppendsPrefix (O.taken sink.old) (O.taken sink.new)
-        (count_line (codes "regions ") it.now.regions
-        ++ counts_line (codes "log ") it.now.records (codes " ") it.now.log_bytes)) }
+        ++ counts_line (codes "log ") it.now.records (codes " ") it.now.log_bytes) result }
 {
     match put_all(sink, one_count(&mut [0; NUMBERED], "regions ", it.regions)) {
         Ok(()) => put_all(

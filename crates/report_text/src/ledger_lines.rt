@@ -8,6 +8,7 @@ ghost use Rattle.hex.specs.Hex.{encode_lower};
 ghost use Rattle.nk_host.specs.FaultCounts.{RoseTo};
 ghost use Rattle.nk_host.specs.PiecesOut.{MovedOn};
 ghost use Rattle.nk_host.specs.Taken.{AppendsPrefix};
+ghost use Rattle.nk_host.specs.TextPuts.{IsTextPut};
 ghost use Rattle.phys_mem.specs.Memory.{byte_at};
 ghost use Rattle.region_book.specs.RegionBytes.{HoldsRegions, book_in};
 ghost use Rattle.region_book.specs.RegionRecords.{IsBook, byte_place, region_of};
@@ -31,14 +32,9 @@ pub(crate) fn put_ledger<O: Sink>(
     kernel: &Kernel,
 ) -> Result<(), SinkFault>
     requires { HoldsBooks kernel.now mem.now }
-    ensures never_falls { O.faults sink.old ≤ O.faults sink.new }
-    ensures failed { OnErr result (RoseTo (O.faults sink.old) (O.faults sink.new)) }
-    ensures all { let nk = nested_held kernel.now mem.now in
-        OnOk result (Appends (O.taken sink.old) (O.taken sink.new)
-        (region_lines (bytes_of_region nk) nk.ledger.book.regions ++ log_lines 0 nk.ledger.log)) }
-    ensures some { let nk = nested_held kernel.now mem.now in
-        OnErr result (AppendsPrefix (O.taken sink.old) (O.taken sink.new)
-        (region_lines (bytes_of_region nk) nk.ledger.book.regions ++ log_lines 0 nk.ledger.log)) }
+    ensures { let nk = nested_held kernel.now mem.now in
+        IsTextPut O.taken O.faults sink.old sink.new
+        (region_lines (bytes_of_region nk) nk.ledger.book.regions ++ log_lines 0 nk.ledger.log) result }
 {
     match put_regions(sink, mem, kernel) {
         Ok(()) => put_log(sink, mem, kernel.log()),
@@ -49,14 +45,9 @@ pub(crate) fn put_ledger<O: Sink>(
 /// Writes the regions that live.
 fn put_regions<O: Sink>(sink: &mut O, mem: &PhysMem, kernel: &Kernel) -> Result<(), SinkFault>
     requires { HoldsBooks kernel.now mem.now }
-    ensures never_falls { O.faults sink.old ≤ O.faults sink.new }
-    ensures failed { OnErr result (RoseTo (O.faults sink.old) (O.faults sink.new)) }
-    ensures all { let nk = nested_held kernel.now mem.now in
-        OnOk result (Appends (O.taken sink.old) (O.taken sink.new)
-        (region_lines (bytes_of_region nk) nk.ledger.book.regions)) }
-    ensures some { let nk = nested_held kernel.now mem.now in
-        OnErr result (AppendsPrefix (O.taken sink.old) (O.taken sink.new)
-        (region_lines (bytes_of_region nk) nk.ledger.book.regions)) }
+    ensures { let nk = nested_held kernel.now mem.now in
+        IsTextPut O.taken O.faults sink.old sink.new
+        (region_lines (bytes_of_region nk) nk.ledger.book.regions) result }
 {
     held_tables_law();
     mask_law();
@@ -163,10 +154,7 @@ fn region_head<'a>(room: &'a mut [u8; REGION_HEAD], region: &Region) -> &'a [u8]
 /// Writes the records of the log.
 fn put_log<O: Sink>(sink: &mut O, mem: &PhysMem, log: &Log) -> Result<(), SinkFault>
     requires { HoldsLog log.now mem.now }
-    ensures never_falls { O.faults sink.old ≤ O.faults sink.new }
-    ensures failed { OnErr result (RoseTo (O.faults sink.old) (O.faults sink.new)) }
-    ensures all { OnOk result (Appends (O.taken sink.old) (O.taken sink.new) (log_lines 0 (log_in log.now mem.now))) }
-    ensures some { OnErr result (AppendsPrefix (O.taken sink.old) (O.taken sink.new) (log_lines 0 (log_in log.now mem.now))) }
+    ensures { IsTextPut O.taken O.faults sink.old sink.new (log_lines 0 (log_in log.now mem.now)) result }
 {
     held_log_law();
     let mut spot = log.first();

@@ -1,9 +1,7 @@
 //! The lines of an audit: what a record changed for the list of processes in a region's bytes, and how the list is at the
 //! end.
-ghost use Rattle.std.specs.Prelude.{◌≡◌, ◌<◌, ◌≤◌, ◌++◌, codes, decimal, length, OnErr, OnOk};
-ghost use Rattle.std.specs.Io.KnownBytes.{Appends};
-ghost use Rattle.nk_host.specs.FaultCounts.{RoseTo};
-ghost use Rattle.nk_host.specs.Taken.{AppendsPrefix};
+ghost use Rattle.std.specs.Prelude.{◌≡◌, ◌<◌, ◌≤◌, ◌++◌, codes, decimal, length};
+ghost use Rattle.nk_host.specs.TextPuts.{IsTextPut};
 ghost use Rattle.proc_audit.specs.ProcessList.{hidden_at, is_chain_good, slot_count};
 ghost use Rattle.report_text.specs.AuditLines.{
   audit_end,
@@ -31,12 +29,8 @@ pub(crate) fn put_change<O: Sink>(
     after: &Audit,
 ) -> Result<(), SinkFault>
     requires { length after.now ≡ length before.now }
-    ensures never_falls { O.faults sink.old ≤ O.faults sink.new }
-    ensures failed { OnErr result (RoseTo (O.faults sink.old) (O.faults sink.new)) }
-    ensures all { OnOk result
-        (Appends (O.taken sink.old) (O.taken sink.new) (record_change number before.now after.now)) }
-    ensures some { OnErr result
-        (AppendsPrefix (O.taken sink.old) (O.taken sink.new) (record_change number before.now after.now)) }
+    ensures { IsTextPut O.taken O.faults sink.old sink.new
+        (record_change number before.now after.now) result }
 {
     match put_chain(sink, number, has_good_chain(before), has_good_chain(after)) {
         Ok(()) => put_slots(sink, number, before, after),
@@ -59,12 +53,7 @@ fn put_chain<O: Sink>(
     was_good: bool,
     is_good: bool,
 ) -> Result<(), SinkFault>
-    ensures never_falls { O.faults sink.old ≤ O.faults sink.new }
-    ensures failed { OnErr result (RoseTo (O.faults sink.old) (O.faults sink.new)) }
-    ensures all { OnOk result
-        (Appends (O.taken sink.old) (O.taken sink.new) (chain_change number was_good is_good)) }
-    ensures some { OnErr result
-        (AppendsPrefix (O.taken sink.old) (O.taken sink.new) (chain_change number was_good is_good)) }
+    ensures { IsTextPut O.taken O.faults sink.old sink.new (chain_change number was_good is_good) result }
 {
     match (was_good, is_good) {
         (true, false) => put_all(sink, numbered(&mut [0; NUMBERED], "b ", number)),
@@ -81,12 +70,8 @@ fn put_slots<O: Sink>(
     after: &Audit,
 ) -> Result<(), SinkFault>
     requires { length after.now ≡ length before.now }
-    ensures never_falls { O.faults sink.old ≤ O.faults sink.new }
-    ensures failed { OnErr result (RoseTo (O.faults sink.old) (O.faults sink.new)) }
-    ensures all { OnOk result (Appends (O.taken sink.old) (O.taken sink.new)
-        (lines_of (slot_change number before.now after.now) (slot_count before.now) 0)) }
-    ensures some { OnErr result (AppendsPrefix (O.taken sink.old) (O.taken sink.new)
-        (lines_of (slot_change number before.now after.now) (slot_count before.now) 0)) }
+    ensures { IsTextPut O.taken O.faults sink.old sink.new
+        (lines_of (slot_change number before.now after.now) (slot_count before.now) 0) result }
 {
     for slot in 0..before.slots() {
         let old = before.hidden(slot);
@@ -106,12 +91,7 @@ fn put_slot<O: Sink>(
     before: Option<u64>,
     after: Option<u64>,
 ) -> Result<(), SinkFault>
-    ensures never_falls { O.faults sink.old ≤ O.faults sink.new }
-    ensures failed { OnErr result (RoseTo (O.faults sink.old) (O.faults sink.new)) }
-    ensures all { OnOk result
-        (Appends (O.taken sink.old) (O.taken sink.new) (hiding_change number slot before after)) }
-    ensures some { OnErr result
-        (AppendsPrefix (O.taken sink.old) (O.taken sink.new) (hiding_change number slot before after)) }
+    ensures { IsTextPut O.taken O.faults sink.old sink.new (hiding_change number slot before after) result }
 {
     match put_unless(sink, "u ", number, slot, before, after) {
         Ok(()) => put_unless(sink, "h ", number, slot, after, before),
@@ -129,12 +109,8 @@ fn put_unless<O: Sink>(
     other: Option<u64>,
 ) -> Result<(), SinkFault>
     requires { length word.now ≤ 2 }
-    ensures never_falls { O.faults sink.old ≤ O.faults sink.new }
-    ensures failed { OnErr result (RoseTo (O.faults sink.old) (O.faults sink.new)) }
-    ensures all { OnOk result (Appends (O.taken sink.old) (O.taken sink.new)
-        (line_unless (slot_line word.now number slot) one other)) }
-    ensures some { OnErr result (AppendsPrefix (O.taken sink.old) (O.taken sink.new)
-        (line_unless (slot_line word.now number slot) one other)) }
+    ensures { IsTextPut O.taken O.faults sink.old sink.new
+        (line_unless (slot_line word.now number slot) one other) result }
 {
     if one == other {
         return Ok(());
@@ -166,11 +142,7 @@ fn slot_line<'a>(room: &'a mut [u8; SLOT], word: &str, number: u64, slot: u32, p
 
 /// Writes how the list is at the end, behind so many records of the region.
 pub(crate) fn put_end<O: Sink>(sink: &mut O, records: u64, audit: &Audit) -> Result<(), SinkFault>
-    ensures never_falls { O.faults sink.old ≤ O.faults sink.new }
-    ensures failed { OnErr result (RoseTo (O.faults sink.old) (O.faults sink.new)) }
-    ensures all { OnOk result (Appends (O.taken sink.old) (O.taken sink.new) (audit_end records audit.now)) }
-    ensures some { OnErr result
-        (AppendsPrefix (O.taken sink.old) (O.taken sink.new) (audit_end records audit.now)) }
+    ensures { IsTextPut O.taken O.faults sink.old sink.new (audit_end records audit.now) result }
 {
     match put_all(sink, one_count(&mut [0; NUMBERED], "records ", records)) {
         Ok(()) => put_list_end(sink, audit),
@@ -180,10 +152,7 @@ pub(crate) fn put_end<O: Sink>(sink: &mut O, records: u64, audit: &Audit) -> Res
 
 /// Writes how many processes are hidden, and whether the chain is good.
 fn put_list_end<O: Sink>(sink: &mut O, audit: &Audit) -> Result<(), SinkFault>
-    ensures never_falls { O.faults sink.old ≤ O.faults sink.new }
-    ensures failed { OnErr result (RoseTo (O.faults sink.old) (O.faults sink.new)) }
-    ensures all { OnOk result (Appends (O.taken sink.old) (O.taken sink.new) (list_end audit.now)) }
-    ensures some { OnErr result (AppendsPrefix (O.taken sink.old) (O.taken sink.new) (list_end audit.now)) }
+    ensures { IsTextPut O.taken O.faults sink.old sink.new (list_end audit.now) result }
 {
     let count = u64::from(count_hidden(audit));
     match put_all(sink, one_count(&mut [0; NUMBERED], "hidden ", count)) {

@@ -5,6 +5,7 @@ ghost use Rattle.std.specs.Io.KnownBytes.{Appends};
 ghost use Rattle.std.specs.List.{Contains};
 ghost use Rattle.nk_host.specs.FaultCounts.{RoseTo};
 ghost use Rattle.nk_host.specs.Taken.{AppendsPrefix};
+ghost use Rattle.nk_host.specs.TextPuts.{IsTextPut};
 ghost use Rattle.write_log.specs.LogBytes.{HoldsLog, log_in, record_place};
 ghost use Rattle.write_log.specs.LogRecords.{LogRecord};
 ghost use Rattle.report_text.specs.AuditLines.{
@@ -34,12 +35,8 @@ pub fn audit<O: Sink>(
     requires within { (it : LogRecord) → Contains (log_in log.now mem.now) it → it.region ≡ id
         → it.offset + length it.bytes ≤ length auditing.old }
     requires fresh { auditing.old ≡ replicate (length auditing.old) 0 }
-    ensures never_falls { O.faults sink.old ≤ O.faults sink.new }
-    ensures failed { OnErr result (RoseTo (O.faults sink.old) (O.faults sink.new)) }
-    ensures all { OnOk result (Appends (O.taken sink.old) (O.taken sink.new)
-        (audit_text id (length auditing.old) (log_in log.now mem.now))) }
-    ensures some { OnErr result (AppendsPrefix (O.taken sink.old) (O.taken sink.new)
-        (audit_text id (length auditing.old) (log_in log.now mem.now))) }
+    ensures put { IsTextPut O.taken O.faults sink.old sink.new
+        (audit_text id (length auditing.old) (log_in log.now mem.now)) result }
     ensures told { OnOk result (auditing.new ≡ audited id auditing.old (log_in log.now mem.now)) }
 {
     match put_records(sink, mem, log, id, auditing) {
@@ -59,12 +56,8 @@ fn put_records<O: Sink>(
     requires held { HoldsLog log.now mem.now }
     requires within { (it : LogRecord) → Contains (log_in log.now mem.now) it → it.region ≡ id
         → it.offset + length it.bytes ≤ length auditing.old }
-    ensures never_falls { O.faults sink.old ≤ O.faults sink.new }
-    ensures failed { OnErr result (RoseTo (O.faults sink.old) (O.faults sink.new)) }
-    ensures all { OnOk result (Appends (O.taken sink.old) (O.taken sink.new)
-        (audit_lines id 0 auditing.old (log_in log.now mem.now))) }
-    ensures some { OnErr result (AppendsPrefix (O.taken sink.old) (O.taken sink.new)
-        (audit_lines id 0 auditing.old (log_in log.now mem.now))) }
+    ensures put { IsTextPut O.taken O.faults sink.old sink.new
+        (audit_lines id 0 auditing.old (log_in log.now mem.now)) result }
     ensures told { OnOk result (auditing.new ≡ audited id auditing.old (log_in log.now mem.now)) }
 {
     held_log_law();

@@ -1,8 +1,6 @@
 //! The lines of a run: the console, deliveries, and how the run ended.
-ghost use Rattle.std.specs.Prelude.{◌≡◌, ◌≤◌, ◌++◌, OnErr, OnOk};
-ghost use Rattle.std.specs.Io.KnownBytes.{Appends};
-ghost use Rattle.nk_host.specs.FaultCounts.{RoseTo};
-ghost use Rattle.nk_host.specs.Taken.{AppendsPrefix};
+ghost use Rattle.std.specs.Prelude.{◌≡◌, ◌++◌};
+ghost use Rattle.nk_host.specs.TextPuts.{IsTextPut};
 ghost use Rattle.report_text.specs.RunLines.{console_line, delivery_line, ending_line, turns_line};
 
 use crate::words::{NUMBERED, numbered, put, put_16, put_word, put_word_16};
@@ -11,31 +9,21 @@ use nk_host::{Sink, SinkFault, put_all};
 
 /// Writes a byte of the console.
 pub fn console<O: Sink>(sink: &mut O, byte: u8) -> Result<(), SinkFault>
-    ensures never_falls { O.faults sink.old ≤ O.faults sink.new }
-    ensures failed { OnErr result (RoseTo (O.faults sink.old) (O.faults sink.new)) }
-    ensures all { OnOk result (Appends (O.taken sink.old) (O.taken sink.new) (console_line byte)) }
-    ensures some { OnErr result (AppendsPrefix (O.taken sink.old) (O.taken sink.new) (console_line byte)) }
+    ensures { IsTextPut O.taken O.faults sink.old sink.new (console_line byte) result }
 {
     put_all(sink, &console_line(byte))
 }
 
 /// Writes a delivery.
 pub fn delivery<O: Sink>(sink: &mut O, it: &Delivery) -> Result<(), SinkFault>
-    ensures never_falls { O.faults sink.old ≤ O.faults sink.new }
-    ensures failed { OnErr result (RoseTo (O.faults sink.old) (O.faults sink.new)) }
-    ensures all { OnOk result (Appends (O.taken sink.old) (O.taken sink.new) (delivery_line it.now)) }
-    ensures some { OnErr result (AppendsPrefix (O.taken sink.old) (O.taken sink.new) (delivery_line it.now)) }
+    ensures { IsTextPut O.taken O.faults sink.old sink.new (delivery_line it.now) result }
 {
     put_all(sink, delivery_line(&mut [0; DELIVERY], it))
 }
 
 /// Writes why a run ended, and how many turns it took. Where it isn't halted, it took as many as it may have.
 pub fn ending<O: Sink>(sink: &mut O, halted: bool, turns: u64) -> Result<(), SinkFault>
-    ensures never_falls { O.faults sink.old ≤ O.faults sink.new }
-    ensures failed { OnErr result (RoseTo (O.faults sink.old) (O.faults sink.new)) }
-    ensures all { OnOk result (Appends (O.taken sink.old) (O.taken sink.new) (ending_line halted ++ turns_line turns)) }
-    ensures some { OnErr result
-        (AppendsPrefix (O.taken sink.old) (O.taken sink.new) (ending_line halted ++ turns_line turns)) }
+    ensures { IsTextPut O.taken O.faults sink.old sink.new (ending_line halted ++ turns_line turns) result }
 {
     match put_all(sink, ending_line(halted).as_bytes()) {
         Ok(()) => put_all(sink, turns_line(&mut [0; NUMBERED], turns)),

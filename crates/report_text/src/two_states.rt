@@ -3,6 +3,7 @@ ghost use Rattle.std.specs.Prelude.{◌≡◌, ◌+◌, ◌<◌, ◌≤◌, IfOk
 ghost use Rattle.std.specs.Io.KnownBytes.{Appends};
 ghost use Rattle.nk_host.specs.FaultCounts.{RoseTo};
 ghost use Rattle.nk_host.specs.Taken.{AppendsPrefix};
+ghost use Rattle.nk_host.specs.TextPuts.{IsTextPut};
 ghost use Rattle.proc_audit.specs.ProcessList.{overwritten};
 ghost use Rattle.write_log.specs.LogBytes.{HoldsLog, log_in, record_place};
 ghost use Rattle.report_text.specs.AuditLines.{audit_end, record_change};
@@ -84,11 +85,7 @@ impl Auditing {
 
     /// Writes how the list is at the end, behind so many records of the region.
     pub(crate) fn put_end<O: Sink>(&self, sink: &mut O, records: u64) -> Result<(), SinkFault>
-        ensures never_falls { O.faults sink.old ≤ O.faults sink.new }
-        ensures failed { OnErr result (RoseTo (O.faults sink.old) (O.faults sink.new)) }
-        ensures all { OnOk result (Appends (O.taken sink.old) (O.taken sink.new) (audit_end records self.now)) }
-        ensures some { OnErr result
-            (AppendsPrefix (O.taken sink.old) (O.taken sink.new) (audit_end records self.now)) }
+        ensures { IsTextPut O.taken O.faults sink.old sink.new (audit_end records self.now) result }
     {
         put_end(sink, records, &self.before)
     }
@@ -120,12 +117,8 @@ fn put_bytes<O: Sink>(
 ) -> Result<(), SinkFault>
     requires same { after.old ≡ before.old }
     requires within { offset + length bytes.now ≤ length before.old }
-    ensures never_falls { O.faults sink.old ≤ O.faults sink.new }
-    ensures failed { OnErr result (RoseTo (O.faults sink.old) (O.faults sink.new)) }
-    ensures all { OnOk result (Appends (O.taken sink.old) (O.taken sink.new)
-        (record_change number before.old (overwritten before.old offset bytes.now))) }
-    ensures some { OnErr result (AppendsPrefix (O.taken sink.old) (O.taken sink.new)
-        (record_change number before.old (overwritten before.old offset bytes.now))) }
+    ensures put { IsTextPut O.taken O.faults sink.old sink.new
+        (record_change number before.old (overwritten before.old offset bytes.now)) result }
     ensures before { before.new ≡ overwritten before.old offset bytes.now }
     ensures after { after.new ≡ overwritten before.old offset bytes.now }
     ensures size { length before.new ≡ length before.old }

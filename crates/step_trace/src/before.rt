@@ -25,7 +25,7 @@ pub(crate) struct Before {
 }
 
 /// The name of the state that the machine is in.
-pub(crate) fn state_name<'i>(machine: &Machine<'i>) -> &'static str {
+pub(crate) fn state_name(machine: &Machine<'_>) -> &'static str {
     match machine {
         Machine::Outer(_) => "outer",
         Machine::Gate(_) => "gate",
@@ -35,7 +35,7 @@ pub(crate) fn state_name<'i>(machine: &Machine<'i>) -> &'static str {
 
 impl Before {
     /// What is kept of the state that a machine is in, of which so many events were taken.
-    pub(crate) fn of<'i>(machine: &Machine<'i>, plan: &Plan, taken: usize) -> Before {
+    pub(crate) fn of(machine: &Machine<'_>, plan: &Plan, taken: usize) -> Before {
         let cpu = machine.processor();
         let mut pages = Pages::new();
         add_common(&mut pages, cpu.regs());

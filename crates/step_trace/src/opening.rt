@@ -43,7 +43,7 @@ fn put_control(line: &mut Line, control: &Control) {
 }
 
 /// The line of the state.
-fn state_line<'i>(machine: &Machine<'i>) -> Line {
+fn state_line(machine: &Machine<'_>) -> Line {
     let mut line = Line::new();
     line.text("state turn ");
     line.decimal(machine.turns());
@@ -56,8 +56,8 @@ fn state_line<'i>(machine: &Machine<'i>) -> Line {
 }
 
 /// Writes the state, and with it memory where that is asked for.
-pub(crate) fn put_opening<'i, O: Sink>(
-    machine: &Machine<'i>,
+pub(crate) fn put_opening<O: Sink>(
+    machine: &Machine<'_>,
     memory: bool,
     sink: &mut O,
 ) -> Result<(), SinkFault>

@@ -249,12 +249,7 @@ pub(crate) struct Halves {
 }
 
 /// The line of a step, but for the changes of memory.
-pub(crate) fn halves_of<'i>(
-    before: &Before,
-    step: &Step,
-    was: Was,
-    machine: &Machine<'i>,
-) -> Halves {
+pub(crate) fn halves_of(before: &Before, step: &Step, was: Was, machine: &Machine<'_>) -> Halves {
     let mut first = Line::new();
     before.put(&mut first);
     put_was(&mut first, before, was);
@@ -318,12 +313,12 @@ impl Halves {
 }
 
 /// Writes the line of a step, unless it is left out, and makes the copy that of memory as it is.
-pub(crate) fn put_step<'i, O: Sink>(
+pub(crate) fn put_step<O: Sink>(
     shown: &Shown,
     before: &Before,
     step: &Step,
     event: Option<What>,
-    machine: &Machine<'i>,
+    machine: &Machine<'_>,
     touched: Touched,
     copy: &mut PhysMem,
     sink: &mut O,

@@ -103,7 +103,7 @@ fn go_to<'i>(machine: Machine<'i>, plan: &Plan, limit: u64) -> At<'i>
 }
 
 /// Why the trace ends before a step, if it does.
-fn end_before<'i>(machine: &Machine<'i>, shown: &Shown, steps: u64) -> Option<TraceEnd>
+fn end_before(machine: &Machine<'_>, shown: &Shown, steps: u64) -> Option<TraceEnd>
     ensures { IfNone result ((whole_of machine.now).state.turns < steps) }
 {
     if machine.turns() >= steps {
@@ -125,12 +125,12 @@ fn event_after(plan: &Plan, taken: usize) -> Option<What> {
 }
 
 /// Whether a step left RIP at the address at which the trace ends.
-fn is_there<'i>(machine: &Machine<'i>, shown: &Shown) -> bool {
+fn is_there(machine: &Machine<'_>, shown: &Shown) -> bool {
     shown.until == Some(machine.processor().regs().rip)
 }
 
 /// Spends the machine, and writes why the trace ended, and how many turns were taken.
-fn end<'i, O: Sink>(machine: Machine<'i>, why: TraceEnd, sink: &mut O) -> Result<(), SinkFault>
+fn end<O: Sink>(machine: Machine<'_>, why: TraceEnd, sink: &mut O) -> Result<(), SinkFault>
     ensures never_falls { O.faults sink.old ≤ O.faults sink.new }
     ensures failed { OnErr result (RoseTo (O.faults sink.old) (O.faults sink.new)) }
 {
@@ -144,8 +144,8 @@ fn end<'i, O: Sink>(machine: Machine<'i>, why: TraceEnd, sink: &mut O) -> Result
 }
 
 /// Shows step after step from a state on.
-fn follow<'i, O: Sink>(
-    at: At<'i>,
+fn follow<O: Sink>(
+    at: At<'_>,
     plan: &Plan,
     steps: u64,
     shown: &Shown,
@@ -187,8 +187,8 @@ fn follow<'i, O: Sink>(
 /// Takes the steps of a run, and writes those that are shown, as docs/FORMATS.md has them. The copy may hold anything:
 /// it becomes that of memory as the shown steps find it. It is to have as many frames as the machine's memory, since
 /// changes beyond them aren't shown. Err where the sink failed, and the text is cut.
-pub fn drive_shown<'i, O: Sink>(
-    machine: Machine<'i>,
+pub fn drive_shown<O: Sink>(
+    machine: Machine<'_>,
     plan: &Plan,
     steps: u64,
     shown: &Shown,

@@ -5,7 +5,7 @@ ghost use Rattle.nk_body.specs.NestedRecord.{HoldsBooks};
 
 use super::counts::{is_counted, is_held};
 use super::{Opened, Row, filled, logged, open, pages_declared, play, words};
-use memory_kit::word_at;
+use memory_kit::peek_word;
 use nk_bits::Kind;
 use nk_body::Kernel;
 use phys_mem::PhysMem;
@@ -79,16 +79,16 @@ fn begun(alloc: Global, start: Start) -> Option<Opened>
 /// Whether this is the handler, by the books and in memory.
 fn is_handler(kernel: &Kernel, mem: &PhysMem, trap: u64) -> bool {
     kernel.trap() == trap
-        && word_at(mem, 0x1FF8) == 0xCCCC_CCCC_CCCC_CCCC
-        && word_at(mem, 0x2000) == trap
-        && word_at(mem, 0x2008) == 0
+        && peek_word(mem, 0x1FF8) == 0xCCCC_CCCC_CCCC_CCCC
+        && peek_word(mem, 0x2000) == trap
+        && peek_word(mem, 0x2008) == 0
 }
 
 /// Whether entry 71 of frame 70 and the kind of frame 71 are so.
 fn is_leaf(kernel: &Kernel, mem: &PhysMem, leaf: u64, kind: Kind) -> bool
     requires { HoldsBooks kernel.now mem.now }
 {
-    word_at(mem, 0x46238) == leaf && kernel.tables().frames.kind(mem, 71) == kind
+    peek_word(mem, 0x46238) == leaf && kernel.tables().frames.kind(mem, 71) == kind
 }
 
 /// Whether the next identifier and the number of regions are so, and the number of records and the pool's first bytes.
@@ -104,13 +104,13 @@ fn has_regions(
     kernel.regions().next() == next
         && kernel.regions().count() == regions
         && kernel.log().len() == written.0
-        && word_at(mem, 0xA000) == written.1
+        && peek_word(mem, 0xA000) == written.1
 }
 
 /// Whether these numbers stand from a place of memory on.
 fn are_numbers(mem: &PhysMem, at: u64, numbers: &[u64; 8]) -> bool {
     for (k, number) in numbers.iter().enumerate() {
-        if word_at(mem, at.saturating_add(8 * k as u64)) != *number {
+        if peek_word(mem, at.saturating_add(8 * k as u64)) != *number {
             return false;
         }
     }
@@ -120,8 +120,8 @@ fn are_numbers(mem: &PhysMem, at: u64, numbers: &[u64; 8]) -> bool {
 /// Whether the descriptor of a frame is so: those of all frames stand in memory from 40000 on, 16 bytes each.
 fn is_descriptor(mem: &PhysMem, frame: u64, code: u8, level: u8, links: u64) -> bool {
     let at = frame.saturating_mul(16).saturating_add(0x4_0000);
-    word_at(mem, at) == u64::from(code) + 256 * u64::from(level)
-        && word_at(mem, at.saturating_add(8)) == links
+    peek_word(mem, at) == u64::from(code) + 256 * u64::from(level)
+        && peek_word(mem, at.saturating_add(8)) == links
 }
 
 /// A live region by its place in the order.
@@ -164,7 +164,7 @@ fn is_found(alloc: Global, kernel: &Kernel, mem: &PhysMem, found: &Found) -> boo
                 && has_regions(kernel, mem, 256, 0, (0, 0))
         }
         Found::Numbers(at, numbers) => are_numbers(mem, *at, numbers),
-        Found::Number(at, number) => word_at(mem, *at) == *number,
+        Found::Number(at, number) => peek_word(mem, *at) == *number,
         Found::Nth(i, region) => nth(kernel, mem, *i) == *region,
         Found::Region(id, region) => kernel.regions().find(mem, *id) == *region,
         Found::Room(room) => kernel.log().room() == *room,

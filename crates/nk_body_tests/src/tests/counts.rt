@@ -3,7 +3,7 @@
 
 ghost use Rattle.page_desc.specs.DescriptorBytes.{HoldsDescriptors};
 
-use memory_kit::word_at;
+use memory_kit::peek_word;
 use nk_bits::{Entry, Kind};
 use page_desc::Frames;
 use phys_mem::PhysMem;
@@ -18,7 +18,7 @@ struct Counts {
 
 fn entry(mem: &PhysMem, frame: u64, index: u64) -> Entry {
     if frame < 65_536 && index < 512 {
-        Entry(word_at(mem, 4096 * frame + 8 * index))
+        Entry(peek_word(mem, 4096 * frame + 8 * index))
     } else {
         Entry(0)
     }
@@ -140,7 +140,7 @@ fn is_told(mem: &PhysMem, frame: u32, kind: Kind, loose: u32, links: u32) -> boo
     let at = 0x4_0000 + 16 * u64::from(frame);
     let (code, level) = code_of(kind);
     let first = u64::from(code) + 256 * u64::from(level) + 0x1_0000_0000 * u64::from(loose);
-    word_at(mem, at) == first && load(mem, at + 8) == u64::from(links)
+    peek_word(mem, at) == first && peek_word(mem, at + 8) == u64::from(links)
 }
 
 /// Whether the bytes of each frame's descriptor are what kind and counts tell.

@@ -13,7 +13,7 @@ ghost use Rattle.region_book.specs.RegionBytes.{HoldsRegions, book_in};
 ghost use Rattle.region_book.specs.RegionRecords.{IsBook};
 
 use super::are_zero;
-use memory_kit::{byte_at, memory_with};
+use memory_kit::{memory_with, peek_byte};
 use nk_bits::{Kind, Rule};
 use page_desc::Frames;
 use phys_mem::{NoMemory, PhysMem};
@@ -262,7 +262,7 @@ static SLOT: [u8; 64] = [
 /// The first byte of slot 0 that isn't one of `SLOT`.
 fn first_other(mem: &PhysMem) -> Option<usize> {
     for (at, byte) in SLOT.iter().enumerate() {
-        if byte_at(mem, 0x3C000 + (at as u64 & 63)) != *byte {
+        if peek_byte(mem, 0x3C000 + (at as u64 & 63)) != *byte {
             return Some(at);
         }
     }

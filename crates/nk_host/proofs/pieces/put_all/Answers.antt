@@ -6,10 +6,15 @@ use Rattle.nk_host.proofs.pieces.put_all.Goals as goal
 pub loop-rest-preserved : goal.loop-rest-preserved
 loop-rest-preserved g c =
     let cut = cut_in_two _ _ _ _ c.split_at.ensures.front c.split_at.ensures.back in
-    record { out = more_out _ _ _ _ _ _ _ c.loop-rest.invariant.out cut c.in_ok-put.ensures.all; counted = omega arith }
+    record { out = more_out _ _ _ _ _ _ _ c.loop-rest.invariant.out cut c.in_ok-put.ensures.put.all; counted = omega arith }
 
-pub returns-in_err-put-clause-some : goal.returns-in_err-put-clause-some
-returns-in_err-put-clause-some g c =
+pub returns-in_err-put-clause-put : goal.returns-in_err-put-clause-put
+returns-in_err-put-clause-put g c =
     let p = err_from_is_err_and c.from_residual.result c.from_residual.ensures.1 in
     let cut = cut_in_two _ _ _ _ c.split_at.ensures.front c.split_at.ensures.back in
-    rw p.1 (prefix_out _ _ _ _ _ _ _ c.loop-rest.invariant.out cut c.in_err-put.ensures.some)
+    rw p.1 (record {
+      never_falls = omega (arith, c.loop-rest.invariant.counted, c.in_err-put.ensures.put.never_falls);
+      failed = omega (arith, c.loop-rest.invariant.counted, c.in_err-put.ensures.put.failed);
+      all = tt;
+      some = prefix_out _ _ _ _ _ _ _ c.loop-rest.invariant.out cut c.in_err-put.ensures.put.some;
+    })

@@ -8,7 +8,7 @@ returns-in-Ok g c = record {
   status = 0;
   text = c.in-Ok.code.items;
   says = inr (code_says c.args.request.now c.requires.1.1 _ c.in-Ok.code.items c.in-Ok.ensures.made);
-  written = put_written _ _ _ _ _ _ c.deref.ensures.value c.put_all.ensures.all c.put_all.ensures.failed c.put_all.ensures.some
+  written = put_written g.O.Sink.taken g.O.Sink.faults _ _ _ _ _ _ _ c.deref.ensures.value c.put_all.ensures.put
       c.unless_cut.ensures;
   files_stay = c.make_code.ensures.files_stay;
 }

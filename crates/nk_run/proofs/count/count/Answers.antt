@@ -1,10 +1,9 @@
 use Rattle.std.proofs.Common.{◌∙◌, ap, arith, refl, sym, subst}
+use Rattle.nk_host.specs.TextPuts.{IsTextPut}
 use Rattle.gate_state.specs.MachineOf.{whole_of}
 use Rattle.gate_state.specs.MachineSteps.{move_of}
 use Rattle.gate_state.specs.WholeMachine.{WholeState}
-use Rattle.nk_run.specs.Replies.{IsTextPut}
 use Rattle.nk_run.specs.RunProgress.{GoesOn, HasEnded, HasGoneOn}
-use Rattle.nk_run.specs.Witness.{sink_change}
 use Rattle.nk_run.specs.WorkSummary.{work_text}
 use Rattle.nk_run.proofs.CountedRuns.{begins_counting, counts_less, counts_on, summary_ended}
 use Rattle.nk_run.proofs.QuietRuns.{counts_quietly, hurried_left}
@@ -17,22 +16,17 @@ loop-ended-init g c = (refl, begins_counting 2000000 c.args.plan.now (whole_of c
 pub go_on-requires-clause-within : goal.go_on-requires-clause-within
 go_on-requires-clause-within g c = c.loop-ended.invariant.1.turns_within
 
-pub returns-in-Ends-clause-never_falls : goal.returns-in-Ends-clause-never_falls
-returns-in-Ends-clause-never_falls g c =
-    let same = ap g.O.Sink.faults c.loop-ended.invariant.0 in
-    omega (arith, same, c.sum_up.ensures.never_falls)
-
-pub returns-in-Ends-clause-written : goal.returns-in-Ends-clause-written
-returns-in-Ends-clause-written g c =
+pub returns-in-Ends : goal.returns-in-Ends
+returns-in-Ends g c =
     let it : HasEnded 2000000 c.args.plan.now (whole_of c.loop-ended.machine) (whole_of c.in-Ends.ended) c.in-Ends.ending =
     subst (GoesOn 2000000 c.args.plan.now (whole_of c.loop-ended.machine)) c.in-Ends.is c.go_on.ensures in
     let whole = (counts_quietly c.loop-ended.invariant.1 it.hurried).whole
     ∙ summary_ended 2000000 c.args.plan.now (whole_of c.in-Ends.ended).state c.loop-ended.tally c.in-Ends.ending it.ended in
-    subst (λ from. IsTextPut (sink_change g.O.Sink.taken g.O.Sink.faults from c.sum_up.new.sink)
+    subst (λ from. IsTextPut g.O.Sink.taken g.O.Sink.faults from c.sum_up.new.sink
     (work_text 2000000 c.args.plan.now (whole_of c.args.machine).state) c.sum_up.result)
     c.loop-ended.invariant.0
-    (subst (λ l. IsTextPut (sink_change g.O.Sink.taken g.O.Sink.faults c.loop-ended.sink c.sum_up.new.sink) l c.sum_up.result)
-    (sym whole) c.sum_up.ensures.written)
+    (subst (λ l. IsTextPut g.O.Sink.taken g.O.Sink.faults c.loop-ended.sink c.sum_up.new.sink l c.sum_up.result)
+    (sym whole) c.sum_up.ensures)
 
 pub stepped-tally-requires : goal.stepped-tally-requires
 stepped-tally-requires g c =

@@ -24,26 +24,19 @@ end-requires-clause-opening g c =
     subst (GoesOn c.args.steps c.args.plan.now (whole_of c.loop-ended.machine)) c.in-Ends.is c.go_on.ensures in
     (goes_quietly c.loop-ended.invariant it.hurried).opening
 
-pub returns-in-Ends-clause-never_falls : goal.returns-in-Ends-clause-never_falls
-returns-in-Ends-clause-never_falls g c =
-    let never_fell = c.loop-ended.invariant.never_fell in omega (arith, never_fell, c.end.ensures.never_falls)
-
-pub returns-in-Ends-clause-written : goal.returns-in-Ends-clause-written
-returns-in-Ends-clause-written g c =
+pub returns-in-Ends : goal.returns-in-Ends
+returns-in-Ends g c =
     let it : HasEnded c.args.steps c.args.plan.now (whole_of c.loop-ended.machine) (whole_of c.in-Ends.ended) c.in-Ends.ending =
     subst (GoesOn c.args.steps c.args.plan.now (whole_of c.loop-ended.machine)) c.in-Ends.is c.go_on.ensures in
     let going = goes_quietly c.loop-ended.invariant it.hurried in
     let o : Opening = record { image = c.args.opened.now.image; frames = c.args.opened.now.layout.frames } in
     closes g.O.Sink.taken g.O.Sink.faults c.args.sink.now c.loop-ended.sink o c.args.steps c.args.plan.now
     (run_text o c.args.steps c.args.plan.now (whole_of c.args.machine).state) (whole_of c.in-Ends.ended) going
-    c.end.new.sink c.in-Ends.ending c.end.result it.ended c.end.ensures.written
+    c.end.new.sink c.in-Ends.ending c.end.result it.ended c.end.ensures
 
-pub returns-in-Err-clause-never_falls : goal.returns-in-Err-clause-never_falls
-returns-in-Err-clause-never_falls g c =
-    let never_fell = c.loop-ended.invariant.never_fell in omega (arith, never_fell, c.show.ensures.never_falls)
-
-pub returns-in-Err-clause-written : goal.returns-in-Err-clause-written
-returns-in-Err-clause-written g c =
+pub returns-in-Err : goal.returns-in-Err
+returns-in-Err g c =
+    let never_fell = c.loop-ended.invariant.never_fell in
     let it : HasGoneOn c.args.steps c.args.plan.now (whole_of c.loop-ended.machine) (whole_of c.in-Goes.next) c.in-Goes.step =
     subst (GoesOn c.args.steps c.args.plan.now (whole_of c.loop-ended.machine)) c.in-Goes.is c.go_on.ensures in
     let going = goes_quietly c.loop-ended.invariant it.hurried in
@@ -54,7 +47,12 @@ returns-in-Err-clause-written g c =
     (run_text o c.args.steps c.args.plan.now (whole_of c.args.machine).state) w going
     c.show.new.sink it.going (c.moves_law.ensures c.args.plan.now w.state)
     (on_err c.in-Err.is c.show.ensures.failed) (on_err c.in-Err.is (c.show.ensures.some (move_of c.args.plan.now w.state) w it.step read)) in
-    (tt, cut.0, cut.1)
+    record {
+      never_falls = omega (arith, never_fell, c.show.ensures.never_falls);
+      failed = cut.0;
+      all = tt;
+      some = cut.1;
+    }
 
 pub loop-ended-smaller : goal.loop-ended-smaller
 loop-ended-smaller g c =

@@ -10,9 +10,9 @@ abbrev bytes_of : Vec ℕ Global → List ℕ
 bytes_of m = m.items
 
 pub returns-in-Err-clause-fetched : goal.returns-in-Err-clause-fetched
-returns-in-Err-clause-fetched g c = λ words listed.
+returns-in-Err-clause-fetched g c = λ words modules_are.
     module_stops words _ _ _ c.args.list.now c.loop-i.i _ _ _ _ (omega arith) c.loop-i.invariant.falls c.loop-i.invariant.same_files
-    listed c.name.ensures c.loop-i.invariant.fetched c.in-Err.ensures.fetched
+    modules_are c.name.ensures c.loop-i.invariant.fetched c.in-Err.ensures.fetched
 
 pub loop-i-preserved : goal.loop-i-preserved
 loop-i-preserved g c =
@@ -29,7 +29,7 @@ loop-i-preserved g c =
     }
 
 pub returns-in-Err-push-clause-fetched : goal.returns-in-Err-push-clause-fetched
-returns-in-Err-push-clause-fetched g c = λ words listed. inr (inl c.no_memory.ensures)
+returns-in-Err-push-clause-fetched g c = λ words modules_are. inr (inl c.no_memory.ensures)
 
 pub returns-clause-fetched : goal.returns-clause-fetched
 returns-clause-fetched g c =

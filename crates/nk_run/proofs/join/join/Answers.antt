@@ -8,7 +8,7 @@ returns-in-Ok-clause-answered g c = record {
   status = 0;
   text = c.in-Ok.file.items;
   says = inr (joined_says _ c.requires.1.1 _ _ c.in-Ok.ensures.made);
-  written = put_written _ _ _ _ _ _ c.deref.ensures.value c.put_all.ensures.all c.put_all.ensures.failed c.put_all.ensures.some
+  written = put_written g.O.Sink.taken g.O.Sink.faults _ _ _ _ _ _ _ c.deref.ensures.value c.put_all.ensures.put
       c.unless_cut.ensures;
   files_stay = c.make_joined.ensures.files_stay;
 }

@@ -9,8 +9,8 @@ returns-in-Ok g c = λ words shelf asked same. record {
   status = 0;
   text = image_of_number c.args.number;
   says = inr (make_says words c.args.number asked shelf);
-  written = put_written _ _ _ _ _ _ (c.deref.ensures.value ∙ c.in-Ok.ensures) c.put_all.ensures.all c.put_all.ensures.failed c.put_all.ensures.some
-      c.unless_cut.ensures;
+  written = put_written g.O.Sink.taken g.O.Sink.faults _ _ _ _ _ _ _ (c.deref.ensures.value ∙ c.in-Ok.ensures)
+      c.put_all.ensures.put c.unless_cut.ensures;
   files_stay = same;
 }
 

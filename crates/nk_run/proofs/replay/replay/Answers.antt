@@ -24,6 +24,6 @@ returns g c =
       says = inr (replayed_says c.args.request.now c.args.frames c.requires.1.1.0 _ _
           (section_says c.args.request.now c.args.frames _ it.opened.image it.journal.items made.passed it.opened.layout.frames made.frames_are
           c.requires.1.1.0 (nested_held it.left.kernel it.left.memory) made.made));
-      written = put_written _ _ _ _ _ _ refl c.show.ensures.0 c.show.ensures.1 c.show.ensures.2 c.unless_cut.ensures;
+      written = put_written g.O.Sink.taken g.O.Sink.faults _ _ _ _ _ _ _ refl c.show.ensures c.unless_cut.ensures;
       files_stay = c.make_replay.ensures.files_stay;
     }

@@ -18,6 +18,9 @@ returns-in-Err-clause-answered g c = record {
 pub drive-requires-clause-opening : goal.drive-requires-clause-opening
 drive-requires-clause-opening g c = c.in-Some.ensures.opening
 
+pub drive-requires-clause-steps : goal.drive-requires-clause-steps
+drive-requires-clause-steps g c = c.in-Ok.ensures.ready.bounded
+
 pub returns-in-Some-clause-answered : goal.returns-in-Some-clause-answered
 returns-in-Some-clause-answered g c =
     let ready = c.in-Ok.ready in
@@ -28,8 +31,6 @@ returns-in-Some-clause-answered g c =
       status = 0;
       text = run_text o ready.steps ready.plan (opening_state o ready.input.items);
       says = inr (ran_says _ ready.steps ready.opened.layout.frames it.asked _ _ it.outcome_is);
-      written =
-          let put = c.drive.ensures.written in
-          put_written _ _ _ _ _ _ text_is put.0 put.1 put.2 c.unless_cut.ensures;
+      written = put_written g.O.Sink.taken g.O.Sink.faults _ _ _ _ _ _ _ text_is c.drive.ensures c.unless_cut.ensures;
       files_stay = c.make_ready.ensures.files_stay;
     }

@@ -1,31 +1,23 @@
 use Rattle.std.proofs.Common.{◌++◌, refl}
 use Rattle.nk_body.specs.NestedRecord.{Nested, nested_held}
 use Rattle.report_text.specs.ClosingSection.{bytes_of_region, entry_lines, kind_lines, log_lines, region_lines}
-use Rattle.report_text.proofs.Texts.{cut_behind, prefix_of_both, put_behind}
+use Rattle.report_text.proofs.Texts.{both_cut, both_put}
 use Rattle.report_text.proofs.closing.put_changes.Goals as goal
 
-pub returns-in-Ok-clause-all : goal.returns-in-Ok-clause-all
+pub returns-in-Ok : goal.returns-in-Ok
 unfolding kind_lines
-returns-in-Ok-clause-all g c =
+returns-in-Ok g c =
     let nk : Nested = nested_held c.args.kernel.now c.args.mem.now in
     let rest = entry_lines c.args.image.now c.args.layout.now.frames nk
     ++ (region_lines (bytes_of_region nk) nk.ledger.book.regions ++ log_lines 0 nk.ledger.log) in
-    put_behind c.put_tables.result _ _ _ _ (kind_lines c.args.image.now c.args.layout.now.frames nk) _ rest refl refl
-    c.in-Ok.ensures.all c.put_tables.ensures.all
+    both_put g.O.Sink.taken g.O.Sink.faults c.put_tables.result _ _ _ _
+    (kind_lines c.args.image.now c.args.layout.now.frames nk) _ rest refl refl c.in-Ok.ensures c.put_tables.ensures
 
-pub returns-in-Ok-clause-some : goal.returns-in-Ok-clause-some
+pub returns-in-Err : goal.returns-in-Err
 unfolding kind_lines
-returns-in-Ok-clause-some g c =
+returns-in-Err g c =
     let nk : Nested = nested_held c.args.kernel.now c.args.mem.now in
     let rest = entry_lines c.args.image.now c.args.layout.now.frames nk
     ++ (region_lines (bytes_of_region nk) nk.ledger.book.regions ++ log_lines 0 nk.ledger.log) in
-    cut_behind c.put_tables.result _ _ _ _ (kind_lines c.args.image.now c.args.layout.now.frames nk) _ rest refl refl
-    c.in-Ok.ensures.all c.put_tables.ensures.some
-
-pub returns-in-Err-clause-some : goal.returns-in-Err-clause-some
-unfolding kind_lines
-returns-in-Err-clause-some g c =
-    let nk : Nested = nested_held c.args.kernel.now c.args.mem.now in
-    let rest = entry_lines c.args.image.now c.args.layout.now.frames nk
-    ++ (region_lines (bytes_of_region nk) nk.ledger.book.regions ++ log_lines 0 nk.ledger.log) in
-    prefix_of_both _ _ (kind_lines c.args.image.now c.args.layout.now.frames nk) rest c.in-Err.ensures.some
+    both_cut g.O.Sink.taken g.O.Sink.faults _ _ _ (kind_lines c.args.image.now c.args.layout.now.frames nk) rest refl
+    c.in-Err.ensures

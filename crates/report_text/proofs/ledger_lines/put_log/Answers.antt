@@ -5,20 +5,25 @@ use Rattle.write_log.specs.LogBytes.{log_in}
 use Rattle.report_text.proofs.LedgerLines.{record_at, records_listed}
 use Rattle.report_text.proofs.ListedLines.{lines_ended, lines_go_on, lines_were_cut}
 use Rattle.report_text.proofs.Known.{on_err, on_ok, some_at}
+use Rattle.report_text.proofs.Texts.{rose_before, whole_put}
 use Rattle.report_text.proofs.ledger_lines.put_log.Goals as goal
 
-pub returns-in-Err-clause-some : goal.returns-in-Err-clause-some
-returns-in-Err-clause-some g c =
+pub returns-in-Err : goal.returns-in-Err
+returns-in-Err g c =
     let log = log_in c.args.log.now c.args.mem.now in
     let count = (c.held_log_law.ensures.counts c.args.log.now c.args.mem.now c.requires).0 in
     let below : c.loop-i.i < length log = omega (arith, count) in
     let (it, at, text) = record_at log c.loop-i.i below in
     let here = subst (AppendsPrefix (g.O.Sink.taken c.loop-i.sink) (g.O.Sink.taken c.put_record.new.sink)) text
     (on_err c.in-Err.is (some_at _ at c.put_record.ensures.some)) in
-    subst (AppendsPrefix (g.O.Sink.taken c.args.sink.now) (g.O.Sink.taken c.put_record.new.sink))
-    (records_listed log)
-    (lines_were_cut g.O.Sink.taken g.O.Sink.faults _ _ _ _ _ _ c.loop-i.invariant.going c.put_record.new.sink below
-    here)
+    record {
+      never_falls = omega (arith, c.loop-i.invariant.going.never_fell, c.in-Err.ensures.never_falls);
+      failed = rose_before _ _ _ c.loop-i.invariant.going.never_fell c.in-Err.ensures.failed;
+      all = tt;
+      some = subst (AppendsPrefix (g.O.Sink.taken c.args.sink.now) (g.O.Sink.taken c.put_record.new.sink))
+          (records_listed log)
+          (lines_were_cut g.O.Sink.taken g.O.Sink.faults _ _ _ _ _ _ c.loop-i.invariant.going c.put_record.new.sink below here);
+    }
 
 pub loop-i-preserved : goal.loop-i-preserved
 loop-i-preserved g c =
@@ -35,10 +40,11 @@ loop-i-preserved g c =
       spot = c.next-spot.ensures;
     }
 
-pub returns-clause-all : goal.returns-clause-all
-returns-clause-all g c =
+pub returns : goal.returns
+returns g c =
     let log = log_in c.args.log.now c.args.mem.now in
     let count = (c.held_log_law.ensures.counts c.args.log.now c.args.mem.now c.requires).0 in
     let past : length log ≤ c.loop-i.i = omega (arith, count) in
-    subst (Appends (g.O.Sink.taken c.args.sink.now) (g.O.Sink.taken c.loop-i.sink)) (records_listed log)
-    (lines_ended g.O.Sink.taken g.O.Sink.faults _ _ _ _ _ _ c.loop-i.invariant.going past)
+    whole_put g.O.Sink.taken g.O.Sink.faults _ _ _ c.loop-i.invariant.going.never_fell
+    (subst (Appends (g.O.Sink.taken c.args.sink.now) (g.O.Sink.taken c.loop-i.sink)) (records_listed log)
+    (lines_ended g.O.Sink.taken g.O.Sink.faults _ _ _ _ _ _ c.loop-i.invariant.going past))

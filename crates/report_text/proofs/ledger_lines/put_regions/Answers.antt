@@ -13,6 +13,7 @@ use Rattle.report_text.proofs.HeldBooks.{guarded_byte}
 use Rattle.report_text.proofs.LedgerLines.{frames_within, listed_at, regions_listed, slots_counted}
 use Rattle.report_text.proofs.ListedLines.{lines_ended, lines_go_on, lines_were_cut}
 use Rattle.report_text.proofs.Known.{on_err, on_ok, some_at}
+use Rattle.report_text.proofs.Texts.{rose_before, whole_put}
 use Rattle.report_text.proofs.ledger_lines.put_regions.Goals as goal
 
 pub put_region-requires-clause-number : goal.put_region-requires-clause-number
@@ -31,8 +32,8 @@ put_region-requires-clause-frames g c =
     (c.mask_law.ensures.length (is_book_frame (length c.args.mem.now / 4096)) c.args.mem.now)
     (frames_within (books_in c.args.kernel.now c.args.mem.now) (seen c.args.mem.now) c.requires.books))
 
-pub returns-in-Err-clause-some : goal.returns-in-Err-clause-some
-returns-in-Err-clause-some g c =
+pub returns-in-Err : goal.returns-in-Err
+returns-in-Err g c =
     let own = c.args.kernel.now in
     let nk = nested_held own c.args.mem.now in
     let regions = (books_in own c.args.mem.now).ledger.book.regions in
@@ -50,9 +51,14 @@ returns-in-Err-clause-some g c =
     c.regions-regions.ensures c.put_region.ensures.some in
     let here = subst (AppendsPrefix (g.O.Sink.taken c.loop-i.sink) (g.O.Sink.taken c.put_region.new.sink)) it.text
     (on_err c.in-Err.is (some_at _ it.at put)) in
-    subst (AppendsPrefix (g.O.Sink.taken c.args.sink.now) (g.O.Sink.taken c.put_region.new.sink))
-    (regions_listed nk regions)
-    (lines_were_cut g.O.Sink.taken g.O.Sink.faults _ _ _ _ _ _ c.loop-i.invariant c.put_region.new.sink below here)
+    record {
+      never_falls = omega (arith, c.loop-i.invariant.never_fell, c.in-Err.ensures.never_falls);
+      failed = rose_before _ _ _ c.loop-i.invariant.never_fell c.in-Err.ensures.failed;
+      all = tt;
+      some = subst (AppendsPrefix (g.O.Sink.taken c.args.sink.now) (g.O.Sink.taken c.put_region.new.sink))
+          (regions_listed nk regions)
+          (lines_were_cut g.O.Sink.taken g.O.Sink.faults _ _ _ _ _ _ c.loop-i.invariant c.put_region.new.sink below here);
+    }
 
 pub loop-i-preserved : goal.loop-i-preserved
 loop-i-preserved g c =
@@ -75,8 +81,8 @@ loop-i-preserved g c =
     lines_go_on g.O.Sink.taken g.O.Sink.faults _ _ _ _ _ _ c.loop-i.invariant c.put_region.new.sink below here
     c.put_region.ensures.never_falls
 
-pub returns-clause-all : goal.returns-clause-all
-returns-clause-all g c =
+pub returns : goal.returns
+returns g c =
     let own = c.args.kernel.now in
     let nk = nested_held own c.args.mem.now in
     let regions = (books_in own c.args.mem.now).ledger.book.regions in
@@ -85,5 +91,6 @@ returns-clause-all g c =
     slots_counted own.regions c.args.mem.now
     ∙ ap (λ (index : RegionIndex). length index.slots) (sym c.regions-regions.ensures) in
     let past : length regions ≤ c.loop-i.i = omega (arith, all, count) in
-    subst (Appends (g.O.Sink.taken c.args.sink.now) (g.O.Sink.taken c.loop-i.sink)) (regions_listed nk regions)
-    (lines_ended g.O.Sink.taken g.O.Sink.faults _ _ _ _ _ _ c.loop-i.invariant past)
+    whole_put g.O.Sink.taken g.O.Sink.faults _ _ _ c.loop-i.invariant.never_fell
+    (subst (Appends (g.O.Sink.taken c.args.sink.now) (g.O.Sink.taken c.loop-i.sink)) (regions_listed nk regions)
+    (lines_ended g.O.Sink.taken g.O.Sink.faults _ _ _ _ _ _ c.loop-i.invariant past))

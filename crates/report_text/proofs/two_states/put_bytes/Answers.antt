@@ -1,6 +1,5 @@
-use Rattle.std.proofs.Common.{OnErr, OnOk, length, ap, ◌∙◌, subst}
-use Rattle.std.specs.Io.KnownBytes.{Appends}
-use Rattle.nk_host.specs.Taken.{AppendsPrefix}
+use Rattle.std.proofs.Common.{length, ap, ◌∙◌, subst}
+use Rattle.nk_host.specs.TextPuts.{IsTextPut}
 use Rattle.proc_audit.specs.ProcessList.{overwritten}
 use Rattle.report_text.specs.AuditLines.{record_change}
 use Rattle.report_text.proofs.CountedLists.{length_overwritten}
@@ -11,19 +10,11 @@ put_change-put-requires g c =
     ap length (c.apply.ensures ∙ ap (λ b. overwritten b c.args.offset c.args.bytes.now) c.requires.same)
     ∙ length_overwritten c.args.before.now c.args.offset c.args.bytes.now c.requires.within
 
-pub returns-clause-all : goal.returns-clause-all
-returns-clause-all g c =
+pub returns-clause-put : goal.returns-clause-put
+returns-clause-put g c =
     let is = c.apply.ensures ∙ ap (λ b. overwritten b c.args.offset c.args.bytes.now) c.requires.same in
-    subst (λ after. OnOk c.put_change-put.result
-    (Appends (g.O.Sink.taken c.args.sink.now) (g.O.Sink.taken c.put_change-put.new.sink)
-    (record_change c.args.number c.args.before.now after))) is c.put_change-put.ensures.all
-
-pub returns-clause-some : goal.returns-clause-some
-returns-clause-some g c =
-    let is = c.apply.ensures ∙ ap (λ b. overwritten b c.args.offset c.args.bytes.now) c.requires.same in
-    subst (λ after. OnErr c.put_change-put.result
-    (AppendsPrefix (g.O.Sink.taken c.args.sink.now) (g.O.Sink.taken c.put_change-put.new.sink)
-    (record_change c.args.number c.args.before.now after))) is c.put_change-put.ensures.some
+    subst (λ after. IsTextPut g.O.Sink.taken g.O.Sink.faults c.args.sink.now c.put_change-put.new.sink
+    (record_change c.args.number c.args.before.now after) c.put_change-put.result) is c.put_change-put.ensures
 
 pub returns-clause-size : goal.returns-clause-size
 returns-clause-size g c =
