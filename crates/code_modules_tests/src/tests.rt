@@ -10,7 +10,7 @@ use elf_image::Image;
 use std::alloc::{AllocError, Global};
 use std::process::Abort;
 use std::test::Fail;
-use test_kit::{HOME, SegmentHeader, push_head, push_segment};
+use test_kit::{HOME, SegmentHeader, push_head, push_numbers, push_segment};
 
 /// Where the directory stands.
 const DIRECTORY: u64 = 0xFFFF_FFFF_BFFF_F000;
@@ -296,7 +296,7 @@ fn file_by_byte(alloc: Global) -> Result<Vec<u8>, AllocError> {
     file.resize(8192, 0)?;
     file.push(0xC3)?;
     file.resize(12_288, 0)?;
-    put_numbers(&mut file, &[1, HOME + 0x2000, 1])?;
+    push_numbers(&mut file, &[1, HOME + 0x2000, 1])?;
     Ok(file)
 }
 
