@@ -59,6 +59,7 @@ impl<'i> GateMachine<'i> {
     /// The same step, with the frames that it may have changed: every byte of memory outside them is as it was.
     pub(crate) fn step_touching(self, plan: &Plan) -> (Machine<'i>, Seen, Touched)
         requires turns { self.state.turns < 4294967296 }
+        ensures left { is_rest (move_of plan.now self.entry.state) ≡ false }
         ensures next { whole_of result.0 ≡ next_whole plan.now (known_of self.entry) }
         ensures seen { result.1 ≡ seen_by (move_of plan.now self.entry.state) self.entry.state }
         ensures no_body { enters_body self.entry.state.processor ≡ false }

@@ -92,14 +92,8 @@ impl<'i> Machine<'i> {
     {
         match self {
             Machine::Outer(machine) => step_outer(machine, plan),
-            Machine::Gate(machine) => {
-                let (next, seen, touched) = machine.step_touching(plan);
-                (next, Step::Seen(seen), touched)
-            }
-            Machine::Nested(machine) => {
-                let (next, called) = machine.serve();
-                (Machine::Gate(next), Step::Called(called), Touched::Any)
-            }
+            Machine::Gate(machine) => step_gate(machine, plan),
+            Machine::Nested(machine) => step_nested(machine, plan),
         }
     }
 
@@ -210,6 +204,36 @@ fn step_outer<'i>(machine: OuterMachine<'i>, plan: &Plan) -> (Machine<'i>, Step,
     }
     let (next, seen, touched) = machine.step_touching(plan);
     (next, Step::Seen(seen), touched)
+}
+
+/// The step of the machine in the gates, with what it shows.
+fn step_gate<'i>(machine: GateMachine<'i>, plan: &Plan) -> (Machine<'i>, Step, Touched)
+    requires turns { machine.state.turns < 4294967296 }
+    ensures next { whole_of result.0 ≡ stepped_whole plan.now (known_of machine.entry) }
+    ensures step { result.1 ≡ step_by (move_of plan.now machine.entry.state) machine.entry.state }
+    ensures safe { IsSafe machine.entry.opening machine.entry.state }
+    ensures sorted { IsOf result.0 }
+    ensures touched { StaysOutside result.2 machine.entry.real (real_of result.0) }
+    ensures told { result.2 ≡ touched_by_move (move_of plan.now machine.entry.state) machine.entry.state.processor
+        machine.entry.real }
+{
+    let (next, seen, touched) = machine.step_touching(plan);
+    (next, Step::Seen(seen), touched)
+}
+
+/// The body, as a step, with what it shows.
+fn step_nested<'i>(machine: NestedMachine<'i>, plan: &Plan) -> (Machine<'i>, Step, Touched)
+    requires turns { machine.state.turns < 4294967296 }
+    ensures next { whole_of result.0 ≡ stepped_whole plan.now (known_of machine.entry) }
+    ensures step { result.1 ≡ step_by (move_of plan.now machine.entry.state) machine.entry.state }
+    ensures safe { IsSafe machine.entry.opening machine.entry.state }
+    ensures sorted { IsOf result.0 }
+    ensures touched { StaysOutside result.2 machine.entry.real (real_of result.0) }
+    ensures told { result.2 ≡ touched_by_move (move_of plan.now machine.entry.state) machine.entry.state.processor
+        machine.entry.real }
+{
+    let (next, called) = machine.serve();
+    (Machine::Gate(next), Step::Called(called), Touched::Any)
 }
 
 /// The step of a machine that doesn't rest and at which no body is to run, with what it shows, and the frames that it may
