@@ -11,7 +11,6 @@ use phys_mem::PhysMem;
 use policy_book::write;
 use region_book::{Regions, held_regions_law};
 use std::alloc::Global;
-use test_kit::first_wrong;
 use write_log::{Log, held_log_law};
 
 /// An empty log beside the regions.
@@ -187,30 +186,6 @@ fn bytes_of(alloc: Global) -> Option<Vec<u8>> {
     Some(bytes)
 }
 
-/// A memory with regions and a log, and the bytes that are written.
-#[derive(Drop)]
-struct Books {
-    mem: PhysMem,
-    regions: Regions,
-    log: Log,
-    bytes: Vec<u8>,
-    ghost held: { HoldsRegions regions mem },
-    ghost held_log: { HoldsLog log mem },
-    ghost book: { IsBook (book_in regions mem) },
-}
-
-impl Books {
-    fn is_met(&mut self, step: &Step) -> bool {
-        is_answered(
-            &mut self.regions,
-            &mut self.log,
-            &mut self.mem,
-            &self.bytes,
-            step,
-        )
-    }
-}
-
 /// The index of the first step that isn't answered so. Want of memory fails at 0.
 fn wrong_step(alloc: Global, steps: &[Step]) -> Option<usize> {
     let Some(bytes) = bytes_of(alloc) else {
@@ -219,15 +194,14 @@ fn wrong_step(alloc: Global, steps: &[Step]) -> Option<usize> {
     let Ok(mut mem) = PhysMem::new(alloc, 80) else {
         return Some(0);
     };
-    let regions = Regions::start(&mut mem);
-    let log = start_log(&regions, &mut mem);
-    let mut books = Books {
-        mem,
-        regions,
-        log,
-        bytes,
-    };
-    first_wrong(steps, |step| books.is_met(step))
+    let mut regions = Regions::start(&mut mem);
+    let mut log = start_log(&regions, &mut mem);
+    for (index, step) in steps.iter().enumerate() {
+        if !is_answered(&mut regions, &mut log, &mut mem, &bytes, step) {
+            return Some(index);
+        }
+    }
+    None
 }
 
 /// Steps, and the index of the first that is answered otherwise.

@@ -13,7 +13,6 @@ use nk_bits::Rule;
 use phys_mem::PhysMem;
 use region_book::{Region, Regions};
 use std::alloc::Global;
-use test_kit::first_wrong;
 
 /// The first linear address of the pool.
 const POOL: u64 = 0xFFFF_FF80_0001_0000;
@@ -335,23 +334,6 @@ fn is_answered(regions: &mut Regions, mem: &mut PhysMem, step: &Step) -> bool
     }
 }
 
-/// A memory, and the regions in it.
-#[derive(Drop)]
-struct Small {
-    mem: PhysMem,
-    regions: Regions,
-    ghost held: { HoldsRegions regions mem },
-    ghost book: { IsBook (book_in regions mem) },
-}
-
-impl Small {
-    /// Whether a step is answered so, and the slots tell the live regions after it.
-    fn is_met(&mut self, step: &Step) -> bool {
-        is_answered(&mut self.regions, &mut self.mem, step)
-            && are_slots_right(&self.regions, &self.mem)
-    }
-}
-
 /// What stands in memory before the book starts, where slots and bits will.
 static BEFORE: [(u64, u64); 4] = [
     (0x2A000, u64::MAX),
@@ -366,9 +348,13 @@ fn wrong_step(alloc: Global, steps: &[Step]) -> Option<usize> {
     let Ok(mut mem) = memory_with(alloc, 80, &BEFORE) else {
         return Some(0);
     };
-    let regions = Regions::start(&mut mem);
-    let mut small = Small { mem, regions };
-    first_wrong(steps, |step| small.is_met(step))
+    let mut regions = Regions::start(&mut mem);
+    for (index, step) in steps.iter().enumerate() {
+        if !is_answered(&mut regions, &mut mem, step) || !are_slots_right(&regions, &mem) {
+            return Some(index);
+        }
+    }
+    None
 }
 
 /// Steps, and the index of the first that is answered otherwise.

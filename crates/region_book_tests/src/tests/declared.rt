@@ -19,7 +19,6 @@ use page_desc::Frames;
 use phys_mem::{NoMemory, PhysMem};
 use region_book::{Region, Regions, held_regions_law};
 use std::alloc::{AllocError, Global};
-use test_kit::first_wrong;
 
 /// Data but for a table of each level, those of the kernel slot, the pool and the books.
 fn kinds(alloc: Global) -> Result<Vec<Kind>, AllocError>
@@ -157,23 +156,6 @@ enum Step {
 
 use Step::{Declare, Empty, Found, Kinds, Loose, Slot};
 
-/// A memory, the regions in it, and its descriptors.
-#[derive(Drop)]
-struct Opened {
-    mem: PhysMem,
-    regions: Regions,
-    frames: Frames,
-    ghost regions_held: { HoldsRegions regions mem },
-    ghost book: { IsBook (book_in regions mem) },
-    ghost held: { HoldsDescriptors frames mem },
-}
-
-impl Opened {
-    fn is_met(&mut self, step: &Step) -> bool {
-        is_met(&mut self.regions, &mut self.frames, &mut self.mem, step)
-    }
-}
-
 /// The index of the first step that gives something else. Where the opening can't be made it is the largest number.
 fn wrong_step(alloc: Global, steps: &[Step]) -> Option<usize> {
     let Ok(mut mem) = memory(alloc) else {
@@ -182,16 +164,16 @@ fn wrong_step(alloc: Global, steps: &[Step]) -> Option<usize> {
     let Ok(kinds) = kinds(alloc) else {
         return Some(usize::MAX);
     };
-    let regions = Regions::start(&mut mem);
-    let Some(frames) = begin(&mut mem, &kinds, &regions) else {
+    let mut regions = Regions::start(&mut mem);
+    let Some(mut frames) = begin(&mut mem, &kinds, &regions) else {
         return Some(usize::MAX);
     };
-    let mut opened = Opened {
-        mem,
-        regions,
-        frames,
-    };
-    first_wrong(steps, |step| opened.is_met(step))
+    for (index, step) in steps.iter().enumerate() {
+        if !is_met(&mut regions, &mut frames, &mut mem, step) {
+            return Some(index);
+        }
+    }
+    None
 }
 
 /// Whether a step gives what it is to give.
