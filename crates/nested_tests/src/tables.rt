@@ -15,7 +15,6 @@ use nk_bits::Kind;
 use page_desc::{Frames, descriptor_law, stored_law};
 use phys_mem::{PhysMem, mask_law};
 use std::alloc::Global;
-use test_kit::first_wrong;
 use vmmu::Tables4;
 
 /// The root, the kernel slot's tables, the handler and the books.
@@ -155,31 +154,20 @@ fn serve(tables: &mut Tables4, mem: &mut PhysMem, call: Call) -> u64
     }
 }
 
-/// A memory, and the tables in it.
-#[derive(Drop)]
-struct Opened {
-    mem: PhysMem,
-    tables: Tables4,
-    ghost held: { HoldsTables tables.frames tables.root mem },
-}
-
-impl Opened {
-    /// Whether a call or a question has this answer.
-    fn is_answered(&mut self, row: &Row) -> bool {
-        serve(&mut self.tables, &mut self.mem, row.0) == row.1
-    }
-}
-
 /// The index of the first row with another answer, over the opening. Where that can't be made it is the largest number.
 fn wrong_row(alloc: Global, rows: &[Row]) -> Option<usize> {
     let Ok(mut mem) = memory(alloc, &ENTRIES) else {
         return Some(usize::MAX);
     };
-    let Some(tables) = begin(&mut mem, &kinds(&RUNS)) else {
+    let Some(mut tables) = begin(&mut mem, &kinds(&RUNS)) else {
         return Some(usize::MAX);
     };
-    let mut opened = Opened { mem, tables };
-    first_wrong(rows, |row| opened.is_answered(row))
+    for (index, (call, number)) in rows.iter().enumerate() {
+        if serve(&mut tables, &mut mem, *call) != *number {
+            return Some(index);
+        }
+    }
+    None
 }
 
 /// Rows, and the index of the first with another answer.
