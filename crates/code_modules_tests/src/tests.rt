@@ -77,7 +77,7 @@ fn put_row(file: &mut Vec<u8>, row: &Row) -> Result<(), AllocError> {
 /// entry is the home's first address.
 fn headers(alloc: Global, rows: &[Row], count: usize) -> Result<Vec<u8>, AllocError> {
     let mut file = Vec::new(alloc);
-    push_head(&mut file, count as u16)?;
+    push_head(&mut file, (count % 0x1_0000) as u16)?;
     for i in 0..count {
         let further = (
             6,

@@ -100,7 +100,7 @@ fn push_bytes(file: &mut Vec<u8>, segment: &Segment) -> Result<(), AllocError> {
 /// FFFFFFFF80000000.
 fn image_of(alloc: Global, segments: &[Segment]) -> Result<Vec<u8>, AllocError> {
     let mut file = Vec::new(alloc);
-    push_head(&mut file, segments.len() as u16)?;
+    push_head(&mut file, (segments.len() % 0x1_0000) as u16)?;
     for segment in segments {
         push_header(&mut file, segment)?;
     }

@@ -20,7 +20,7 @@ returns g c =
     record {
       status = 0;
       text = audit_text c.args.id (length it.auditing) (log_in it.replayed.left.kernel.log it.replayed.left.memory);
-      says = inr (audited_says c.args.request.now c.args.frames c.args.id c.requires.1.1.0 _ _ c.in-Ok.ensures.made.outcome_is);
+      says = inr (audited_says c.args.request.now c.args.frames c.args.id c.requires.asked _ _ c.in-Ok.ensures.made.outcome_is);
       written = put_written g.O.Sink.taken g.O.Sink.faults _ _ _ _ _ _ _ refl c.show.ensures c.unless_cut.ensures;
       files_stay = c.make_audit.ensures.files_stay;
     }

@@ -12,4 +12,4 @@ returns-in-Ok-clause-fetched g c =
     c.name.ensures c.in-Ok.ensures.fetched
 
 pub returns-in-Err-clause-fetched : goal.returns-in-Err-clause-fetched
-returns-in-Err-clause-fetched g c = word_stops _ _ _ _ _ _ c.requires.1 c.name.ensures c.in-Err.ensures.fetched
+returns-in-Err-clause-fetched g c = word_stops _ _ _ _ _ _ c.requires c.name.ensures c.in-Err.ensures.fetched

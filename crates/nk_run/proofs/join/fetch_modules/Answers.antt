@@ -12,7 +12,7 @@ bytes_of m = m.items
 pub returns-in-Err-clause-fetched : goal.returns-in-Err-clause-fetched
 returns-in-Err-clause-fetched g c = λ words modules_are.
     module_stops words _ _ _ c.args.list.now c.loop-i.i _ _ _ _ (omega arith) c.loop-i.invariant.falls c.loop-i.invariant.same_files
-    modules_are c.name.ensures c.loop-i.invariant.fetched c.in-Err.ensures.fetched
+    modules_are c.name-name.ensures c.loop-i.invariant.fetched c.in-Err.ensures.fetched
 
 pub loop-i-preserved : goal.loop-i-preserved
 loop-i-preserved g c =
@@ -23,7 +23,7 @@ loop-i-preserved g c =
       count = omega (arith, ap length pushed, length-append c.loop-i.modules.items (c.in-Ok.bytes ∷ []), c.loop-i.invariant.count);
       fetched = if_told _ _ (λ files e.
           let held = told_at _ _ files (c.loop-i.invariant.same_files ∙ e) c.in-Ok.ensures.fetched in
-          fetched_more files c.args.list.now c.loop-i.i _ _ _ c.in-Ok.bytes.items c.name.ensures held.0 held.1
+          fetched_more files c.args.list.now c.loop-i.i _ _ _ c.in-Ok.bytes.items c.name-name.ensures held.0 held.1
           (ap (map bytes_of) pushed ∙ map-append bytes_of c.loop-i.modules.items (c.in-Ok.bytes ∷ []))
           (told_at _ _ files e c.loop-i.invariant.fetched));
     }

@@ -7,7 +7,7 @@ pub returns-in-Ok-clause-answered : goal.returns-in-Ok-clause-answered
 returns-in-Ok-clause-answered g c = record {
   status = 0;
   text = c.in-Ok.file.items;
-  says = inr (joined_says _ c.requires.1.1 _ _ c.in-Ok.ensures.made);
+  says = inr (joined_says _ c.requires _ _ c.in-Ok.ensures.made);
   written = put_written g.O.Sink.taken g.O.Sink.faults _ _ _ _ _ _ _ c.deref.ensures.value c.put_all.ensures.put
       c.unless_cut.ensures;
   files_stay = c.make_joined.ensures.files_stay;

@@ -8,7 +8,7 @@ pub returns-in-Ok : goal.returns-in-Ok
 returns-in-Ok g c = record {
   status = 0;
   text = code_listing c.in-Ok.image c.args.address c.args.count;
-  says = inr (listed_says c.args.request.now c.args.address c.args.count c.requires.1.1 _ _ c.in-Ok.ensures.made.outcome_is);
+  says = inr (listed_says c.args.request.now c.args.address c.args.count c.requires _ _ c.in-Ok.ensures.made.outcome_is);
   written = put_written g.O.Sink.taken g.O.Sink.faults _ _ _ _ _ _ _ refl c.list.ensures c.unless_cut.ensures;
   files_stay = c.open_code.ensures.files_stay;
 }

@@ -4,14 +4,14 @@ use Rattle.nk_run.proofs.listing.open_code.Goals as goal
 
 pub returns-in-Err-clause-made : goal.returns-in-Err-clause-made
 returns-in-Err-clause-made g c =
-    formed_row_says c.args.request.now c.args.address c.args.count c.requires.1 _ _ _ c.in-Err.ensures.opened
+    formed_row_says c.args.request.now c.args.address c.args.count c.requires _ _ _ c.in-Err.ensures.opened
 
 pub returns-in-None-clause-made : goal.returns-in-None-clause-made
 returns-in-None-clause-made g c = record {
   code = c.in-None.ensures;
-  outcome_is = listing_is c.args.request.now c.args.address c.args.count c.requires.1 _ c.in-Ok.image c.in-Ok.ensures.opened c.in-None.ensures;
+  outcome_is = listing_is c.args.request.now c.args.address c.args.count c.requires _ c.in-Ok.image c.in-Ok.ensures.opened c.in-None.ensures;
 }
 
 pub returns-in-Some-clause-made : goal.returns-in-Some-clause-made
 returns-in-Some-clause-made g c =
-    noaddress_says c.args.request.now c.args.address c.args.count c.requires.1 _ c.in-Ok.image c.in-Ok.ensures.opened _ _ _ refl c.in-Some.ensures
+    noaddress_says c.args.request.now c.args.address c.args.count c.requires _ c.in-Ok.image c.in-Ok.ensures.opened _ _ _ refl c.in-Some.ensures

@@ -9,7 +9,7 @@ pub returns-in-Err : goal.returns-in-Err
 returns-in-Err g c = record {
   status = _;
   text = _;
-  says = inr (replay_row_says _ c.args.frames c.requires.1.1.0 _ _ _ c.in-Err.ensures.made);
+  says = inr (replay_row_says _ c.args.frames c.requires.asked _ _ _ c.in-Err.ensures.made);
   written = c.write.ensures.written;
   files_stay = c.make_replay.ensures.files_stay;
 }
@@ -21,9 +21,9 @@ returns g c =
     record {
       status = 0;
       text = section it.opened.image it.opened.layout.frames (nested_held it.left.kernel it.left.memory);
-      says = inr (replayed_says c.args.request.now c.args.frames c.requires.1.1.0 _ _
+      says = inr (replayed_says c.args.request.now c.args.frames c.requires.asked _ _
           (section_says c.args.request.now c.args.frames _ it.opened.image it.journal.items made.passed it.opened.layout.frames made.frames_are
-          c.requires.1.1.0 (nested_held it.left.kernel it.left.memory) made.made));
+          c.requires.asked (nested_held it.left.kernel it.left.memory) made.made));
       written = put_written g.O.Sink.taken g.O.Sink.faults _ _ _ _ _ _ _ refl c.show.ensures c.unless_cut.ensures;
       files_stay = c.make_replay.ensures.files_stay;
     }
