@@ -76,7 +76,8 @@ impl<'i> GateMachine<'i> {
         whole.in_gates_law();
         whole.running_law(plan);
         whole.nearer_law(plan);
-        step(whole, plan)
+        let next = whole.next_move(plan);
+        step(whole, plan, next)
     }
 
     /// What every machine in the gates is.
