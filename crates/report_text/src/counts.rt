@@ -1,5 +1,5 @@
 //! The summary of a run: counts in place of its lines.
-ghost use Rattle.std.specs.Prelude.{◌≡◌, ◌≤◌, ◌++◌, codes, length};
+ghost use Rattle.std.specs.Prelude.{◌≡◌, ◌≤◌, ◌++◌, ℕ, List, length};
 ghost use Rattle.nk_host.specs.TextPuts.{IsTextPut};
 ghost use Rattle.report_text.specs.RunSummary.{count_line, counts_line, summary_lines};
 
@@ -29,7 +29,7 @@ pub struct RunCounts {
 pub fn summary<O: Sink>(sink: &mut O, it: &RunCounts) -> Result<(), SinkFault>
     ensures { IsTextPut O.taken O.faults sink.old sink.new (summary_lines it.now) result }
 {
-    match put_all(
+    let calls = put_all(
         sink,
         two_counts(
             &mut [0; TWO_COUNTS],
@@ -38,51 +38,40 @@ pub fn summary<O: Sink>(sink: &mut O, it: &RunCounts) -> Result<(), SinkFault>
             " accepted ",
             it.accepted,
         ),
-    ) {
-        Ok(()) => put_deliveries(sink, it),
-        Err(fault) => Err(fault),
-    }
-}
-
-/// Writes the lines behind that of the calls.
-fn put_deliveries<O: Sink>(sink: &mut O, it: &RunCounts) -> Result<(), SinkFault>
-    ensures { IsTextPut O.taken O.faults sink.old sink.new
-        (count_line (codes "deliveries ") it.now.deliveries ++ (count_line (codes "tables ") it.now.tables
-        ++ (count_line (codes "regions ") it.now.regions
-        ++ counts_line (codes "log ") it.now.records (codes " ") it.now.log_bytes))) result }
-{
-    match put_all(
+    );
+    let deliveries = put_behind(
+        calls,
         sink,
         one_count(&mut [0; NUMBERED], "deliveries ", it.deliveries),
-    ) {
-        Ok(()) => put_tables(sink, it),
-        Err(fault) => Err(fault),
-    }
+    );
+    let tables = put_behind(
+        deliveries,
+        sink,
+        one_count(&mut [0; NUMBERED], "tables ", it.tables),
+    );
+    let regions = put_behind(
+        tables,
+        sink,
+        one_count(&mut [0; NUMBERED], "regions ", it.regions),
+    );
+    put_behind(
+        regions,
+        sink,
+        two_counts(&mut [0; TWO_COUNTS], "log ", it.records, " ", it.log_bytes),
+    )
 }
 
-/// Writes the lines behind that of the deliveries.
-fn put_tables<O: Sink>(sink: &mut O, it: &RunCounts) -> Result<(), SinkFault>
-    ensures { IsTextPut O.taken O.faults sink.old sink.new
-        (count_line (codes "tables ") it.now.tables ++ (count_line (codes "regions ") it.now.regions
-        ++ counts_line (codes "log ") it.now.records (codes " ") it.now.log_bytes)) result }
+/// Puts more behind a text that was put, unless a fault cut that.
+fn put_behind<O: Sink>(
+    put: Result<(), SinkFault>,
+    sink: &mut O,
+    more: &[u8],
+) -> Result<(), SinkFault>
+    ensures { (begun : O) (text : List ℕ) → IsTextPut O.taken O.faults begun sink.old text put
+        → IsTextPut O.taken O.faults begun sink.new (text ++ more.now) result }
 {
-    match put_all(sink, one_count(&mut [0; NUMBERED], "tables ", it.tables)) {
-        Ok(()) => put_regions(sink, it),
-        Err(fault) => Err(fault),
-    }
-}
-
-/// Writes the lines of regions and log.
-fn put_regions<O: Sink>(sink: &mut O, it: &RunCounts) -> Result<(), SinkFault>
-    ensures { IsTextPut O.taken O.faults sink.old sink.new
-        (count_line (codes "regions ") it.now.regions
-        ++ counts_line (codes "log ") it.now.records (codes " ") it.now.log_bytes) result }
-{
-    match put_all(sink, one_count(&mut [0; NUMBERED], "regions ", it.regions)) {
-        Ok(()) => put_all(
-            sink,
-            two_counts(&mut [0; TWO_COUNTS], "log ", it.records, " ", it.log_bytes),
-        ),
+    match put {
+        Ok(()) => put_all(sink, more),
         Err(fault) => Err(fault),
     }
 }
