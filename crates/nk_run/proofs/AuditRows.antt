@@ -12,12 +12,12 @@ use Rattle.report_text.specs.AuditLines.{audit_text}
 use Rattle.replay_core.specs.GrantedCalls.{granted_of}
 use Rattle.replay_core.specs.GrantedLaws.{GivesRegion, GrantedLaws}
 use Rattle.replay_core.specs.ReplayedCalls.{WholeReplay, replay_of}
-use Rattle.nk_run.specs.declared.command_line.Role.TheVariants.{Image, Journal}
-use Rattle.nk_run.specs.declared.command_line.Command.TheVariants.{Audit, Replay}
-use Rattle.nk_run.specs.CommandLine.{command_of}
+use Rattle.command_words.specs.declared.command_line.Role.TheVariants.{Image, Journal}
+use Rattle.command_words.specs.declared.command_line.Command.TheVariants.{Audit, Replay}
+use Rattle.command_words.specs.CommandLine.{command_of}
+use Rattle.file_scan.specs.ShelfChanges.{Change, Files, ShelfState}
 use Rattle.nk_run.specs.Outcome.{Check, checks_of, given, logged_by, logged_size, opened, outcome, passes, replay_in, size_in, test, unless_ended}
 use Rattle.nk_run.specs.Replies.{CommandSays, HoldsReplay, LiesWithin, RefusesBy, StopsIn}
-use Rattle.nk_run.specs.Witness.{Change, Files, ShelfState}
 use Rattle.nk_run.proofs.Rows.{all_says, later_says, outcome_says, own_nine, own_zero, row_says}
 use Rattle.nk_run.proofs.RunRows.{calls_are, last_ends}
 use Rattle.nk_run.proofs.Told.{if_told, told_at}

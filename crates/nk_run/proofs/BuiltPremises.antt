@@ -10,11 +10,13 @@ use Rattle.image_maker.specs.MadeImage.{image_of_number}
 use Rattle.irq_plan.specs.PlanFile.{plan_of, read_from}
 use Rattle.asm_text.specs.AssembledText.{code_from}
 use Rattle.code_modules.specs.ModuleList.{list_from, list_of}
-use Rattle.nk_run.specs.declared.command_line.Role.{Role}
-use Rattle.nk_run.specs.Clauses.{IsDoable, IsFaultless, IsGoodImage, IsGoodList, IsGoodPlan, IsGoodText, NameRose, Promises, SinkRose}
-use Rattle.nk_run.specs.declared.command_line.Command.TheVariants.{Make, Run}
-use Rattle.nk_run.specs.CommandLine.{command_of}
-use Rattle.nk_run.specs.Witness.{Files, Witness}
+use Rattle.command_words.specs.declared.command_line.Role.{Role}
+use Rattle.command_words.specs.declared.command_line.Command.TheVariants.{Make, Run}
+use Rattle.command_words.specs.CommandLine.{command_of}
+use Rattle.file_scan.specs.GoodImages.{IsGoodImage}
+use Rattle.file_scan.specs.ShelfChanges.{Files}
+use Rattle.nk_run.specs.Clauses.{IsDoable, IsFaultless, IsGoodList, IsGoodPlan, IsGoodText, NameRose, Promises, SinkRose}
+use Rattle.nk_run.specs.Witness.{Witness}
 
 -- counts of five, of faults of every name and of the sink, that stay; and a count of wants before and after
 abbrev calm : List (List ℕ) → Files → ℕ → ℕ → Witness

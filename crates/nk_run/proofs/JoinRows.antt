@@ -16,16 +16,16 @@ use Rattle.code_modules.specs.JoinAnswers.{IsFaultOf, join_answer, modules_with}
 use Rattle.code_modules.specs.JoinedImage.{IsJoined}
 use Rattle.code_modules.specs.JoinedParts.{CodeModule}
 use Rattle.code_modules.specs.ModuleList.{Listed, list_of}
-use Rattle.nk_run.specs.declared.command_line.Role.TheVariants.{Image, Module, ModuleList}
+use Rattle.command_words.specs.declared.command_line.Role.TheVariants.{Image, Module, ModuleList}
+use Rattle.command_words.specs.declared.command_line.Command.{Command}
+use Rattle.command_words.specs.declared.command_line.Command.TheVariants.{Scan, Map, Run, Replay, Make, Work, Join, Audit, Assemble, Listing}
+use Rattle.command_words.specs.CommandLine.{command_of, name_in, roles_of}
+use Rattle.file_scan.specs.ShelfChanges.{Change, Files, ShelfState}
 use Rattle.nk_run.specs.Clauses.{HasJoined, IsWholeJoin}
-use Rattle.nk_run.specs.declared.command_line.Command.{Command}
-use Rattle.nk_run.specs.declared.command_line.Command.TheVariants.{Scan, Map, Run, Replay, Make, Work, Join, Audit, Assemble, Listing}
-use Rattle.nk_run.specs.CommandLine.{command_of, name_in, roles_of}
 use Rattle.nk_run.specs.Outcome.{Answer, Check, Verdict, checks_of, ends, file_in, file_joined, first_verdict, join_in, joinable, list_checks, listed_in, module_checks, module_fetches, module_held, modules_in, modules_named, outcome, passes, test, unless_ended, well_listed}
 use Rattle.nk_run.specs.Replies.{CommandSays, EndsOwn, IsOwn, IsWant, ReadsBytes, StopsIn}
 use Rattle.nk_run.specs.declared.status.Status.{Status}
 use Rattle.nk_run.specs.Statuses.{status_number}
-use Rattle.nk_run.specs.Witness.{Change, Files, ShelfState}
 use Rattle.nk_run.proofs.Checks.{first_verdict-append}
 use Rattle.nk_run.proofs.ModuleFetches.{named_stops}
 use Rattle.nk_run.proofs.Rows.{all_says, both_pass, outcome_says, own_large, own_zero, row_passed, row_says, stops_after, stops_longer, wants_says}

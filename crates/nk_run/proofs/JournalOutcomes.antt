@@ -5,13 +5,13 @@ use Rattle.irq_plan.specs.declared.event.Event.{Event}
 use Rattle.gate_state.specs.MachineStates.{Opening}
 use Rattle.report_text.specs.ClosingSection.{section}
 use Rattle.replay_core.specs.ReplayedCalls.{replay_of}
-use Rattle.nk_run.specs.declared.command_line.Command.TheVariants.{Replay}
-use Rattle.nk_run.specs.declared.command_line.Role.TheVariants.{Image}
-use Rattle.nk_run.specs.Clauses.{HasRoom, IsDoable, IsGoodImage}
+use Rattle.command_words.specs.declared.command_line.Command.TheVariants.{Replay}
+use Rattle.command_words.specs.declared.command_line.Role.TheVariants.{Image}
+use Rattle.file_scan.specs.GoodImages.{IsGoodImage, longest_file}
+use Rattle.file_scan.specs.ShelfChanges.{Files}
+use Rattle.nk_run.specs.Clauses.{HasRoom, IsDoable}
 use Rattle.nk_run.specs.JournalLaw.{IsJournal, IsReplayAsked, IsReplayedRun, section_replayed, text_of_run}
-use Rattle.nk_run.specs.Lines.{longest_file}
 use Rattle.nk_run.specs.Outcome.{Answer, file_in, opened, opening_in, replay_in, outcome}
-use Rattle.nk_run.specs.Witness.{Files}
 use Rattle.nk_run.proofs.Promises.{outcome_good}
 
 abbrev at_image : ℕ → Option (List ℕ) → Opening

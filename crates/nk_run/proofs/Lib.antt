@@ -1,7 +1,5 @@
 pub mod Checks
 pub mod Told
-pub mod Forms
-pub mod Numerals
 pub mod Rows
 pub mod RunRows
 pub mod AuditRows
@@ -9,9 +7,6 @@ pub mod TextRows
 pub mod ModuleFetches
 pub mod Promises
 pub mod RunsBegun
-pub mod HeldFiles
-pub mod HeaderPieces
-pub mod PageReads
 pub mod ScanRows
 pub mod Runs
 pub mod RunEnds
@@ -37,7 +32,7 @@ pub mod Journals
 pub mod JournalOpening
 pub mod CodeKept
 pub mod RunsReplayed
-mod WorkedWords
+mod WorkedLines
 mod WorkedAudits
 mod RefutedPromises
 mod RefutedReplays

@@ -9,11 +9,11 @@ use Rattle.std.proofs.lemmas.Option.{slice_get_cases}
 use Rattle.nk_host.specs.FaultCounts.{NeverFalls}
 use Rattle.nk_host.specs.Told.{IfTold}
 use Rattle.code_modules.specs.ModuleList.{Listed}
-use Rattle.nk_run.specs.declared.command_line.Role.{Role}
-use Rattle.nk_run.specs.declared.command_line.Role.TheVariants.{Module}
+use Rattle.command_words.specs.declared.command_line.Role.{Role}
+use Rattle.command_words.specs.declared.command_line.Role.TheVariants.{Module}
+use Rattle.file_scan.specs.ShelfChanges.{Change, Files, ShelfState}
 use Rattle.nk_run.specs.Outcome.{IsReached, Verdict, fetch_verdict, first_verdict, module_fetches, module_held, modules_named, passes, unless_ended}
 use Rattle.nk_run.specs.Replies.{StopsFetch, StopsIn, is_listed}
-use Rattle.nk_run.specs.Witness.{Change, Files, ShelfState}
 use Rattle.nk_run.proofs.Rows.{name_rose_from}
 use Rattle.nk_run.proofs.Told.{if_told, told_at}
 

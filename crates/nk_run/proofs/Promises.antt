@@ -12,17 +12,19 @@ use Rattle.irq_plan.specs.PlanFile.{plan_of}
 use Rattle.boot_map.specs.Division.{need}
 use Rattle.gate_state.specs.MachineStates.{Opening}
 use Rattle.replay_core.specs.ReplayedCalls.{replay_of}
-use Rattle.nk_run.specs.declared.command_line.Role.TheVariants.{Image, Input, Plan, Journal, ModuleList, Module, Text}
-use Rattle.nk_run.specs.declared.command_line.Command.{Command}
-use Rattle.nk_run.specs.declared.command_line.Command.TheVariants.{Scan, Map, Run, Replay, Make, Work, Join, Audit, Assemble, Listing}
-use Rattle.nk_run.specs.CommandLine.{command_of, name_in}
-use Rattle.nk_run.specs.Lines.{longest_file, longest_module}
-use Rattle.nk_run.specs.Witness.{Change, Files, ShelfState, SinkState, Witness}
+use Rattle.command_words.specs.declared.command_line.Role.TheVariants.{Image, Input, Plan, Journal, ModuleList, Module, Text}
+use Rattle.command_words.specs.declared.command_line.Command.{Command}
+use Rattle.command_words.specs.declared.command_line.Command.TheVariants.{Scan, Map, Run, Replay, Make, Work, Join, Audit, Assemble, Listing}
+use Rattle.command_words.specs.CommandLine.{command_of, name_in}
+use Rattle.file_scan.specs.GoodImages.{longest_file, IsGoodImage}
+use Rattle.file_scan.specs.ShelfChanges.{Change, Files, ShelfState}
+use Rattle.nk_run.specs.Lines.{longest_module}
+use Rattle.nk_run.specs.Witness.{SinkState, Witness}
 use Rattle.nk_run.specs.Outcome.{Answer, Verdict, addressed, assembled, passes, decided, first_verdict, checks_of, text_of, outcome, command_outcome, fetch_verdict, formed, clean, given, join_in, joinable, journaled, list_checks, module_checks, module_fetches, modules_named, opened, opening_in, planned, replay_in, roomy, file_in, size_in, test, unless_ended, well_listed}
 use Rattle.code_modules.specs.declared.fault.JoinFault.{JoinFault}
 use Rattle.code_modules.specs.ModuleList.{Listed, list_of}
 use Rattle.nk_run.proofs.Checks.{first_verdict-append}
-use Rattle.nk_run.specs.Clauses.{HasCodeAt, HasEnd, HasJoined, HasJournal, HasModules, HasOutside, HasSafeRun, IsComplete, IsCutByCount, IsCutWritten, IsDoable, IsDone, IsFaultless, IsGoodImage, IsGoodJournal, IsGoodList, IsGoodPlan, IsGoodText, IsOutside, IsStatus, IsText, IsUnreadByCount, IsUnreadWritten, IsUsage, IsUsageAlone, IsWantByCount, IsWantWritten, MaySay, Promises, TookAll, TookPrefix}
+use Rattle.nk_run.specs.Clauses.{HasCodeAt, HasEnd, HasJoined, HasJournal, HasModules, HasOutside, HasSafeRun, IsComplete, IsCutByCount, IsCutWritten, IsDoable, IsDone, IsFaultless, IsGoodJournal, IsGoodList, IsGoodPlan, IsGoodText, IsOutside, IsStatus, IsText, IsUnreadByCount, IsUnreadWritten, IsUsage, IsUsageAlone, IsWantByCount, IsWantWritten, MaySay, Promises, TookAll, TookPrefix}
 use Rattle.nk_host.specs.Told.{IfTold}
 use Rattle.nk_run.proofs.Told.{if_told, told_at}
 use Rattle.nk_run.specs.Replies.{CommandSays, IsAnswered, IsWritten, ReadsBytes, Says, SaysUsage}

@@ -26,19 +26,21 @@ use Rattle.replay_core.specs.ReplayedCalls.{replay_of}
 use Rattle.asm_text.specs.AssembledText.{assembled_of}
 use Rattle.code_modules.specs.JoinedImage.{IsJoined}
 use Rattle.code_modules.specs.JoinedParts.{CodeModule, JoinedPart, modules_behind}
-use Rattle.nk_run.specs.declared.command_line.Role.{Role}
-use Rattle.nk_run.specs.declared.command_line.Role.TheVariants.{Input, ModuleList, Plan}
+use Rattle.command_words.specs.declared.command_line.Role.{Role}
+use Rattle.command_words.specs.declared.command_line.Role.TheVariants.{Input, ModuleList, Plan}
+use Rattle.command_words.specs.declared.command_line.Command.{Command}
+use Rattle.command_words.specs.declared.command_line.Command.TheVariants.{Run}
+use Rattle.command_words.specs.CommandLine.{IsAsked, command_of, name_in}
+use Rattle.file_scan.specs.GoodImages.{IsGoodImage}
+use Rattle.file_scan.specs.ShelfChanges.{Change, Files, ShelfState}
 use Rattle.nk_run.specs.declared.ending.Ending.{Ending}
-use Rattle.nk_run.specs.Clauses.{HasCodeAt, HasEnd, HasJournal, HasModules, HasSafeRun, IsDoable, IsFaultless, IsGoodImage, IsGoodJournal, IsGoodList, IsGoodPlan, IsGoodText, IsSafeRun, IsUnread, IsWholeJoin, NameRose, Promises}
-use Rattle.nk_run.specs.declared.command_line.Command.{Command}
-use Rattle.nk_run.specs.declared.command_line.Command.TheVariants.{Run}
-use Rattle.nk_run.specs.CommandLine.{IsAsked, command_of, name_in}
+use Rattle.nk_run.specs.Clauses.{HasCodeAt, HasEnd, HasJournal, HasModules, HasSafeRun, IsDoable, IsFaultless, IsGoodJournal, IsGoodList, IsGoodPlan, IsGoodText, IsSafeRun, IsUnread, IsWholeJoin, NameRose, Promises}
 use Rattle.nk_run.specs.JoinedRuns.{IsCodeByte}
 use Rattle.nk_run.specs.JournalLaw.{IsJournal, IsReplayedRun}
 use Rattle.nk_run.specs.Lines.{longest_module}
 use Rattle.nk_run.specs.Outcome.{checks_of, events_in, file_in, first_verdict, join_in, modules_named, opened, opening_in, passes, IsReached}
 use Rattle.nk_run.specs.RunStates.{EndsAfter, ending_at, run_length}
-use Rattle.nk_run.specs.Witness.{Change, Files, ShelfState, Witness}
+use Rattle.nk_run.specs.Witness.{Witness}
 use Rattle.nk_run.proofs.Told.{told_at}
 
 -- a run that goes on, and one that ended before

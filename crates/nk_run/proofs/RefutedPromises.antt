@@ -9,15 +9,16 @@ use Rattle.gate_state.specs.MachineOpening.{opening_state}
 use Rattle.gate_state.specs.MachineSteps.{state}
 use Rattle.gate_state.specs.SafeStates.{IsSafe}
 use Rattle.image_maker.specs.MadeImage.{image_of_number}
-use Rattle.nk_run.specs.declared.command_line.Role.{Role}
-use Rattle.nk_run.specs.declared.command_line.Role.TheVariants.{Image}
+use Rattle.command_words.specs.declared.command_line.Role.{Role}
+use Rattle.command_words.specs.declared.command_line.Role.TheVariants.{Image}
+use Rattle.command_words.specs.declared.command_line.Command.{Command}
+use Rattle.command_words.specs.declared.command_line.Command.TheVariants.{Scan, Join, Work}
+use Rattle.command_words.specs.CommandLine.{IsAsked, command_of}
+use Rattle.file_scan.specs.ShelfChanges.{Files}
 use Rattle.nk_run.specs.Clauses.{HasJoined, HasSafeRun, IsFaultless, IsOutside, IsUnread, IsWholeJoin, MaySay, NameRose, Promises, SinkRose, TookAll, TookPrefix}
-use Rattle.nk_run.specs.declared.command_line.Command.{Command}
-use Rattle.nk_run.specs.declared.command_line.Command.TheVariants.{Scan, Join, Work}
-use Rattle.nk_run.specs.CommandLine.{IsAsked, command_of}
 use Rattle.nk_run.specs.Lines.{no_memory_line, unread_line}
 use Rattle.nk_run.specs.Outcome.{Answer, checks_of, file_in, first_verdict, modules_in, outcome, passes, text_of}
-use Rattle.nk_run.specs.Witness.{Files, Witness}
+use Rattle.nk_run.specs.Witness.{Witness}
 use Rattle.nk_run.proofs.Told.{told_at}
 
 not_outside : (status : ℕ) → status ≡ 0 → IsOutside status → ⊥

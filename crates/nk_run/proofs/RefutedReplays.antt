@@ -4,14 +4,14 @@ use Rattle.irq_plan.specs.declared.event.Event.{Event}
 use Rattle.gate_state.specs.MachineStates.{Opening}
 use Rattle.report_text.specs.ClosingSection.{section}
 use Rattle.replay_core.specs.ReplayedCalls.{replay_of}
-use Rattle.nk_run.specs.declared.command_line.Role.TheVariants.{Image, Journal}
-use Rattle.nk_run.specs.declared.command_line.Command.{Command}
-use Rattle.nk_run.specs.declared.command_line.Command.TheVariants.{Replay}
-use Rattle.nk_run.specs.CommandLine.{command_of, name_in}
+use Rattle.command_words.specs.declared.command_line.Role.TheVariants.{Image, Journal}
+use Rattle.command_words.specs.declared.command_line.Command.{Command}
+use Rattle.command_words.specs.declared.command_line.Command.TheVariants.{Replay}
+use Rattle.command_words.specs.CommandLine.{command_of, name_in}
+use Rattle.file_scan.specs.GoodImages.{longest_file}
+use Rattle.file_scan.specs.ShelfChanges.{Files}
 use Rattle.nk_run.specs.JournalLaw.{IsJournal, IsReplayAsked, section_replayed, text_of_run}
-use Rattle.nk_run.specs.Lines.{longest_file}
 use Rattle.nk_run.specs.Outcome.{Answer, opened, outcome}
-use Rattle.nk_run.specs.Witness.{Files}
 
 module _ (o : Opening) (input : List ℕ) (plan : List Event) (steps : ℕ) (it : IsJournal o input plan steps) where
   abbrev text : List ℕ

@@ -5,12 +5,12 @@ use Rattle.std.proofs.lemmas.Grind.{common_steps}
 use Rattle.nk_host.specs.FaultCounts.{NeverFalls, RoseTo}
 use Rattle.nk_host.specs.Told.{IfTold}
 use Rattle.elf_image.specs.Rows.{first_fault}
-use Rattle.nk_run.specs.declared.command_line.Role.{Role}
-use Rattle.nk_run.specs.declared.command_line.Role.TheVariants.{Image, Input, Plan, Journal, ModuleList, Module, Text}
-use Rattle.nk_run.specs.declared.command_line.Command.{Command}
-use Rattle.nk_run.specs.declared.command_line.Command.TheVariants.{Scan}
-use Rattle.nk_run.specs.CommandLine.{IsAsked, command_of, name_in, roles_of}
-use Rattle.nk_run.specs.Witness.{Change, Files, ShelfState}
+use Rattle.command_words.specs.declared.command_line.Role.{Role}
+use Rattle.command_words.specs.declared.command_line.Role.TheVariants.{Image, Input, Plan, Journal, ModuleList, Module, Text}
+use Rattle.command_words.specs.declared.command_line.Command.{Command}
+use Rattle.command_words.specs.declared.command_line.Command.TheVariants.{Scan}
+use Rattle.command_words.specs.CommandLine.{IsAsked, command_of, name_in, roles_of}
+use Rattle.file_scan.specs.ShelfChanges.{Change, Files, ShelfState}
 use Rattle.nk_run.specs.Clauses.{IsNameOf, NameRose}
 use Rattle.nk_run.specs.Outcome.{Answer, Check, IsReached, Verdict, checks_of, decided, ends, fetch, fetch_verdict, file_in, first_verdict, outcome, command_outcome, passes, form_checks, formed, formed_checks, image_checks, test, text_of, unheld, unless_ended}
 use Rattle.nk_run.specs.Replies.{CommandSays, IsOwn, IsWant, IsWordRole, RefusesBy, Stops, StopsFetch, StopsIn, is_listed, is_same}

@@ -9,13 +9,13 @@ use Rattle.gate_state.specs.MachineStates.{MachineState}
 use Rattle.gate_state.specs.MachineSteps.{move_of, next, state}
 use Rattle.gate_state.specs.StepsTaken.{CountsSteps}
 use Rattle.image_maker.specs.MadeImage.{image_of_number}
-use Rattle.nk_run.specs.declared.command_line.Command.{Command}
-use Rattle.nk_run.specs.declared.command_line.Command.TheVariants.{Scan, Map, Run, Replay, Make, Work, Join, Audit, Assemble, Listing}
-use Rattle.nk_run.specs.declared.command_line.Role.TheVariants.{Input, Plan}
+use Rattle.command_words.specs.declared.command_line.Command.{Command}
+use Rattle.command_words.specs.declared.command_line.Command.TheVariants.{Scan, Map, Run, Replay, Make, Work, Join, Audit, Assemble, Listing}
+use Rattle.command_words.specs.declared.command_line.Role.TheVariants.{Input, Plan}
+use Rattle.file_scan.specs.ShelfChanges.{Files}
 use Rattle.nk_run.specs.declared.ending.Ending.{Ending}
 use Rattle.nk_run.specs.Clauses.{HasEnd}
 use Rattle.nk_run.specs.Outcome.{events_in, file_in, opening_in}
-use Rattle.nk_run.specs.Witness.{Files}
 use Rattle.nk_run.specs.RunStates.{EndsAfter, ending_at, one_unless, run_length, steps_within}
 use Rattle.nk_run.proofs.Runs.{IsStep, counted, ends_within, left, not_resting, turn_left}
 

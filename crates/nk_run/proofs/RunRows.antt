@@ -10,14 +10,14 @@ use Rattle.gate_state.specs.MachineStates.{Opening}
 use Rattle.report_text.specs.ClosingSection.{section}
 use Rattle.replay_core.specs.ReplayedCalls.{WholeReplay, replay_of}
 use Rattle.image_maker.specs.MadeImage.{image_of_number}
-use Rattle.nk_run.specs.declared.command_line.Role.TheVariants.{Image, Input, Journal, Plan}
-use Rattle.nk_run.specs.declared.command_line.Command.TheVariants.{Make, Map, Replay, Run, Work}
-use Rattle.nk_run.specs.CommandLine.{command_of, roles_of}
+use Rattle.command_words.specs.declared.command_line.Role.TheVariants.{Image, Input, Journal, Plan}
+use Rattle.command_words.specs.declared.command_line.Command.TheVariants.{Make, Map, Replay, Run, Work}
+use Rattle.command_words.specs.CommandLine.{command_of, roles_of}
+use Rattle.file_scan.specs.ShelfChanges.{Change, Files, ShelfState}
 use Rattle.nk_run.specs.Outcome.{Answer, Check, Verdict, checks_of, decided, ends, events_in, file_in, first_verdict, image_checks, journal_checks, journaled, opened, opening_in, outcome, passes, replay_in, roomy, run_checks, test, translation_of, unheld, unless_ended, worked}
 use Rattle.nk_run.specs.Replies.{CommandSays, Concludes, HoldsReplay, IsWant, RefusesBy, Stops, StopsIn}
 use Rattle.nk_run.specs.Lines.{walk_line}
 use Rattle.nk_run.specs.RunStates.{run_text}
-use Rattle.nk_run.specs.Witness.{Change, Files, ShelfState}
 use Rattle.nk_run.proofs.Checks.{first_verdict-append}
 use Rattle.nk_run.proofs.Rows.{all_says, image_stops, later_says, outcome_says, own_one, own_six, own_small, own_zero, refused_stops, row_passed, row_says, stops_longer, wants_says}
 use Rattle.nk_run.proofs.Told.{if_told, told_at}

@@ -6,9 +6,9 @@ use Rattle.nk_host.specs.Told.{IfTold}
 use Rattle.byte_scanner.specs.FirstFound.{first_found}
 use Rattle.boot_map.specs.Division.{Division, IsLayout}
 use Rattle.gate_state.specs.MachineOpening.{opening_state}
-use Rattle.nk_run.specs.declared.command_line.Command.TheVariants.{Run}
-use Rattle.nk_run.specs.CommandLine.{command_of}
-use Rattle.nk_run.specs.Witness.{Files}
+use Rattle.command_words.specs.declared.command_line.Command.TheVariants.{Run}
+use Rattle.command_words.specs.CommandLine.{command_of}
+use Rattle.file_scan.specs.ShelfChanges.{Files}
 use Rattle.nk_run.specs.Outcome.{outcome}
 use Rattle.nk_run.specs.RunStates.{run_text}
 use Rattle.nk_run.specs.RunsBegun.{MayRun}

@@ -18,18 +18,18 @@ use Rattle.gate_state.specs.GuardedStates.{IsAdmitted}
 use Rattle.gate_state.specs.MachineStates.{Opening}
 use Rattle.image_maker.specs.MadeImage.{image_of_number}
 use Rattle.std.specs.Option.{option_map}
-use Rattle.nk_run.specs.declared.command_line.Role.TheVariants.{Image, Input, Plan}
-use Rattle.nk_run.specs.Clauses.{HasJournal, HasSafeRun, IsGoodImage, IsSafeRun}
-use Rattle.nk_run.specs.declared.command_line.Command.{Command}
-use Rattle.nk_run.specs.declared.command_line.Command.TheVariants.{Scan, Map, Run, Replay, Make, Work, Join, Audit, Assemble, Listing}
-use Rattle.nk_run.specs.CommandLine.{both, command_of, name_in}
-use Rattle.nk_run.specs.NumberWords.{address_word, bounded, decimal_within, is_numeral}
+use Rattle.command_words.specs.declared.command_line.Role.TheVariants.{Image, Input, Plan}
+use Rattle.command_words.specs.declared.command_line.Command.{Command}
+use Rattle.command_words.specs.declared.command_line.Command.TheVariants.{Scan, Map, Run, Replay, Make, Work, Join, Audit, Assemble, Listing}
+use Rattle.command_words.specs.CommandLine.{both, command_of, name_in}
+use Rattle.command_words.specs.NumberWords.{address_word, bounded, decimal_within, is_numeral}
+use Rattle.file_scan.specs.GoodImages.{IsGoodImage, longest_file}
+use Rattle.file_scan.specs.ShelfChanges.{Files}
+use Rattle.nk_run.specs.Clauses.{HasJournal, HasSafeRun, IsSafeRun}
 use Rattle.text_lines.specs.Numerals.{is_least}
 use Rattle.nk_run.specs.JournalLaw.{IsReplayedRun}
-use Rattle.nk_run.specs.Lines.{longest_file}
 use Rattle.nk_run.specs.Outcome.{Answer, checks_of, clean, ends, events_in, fetch_verdict, file_in, first_verdict, formed, opening_in, passes, planned, roomy}
 use Rattle.nk_run.specs.Replies.{ReadsBytes}
-use Rattle.nk_run.specs.Witness.{Files}
 use Rattle.nk_run.proofs.JournalOutcomes.{journal_of}
 use Rattle.nk_run.proofs.Rows.{both_pass}
 

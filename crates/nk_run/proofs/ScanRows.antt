@@ -6,18 +6,20 @@ use Rattle.elf_image.specs.Pages.{entry_of, executable_page_count}
 use Rattle.elf_image.specs.Rows.{first_fault}
 use Rattle.byte_scanner.specs.FirstFound.{first_found}
 use Rattle.report_text.specs.ImageLines.{admitted_line}
-use Rattle.nk_run.specs.declared.command_line.Role.TheVariants.{Image}
-use Rattle.nk_run.specs.declared.pieces.Stop.{Stop}
-use Rattle.nk_run.specs.declared.pieces.Stop.TheVariants.{Faulty, Longer, Protected, Unread, Want}
-use Rattle.nk_run.specs.declared.command_line.Command.{Command}
-use Rattle.nk_run.specs.declared.command_line.Command.TheVariants.{Scan}
-use Rattle.nk_run.specs.CommandLine.{command_of, name_in, roles_of}
-use Rattle.nk_run.specs.HeldFile.{OfFile}
-use Rattle.nk_run.specs.Lines.{longer_line, longest_file}
+use Rattle.command_words.specs.declared.command_line.Role.TheVariants.{Image}
+use Rattle.command_words.specs.declared.command_line.Command.{Command}
+use Rattle.command_words.specs.declared.command_line.Command.TheVariants.{Scan}
+use Rattle.command_words.specs.CommandLine.{command_of, name_in, roles_of}
+use Rattle.file_scan.specs.declared.pieces.Stop.{Stop}
+use Rattle.file_scan.specs.declared.pieces.Stop.TheVariants.{Faulty, Longer, Protected, Unread, Want}
+use Rattle.file_scan.specs.HeldFile.{OfFile}
+use Rattle.file_scan.specs.GoodImages.{longest_file}
+use Rattle.file_scan.specs.ScanStops.{HasFault, HasFound, IsGoodWith, IsStop}
+use Rattle.file_scan.specs.ShelfChanges.{Change, Files, ShelfState}
+use Rattle.nk_run.specs.Lines.{longer_line}
 use Rattle.nk_run.specs.Outcome.{Answer, IsReached, Verdict, checks_of, clean, decided, ends, fetch_verdict, first_verdict, formed, image_checks, outcome, command_outcome, passes, text_of, unless_ended}
 use Rattle.nk_run.specs.Replies.{CommandSays, IsOwn}
-use Rattle.nk_run.specs.ScanStops.{HasFault, HasFound, IsGoodWith, IsReplyTo, IsStop}
-use Rattle.nk_run.specs.Witness.{Change, Files, ShelfState}
+use Rattle.nk_run.specs.ScanReplies.{IsReplyTo}
 use Rattle.nk_run.proofs.Rows.{own_zero, some_is}
 use Rattle.nk_run.proofs.Told.{if_told, told_at}
 

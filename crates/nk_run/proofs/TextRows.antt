@@ -4,12 +4,12 @@ use Rattle.nk_host.specs.Told.{IfTold}
 use Rattle.elf_image.specs.Pages.{is_executable}
 use Rattle.report_text.specs.ListingLines.{code_listing}
 use Rattle.asm_text.specs.AssembledText.{assembled_of}
-use Rattle.nk_run.specs.declared.command_line.Role.TheVariants.{Image, Text}
-use Rattle.nk_run.specs.declared.command_line.Command.TheVariants.{Assemble, Listing}
-use Rattle.nk_run.specs.CommandLine.{command_of}
+use Rattle.command_words.specs.declared.command_line.Role.TheVariants.{Image, Text}
+use Rattle.command_words.specs.declared.command_line.Command.TheVariants.{Assemble, Listing}
+use Rattle.command_words.specs.CommandLine.{command_of}
+use Rattle.file_scan.specs.ShelfChanges.{Change, Files, ShelfState}
 use Rattle.nk_run.specs.Outcome.{Check, addressed, assembled, code_in, file_in, first_verdict, formed_checks, outcome, passes, test, text_checks, unless_ended}
 use Rattle.nk_run.specs.Replies.{CommandSays, RefusesBy, Stops}
-use Rattle.nk_run.specs.Witness.{Change, Files, ShelfState}
 use Rattle.nk_run.proofs.Rows.{all_says, first_stops, formed_stops, later_says, outcome_says, own_ten, own_zero, row_says}
 use Rattle.nk_run.proofs.RunRows.{last_ends}
 use Rattle.nk_run.proofs.Told.{if_told, told_at}

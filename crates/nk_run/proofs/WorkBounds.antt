@@ -3,9 +3,9 @@ use Rattle.std.proofs.Common.{◌≡◌, ℕ, ◌≤◌, Bool, true, false, List
 use Rattle.std.specs.Prelude.{if◌then◌else◌}
 use Rattle.std.specs.Option.{option_map}
 use Rattle.text_lines.specs.Numerals.{numeral}
-use Rattle.nk_run.specs.declared.command_line.Command.TheVariants.{Scan, Map, Run, Replay, Make, Work, Join, Audit, Assemble, Listing}
-use Rattle.nk_run.specs.CommandLine.{both, command_of}
-use Rattle.nk_run.specs.NumberWords.{address_word, decimal_within}
+use Rattle.command_words.specs.declared.command_line.Command.TheVariants.{Scan, Map, Run, Replay, Make, Work, Join, Audit, Assemble, Listing}
+use Rattle.command_words.specs.CommandLine.{both, command_of}
+use Rattle.command_words.specs.NumberWords.{address_word, decimal_within}
 use Rattle.nk_run.proofs.SafeRuns.{spelled_within}
 
 work_number : (read : Option ℕ) (number : ℕ) → option_map Work read ≡ Some (Work number) → read ≡ Some number

@@ -3,12 +3,12 @@ use Rattle.std.proofs.Common.{◌≡◌, ◌≢◌, ℕ, List, [], ◌∷◌, Op
 use Rattle.nk_bits.specs.declared.call.CallWords.{CallWords}
 use Rattle.boot_map.specs.Division.{need}
 use Rattle.nk_body.specs.Calls.{call_of}
-use Rattle.nk_run.specs.declared.command_line.Role.TheVariants.{Image}
-use Rattle.nk_run.specs.declared.command_line.Command.TheVariants.{Audit}
-use Rattle.nk_run.specs.CommandLine.{command_of}
+use Rattle.command_words.specs.declared.command_line.Role.TheVariants.{Image}
+use Rattle.command_words.specs.declared.command_line.Command.TheVariants.{Audit}
+use Rattle.command_words.specs.CommandLine.{command_of}
+use Rattle.file_scan.specs.ShelfChanges.{Files}
 use Rattle.nk_run.specs.Lines.{journal_line, noregion_line}
 use Rattle.nk_run.specs.Outcome.{Answer, Verdict, decided, ends, file_in, first_verdict, given, journal_checks, journaled, logged_size, outcome, passes, replay_in, roomy, size_in, test, text_of, unless_ended}
-use Rattle.nk_run.specs.Witness.{Files}
 use Rattle.nk_run.proofs.Rows.{row_passed}
 
 abbrev called : ℕ → ℕ → ℕ → Option CallWords

@@ -9,7 +9,6 @@ use Rattle.nk_host.specs.Taken.{AppendsPrefix}
 use Rattle.nk_host.specs.Told.{IfTold}
 use Rattle.elf_image.specs.Pages.{is_executable}
 use Rattle.elf_image.specs.Rows.{first_fault}
-use Rattle.byte_scanner.specs.FirstFound.{first_found}
 use Rattle.irq_plan.specs.declared.event.Event.{Event}
 use Rattle.irq_plan.specs.PlanFile.{plan_of}
 use Rattle.irq_plan.specs.PlannedEvents.{IsPlan}
@@ -28,16 +27,18 @@ use Rattle.code_modules.specs.JoinedParts.{CodeModule, modules_behind}
 use Rattle.code_modules.specs.ModuleList.{list_of}
 use Rattle.gate_state.specs.SafeStates.{IsSafe}
 use Rattle.gate_state.specs.WindowLeft.{IsShortWindow}
-use Rattle.nk_run.specs.declared.command_line.Role.{Role}
-use Rattle.nk_run.specs.declared.command_line.Role.TheVariants.{Image, Input, Plan, Journal, ModuleList, Module, Text}
-use Rattle.nk_run.specs.declared.command_line.Command.{Command}
-use Rattle.nk_run.specs.declared.command_line.Command.TheVariants.{Scan, Map, Run, Replay, Make, Work, Join, Audit, Assemble, Listing}
-use Rattle.nk_run.specs.CommandLine.{command_of, name_in, IsAsked}
+use Rattle.command_words.specs.declared.command_line.Role.{Role}
+use Rattle.command_words.specs.declared.command_line.Role.TheVariants.{Image, Input, Plan, Journal, ModuleList, Module, Text}
+use Rattle.command_words.specs.declared.command_line.Command.{Command}
+use Rattle.command_words.specs.declared.command_line.Command.TheVariants.{Scan, Map, Run, Replay, Make, Work, Join, Audit, Assemble, Listing}
+use Rattle.command_words.specs.CommandLine.{command_of, name_in, IsAsked}
+use Rattle.file_scan.specs.GoodImages.{IsGoodImage, longest_file}
+use Rattle.file_scan.specs.ShelfChanges.{Change, Files, ShelfState}
 use Rattle.nk_run.specs.JoinedRuns.{KeepsCode}
 use Rattle.nk_run.specs.JournalLaw.{IsJournal}
-use Rattle.nk_run.specs.Lines.{longest_file, longest_module, no_memory_line, unread_line, usage_line}
+use Rattle.nk_run.specs.Lines.{longest_module, no_memory_line, unread_line, usage_line}
 use Rattle.nk_run.specs.RunStates.{EndsAfter, run_length}
-use Rattle.nk_run.specs.Witness.{Change, Files, ShelfState, SinkState, Witness}
+use Rattle.nk_run.specs.Witness.{SinkState, Witness}
 use Rattle.nk_run.specs.Outcome.{checks_of, events_in, file_in, first_verdict, join_in, module_name, modules_in, modules_named, opened, opening_in, outcome, passes, size_in, text_of, IsReached}
 
 -- the name is that of a role's file: a module's stands in the list, where it is in form, and every name counts as one
@@ -144,12 +145,6 @@ IsFaultless seen =
 abbrev pub IsComplete : Witness → ℕ → Type 0
 IsComplete seen status = IfTold seen.shelf.before.files (λ files. IsFaultless seen →
     MatchOption (outcome seen.words files) (status ≡ 5) (λ answer. (status ≡ answer.status) ⊎ (status ≡ 5)))
-
--- the image is held within the limit, has no fault, and holds no protected encoding in its code
-pub record IsGoodImage (b : List ℕ) : Type 0 where
-  pub within : length b ≤ longest_file
-  pub formed : first_fault b ≡ None
-  pub clean : first_found b ≡ None
 
 -- the image is held within the limit, has no fault, and its code has a page with this address
 pub record HasCodeAt (address : ℕ) (b : List ℕ) : Type 0 where

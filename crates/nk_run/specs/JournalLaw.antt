@@ -7,14 +7,14 @@ use Rattle.gate_state.specs.MachineStates.{MachineState, Opening, nested_of}
 use Rattle.gate_state.specs.MachineSteps.{calls, state}
 use Rattle.report_text.specs.ClosingSection.{section}
 use Rattle.replay_core.specs.ReplayedCalls.{WholeReplay, replay_of}
-use Rattle.nk_run.specs.declared.command_line.Role.TheVariants.{Image, Journal}
-use Rattle.nk_run.specs.declared.command_line.Command.TheVariants.{Replay}
-use Rattle.nk_run.specs.CommandLine.{command_of, name_in}
-use Rattle.nk_run.specs.Lines.{longest_file}
+use Rattle.command_words.specs.declared.command_line.Role.TheVariants.{Image, Journal}
+use Rattle.command_words.specs.declared.command_line.Command.TheVariants.{Replay}
+use Rattle.command_words.specs.CommandLine.{command_of, name_in}
+use Rattle.file_scan.specs.GoodImages.{longest_file}
+use Rattle.file_scan.specs.ShelfChanges.{Files}
 use Rattle.nk_run.specs.Outcome.{opened, outcome}
 use Rattle.nk_run.specs.ReplayedRuns.{replayed_section}
 use Rattle.nk_run.specs.RunStates.{run_length, run_text}
-use Rattle.nk_run.specs.Witness.{Files}
 
 -- a run's text, and the replay of it from the run's own opening
 abbrev pub text_of_run : Opening → List ℕ → List Event → ℕ → List ℕ

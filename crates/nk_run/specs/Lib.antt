@@ -1,6 +1,4 @@
 -- What a reader must believe.
-pub mod NumberWords
-pub mod CommandLine
 pub mod Lines
 pub mod Witness
 pub mod RunStates
@@ -16,6 +14,4 @@ pub mod Statuses
 pub mod RunProgress
 pub mod ReplyText
 pub mod Replies
-pub mod HeldFile
-pub mod ScanStops
-pub mod WalkedPieces
+pub mod ScanReplies

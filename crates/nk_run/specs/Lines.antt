@@ -4,14 +4,11 @@ use Rattle.std.specs.Fmt.{decimal}
 use Rattle.nk_bits.specs.declared.leaf.Leaf.{Leaf}
 use Rattle.nk_bits.specs.declared.leaf.Rights.{Rights}
 use Rattle.report_text.specs.RunLines.{hex_16}
-use Rattle.nk_run.specs.declared.command_line.Role.{Role}
-use Rattle.nk_run.specs.declared.command_line.Role.TheVariants.{Image, Input, Plan, Journal, ModuleList, Module, Text}
+use Rattle.command_words.specs.declared.command_line.Role.{Role}
+use Rattle.command_words.specs.declared.command_line.Role.TheVariants.{Image, Input, Plan, Journal, ModuleList, Module, Text}
+use Rattle.file_scan.specs.GoodImages.{longest_file}
 
--- the most bytes of a file that is read: 64 MiB
-abbrev pub longest_file : ℕ
-longest_file = 67108864
-
--- of a module that is read: 1 MiB
+-- the most bytes of a module that is read: 1 MiB
 abbrev pub longest_module : ℕ
 longest_module = 1048576
 

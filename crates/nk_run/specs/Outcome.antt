@@ -34,12 +34,12 @@ use Rattle.code_modules.specs.declared.fault.JoinFault.TheVariants as join
 use Rattle.code_modules.specs.JoinAnswers.{join_answer}
 use Rattle.code_modules.specs.JoinedParts.{CodeModule}
 use Rattle.code_modules.specs.ModuleList.{Listed, list_of}
-use Rattle.nk_run.specs.declared.command_line.Role.{Role}
-use Rattle.nk_run.specs.declared.command_line.Role.TheVariants.{Image, Input, Plan, Journal, ModuleList, Module, Text}
-use Rattle.nk_run.specs.declared.command_line.Command.{Command}
-use Rattle.nk_run.specs.declared.command_line.Command.TheVariants.{Scan, Map, Run, Replay, Make, Work, Join, Audit, Assemble, Listing}
-use Rattle.nk_run.specs.CommandLine.{command_of, name_in}
-use Rattle.nk_run.specs.Witness.{Files}
+use Rattle.command_words.specs.declared.command_line.Role.{Role}
+use Rattle.command_words.specs.declared.command_line.Role.TheVariants.{Image, Input, Plan, Journal, ModuleList, Module, Text}
+use Rattle.command_words.specs.declared.command_line.Command.{Command}
+use Rattle.command_words.specs.declared.command_line.Command.TheVariants.{Scan, Map, Run, Replay, Make, Work, Join, Audit, Assemble, Listing}
+use Rattle.command_words.specs.CommandLine.{command_of, name_in}
+use Rattle.file_scan.specs.ShelfChanges.{Files}
 use Rattle.nk_run.specs.Lines.{most_of, usage_line, longer_line, noroom_line, plan_line, journal_line, list_line, empty_line, nofit_line, noaddress_line, noregion_line, text_line, walk_line}
 use Rattle.nk_run.specs.RunStates.{run_text}
 use Rattle.nk_run.specs.WorkSummary.{work_text}

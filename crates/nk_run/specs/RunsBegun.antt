@@ -5,11 +5,12 @@ use Rattle.nk_host.specs.Told.{IfTold}
 use Rattle.byte_scanner.specs.FirstFound.{first_found}
 use Rattle.boot_map.specs.Division.{Division, IsLayout}
 use Rattle.gate_state.specs.MachineOpening.{opening_state}
-use Rattle.nk_run.specs.declared.command_line.Role.{Role}
-use Rattle.nk_run.specs.declared.command_line.Command.TheVariants.{Run}
-use Rattle.nk_run.specs.CommandLine.{command_of}
+use Rattle.command_words.specs.declared.command_line.Role.{Role}
+use Rattle.command_words.specs.declared.command_line.Command.TheVariants.{Run}
+use Rattle.command_words.specs.CommandLine.{command_of}
+use Rattle.file_scan.specs.ShelfChanges.{Change, Files, ShelfState}
 use Rattle.nk_run.specs.Lines.{no_memory_line, unread_line, usage_line}
-use Rattle.nk_run.specs.Witness.{Change, Files, ShelfState, SinkState}
+use Rattle.nk_run.specs.Witness.{SinkState}
 use Rattle.nk_run.specs.Outcome.{Answer, outcome}
 use Rattle.nk_run.specs.RunStates.{run_text}
 use Rattle.nk_run.specs.Clauses.{IsUnread, SinkRose, TookAll, TookPrefix}

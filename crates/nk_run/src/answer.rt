@@ -1,15 +1,15 @@
 //! What the words ask for, done over the shelf's files and written to the sink.
 ghost use Rattle.std.specs.Prelude.{◌≡◌, IfSome};
-ghost use Rattle.nk_run.specs.CommandLine.{command_of};
+ghost use Rattle.command_words.specs.CommandLine.{command_of};
+ghost use Rattle.file_scan.specs.ShelfChanges.{shelf_change};
 ghost use Rattle.nk_run.specs.Lines.{usage_line};
-ghost use Rattle.nk_run.specs.Witness.{shelf_change, sink_change};
+ghost use Rattle.nk_run.specs.Witness.{sink_change};
 ghost use Rattle.nk_run.specs.ReplyText.{line_bytes};
 ghost use Rattle.nk_run.specs.Replies.{IsAnswered, ReadsBytes};
 ghost use Rattle.nk_run.specs.Statuses.{status_number};
 
 use crate::assemble::assemble;
 use crate::audit::audit;
-use crate::command_line::Command;
 use crate::join::join;
 use crate::lines::usage_line;
 use crate::listing::list_code;
@@ -17,11 +17,11 @@ use crate::make::make;
 use crate::map::map;
 use crate::replay::replay;
 use crate::reply::{Line, Reply};
-use crate::request::Request;
 use crate::run::run;
 use crate::scan::scan;
 use crate::status::Status;
 use crate::work::work;
+use command_words::{Command, Request};
 use nk_host::{Shelf, Sink};
 use std::alloc::Global;
 

@@ -2,21 +2,21 @@
 ghost use Rattle.std.specs.Prelude.{◌≡◌, Ok, Some, MatchResult};
 ghost use Rattle.nk_host.specs.Told.{IfTold};
 ghost use Rattle.asm_text.specs.AssembledText.{assembled_of};
-ghost use Rattle.nk_run.specs.declared.command_line.Command.TheVariants.{Assemble};
-ghost use Rattle.nk_run.specs.CommandLine.{command_of};
-ghost use Rattle.nk_run.specs.Witness.{shelf_change, sink_change};
+ghost use Rattle.command_words.specs.declared.command_line.Command.TheVariants.{Assemble};
+ghost use Rattle.command_words.specs.CommandLine.{command_of};
+ghost use Rattle.file_scan.specs.ShelfChanges.{shelf_change};
+ghost use Rattle.nk_run.specs.Witness.{sink_change};
 ghost use Rattle.nk_run.specs.Outcome.{assembled, file_in, first_verdict, passes, text_checks};
 ghost use Rattle.nk_run.specs.ReplyText.{line_bytes};
 ghost use Rattle.nk_run.specs.Statuses.{status_number};
 ghost use Rattle.nk_run.specs.Replies.{IsAnswered, RefusesBy, Stops};
 
-use crate::command_line::Role;
 use crate::image::fetch;
 use crate::lines::text_line;
 use crate::reply::{Reply, made, no_memory};
-use crate::request::Request;
 use crate::status::Status;
 use asm_text::TextFault;
+use command_words::{Request, Role};
 use nk_host::{Shelf, Sink, put_all};
 use std::alloc::Global;
 

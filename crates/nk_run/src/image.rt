@@ -4,27 +4,24 @@ ghost use Rattle.nk_host.specs.FaultCounts.{NeverFalls};
 ghost use Rattle.nk_host.specs.Told.{IfTold};
 ghost use Rattle.elf_image.specs.Rows.{first_fault};
 ghost use Rattle.byte_scanner.specs.FirstFound.{first_found};
-ghost use Rattle.nk_run.specs.CommandLine.{name_in};
+ghost use Rattle.command_words.specs.CommandLine.{name_in};
+ghost use Rattle.file_scan.specs.ShelfChanges.{shelf_change};
 ghost use Rattle.nk_run.specs.Lines.{most_of};
-ghost use Rattle.nk_run.specs.Witness.{shelf_change};
 ghost use Rattle.nk_run.specs.Outcome.{fetch_verdict, formed, clean, first_verdict, form_checks, formed_checks, image_checks, file_in, passes};
 ghost use Rattle.nk_run.specs.ReplyText.{line_bytes};
 ghost use Rattle.nk_run.specs.Statuses.{status_number};
 ghost use Rattle.nk_run.specs.Replies.{EndsBy, IsWordRole, Stops, StopsFetch, TellsBytes};
 
-use crate::command_line::Role;
 use crate::lines::{longer_line, unread_line};
 use crate::reply::{Line, Reply, no_memory};
-use crate::request::Request;
 use crate::status::Status;
 use byte_scanner::{Found, scan};
+use command_words::{Request, Role};
 use elf_image::{Image, ImageFault};
+use file_scan::FILE_LIMIT;
 use nk_host::{FetchFault, Shelf};
 use report_text::{ShortLine, image_line, protected_line};
 use std::alloc::Global;
-
-/// The most bytes of a file that is read: 64 MiB.
-pub const FILE_LIMIT: u64 = 67_108_864;
 
 /// The most bytes of a module that is read: 1 MiB.
 const MODULE_LIMIT: u64 = 1_048_576;

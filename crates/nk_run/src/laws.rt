@@ -5,13 +5,13 @@ ghost use Rattle.irq_plan.specs.declared.event.Event.{Event};
 ghost use Rattle.irq_plan.specs.PlannedEvents.{IsPlan};
 ghost use Rattle.gate_state.specs.GuardedStates.{IsAdmitted};
 ghost use Rattle.gate_state.specs.MachineStates.{MachineState, Opening};
-ghost use Rattle.nk_run.specs.declared.command_line.Command.{Command};
-ghost use Rattle.nk_run.specs.CommandLine.{command_of};
+ghost use Rattle.command_words.specs.declared.command_line.Command.{Command};
+ghost use Rattle.command_words.specs.CommandLine.{command_of};
+ghost use Rattle.file_scan.specs.ShelfChanges.{Files};
 ghost use Rattle.nk_run.specs.Clauses.{HasEnd, HasJoined, HasJournal, HasSafeRun, IsSafeRun};
 ghost use Rattle.nk_run.specs.JournalLaw.{IsReplayedRun};
 ghost use Rattle.nk_run.specs.Replies.{ReadsBytes};
 ghost use Rattle.nk_run.specs.RunStates.{EndsAfter, run_length};
-ghost use Rattle.nk_run.specs.Witness.{Files};
 
 use boot_map::{opening_bytes_law, opening_kinds_law, slot_leaf_law};
 use byte_scanner::clean_law;

@@ -4,20 +4,13 @@
 //! touches the outside through the shelf and the sink alone, which `nk_program` makes those of the machine. Floor: program.
 #![tactic(auto)]
 
-// The words.
-mod command_line;
-mod numbers;
-mod request;
-
 // What is said, and how it goes out.
 mod lines;
 mod reply;
 mod status;
 
-// The image: held whole, for the commands that open it; and read in pieces, for the scan.
+// The image, held whole, for the commands that open it.
 mod image;
-mod page_pieces;
-mod pieces;
 
 // The commands.
 mod assemble;
@@ -50,10 +43,7 @@ mod top;
 // The whole over the machine.
 mod program;
 
-pub use crate::command_line::{Command, Role};
-pub use crate::image::FILE_LIMIT;
 pub use crate::opening::{Opened, ReadyRun, begin};
 pub use crate::program::nk_program;
 pub use crate::ready::{Refusal, ready_run};
-pub use crate::request::Request;
 pub use crate::top::nk_main;

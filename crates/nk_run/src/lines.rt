@@ -20,8 +20,8 @@ ghost use Rattle.nk_run.specs.Lines.{
   missing_line,
 };
 
-use crate::command_line::Role;
 use boot_map::NoRoom;
+use command_words::Role;
 use nk_bits::{Leaf, Rights};
 use std::alloc::{AllocError, Global};
 

@@ -1,9 +1,10 @@
 //! The command `list IMAGE ADDR COUNT`.
 ghost use Rattle.std.specs.Prelude.{◌≡◌, ◌/◌, Some, true, MatchOption, MatchResult};
 ghost use Rattle.elf_image.specs.Pages.{is_executable};
-ghost use Rattle.nk_run.specs.declared.command_line.Command.TheVariants.{Listing};
-ghost use Rattle.nk_run.specs.CommandLine.{command_of};
-ghost use Rattle.nk_run.specs.Witness.{shelf_change, sink_change};
+ghost use Rattle.command_words.specs.declared.command_line.Command.TheVariants.{Listing};
+ghost use Rattle.command_words.specs.CommandLine.{command_of};
+ghost use Rattle.file_scan.specs.ShelfChanges.{shelf_change};
+ghost use Rattle.nk_run.specs.Witness.{sink_change};
 ghost use Rattle.nk_run.specs.Outcome.{addressed};
 ghost use Rattle.nk_run.specs.ReplyText.{line_bytes};
 ghost use Rattle.nk_run.specs.Statuses.{status_number};
@@ -12,8 +13,8 @@ ghost use Rattle.nk_run.specs.Replies.{CommandSays, IsAnswered, IsListable, Refu
 use crate::image::open_formed;
 use crate::lines::noaddress_line;
 use crate::reply::{Reply, made};
-use crate::request::Request;
 use crate::status::Status;
+use command_words::Request;
 use elf_image::Image;
 use nk_host::{Shelf, Sink};
 use report_text::list;

@@ -1,10 +1,11 @@
 //! The command `make NUMBER`.
 ghost use Rattle.std.specs.Prelude.{◌≡◌, ℕ, List, Some};
-ghost use Rattle.nk_run.specs.declared.command_line.Command.TheVariants.{Make};
-ghost use Rattle.nk_run.specs.CommandLine.{command_of, IsBounded};
+ghost use Rattle.command_words.specs.declared.command_line.Command.TheVariants.{Make};
+ghost use Rattle.command_words.specs.CommandLine.{command_of, IsBounded};
+ghost use Rattle.file_scan.specs.ShelfChanges.{Change, ShelfState};
 ghost use Rattle.nk_run.specs.Replies.{IsAnswered};
 ghost use Rattle.nk_run.specs.Statuses.{status_number};
-ghost use Rattle.nk_run.specs.Witness.{Change, ShelfState, sink_change};
+ghost use Rattle.nk_run.specs.Witness.{sink_change};
 
 use crate::reply::no_memory;
 use crate::status::Status;

@@ -28,7 +28,6 @@ pub(crate) fn go_on<'i>(machine: Machine<'i>, plan: &Plan, steps: u64) -> Progre
     let (next, step) = hurried.step(plan);
     match step {
         Step::Rested => Progress::Ends(next, Ending::Halted),
-        Step::Seen(seen) => Progress::Goes(next, Step::Seen(seen)),
-        Step::Called(called) => Progress::Goes(next, Step::Called(called)),
+        Step::Seen(_) | Step::Called(_) => Progress::Goes(next, step),
     }
 }

@@ -1,14 +1,14 @@
 //! What a run begins from, for a program that takes the run's steps itself.
 ghost use Rattle.std.specs.Prelude.{◌≡◌, ◌≤◌, IfErr, IfOk};
+ghost use Rattle.file_scan.specs.ShelfChanges.{shelf_change};
 ghost use Rattle.nk_run.specs.RunsBegun.{IsAnswerPut, IsRefusedRun, MayRun};
-ghost use Rattle.nk_run.specs.Witness.{shelf_change, sink_change};
+ghost use Rattle.nk_run.specs.Witness.{sink_change};
 
 use crate::answer::usage;
-use crate::command_line::Command;
 use crate::opening::ReadyRun;
 use crate::reply::Reply;
-use crate::request::Request;
 use crate::run::make_ready;
+use command_words::{Command, Request};
 use nk_host::{Shelf, Sink};
 use std::alloc::Global;
 use std::marker::Model;

@@ -1,27 +1,25 @@
 //! The command `run IMAGE INPUT PLAN STEPS FRAMES`.
-ghost use Rattle.std.specs.Prelude.{◌≡◌, ◌≤◌, None, IfSome, MatchResult, Ok, Some, [], ◌∷◌};
+ghost use Rattle.std.specs.Prelude.{◌≡◌, None, MatchResult, Ok, Some, [], ◌∷◌};
 ghost use Rattle.irq_plan.specs.PlanFile.{plan_of};
 ghost use Rattle.nk_host.specs.Told.{IfTold};
 ghost use Rattle.byte_scanner.specs.FirstFound.{first_found};
-ghost use Rattle.boot_map.specs.Division.{IsLayout, need};
-ghost use Rattle.gate_state.specs.MachineOpening.{opening_state};
-ghost use Rattle.nk_run.specs.declared.command_line.Command.TheVariants.{Run};
-ghost use Rattle.nk_run.specs.CommandLine.{command_of, IsBounded};
-ghost use Rattle.nk_run.specs.Witness.{shelf_change, sink_change};
-ghost use Rattle.nk_run.specs.Outcome.{file_in, first_verdict, passes, roomy, run_checks};
+ghost use Rattle.command_words.specs.declared.command_line.Command.TheVariants.{Run};
+ghost use Rattle.command_words.specs.CommandLine.{command_of, IsBounded};
+ghost use Rattle.file_scan.specs.ShelfChanges.{shelf_change};
+ghost use Rattle.nk_run.specs.Witness.{sink_change};
+ghost use Rattle.nk_run.specs.Outcome.{file_in, first_verdict, passes, run_checks};
 ghost use Rattle.nk_run.specs.ReplyText.{line_bytes};
 ghost use Rattle.nk_run.specs.Statuses.{status_number};
-ghost use Rattle.nk_run.specs.Replies.{CommandSays, IsAnswered, RefusesBy, StopsIn, TellsBytes};
+ghost use Rattle.nk_run.specs.Replies.{CommandSays, IsAnswered, StopsIn, TellsBytes};
 ghost use Rattle.nk_run.specs.RunsBegun.{MayRun};
 
-use crate::command_line::Role;
 use crate::drive::drive;
 use crate::image::open;
 use crate::inputs::{Outside, open_outside};
 use crate::opening::{ReadyRun, begin, divide};
 use crate::reply::{Reply, no_memory};
-use crate::request::Request;
 use crate::status::Status;
+use command_words::{Request, Role};
 use elf_image::Image;
 use nk_host::{Shelf, Sink};
 use std::alloc::Global;

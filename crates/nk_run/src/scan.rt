@@ -1,21 +1,19 @@
 //! The command `scan IMAGE`, which holds neither the file nor the image.
-ghost use Rattle.std.specs.Prelude.{◌≡◌, ◌≤◌, Some};
-ghost use Rattle.nk_run.specs.declared.command_line.Command.TheVariants.{Scan};
-ghost use Rattle.nk_run.specs.CommandLine.{command_of};
-ghost use Rattle.nk_run.specs.Witness.{shelf_change};
+ghost use Rattle.std.specs.Prelude.{◌≡◌, Some};
+ghost use Rattle.command_words.specs.declared.command_line.Command.TheVariants.{Scan};
+ghost use Rattle.command_words.specs.CommandLine.{command_of};
+ghost use Rattle.file_scan.specs.ShelfChanges.{shelf_change};
 ghost use Rattle.nk_run.specs.ReplyText.{line_bytes};
 ghost use Rattle.nk_run.specs.Statuses.{status_number};
 ghost use Rattle.nk_run.specs.Replies.{CommandSays};
-ghost use Rattle.nk_run.specs.ScanStops.{IsReplyTo, IsShort};
+ghost use Rattle.nk_run.specs.ScanReplies.{IsReplyTo, IsShort};
 
-use crate::command_line::Role;
 use crate::image::{faulty, protected};
 use crate::lines::{longer_line, unread_line};
-use crate::page_pieces::scan_file;
-use crate::pieces::Stop;
 use crate::reply::{Line, Reply, no_memory};
-use crate::request::Request;
 use crate::status::Status;
+use command_words::{Request, Role};
+use file_scan::{Stop, scan_file};
 use nk_host::Shelf;
 use report_text::admitted_line;
 use std::alloc::Global;

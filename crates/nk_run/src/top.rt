@@ -1,12 +1,13 @@
 //! The top call, with what the program promises.
 ghost use Rattle.std.specs.Prelude.{map};
 ghost use Rattle.std.specs.String.{string_bytes};
-ghost use Rattle.nk_run.specs.Witness.{shelf_change, sink_change};
+ghost use Rattle.file_scan.specs.ShelfChanges.{shelf_change};
+ghost use Rattle.nk_run.specs.Witness.{sink_change};
 ghost use Rattle.nk_run.specs.Clauses.{Promises};
 
 use crate::answer::answer;
 use crate::laws::{join_law, run_law};
-use crate::request::Request;
+use command_words::Request;
 use nk_host::{Shelf, Sink};
 use std::alloc::Global;
 

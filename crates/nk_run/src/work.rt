@@ -1,10 +1,11 @@
 //! The command `work NUMBER`: the image of a number is made and run, and what the run showed is counted.
 ghost use Rattle.std.specs.Prelude.{◌≡◌, ◌≤◌, ℕ, List, [], IfSome, Some};
-ghost use Rattle.nk_run.specs.declared.command_line.Command.TheVariants.{Work};
-ghost use Rattle.nk_run.specs.CommandLine.{command_of, IsBounded};
+ghost use Rattle.command_words.specs.declared.command_line.Command.TheVariants.{Work};
+ghost use Rattle.command_words.specs.CommandLine.{command_of, IsBounded};
+ghost use Rattle.file_scan.specs.ShelfChanges.{Change, ShelfState};
 ghost use Rattle.nk_run.specs.Replies.{IsAnswered, IsWorkable};
 ghost use Rattle.nk_run.specs.Statuses.{status_number};
-ghost use Rattle.nk_run.specs.Witness.{Change, ShelfState, sink_change};
+ghost use Rattle.nk_run.specs.Witness.{sink_change};
 
 use crate::count::count;
 use crate::opening::{Opened, begin};

@@ -5,9 +5,9 @@ use Rattle.irq_plan.specs.declared.event.Event.{Event}
 use Rattle.byte_scanner.specs.declared.encoding.Found.{Found}
 use Rattle.byte_scanner.specs.FirstFound.{first_found}
 use Rattle.boot_map.specs.Division.{Division}
-use Rattle.nk_run.specs.declared.command_line.Command.TheVariants.{Run, Scan}
-use Rattle.nk_run.specs.CommandLine.{command_of}
-use Rattle.nk_run.specs.Witness.{Files}
+use Rattle.command_words.specs.declared.command_line.Command.TheVariants.{Run, Scan}
+use Rattle.command_words.specs.CommandLine.{command_of}
+use Rattle.file_scan.specs.ShelfChanges.{Files}
 use Rattle.nk_run.specs.Outcome.{Answer}
 use Rattle.nk_run.specs.RunsBegun.{IsNoRun, MayRun}
 use Rattle.nktrace.specs.TracedRuns.{IsTraceStatus}

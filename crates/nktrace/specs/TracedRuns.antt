@@ -3,7 +3,8 @@ use Rattle.std.specs.Prelude.{◌≡◌, ℕ, ◌⊎◌, List, Option}
 use Rattle.nk_host.specs.FaultCounts.{RoseTo}
 use Rattle.irq_plan.specs.declared.event.Event.{Event}
 use Rattle.boot_map.specs.Division.{Division}
-use Rattle.nk_run.specs.Witness.{Change, Files, ShelfState, SinkState}
+use Rattle.file_scan.specs.ShelfChanges.{Change, Files, ShelfState}
+use Rattle.nk_run.specs.Witness.{SinkState}
 use Rattle.nk_run.specs.Outcome.{Answer}
 use Rattle.nk_run.specs.RunsBegun.{IsAnswerPut, IsRefusedRun, MayRun}
 

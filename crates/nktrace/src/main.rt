@@ -8,8 +8,8 @@ mod words;
 // The trace.
 mod run;
 
+use command_words::Request;
 use nk_host::{FileShelf, StdSink};
-use nk_run::Request;
 use run::trace;
 use std::env::{self, Env};
 use std::io;

@@ -3,13 +3,15 @@
 ghost use Rattle.std.specs.Prelude.{◌≡◌, ◌≤◌, None, MatchResult};
 ghost use Rattle.byte_scanner.specs.FirstFound.{first_found};
 ghost use Rattle.boot_map.specs.Division.{IsLayout};
-ghost use Rattle.nk_run.specs.Witness.{shelf_change, sink_change};
+ghost use Rattle.file_scan.specs.ShelfChanges.{shelf_change};
+ghost use Rattle.nk_run.specs.Witness.{sink_change};
 ghost use Rattle.nktrace.specs.TracedRuns.{IsTraced, IsTraceStatus};
 
+use command_words::Request;
 use gate_state::Machine;
 use irq_plan::Plan;
 use nk_host::{Shelf, Sink, SinkFault, put_all};
-use nk_run::{ReadyRun, Request, begin, ready_run};
+use nk_run::{ReadyRun, begin, ready_run};
 use phys_mem::PhysMem;
 use std::alloc::Global;
 use step_trace::{Shown, drive_shown};

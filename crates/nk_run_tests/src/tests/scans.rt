@@ -1,8 +1,8 @@
 //! Worked cases of how a shelf is read: which reads a scan makes, that each may fail, and what a want of memory gives.
 ghost use Rattle.std.specs.Prelude.{◌≡◌, ◌≢◌, map, Some};
 ghost use Rattle.std.specs.String.{string_bytes};
-ghost use Rattle.nk_run.specs.declared.command_line.Command.TheVariants.{Scan};
-ghost use Rattle.nk_run.specs.CommandLine.{command_of};
+ghost use Rattle.command_words.specs.declared.command_line.Command.TheVariants.{Scan};
+ghost use Rattle.command_words.specs.CommandLine.{command_of};
 
 use super::cases::Failing::{Fetch, No};
 use super::cases::File::{Changed, Filled, Holds, Nops, Segments};

@@ -1,5 +1,5 @@
 use Rattle.std.proofs.Common.{Some, ap, refl, sym, ◌∙◌}
-use Rattle.nk_run.specs.declared.command_line.Command.{Command}
+use Rattle.command_words.specs.declared.command_line.Command.{Command}
 use Rattle.nk_run.proofs.answer.answer.Goals as goal
 
 pub returns-in-Some-Make-clause-answered : goal.returns-in-Some-Make-clause-answered

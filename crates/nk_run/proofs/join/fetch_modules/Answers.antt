@@ -1,7 +1,7 @@
 use Rattle.std.proofs.Common.{◌≡◌, ◌∙◌, [], ◌∷◌, ap, arith, inl, inr, length, length-append, map, Vec, Global, ℕ, List}
 use Rattle.std.proofs.lemmas.List.{map-append}
+use Rattle.file_scan.specs.ShelfChanges.{Files}
 use Rattle.nk_run.specs.Outcome.{first_verdict, module_fetches, module_held, passes}
-use Rattle.nk_run.specs.Witness.{Files}
 use Rattle.nk_run.proofs.ModuleFetches.{IsFetched, fetched_all, fetched_more, module_stops}
 use Rattle.nk_run.proofs.Told.{if_told, told_at}
 use Rattle.nk_run.proofs.join.fetch_modules.Goals as goal

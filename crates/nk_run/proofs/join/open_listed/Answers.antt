@@ -1,6 +1,6 @@
 use Rattle.std.proofs.Common.{[], ◌∷◌, refl}
 use Rattle.code_modules.specs.ModuleList.{list_of}
-use Rattle.nk_run.specs.declared.command_line.Role.TheVariants.{ModuleList}
+use Rattle.command_words.specs.declared.command_line.Role.TheVariants.{ModuleList}
 use Rattle.nk_run.specs.Outcome.{file_in, test, well_listed}
 use Rattle.nk_run.proofs.Rows.{first_stops, stops_behind}
 use Rattle.nk_run.proofs.join.open_listed.Goals as goal

@@ -1,4 +1,4 @@
-use Rattle.std.proofs.Common.{◌≡◌, ap, sym, subst, ◌∙◌}
+use Rattle.std.proofs.Common.{◌≡◌, false, inl, inr, ap, sym, subst, ◌∙◌}
 use Rattle.gate_state.specs.MachineOf.{whole_of}
 use Rattle.gate_state.specs.WholeMachine.{WholeState}
 use Rattle.nk_run.specs.declared.ending.Ending.TheVariants as ending
@@ -28,23 +28,15 @@ returns-in-Seen c =
     let w : WholeState = whole_of c.hurry-hurried.result in
     let is = c.step-next.ensures.step in
     let other : w.state.turns ≡ c.args.steps → ⊥ = λ same. c.if-turns-steps.false (c.turns.ensures ∙ same) in
+    let goes : is_rested c.step-next.result.1 ≡ false =
+    elim c.in-Seen.is [
+      | inl seen ↦ ap is_rested seen.1
+      | inr called ↦ ap is_rested called.1
+    ] in
     record {
       between = w;
       hurried = c.hurry-hurried.ensures.hurried;
-      going = goes_on_by c.args.steps c.args.plan.now w c.step-next.result.1 is other (ap is_rested c.in-Seen.is);
+      going = goes_on_by c.args.steps c.args.plan.now w c.step-next.result.1 is other goes;
       next = c.step-next.ensures.next;
-      step = sym c.in-Seen.is ∙ is;
-    }
-
-pub returns-in-Called : goal.returns-in-Called
-returns-in-Called c =
-    let w : WholeState = whole_of c.hurry-hurried.result in
-    let is = c.step-next.ensures.step in
-    let other : w.state.turns ≡ c.args.steps → ⊥ = λ same. c.if-turns-steps.false (c.turns.ensures ∙ same) in
-    record {
-      between = w;
-      hurried = c.hurry-hurried.ensures.hurried;
-      going = goes_on_by c.args.steps c.args.plan.now w c.step-next.result.1 is other (ap is_rested c.in-Called.is);
-      next = c.step-next.ensures.next;
-      step = sym c.in-Called.is ∙ is;
+      step = is;
     }

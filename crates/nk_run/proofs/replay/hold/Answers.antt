@@ -1,6 +1,6 @@
 use Rattle.std.proofs.Common.{[], refl}
-use Rattle.nk_run.specs.declared.command_line.Role.TheVariants.{Journal}
-use Rattle.nk_run.specs.CommandLine.{name_in}
+use Rattle.command_words.specs.declared.command_line.Role.TheVariants.{Journal}
+use Rattle.command_words.specs.CommandLine.{name_in}
 use Rattle.nk_run.proofs.Rows.{fetch_stops, stops_behind}
 use Rattle.nk_run.proofs.replay.hold.Goals as goal
 

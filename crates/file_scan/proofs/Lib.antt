@@ -1,0 +1,3 @@
+pub mod HeldFiles
+pub mod HeaderPieces
+pub mod PageReads
