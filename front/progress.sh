@@ -27,7 +27,7 @@ in_minutes() { # SECONDS
 expected() {
         if [ -n "$whole" ]; then
                 machine=$(sed -n '1s/.* ended, on \(.*\): .*/\1/p' "$table")
-                echo "from nothing about $(in_minutes "$whole") minutes on $machine, with 4.4 GB of memory and 7.6 GB of disk"
+                echo "from nothing about $(in_minutes "$whole") minutes on $machine, with 4.4 to 7 GB of memory and 7.6 GB of disk"
         else
                 echo "how long it takes was not measured"
         fi
