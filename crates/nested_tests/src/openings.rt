@@ -41,17 +41,6 @@ pub fn memory(alloc: Global, entries: &[(u64, u64)]) -> Result<PhysMem, NoMemory
     memory_with(alloc, 80, entries)
 }
 
-/// The entry of the table in a frame of memory.
-#[tactic(auto, unfolding(phys_mem::specs::Memory::entry_in))]
-pub fn entry(memory: &PhysMem, frame: u64, index: u64) -> Entry
-    requires frame { 4096 * frame + 4096 ≤ length memory.now }
-    requires index { index < 512 }
-    ensures { result.0 ≡ entry_in memory.now frame index }
-{
-    let _frames = memory.frames();
-    Entry(memory.load64(4096 * frame + 8 * index))
-}
-
 /// Whether a frame of memory is fixed.
 pub fn is_fixed(kinds: &[Kind], frame: u64) -> bool
     ensures { result ≡ true → kind_of kinds.now frame ≡ Fixed }
@@ -72,7 +61,7 @@ pub fn is_slot_fixed(memory: &PhysMem, kinds: &[Kind]) -> bool
     ensures { result ≡ true → IsSlotFixed kinds.now (entry_in memory.now) }
 {
     for index in 0..512 {
-        let entry = entry(memory, 9, index);
+        let entry = Entry(memory.entry(9, index));
         if entry.is_present() && !is_fixed(kinds, entry.frame()) {
             return false;
         }

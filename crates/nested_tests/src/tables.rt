@@ -9,9 +9,9 @@ ghost use Rattle.phys_mem.specs.MaskedMemory.{is_book_frame};
 ghost use Rattle.phys_mem.specs.Memory.{byte_at, entry_in};
 ghost use Rattle.page_desc.specs.DescriptorBytes.{HoldsTables};
 
-use crate::openings::{Run, are_books_hidden, are_zero, entry, is_fixed, kinds, memory};
+use crate::openings::{Run, are_books_hidden, are_zero, is_fixed, kinds, memory};
 use memory_kit::peek_word;
-use nk_bits::Kind;
+use nk_bits::{Entry, Kind};
 use page_desc::{Frames, descriptor_law, stored_law};
 use phys_mem::{PhysMem, mask_law};
 use std::alloc::Global;
@@ -71,7 +71,7 @@ fn names(mem: &PhysMem, table: u64, target: u64) -> bool
         → frame_of (entry_in mem.now table i) ≡ target }
 {
     for index in 0..512 {
-        let entry = entry(mem, table, index);
+        let entry = Entry(mem.entry(table, index));
         if entry.is_present() && entry.frame() != target {
             return false;
         }
@@ -85,11 +85,11 @@ fn is_slot_alone(mem: &PhysMem) -> bool
     ensures { result ≡ true → ((i : ℕ) → i < 511 → is_present (entry_in mem.now 5 i) ≡ false) × (entry_in mem.now 5 511 ≡ 24615) }
 {
     for index in 0..511 {
-        if entry(mem, 5, index).is_present() {
+        if Entry(mem.entry(5, index)).is_present() {
             return false;
         }
     }
-    entry(mem, 5, 511).0 == 0x6027
+    mem.entry(5, 511) == 0x6027
 }
 
 /// Starts the descriptors, where memory and kinds admit it.

@@ -18,16 +18,6 @@ use phys_mem::PhysMem;
 /// The number of entries of a table.
 const ENTRIES: u32 = 512;
 
-/// An entry of the table in a frame of memory.
-#[tactic(auto, unfolding(phys_mem::specs::Memory::entry_in))]
-pub fn entry(mem: &PhysMem, frame: u32, index: u32) -> Entry
-    requires frame { 4096 * frame + 4096 ≤ length mem.now }
-    requires index { index < 512 }
-    ensures { result.0 ≡ entry_in mem.now frame index }
-{
-    Entry(mem.load64(4096 * u64::from(frame) + 8 * u64::from(index)))
-}
-
 /// The kind of a frame in memory.
 fn kind_at(kinds: &[Kind], frame: u32) -> Kind
     requires { frame < length kinds.now }
@@ -47,7 +37,8 @@ fn add_leaves(mem: &mut PhysMem, count: u32, frame: u32)
     ensures differs { DiffersInField count 4 mem.old mem.new }
 {
     for index in 0..ENTRIES {
-        let entry = entry(mem, frame, index);
+        let value = mem.entry(u64::from(frame), u64::from(index));
+        let entry = Entry(value);
         raise(mem, LOOSE, count, is_loose(entry), entry.frame());
     }
 }
@@ -63,7 +54,8 @@ fn add_links(mem: &mut PhysMem, count: u32, frame: u32)
     ensures differs { DiffersInField count 8 mem.old mem.new }
 {
     for index in 0..ENTRIES {
-        let entry = entry(mem, frame, index);
+        let value = mem.entry(u64::from(frame), u64::from(index));
+        let entry = Entry(value);
         raise(mem, LINKS, count, entry.is_present(), entry.frame());
     }
 }

@@ -150,8 +150,7 @@ fn entry_at(mem: &PhysMem, table: u32, level: u8, va: u64) -> Entry
     requires level { (1 ≤ level) × (level ≤ 4) }
     ensures value { result.0 ≡ entry_in mem.now table (page_index (page_of va) level) }
 {
-    let place = 4096 * u64::from(table) + 8 * index(va, level) as u64;
-    Entry(mem.load64(place))
+    Entry(mem.entry(u64::from(table), index(va, level) as u64))
 }
 
 /// Whether an entry of a table of this level leads nowhere, in a memory of so many frames.

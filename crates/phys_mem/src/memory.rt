@@ -2,7 +2,7 @@
 
 ghost use Rattle.std.specs.Prelude.{◌≡◌, ℕ, ◌+◌, ◌*◌, ◌<◌, ◌≤◌, IfOk, List, length};
 ghost use Rattle.std.specs.Borrow.{sem};
-ghost use Rattle.phys_mem.specs.Memory.{IsBytes, byte_at, number_at, stores, stored, frame_bytes, frame_zeroed};
+ghost use Rattle.phys_mem.specs.Memory.{IsBytes, byte_at, entry_in, number_at, stores, stored, frame_bytes, frame_zeroed};
 
 use crate::block::RawBlock;
 use std::alloc::Global;
@@ -94,6 +94,17 @@ impl PhysMem {
     {
         let bytes = self.block.run(at as usize, 8).first_chunk().unwrap();
         u64::from_le_bytes(*bytes)
+    }
+
+    /// Entry `index`, 0 to 511, of the page table in a frame: SDM volume 3, 4.2.
+    #[tactic(auto, unfolding(crate::specs::Memory::entry_in))]
+    pub fn entry(&self, frame: u64, index: u64) -> u64
+        requires frame { 4096 * frame + 4096 ≤ length self.now }
+        requires index { index < 512 }
+        ensures { result ≡ entry_in self.now frame index }
+    {
+        let _frames = self.frames();
+        self.load64(4096 * frame + 8 * index)
     }
 
     /// Stores one byte.

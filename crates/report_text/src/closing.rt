@@ -254,21 +254,11 @@ fn put_entry<O: Sink>(
         (line_of_entry (table_value image.now layout.now.frames frame index)
         (entry_in mem.now frame index) frame index) result }
 {
-    let value = entry_now(mem, frame, index);
+    let value = mem.entry(u64::from(frame), u64::from(index));
     if opening_value(image, layout, frame, index) == value {
         return Ok(());
     }
     put_all(sink, entry_line(&mut [0; ENTRY], frame, index, value))
-}
-
-/// An entry of the page table in a frame, as memory holds it.
-#[tactic(auto, unfolding(phys_mem::specs::Memory::entry_in))]
-fn entry_now(mem: &PhysMem, frame: u32, index: u32) -> u64
-    requires frame { 4096 * frame + 4096 ≤ length mem.now }
-    requires index { index ≤ 511 }
-    ensures { result ≡ entry_in mem.now frame index }
-{
-    mem.load64(4096 * u64::from(frame) + 8 * u64::from(index))
 }
 
 /// An entry of a frame at the opening; 0 where the frame was no page table.

@@ -10,17 +10,6 @@ use nk_bits::Entry;
 use page_desc::{Frames, stored_law};
 use phys_mem::{PhysMem, frame_law, mask_law, memory_law};
 
-/// The entry of the table in a frame of memory.
-#[tactic(auto, unfolding(phys_mem::specs::Memory::entry_in))]
-pub fn entry(mem: &PhysMem, frame: u64, index: u64) -> Entry
-    requires frame { 4096 * frame + 4096 ≤ length mem.now }
-    requires index { index < 512 }
-    ensures { result.0 ≡ entry_in mem.now frame index }
-{
-    let _frames = mem.frames();
-    Entry(mem.load64(4096 * frame + 8 * index))
-}
-
 /// The entry of the table in a frame that is none of the books'.
 pub fn seen_entry(frames: &Frames, mem: &PhysMem, frame: u64, index: u64) -> Entry
     requires held { HoldsDescriptors frames.now mem.now }
@@ -31,7 +20,7 @@ pub fn seen_entry(frames: &Frames, mem: &PhysMem, frame: u64, index: u64) -> Ent
 {
     mask_law();
     let _frames = frames.frames();
-    entry(mem, frame, index)
+    Entry(mem.entry(frame, index))
 }
 
 /// Stores an entry of the table in a frame that is none of the books'.

@@ -11,8 +11,7 @@ ghost use Rattle.page_desc.specs.PageTables.{is_table, tables_in};
 ghost use Rattle.table_rules.specs.ValueRules.{broken};
 ghost use Rattle.vmmu.specs.TableCalls.{entry_rule, root_rule};
 
-use crate::entries::entry;
-use nk_bits::Rule;
+use nk_bits::{Entry, Rule};
 use page_desc::Frames;
 use phys_mem::PhysMem;
 use table_rules::judge_entry;
@@ -68,7 +67,7 @@ fn is_filled_at(mem: &PhysMem, level: u8, frame: u64, index: u64) -> bool
     requires index { index < 512 }
     ensures { result ≡ (is_present (entry_in mem.now frame index) && not (is_slot_entry level index)) }
 {
-    entry(mem, frame, index).is_present() & !is_slot_entry(level, index)
+    Entry(mem.entry(frame, index)).is_present() & !is_slot_entry(level, index)
 }
 
 /// An entry of the table is present, beside the kernel slot's.

@@ -86,13 +86,13 @@ fn is_zero(mem: &PhysMem, frame: u32) -> bool
 }
 
 /// Whether no entry of frame 9 is present.
-#[tactic(auto, unfolding(phys_mem::specs::Memory::entry_in, nk_bits::specs::Paging::is_present))]
+#[tactic(auto, unfolding(nk_bits::specs::Paging::is_present))]
 fn is_directory_empty(mem: &PhysMem) -> bool
     requires { length mem.now ≡ 4096 * 80 }
     ensures { result ≡ true → (i : ℕ) → i < 512 → is_present (entry_in mem.now 9 i) ≡ false }
 {
     for index in 0..512 {
-        if mem.load64(0x9000 + 8 * index) != 0 {
+        if mem.entry(9, index) != 0 {
             return false;
         }
     }

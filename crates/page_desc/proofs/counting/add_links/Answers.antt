@@ -17,8 +17,8 @@ loop-index-init c = record {
 
 pub loop-index-preserved : goal.loop-index-preserved
 loop-index-preserved c =
-    let entry : c.entry-entry.result.0 ≡ entry_in c.args.mem.now c.args.frame c.loop-index.index =
-    c.entry-entry.ensures
+    let entry : c.entry-value.result ≡ entry_in c.args.mem.now c.args.frame c.loop-index.index =
+    c.entry-value.ensures
     ∙ entry_left c.args.count 8 c.args.mem.now c.loop-index.mem c.args.frame c.loop-index.index c.loop-index.invariant.differs c.requires.apart c.loop-index-test.true in
     let one : (other : ℕ) → count_if (c.is_present.result && c.frame.result == other) ≡ count_if (is_link_to other (entry_in c.args.mem.now c.args.frame c.loop-index.index)) =
     λ other. (λ j. count_if (c.is_present.ensures.value j && c.frame.ensures.value j == other)) ∙ ap (λ e. count_if (is_link_to other e)) entry in
