@@ -76,8 +76,7 @@ impl<'i> GateMachine<'i> {
         whole.in_gates_law();
         whole.running_law(plan);
         whole.nearer_law(plan);
-        let next = whole.next_move(plan);
-        step(whole, plan, next)
+        step(whole, plan)
     }
 
     /// What every machine in the gates is.

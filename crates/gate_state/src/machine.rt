@@ -1,7 +1,6 @@
 //! The machine in one of its three states.
 
-ghost use Rattle.std.specs.Prelude.{◌≡◌, ◌<◌, false, length, ◌+◌, ◌*◌, ◌^◌};
-ghost use Rattle.irq_plan.specs.PlannedEvents.{IsPlannable};
+ghost use Rattle.std.specs.Prelude.{◌≡◌, ◌<◌, false, length, ◌*◌};
 ghost use Rattle.cpu_step.specs.FramesTouched.{StaysOutside};
 ghost use Rattle.cpu_step.specs.Processor.{IsSound};
 ghost use Rattle.cpu_step.specs.Turns.{enters_body};
@@ -10,7 +9,6 @@ ghost use Rattle.page_desc.specs.DescriptorBytes.{kinds_in};
 ghost use Rattle.nk_body.specs.CallRules.{Sourced, bytes_read};
 ghost use Rattle.nk_body.specs.NestedRecord.{HoldsBooks, books_in};
 ghost use Rattle.nk_body.specs.SourceWords.{sourced_of};
-ghost use Rattle.gate_state.specs.EventMoves.{IfTaken, IsBodyBy};
 ghost use Rattle.gate_state.specs.MachineOf.{IsOf, real_of, whole_of};
 ghost use Rattle.gate_state.specs.MachineSteps.{move_of, seen_by, step_by, took_by};
 ghost use Rattle.gate_state.specs.QuietSteps.{IsHurried};
@@ -18,7 +16,6 @@ ghost use Rattle.gate_state.specs.SafeStates.{IsSafe};
 ghost use Rattle.gate_state.specs.WholeMachine.{is_rest, known_of, next_whole, stepped_whole, touched_by_move};
 
 use crate::gate::GateMachine;
-use crate::moves::Move;
 use crate::nested::NestedMachine;
 use crate::outer::OuterMachine;
 use crate::seen::{Seen, Step, Took};
@@ -201,13 +198,12 @@ fn step_outer<'i>(machine: OuterMachine<'i>, plan: &Plan) -> (Machine<'i>, Step,
     ensures told { result.2 ≡ touched_by_move (move_of plan.now machine.entry.state) machine.entry.state.processor
         machine.entry.real }
 {
-    let next = machine.next_move(plan);
-    if next.is_rest() {
+    if machine.done(plan) {
         machine.whole.safe_law();
         return (Machine::Outer(machine), Step::Rested, Touched::Nothing);
     }
-    let (after, seen, touched) = machine.step_touching(plan, next);
-    (after, Step::Seen(seen), touched)
+    let (next, seen, touched) = machine.step_touching(plan);
+    (next, Step::Seen(seen), touched)
 }
 
 /// The step of the machine in the gates, with what it shows.
@@ -242,14 +238,7 @@ fn step_nested<'i>(machine: NestedMachine<'i>, plan: &Plan) -> (Machine<'i>, Ste
 
 /// The step of a machine that doesn't rest and at which no body is to run, with what it shows, and the frames that it may
 /// have changed.
-pub(crate) fn step<'i>(
-    whole: Box<Whole<'i>>,
-    plan: &Plan,
-    next: Move,
-) -> (Machine<'i>, Seen, Touched)
-    requires moved { next ≡ move_of plan.now whole.value.state }
-    requires planned { IfTaken next (λ what. IsPlannable what × (whole.value.state.taken + 1 < 2 ^ 64)) }
-    requires body { IsBodyBy (enters_body whole.value.state.processor) next }
+pub(crate) fn step<'i>(whole: Box<Whole<'i>>, plan: &Plan) -> (Machine<'i>, Seen, Touched)
     requires no_body { enters_body whole.value.state.processor ≡ false }
     requires left { is_rest (move_of plan.now whole.value.state) ≡ false }
     requires turns { whole.value.state.turns < 4294967296 }
@@ -263,6 +252,6 @@ pub(crate) fn step<'i>(
 {
     whole.safe_law();
     let mut whole = whole;
-    let (seen, touched) = whole.advance(plan, next);
+    let (seen, touched) = whole.advance(plan);
     (sorted(whole), seen, touched)
 }

@@ -1,8 +1,5 @@
 //! The step from a state of the machine.
 
-ghost use Rattle.std.specs.Prelude.{◌≡◌};
-ghost use Rattle.gate_state.specs.WholeMachine.{is_rest};
-
 use irq_plan::What;
 
 /// The step from a state of the machine.
@@ -16,13 +13,4 @@ pub enum Move {
     Turn,
     /// None: the processor is halted, and nothing is left that could wake it.
     Rest,
-}
-
-impl Move {
-    /// Whether there is none.
-    pub(crate) fn is_rest(self) -> bool
-        ensures { result ≡ is_rest self }
-    {
-        matches!(self, Move::Rest)
-    }
 }

@@ -1,7 +1,6 @@
 //! The outer kernel's machine: WP is set.
 
-ghost use Rattle.std.specs.Prelude.{◌≡◌, ◌<◌, true, false, IfOk, None, [], length, ◌+◌, ◌*◌, ◌^◌};
-ghost use Rattle.irq_plan.specs.PlannedEvents.{IsPlannable};
+ghost use Rattle.std.specs.Prelude.{◌≡◌, ◌<◌, true, false, IfOk, None, [], length, ◌*◌};
 ghost use Rattle.nk_bits.specs.KernelLayout.{opening_root};
 ghost use Rattle.boot_map.specs.Division.{IsLayout};
 ghost use Rattle.boot_map.specs.Opening.{IsOpening};
@@ -13,7 +12,6 @@ ghost use Rattle.nk_body.specs.NestedRecord.{HoldsBooks, books_in};
 ghost use Rattle.nk_body.specs.SourceWords.{opening_ledger};
 ghost use Rattle.cpu_step.specs.FramesTouched.{StaysOutside};
 ghost use Rattle.cpu_step.specs.Turns.{enters_body};
-ghost use Rattle.gate_state.specs.EventMoves.{IfTaken, IsBodyBy};
 ghost use Rattle.gate_state.specs.MachineOf.{IsStanding, IsOf, IsOuter, real_of, whole_of};
 ghost use Rattle.gate_state.specs.MachineOpening.{opening_state};
 ghost use Rattle.gate_state.specs.MachineSteps.{move_of, seen_by};
@@ -125,17 +123,12 @@ impl<'i> OuterMachine<'i> {
         ensures outer { IsStanding IsOuter self.entry.opening self.entry.state }
         ensures sorted { IsOf result.0 }
     {
-        let next = self.next_move(plan);
-        let (machine, seen, _) = self.step_touching(plan, next);
+        let (machine, seen, _) = self.step_touching(plan);
         (machine, seen)
     }
 
-    /// The same step, where it is at hand which, with the frames that it may have changed: every byte of memory outside them
-    /// is as it was.
-    pub(crate) fn step_touching(self, plan: &Plan, next: Move) -> (Machine<'i>, Seen, Touched)
-        requires moved { next ≡ move_of plan.now self.state }
-        requires planned { IfTaken next (λ what. IsPlannable what × (self.state.taken + 1 < 2 ^ 64)) }
-        requires body { IsBodyBy (enters_body self.state.processor) next }
+    /// The same step, with the frames that it may have changed: every byte of memory outside them is as it was.
+    pub(crate) fn step_touching(self, plan: &Plan) -> (Machine<'i>, Seen, Touched)
         requires left { is_rest (move_of plan.now self.state) ≡ false }
         requires turns { self.state.turns < 4294967296 }
         ensures next { whole_of result.0 ≡ next_whole plan.now (known_of self.entry) }
@@ -150,7 +143,7 @@ impl<'i> OuterMachine<'i> {
     {
         let OuterMachine { whole } = self;
         whole.outer_law();
-        step(whole, plan, next)
+        step(whole, plan)
     }
 
     /// Goes on by quick turns, if there are any: steps that show nothing, each from a safe state, until the plan's next event
@@ -165,23 +158,13 @@ impl<'i> OuterMachine<'i> {
         OuterMachine { whole }
     }
 
-    /// The step from this state.
-    pub(crate) fn next_move(&self, plan: &Plan) -> Move
-        ensures moved { result ≡ move_of plan.now self.now.state }
-        ensures planned { IfTaken result (λ what. IsPlannable what × (self.now.state.taken + 1 < 2 ^ 64)) }
-        ensures body { IsBodyBy (enters_body self.now.state.processor) result }
-        ensures outer { IsStanding IsOuter self.now.opening self.now.state }
-    {
-        self.whole.outer_law();
-        self.whole.next_move(plan)
-    }
-
     /// Whether the machine is halted for good: no vector wakes it, and no event of the plan is left.
     pub fn done(&self, plan: &Plan) -> bool
         ensures done { result ≡ is_rest (move_of plan.now self.now.state) }
         ensures outer { IsStanding IsOuter self.now.opening self.now.state }
     {
-        self.next_move(plan).is_rest()
+        self.whole.outer_law();
+        matches!(self.whole.next_move(plan), Move::Rest)
     }
 
     /// How many turns were taken.

@@ -95,10 +95,7 @@ impl<'i> Whole<'i> {
 
     /// Takes the step from a state that doesn't rest and at which no body is to run, and tells the frames that it may have
     /// changed: every byte of memory outside them is as it was.
-    pub fn advance(&mut self, plan: &Plan, next: Move) -> (Seen, Touched)
-        requires moved { next ≡ move_of plan.now self.old.state }
-        requires planned { IfTaken next (λ what. IsPlannable what × (self.old.state.taken + 1 < 2 ^ 64)) }
-        requires body { IsBodyBy (enters_body self.old.state.processor) next }
+    pub fn advance(&mut self, plan: &Plan) -> (Seen, Touched)
         requires no_body { enters_body self.old.state.processor ≡ false }
         requires left { is_rest (move_of plan.now self.old.state) ≡ false }
         requires turns { self.old.state.turns < 4294967296 }
@@ -107,7 +104,7 @@ impl<'i> Whole<'i> {
         ensures touched { StaysOutside result.1 self.old.real self.new.real }
         ensures told { result.1 ≡ touched_by_move (move_of plan.now self.old.state) self.old.state.processor self.old.real }
     {
-        match next {
+        match self.next_move(plan) {
             Move::Take(what) => (self.take(what), Touched::Nothing),
             Move::Turn => self.turn(),
             Move::Serve | Move::Rest => unreachable!(),

@@ -9,31 +9,31 @@ use Rattle.gate_state.proofs.whole.Whole.advance.Goals as goal
 pub returns-in-Take-clause-next : goal.returns-in-Take-clause-next
 returns-in-Take-clause-next c =
     ap known_of c.take.ensures.taken
-    ∙ stepped_is c.args.plan.now (known_of c.args.self.now) _ (sym c.in-Take.is ∙ c.requires.moved)
+    ∙ stepped_is c.args.plan.now (known_of c.args.self.now) _ (sym c.in-Take.is ∙ c.next_move.ensures.moved)
     ∙ next_alone c.args.plan.now (known_of c.args.self.now) c.requires.no_body
 
 pub returns-in-Turn-clause-next : goal.returns-in-Turn-clause-next
 returns-in-Turn-clause-next c =
     c.turn.ensures.turned
-    ∙ stepped_is c.args.plan.now (known_of c.args.self.now) _ (sym c.in-Turn.is ∙ c.requires.moved)
+    ∙ stepped_is c.args.plan.now (known_of c.args.self.now) _ (sym c.in-Turn.is ∙ c.next_move.ensures.moved)
     ∙ next_alone c.args.plan.now (known_of c.args.self.now) c.requires.no_body
 
 pub returns-in-Take-clause-seen : goal.returns-in-Take-clause-seen
 returns-in-Take-clause-seen c =
-    c.take.ensures.seen ∙ ap (λ (m : Move). seen_by m c.args.self.now.state) (sym c.in-Take.is ∙ c.requires.moved)
+    c.take.ensures.seen ∙ ap (λ (m : Move). seen_by m c.args.self.now.state) (sym c.in-Take.is ∙ c.next_move.ensures.moved)
 
 pub returns-in-Turn-clause-seen : goal.returns-in-Turn-clause-seen
 returns-in-Turn-clause-seen c =
-    c.turn.ensures.seen ∙ ap (λ (m : Move). seen_by m c.args.self.now.state) (sym c.in-Turn.is ∙ c.requires.moved)
+    c.turn.ensures.seen ∙ ap (λ (m : Move). seen_by m c.args.self.now.state) (sym c.in-Turn.is ∙ c.next_move.ensures.moved)
 
 pub returns-in-Take-clause-touched : goal.returns-in-Take-clause-touched
 returns-in-Take-clause-touched c = λ p out. ap (λ (h : HeldState). byte_at h.real p) c.take.ensures.taken
 
 pub returns-in-Take-clause-told : goal.returns-in-Take-clause-told
 returns-in-Take-clause-told c =
-    ap (λ (m : Move). touched_by_move m c.args.self.now.state.processor c.args.self.now.real) (sym c.in-Take.is ∙ c.requires.moved)
+    ap (λ (m : Move). touched_by_move m c.args.self.now.state.processor c.args.self.now.real) (sym c.in-Take.is ∙ c.next_move.ensures.moved)
 
 pub returns-in-Turn-clause-told : goal.returns-in-Turn-clause-told
 returns-in-Turn-clause-told c =
     c.turn.ensures.told
-    ∙ ap (λ (m : Move). touched_by_move m c.args.self.now.state.processor c.args.self.now.real) (sym c.in-Turn.is ∙ c.requires.moved)
+    ∙ ap (λ (m : Move). touched_by_move m c.args.self.now.state.processor c.args.self.now.real) (sym c.in-Turn.is ∙ c.next_move.ensures.moved)
