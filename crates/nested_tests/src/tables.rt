@@ -71,7 +71,7 @@ fn names(mem: &PhysMem, table: u64, target: u64) -> bool
         → frame_of (entry_in mem.now table i) ≡ target }
 {
     for index in 0..512 {
-        let entry = Entry(mem.entry(table, index));
+        let entry = Entry(mem.entry(table as u32, index));
         if entry.is_present() && entry.frame() != target {
             return false;
         }

@@ -37,7 +37,7 @@ fn add_leaves(mem: &mut PhysMem, count: u32, frame: u32)
     ensures differs { DiffersInField count 4 mem.old mem.new }
 {
     for index in 0..ENTRIES {
-        let value = mem.entry(u64::from(frame), u64::from(index));
+        let value = mem.entry(frame, index);
         let entry = Entry(value);
         raise(mem, LOOSE, count, is_loose(entry), entry.frame());
     }
@@ -54,7 +54,7 @@ fn add_links(mem: &mut PhysMem, count: u32, frame: u32)
     ensures differs { DiffersInField count 8 mem.old mem.new }
 {
     for index in 0..ENTRIES {
-        let value = mem.entry(u64::from(frame), u64::from(index));
+        let value = mem.entry(frame, index);
         let entry = Entry(value);
         raise(mem, LINKS, count, entry.is_present(), entry.frame());
     }

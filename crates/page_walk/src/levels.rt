@@ -150,7 +150,7 @@ fn entry_at(mem: &PhysMem, table: u32, level: u8, va: u64) -> Entry
     requires level { (1 ≤ level) × (level ≤ 4) }
     ensures value { result.0 ≡ entry_in mem.now table (page_index (page_of va) level) }
 {
-    Entry(mem.entry(u64::from(table), index(va, level) as u64))
+    Entry(mem.entry(table, index(va, level) as u32))
 }
 
 /// Whether an entry of a table of this level leads nowhere, in a memory of so many frames.

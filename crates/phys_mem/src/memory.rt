@@ -98,13 +98,13 @@ impl PhysMem {
 
     /// Entry `index`, 0 to 511, of the page table in a frame: SDM volume 3, 4.2.
     #[tactic(auto, unfolding(crate::specs::Memory::entry_in))]
-    pub fn entry(&self, frame: u64, index: u64) -> u64
+    pub fn entry(&self, frame: u32, index: u32) -> u64
         requires frame { 4096 * frame + 4096 ≤ length self.now }
         requires index { index < 512 }
         ensures { result ≡ entry_in self.now frame index }
     {
         let _frames = self.frames();
-        self.load64(4096 * frame + 8 * index)
+        self.load64(4096 * u64::from(frame) + 8 * u64::from(index))
     }
 
     /// Stores one byte.

@@ -254,7 +254,7 @@ fn put_entry<O: Sink>(
         (line_of_entry (table_value image.now layout.now.frames frame index)
         (entry_in mem.now frame index) frame index) result }
 {
-    let value = mem.entry(u64::from(frame), u64::from(index));
+    let value = mem.entry(frame, index);
     if opening_value(image, layout, frame, index) == value {
         return Ok(());
     }

@@ -20,7 +20,7 @@ pub fn seen_entry(frames: &Frames, mem: &PhysMem, frame: u64, index: u64) -> Ent
 {
     mask_law();
     let _frames = frames.frames();
-    Entry(mem.entry(frame, index))
+    Entry(mem.entry(frame as u32, index as u32))
 }
 
 /// Stores an entry of the table in a frame that is none of the books'.

@@ -96,7 +96,7 @@ fn named(list: &[u32], frame: u32) -> u32 {
 /// An entry of a frame; 0 past the end of memory.
 fn entry(mem: &PhysMem, frame: u32, index: u32) -> Entry {
     if frame < mem.frames() && index < ENTRIES {
-        Entry(mem.entry(u64::from(frame), u64::from(index)))
+        Entry(mem.entry(frame, index))
     } else {
         Entry(0)
     }
