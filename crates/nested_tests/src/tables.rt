@@ -70,6 +70,7 @@ fn names(mem: &PhysMem, table: u64, target: u64) -> bool
     ensures { result ≡ true → (i : ℕ) → i < 512 → is_present (entry_in mem.now table i) ≡ true
         → frame_of (entry_in mem.now table i) ≡ target }
 {
+    let _frames = mem.frames();
     for index in 0..512 {
         let entry = Entry(mem.entry(table as u32, index));
         if entry.is_present() && entry.frame() != target {

@@ -67,6 +67,7 @@ fn is_filled_at(mem: &PhysMem, level: u8, frame: u64, index: u64) -> bool
     requires index { index < 512 }
     ensures { result ≡ (is_present (entry_in mem.now frame index) && not (is_slot_entry level index)) }
 {
+    let _frames = mem.frames();
     Entry(mem.entry(frame as u32, index as u32)).is_present() & !is_slot_entry(level, index)
 }
 
