@@ -1,11 +1,12 @@
 -- What is no layout of an image, no kernel slot and no page of its code, each named by the sentence that it guards.
-use Rattle.std.proofs.Common.{◌≡◌, ◌≢◌, ℕ, ◌+◌, ◌<◌, true, false, List, slice_index, sym, ap, ◌∙◌, arith}
+use Rattle.std.proofs.Common.{◌≡◌, ◌≢◌, ℕ, ◌+◌, ◌<◌, true, false, List, length, slice_index, sym, ap, ◌∙◌, arith}
 use Rattle.std.proofs.lemmas.Bool.{false≢true}
 use Rattle.elf_image.specs.Pages.{is_executable, page_count, pages_of}
-use Rattle.boot_map.specs.Division.{Division, IsLayout, division_of, need, pages_start}
+use Rattle.boot_map.specs.declared.part.Part.TheVariants.{ImagePage, MapTable, RangeTable}
+use Rattle.boot_map.specs.Division.{Division, IsLayout, division_of, map_tables, need, pages_start}
 use Rattle.boot_map.specs.KernelSlot.{HoldsSlot, IsCodePage, is_slot_table}
 use Rattle.boot_map.specs.OpeningEntries.{opening_entry}
-use Rattle.boot_map.specs.Parts.{part_at}
+use Rattle.boot_map.specs.Parts.{IsPartOf, part_at}
 
 module _ (b : List ℕ) (d : Division) (it : IsLayout b d) where
   -- of another image's pages
@@ -40,3 +41,14 @@ module _ (b : List ℕ) (frames : ℕ) where
       → IsCodePage b frames page frame → ⊥
   another_frame page frame past it =
       let within = it.within in let stands = it.frame_is in omega (arith, past, within, stands)
+
+module _ (d : Division) where
+  -- a table, a page of the image and a table of the direct map past the last
+  range_table_past_the_last : IsPartOf d (RangeTable (length d.ranges)) → ⊥
+  range_table_past_the_last it = omega (arith, it)
+
+  image_page_past_the_last : IsPartOf d (ImagePage d.pages) → ⊥
+  image_page_past_the_last it = omega (arith, it)
+
+  map_table_past_the_last : IsPartOf d (MapTable (map_tables d)) → ⊥
+  map_table_past_the_last it = omega (arith, it)

@@ -1,3 +1,4 @@
 pub mod Forms
 pub mod Numerals
 mod WorkedWords
+mod RefutedBounds

@@ -1,3 +1,4 @@
 pub mod HeldFiles
 pub mod HeaderPieces
 pub mod PageReads
+mod RefutedScans

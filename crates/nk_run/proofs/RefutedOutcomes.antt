@@ -7,11 +7,7 @@ use Rattle.phys_mem.specs.Memory.{byte_at}
 use Rattle.irq_plan.specs.declared.event.Event.{Event}
 use Rattle.irq_plan.specs.PlanFile.{plan_of}
 use Rattle.irq_plan.specs.PlannedEvents.{IsPlan}
-use Rattle.elf_image.specs.declared.fault.ImageFault.{ImageFault}
 use Rattle.elf_image.specs.Pages.{is_executable}
-use Rattle.elf_image.specs.Rows.{first_fault}
-use Rattle.byte_scanner.specs.declared.encoding.Found.{Found}
-use Rattle.byte_scanner.specs.FirstFound.{first_found}
 use Rattle.boot_map.specs.Division.{IsLayout, division_of}
 use Rattle.boot_map.specs.KernelSlot.{IsCodePage}
 use Rattle.gate_state.specs.AnyVector.{DeliversAny}
@@ -31,7 +27,6 @@ use Rattle.command_words.specs.declared.command_line.Role.TheVariants.{Input, Mo
 use Rattle.command_words.specs.declared.command_line.Command.{Command}
 use Rattle.command_words.specs.declared.command_line.Command.TheVariants.{Run}
 use Rattle.command_words.specs.CommandLine.{IsAsked, command_of, name_in}
-use Rattle.file_scan.specs.GoodImages.{IsGoodImage}
 use Rattle.file_scan.specs.ShelfChanges.{Change, Files, ShelfState}
 use Rattle.nk_run.specs.declared.ending.Ending.{Ending}
 use Rattle.nk_run.specs.Clauses.{HasCodeAt, HasEnd, HasJournal, HasModules, HasSafeRun, IsDoable, IsFaultless, IsGoodJournal, IsGoodList, IsGoodPlan, IsGoodText, IsSafeRun, IsUnread, IsWholeJoin, NameRose, Promises}
@@ -112,15 +107,6 @@ module _ (words : List (List ℕ)) (shelf : Change ShelfState) (role : Role) (it
       files told it.reached))
 
 -- files that are longer than 64 MiB, or not in form
-long_image : (b : List ℕ) → length b ≡ 67108865 → IsGoodImage b → ⊥
-long_image b is it = let within = it.within in omega (arith, is, within)
-
-faulty_image : (b : List ℕ) (fault : ImageFault) → first_fault b ≡ Some fault → IsGoodImage b → ⊥
-faulty_image b fault is it = let none = it.formed in cc
-
-unclean_image : (b : List ℕ) (found : Found) → first_found b ≡ Some found → IsGoodImage b → ⊥
-unclean_image b found is it = let none = it.clean in cc
-
 long_listing : (address : ℕ) (b : List ℕ) → length b ≡ 67108865 → HasCodeAt address b → ⊥
 long_listing address b is it = let within = it.within in omega (arith, is, within)
 
