@@ -2,3 +2,4 @@ pub mod HeldFiles
 pub mod HeaderPieces
 pub mod PageReads
 mod RefutedScans
+mod BuiltScans

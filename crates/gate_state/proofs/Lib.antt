@@ -89,3 +89,5 @@ mod RefutedShutdowns
 mod RefutedStandings
 mod RefutedPlaces
 mod RefutedReturns
+mod RefutedShown
+mod RefutedSteps

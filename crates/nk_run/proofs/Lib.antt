@@ -39,3 +39,4 @@ mod RefutedReplays
 mod RefutedOutcomes
 mod BuiltPremises
 mod RefutedFiles
+mod BuiltLimits
