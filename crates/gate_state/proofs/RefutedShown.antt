@@ -12,6 +12,9 @@ use Rattle.gate_state.specs.ShownSteps.{IsShown, IsShownCall, IsShownDelivery}
 byte_256 : IsShown (seen.Console 256) → ⊥
 byte_256 it = omega (arith, it)
 
+none_and_some : (told : Option ℕ) (c : ℕ) → told ≡ None → told ≡ Some c → ⊥
+none_and_some told c none some = cc
+
 -- a delivery of vector 48; one with a code or an RIP of 65 bits; a page fault without CR2, or with one of 65 bits; and another
 -- fault with CR2
 vector_48 : IsShownDelivery (record { vector = 48; code = None; rip = 0; cr2 = None }) → ⊥
@@ -24,7 +27,7 @@ wide_rip : IsShownDelivery (record { vector = 3; code = None; rip = 0x1000000000
 wide_rip it = let small : 0x10000000000000000 < 0x10000000000000000 = it.rip in omega (arith, small)
 
 page_fault_without_cr2 : IsShownDelivery (record { vector = 14; code = Some 0; rip = 0; cr2 = None }) → ⊥
-page_fault_without_cr2 it = let (c, small, told) = it.cr2 in let is : None ≡ Some c = told in cc
+page_fault_without_cr2 it = let (c, small, told) = it.cr2 in none_and_some None c refl told
 
 page_fault_with_wide_cr2 : IsShownDelivery (record { vector = 14; code = Some 0; rip = 0; cr2 = Some 0x10000000000000000 }) → ⊥
 page_fault_with_wide_cr2 it =
@@ -34,7 +37,7 @@ page_fault_with_wide_cr2 it =
     omega (arith, same, small)
 
 protection_with_cr2 : IsShownDelivery (record { vector = 13; code = Some 0; rip = 0; cr2 = Some 0 }) → ⊥
-protection_with_cr2 it = let (c, small, told) = it.cr2 in let is : Some 0 ≡ None = told in cc
+protection_with_cr2 it = let (c, small, told) = it.cr2 in none_and_some (Some 0) 0 told refl
 
 -- a call with a word of 65 bits, a byte read that is none, and an answer or a place of 65 bits
 module _ (s : MachineState) (it : IsShownCall s) where
