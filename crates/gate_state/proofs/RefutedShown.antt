@@ -1,5 +1,5 @@
 -- What no step and no call shows, each at concrete values or named by the sentence that it guards.
-use Rattle.std.proofs.Common.{◌≡◌, ◌<◌, ◌≤◌, ℕ, List, ◌∷◌, None, Some, Option, subst, arith}
+use Rattle.std.proofs.Common.{◌≡◌, ◌<◌, ◌≤◌, ℕ, List, ◌∷◌, None, Some, Option, refl, subst, arith}
 use Rattle.std.specs.Prelude.{All, IfSome}
 use Rattle.std.proofs.lemmas.List.Elements.{All-head}
 use Rattle.nk_body.specs.CallRules.{bytes_read}
