@@ -1,7 +1,8 @@
 #!/bin/sh
-# Times `nkrun run` on three loops of machine code beside QEMU with one instruction a block, Unicorn with a hook on each
-# instruction, and Bochs, in one run, and prints the rates by processor time; then `nkrun work 100` beside as many plain
-# instructions on each, and `nkrun replay` of that run's journal. A benchmark, not a test.
+# Times `nkrun run` on three loops of machine code beside QEMU with one instruction a block, QEMU as it comes, which
+# translates whole blocks, Unicorn with a hook on each instruction, and Bochs, in one run, and prints the rates by
+# processor time; then `nkrun work 100` beside as many plain instructions on each, and `nkrun replay` of that run's
+# journal. A benchmark, not a test. A peer that isn't there is left out, and so is one that tells nothing.
 # usage: bench/run_beside_peers.sh [ROUNDS [SECONDS [PROGRAM [EARLIER]]]]
 #   SECONDS is about what one run takes; PROGRAM is an nkrun that is built already, or - for the peers alone; EARLIER is
 #   another, which runs beside it.

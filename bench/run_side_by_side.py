@@ -11,8 +11,10 @@ import sys
 
 ROUNDS, SECONDS, NKRUN, WORK = int(sys.argv[1]), float(sys.argv[2]), sys.argv[3], pathlib.Path(sys.argv[4])
 EARLIER = sys.argv[5:]                  # another nkrun, or none
+OWN = ("nkrun", "earlier")              # what must tell RAX; a peer that tells none is left out
 LOOPS = {"registers": 5, "mix": 20, "user": 1}  # instructions an iteration
 TINY = 1000                             # iterations of the run that measures the start
+START_LIMIT, LIMIT = 60, 600            # seconds after which a run with TINY iterations is ended, and any other
 MOST_TURNS = 4294967296
 LEAST_MADE, MOST_MADE = 1, 100          # numbers of made images: the first measures the start
 BOCHSRC = """display_library: term
@@ -23,6 +25,10 @@ clock: sync=none
 port_e9_hack: enabled=1
 panic: action=fatal
 """
+
+
+class Untold(Exception):
+    """A program ended and didn't tell RAX."""
 
 
 def number(pattern, text):
@@ -47,7 +53,8 @@ def nkrun_told(text):
 
 def bochs_told(text):
     """Its clock ticks once an instruction."""
-    return letters(text), number(r"^(\d+)p.*Shutdown port", (WORK / "bochs.log").read_text("latin-1"))
+    log = WORK / "bochs.log"            # none where it ended before it read its options
+    return letters(text), number(r"^(\d+)p.*Shutdown port", log.read_text("latin-1") if log.exists() else "")
 
 
 def one_instruction_a_block():
@@ -65,9 +72,10 @@ def programs():
             words = [os.path.abspath(program), "run", "image", "empty", "empty", str(MOST_TURNS), "512"]
             found[name] = "image", words, nkrun_told
     if shutil.which("qemu-system-x86_64"):
-        words = ["qemu-system-x86_64", *one_instruction_a_block(), "-bios", "rom", "-nodefaults", "-display", "none",
-                 "-debugcon", "stdio", "-device", "isa-debug-exit,iobase=0xf4,iosize=1"]
-        found["QEMU"] = "rom", words, lambda text: (letters(text), None)
+        for name, accelerator in ("QEMU", one_instruction_a_block()), ("QEMU as it comes", ["-accel", "tcg"]):
+            words = ["qemu-system-x86_64", *accelerator, "-bios", "rom", "-nodefaults", "-display", "none",
+                     "-debugcon", "stdio", "-device", "isa-debug-exit,iobase=0xf4,iosize=1"]
+            found[name] = "rom", words, lambda text: (letters(text), None)
     if (WORK / "hooked_unicorn").exists():
         found["Unicorn"] = "flat", ["./hooked_unicorn"], lambda text: (letters(text), number(r"^(\d+)$", text))
     if shutil.which("bochs"):
@@ -75,10 +83,10 @@ def programs():
     return found
 
 
-def timed(words, text="text"):
+def timed(words, text="text", limit=LIMIT):
     """Processor seconds of these words, whose output goes to a file."""
     with open(WORK / "go") as go, open(WORK / text, "w") as output:
-        process = subprocess.Popen(["timeout", "600", *words], cwd=WORK, env={**os.environ, "TERM": "xterm"},
+        process = subprocess.Popen(["timeout", str(limit), *words], cwd=WORK, env={**os.environ, "TERM": "xterm"},
                                    stdin=go, stdout=output, stderr=subprocess.DEVNULL)
         usage = os.wait4(process.pid, 0)[2]
     return usage.ru_utime + usage.ru_stime
@@ -89,7 +97,7 @@ def run(loop, iterations, form, words, told):
     code = (WORK / loop / form).read_bytes().replace(b"ITERATED", struct.pack("<Q", iterations))
     (WORK / form).write_bytes(code)
     (WORK / form).chmod(0o755)
-    seconds = timed(words)
+    seconds = timed(words, limit=START_LIMIT if iterations == TINY else LIMIT)
     return seconds, *told((WORK / "text").read_bytes().decode("latin-1"))
 
 
@@ -97,8 +105,10 @@ def checked(loop, iterations, program):
     """Processor seconds and instructions of a run that ends with the RAX of this machine's own processor."""
     right = run(loop, iterations, "native", ["./native"], native_told)[1]
     seconds, rax, instructions = run(loop, iterations, *program)
+    if not rax:
+        raise Untold(f"{program[1][0]}, {loop}, {iterations} iterations: RAX is untold")
     if rax != right:
-        sys.exit(f"{program[1][0]}, {loop}, {iterations} iterations: RAX is {rax or 'untold'}, and not {right}\n"
+        sys.exit(f"{program[1][0]}, {loop}, {iterations} iterations: RAX is {rax}, and not {right}\n"
                  + (WORK / "text").read_text("latin-1")[-500:])
     return seconds, instructions
 
@@ -119,6 +129,20 @@ def iterations_for(loop, program):
         iterations *= 4
         seconds = measured(loop, iterations, program)[1]
     return min(int(iterations * SECONDS / seconds), MOST_TURNS // LOOPS[loop] - TINY)
+
+
+def all_iterations(found):
+    """The numbers of iterations by loop and program, without peers that don't tell RAX: standard error has a line on
+    each of these."""
+    iterations = {}
+    for name, program in found.items():
+        try:
+            iterations |= {(loop, name): iterations_for(loop, program) for loop in LOOPS}
+        except Untold as untold:
+            if name in OWN:
+                raise
+            print(f"left out: {name}: {untold}", file=sys.stderr)
+    return {(loop, name): iterations[loop, name] for loop in LOOPS for name in found if (loop, name) in iterations}
 
 
 def made_turns(made):
@@ -162,7 +186,7 @@ def tell_made(calls, times, rates):
     turns = made_turns(MOST_MADE) - made_turns(LEAST_MADE)
     rate = turns / working / 1e6
     print(f"work {MOST_MADE}: {turns:,} turns beyond work {LEAST_MADE} in {working:.3f} s, {rate:.2f} million a second; "
-          + ", ".join(f"{rate / other:.3f} of {name}'s plain instructions" for name, other in rates.items()))
+          + ", ".join(f"{rate / other:.3f} of plain instructions on {name}" for name, other in rates.items()))
     print(f"replay: {calls:,} calls in {replaying:.3f} s, {calls / replaying:,.0f} a second, "
           f"{replaying / working:.3f} of the time of their run")
 
@@ -171,25 +195,28 @@ def main():
     (WORK / "empty").touch()
     (WORK / "go").write_text("c\n")     # starts a Bochs that was built with its debugger
     (WORK / "bochsrc").write_text(BOCHSRC)
-    pairs = [(loop, name, program) for loop in LOOPS for name, program in programs().items()]
-    iterations = [iterations_for(loop, program) for loop, _, program in pairs]
+    found = programs()
+    iterations = all_iterations(found)
     calls = keep_journal() if NKRUN != "-" else 0
     rounds, made = [], []
     for _ in range(ROUNDS):
-        rounds.append([measured(loop, most, program) for (loop, _, program), most in zip(pairs, iterations)])
+        rounds.append([measured(loop, most, found[name]) for (loop, name), most in iterations.items()])
         made += [measured_made()] if calls else []
     print(f"medians of {ROUNDS} rounds, in turn; million instructions a second of processor time, the start taken off")
-    print(f"{'loop':9} {'program':7} {'iterations':>13} {'start, s':>9} {'rate':>8} {'nkrun, of it':>13}")
+    print(f"{'loop':9} {'program':16} {'iterations':>13} {'start, s':>9} {'rate':>8} {'nkrun, of it':>13}")
     own, plain = {}, {}
-    for (loop, name, _), most, times in zip(pairs, iterations, zip(*rounds)):
+    for ((loop, name), most), times in zip(iterations.items(), zip(*rounds)):
         start, seconds = map(statistics.median, zip(*times))
         rate = LOOPS[loop] * (most - TINY) / seconds / 1e6
         own.setdefault(loop, rate if name == "nkrun" else None)
         plain |= {name: rate} if loop == "user" else {}
         ratio = f"{own[loop] / rate:.3f}" if own[loop] else "-"
-        print(f"{loop:9} {name:7} {most:13,} {start:9.3f} {rate:8.2f} {ratio:>13}")
+        print(f"{loop:9} {name:16} {most:13,} {start:9.3f} {rate:8.2f} {ratio:>13}")
     if calls:
         tell_made(calls, made, plain)
 
 
-main()
+try:
+    main()
+except Untold as untold:
+    sys.exit(str(untold))

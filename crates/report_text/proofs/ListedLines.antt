@@ -1,17 +1,19 @@
 -- Lines that go out number by number, those of a page table's entries, and the closing section.
-use Rattle.std.proofs.Common.{◌≡◌, ℕ, zero, suc, ◌+◌, ◌-◌, ◌<◌, ◌≤◌, Bool, true, false, List, [], ◌++◌, Option, refl, sym, ap, ◌∙◌, subst, append_assoc, append-nil, arith}
-use Rattle.std.specs.Prelude.{◌&&◌, nat_lt, if◌then◌else◌}
-use Rattle.std.proofs.lemmas.Bool.{lt-ltb}
+use Rattle.std.proofs.Common.{◌≡◌, ℕ, zero, suc, ◌+◌, ◌-◌, ◌<◌, ◌≤◌, ◌≢◌, Bool, true, false, List, [], ◌++◌, Option, refl, sym, ap, ◌∙◌, subst, append_assoc, append-nil, arith}
+use Rattle.std.specs.Prelude.{◌&&◌, ◌==◌, nat_lt, if◌then◌else◌}
+use Rattle.std.proofs.lemmas.Bool.{lt-ltb, ne_eqb}
 use Rattle.std.specs.Io.KnownBytes.{Appends}
 use Rattle.std.proofs.KnownBytes.{Appends-trans, Appends-nil}
 use Rattle.phys_mem.specs.Memory.{entry_in}
 use Rattle.nk_bits.specs.declared.kind.Kind.{Kind}
 use Rattle.nk_bits.specs.Kinds.{kind_of}
+use Rattle.boot_map.specs.OpeningEntries.{opening_entry}
+use Rattle.boot_map.specs.OpeningKinds.{kind_at}
 use Rattle.page_desc.specs.PageTables.{is_table, table_entries}
 use Rattle.nk_host.specs.Taken.{AppendsPrefix}
 use Rattle.nk_body.specs.NestedRecord.{AreBooks, Books, Ledger, Nested, nested_by, nested_in}
 use Rattle.report_text.specs.ClosingSection.{bytes_of_region, entry_lines, kind_lines, line_of_entry, lines_of, lines_of_table, log_lines, region_lines, section, table_value}
-use Rattle.report_text.specs.RunLines.{root_line, trap_line}
+use Rattle.report_text.specs.RunLines.{entry_line, root_line, trap_line}
 use Rattle.report_text.proofs.Texts.{prefix_behind, prefix_of_both}
 
 -- the lines from a place on, where it isn't the last, and at the end
@@ -76,6 +78,34 @@ module _ {O : Type 0} (taken : O → Option (List ℕ)) (faults : O → ℕ) (fi
         let all = going.split ∙ ap (λ l. going.done ++ l) (no_lines g total place past) ∙ append-nil going.done in
         subst (Appends (taken first) (taken now)) (sym all) going.appended
 
+-- places that give nothing are passed over
+pub lines_behind : (g : ℕ → List ℕ) (total n place later : ℕ) → later ≡ place + n → later ≤ total
+    → ((i : ℕ) → place ≤ i → i < later → g i ≡ [])
+    → lines_of g (total - place) place ≡ lines_of g (total - later) later
+lines_behind g total zero place later is low none =
+    let same : place ≡ later = omega (arith, is) in
+    ap (λ p. lines_of g (total - p) p) same
+lines_behind g total (suc n) place later is low none =
+    lines_from g total place (omega (arith, is, low))
+    ∙ ap (λ l. l ++ lines_of g (total - (place + 1)) (place + 1)) (none place (omega arith) (omega (arith, is)))
+    ∙ lines_behind g total n (place + 1) later (omega (arith, is)) low
+    (λ i from below. none i (omega (arith, from)) below)
+
+pub lines_passed : {O : Type 0} (taken : O → Option (List ℕ)) (faults : O → ℕ) (first now : O) (g : ℕ → List ℕ)
+    (total : ℕ) (whole : List ℕ) (place later : ℕ) → AreGoing taken faults first now whole g total place
+    → place ≤ later → later ≤ total
+    → ((i : ℕ) → place ≤ i → i < later → g i ≡ [])
+    → AreGoing taken faults first now whole g total later
+lines_passed taken faults first now g total whole place later going behind low none = record {
+  done = going.done;
+  split =
+      going.split
+      ∙ ap (λ l. going.done ++ l)
+      (lines_behind g total (later - place) place later (omega (arith, behind)) low none);
+  appended = going.appended;
+  never_fell = going.never_fell;
+}
+
 -- lines that are the same at each place
 pub lines_alike : (g h : ℕ → List ℕ) (n place : ℕ) → ((i : ℕ) → i < place + n → g i ≡ h i)
     → lines_of g n place ≡ lines_of h n place
@@ -84,6 +114,35 @@ lines_alike g h zero place same = refl
 lines_alike g h (suc n) place same =
     ap (λ l. l ++ lines_of g n (place + 1)) (same place (omega arith))
     ∙ ap (λ l. h place ++ l) (lines_alike g h n (place + 1) (λ i low. same i (omega (arith, low))))
+
+-- an entry that was 0 has no line where it is 0, and has one where it isn't
+pub entry_stayed_0 : (now f i : ℕ) → now ≡ 0 → line_of_entry 0 now f i ≡ []
+entry_stayed_0 now f i is = ap (λ value. line_of_entry 0 value f i) is
+
+pub entry_rose : (m : List ℕ) (f i value : ℕ) (bytes : List ℕ) → bytes ≡ entry_line f i value → value ≡ entry_in m f i
+    → entry_in m f i ≢ 0
+    → bytes ≡ line_of_entry 0 (entry_in m f i) f i
+entry_rose m f i value bytes line is other =
+    let now : ℕ = entry_in m f i in
+    let differs : (0 == now) ≡ false = ne_eqb 0 now (λ same. other (sym same)) in
+    line ∙ ap (entry_line f i) is ∙ ap (λ (b : Bool). if b then [] else entry_line f i now) (sym differs)
+
+-- the changed entries of a page table that was one at the opening, and of one that wasn't
+pub old_table_lines : (image : List ℕ) (frames : ℕ) (m : List ℕ) (f : ℕ) → is_table (kind_at image frames f) ≡ true
+    → lines_of (λ i. line_of_entry (opening_entry image frames f i) (entry_in m f i) f i) 512 0
+    ≡ lines_of (λ i. line_of_entry (table_value image frames f i) (entry_in m f i) f i) 512 0
+old_table_lines image frames m f table =
+    ap (λ (b : Bool).
+    lines_of (λ i. line_of_entry (if b then opening_entry image frames f i else 0) (entry_in m f i) f i) 512 0)
+    (sym table)
+
+pub new_table_lines : (image : List ℕ) (frames : ℕ) (m : List ℕ) (f : ℕ) → is_table (kind_at image frames f) ≡ false
+    → lines_of (λ i. line_of_entry 0 (entry_in m f i) f i) 512 0
+    ≡ lines_of (λ i. line_of_entry (table_value image frames f i) (entry_in m f i) f i) 512 0
+new_table_lines image frames m f none =
+    ap (λ (b : Bool).
+    lines_of (λ i. line_of_entry (if b then opening_entry image frames f i else 0) (entry_in m f i) f i) 512 0)
+    (sym none)
 
 -- an entry of a page table is memory's
 entry_is : (kinds : List Kind) (m : List ℕ) (f i : ℕ) → is_table (kind_of kinds f) ≡ true → i < 512

@@ -1,10 +1,11 @@
 //! The closing section of a run: root and trap handler, what of kinds and page tables differs from the opening's, and
 //! the ledger.
-ghost use Rattle.std.specs.Prelude.{◌≡◌, ◌+◌, ◌<◌, ◌≤◌, ◌*◌, ◌++◌, length};
+ghost use Rattle.std.specs.Prelude.{◌≡◌, ℕ, ◌+◌, ◌<◌, ◌≤◌, ◌*◌, ◌≢◌, ◌++◌, length};
 ghost use Rattle.nk_host.specs.TextPuts.{IsTextPut};
 ghost use Rattle.phys_mem.specs.Memory.{entry_in};
 ghost use Rattle.nk_bits.specs.Kinds.{kind_of};
 ghost use Rattle.boot_map.specs.Division.{IsLayout};
+ghost use Rattle.boot_map.specs.OpeningEntries.{opening_entry};
 ghost use Rattle.boot_map.specs.OpeningKinds.{kind_at};
 ghost use Rattle.page_desc.specs.DescriptorBytes.{kinds_in};
 ghost use Rattle.page_desc.specs.PageTables.{is_table};
@@ -229,6 +230,29 @@ fn put_table<O: Sink>(
         (λ i. line_of_entry (table_value image.now layout.now.frames frame i)
         (entry_in mem.now frame i) frame i) 512 0) result }
 {
+    if layout.kind(image, frame).is_table() {
+        put_old_table(sink, image, layout, mem, frame)
+    } else {
+        put_new_table(sink, mem, frame)
+    }
+}
+
+/// Writes the entries that changed of a page table that was one at the opening.
+fn put_old_table<O: Sink>(
+    sink: &mut O,
+    image: &Image,
+    layout: &Layout,
+    mem: &PhysMem,
+    frame: u32,
+) -> Result<(), SinkFault>
+    requires layout { IsLayout image.now layout.now }
+    requires size { length mem.now ≡ 4096 * layout.now.frames }
+    requires frame { frame < layout.now.frames }
+    ensures { IsTextPut O.taken O.faults sink.old sink.new
+        (lines_of
+        (λ i. line_of_entry (opening_entry image.now layout.now.frames frame i)
+        (entry_in mem.now frame i) frame i) 512 0) result }
+{
     for index in 0..ENTRIES {
         if let Err(fault) = put_entry(sink, image, layout, mem, frame, index) {
             return Err(fault);
@@ -237,7 +261,7 @@ fn put_table<O: Sink>(
     Ok(())
 }
 
-/// Writes an entry of a page table, if it changed.
+/// Writes an entry, if it changed, of a page table that was one at the opening.
 fn put_entry<O: Sink>(
     sink: &mut O,
     image: &Image,
@@ -251,28 +275,47 @@ fn put_entry<O: Sink>(
     requires frame { frame < layout.now.frames }
     requires index { index ≤ 511 }
     ensures { IsTextPut O.taken O.faults sink.old sink.new
-        (line_of_entry (table_value image.now layout.now.frames frame index)
+        (line_of_entry (opening_entry image.now layout.now.frames frame index)
         (entry_in mem.now frame index) frame index) result }
 {
     let value = mem.entry(frame, index);
-    if opening_value(image, layout, frame, index) == value {
+    if layout.entry(image, frame, index as usize) == value {
         return Ok(());
     }
     put_all(sink, entry_line(&mut [0; ENTRY], frame, index, value))
 }
 
-/// An entry of a frame at the opening; 0 where the frame was no page table.
-fn opening_value(image: &Image, layout: &Layout, frame: u32, index: u32) -> u64
-    requires layout { IsLayout image.now layout.now }
-    requires frame { frame < layout.now.frames }
-    requires index { index ≤ 511 }
-    ensures { result ≡ table_value image.now layout.now.frames frame index }
+/// Writes the entries of a page table that was none at the opening: those that aren't 0.
+fn put_new_table<O: Sink>(sink: &mut O, mem: &PhysMem, frame: u32) -> Result<(), SinkFault>
+    requires { 4096 * frame + 4096 ≤ length mem.now }
+    ensures { IsTextPut O.taken O.faults sink.old sink.new
+        (lines_of (λ i. line_of_entry 0 (entry_in mem.now frame i) frame i) 512 0) result }
 {
-    if layout.kind(image, frame).is_table() {
-        layout.entry(image, frame, index as usize)
-    } else {
-        0
+    let mut index = next_entry(mem, frame, 0);
+    while index < ENTRIES {
+        let value = mem.entry(frame, index);
+        if let Err(fault) = put_all(sink, entry_line(&mut [0; ENTRY], frame, index, value)) {
+            return Err(fault);
+        }
+        index = next_entry(mem, frame, index + 1);
     }
+    Ok(())
+}
+
+/// The least index from `from`, at most 512, on at which an entry of a page table isn't 0; 512 where there is none.
+fn next_entry(mem: &PhysMem, frame: u32, from: u32) -> u32
+    requires frame { 4096 * frame + 4096 ≤ length mem.now }
+    requires from { from ≤ 512 }
+    ensures place { (from ≤ result) × (result ≤ 512) }
+    ensures zero { (i : ℕ) → from ≤ i → i < result → entry_in mem.now frame i ≡ 0 }
+    ensures entry { result < 512 → entry_in mem.now frame result ≢ 0 }
+{
+    for index in from..ENTRIES {
+        if mem.entry(frame, index) != 0 {
+            return index;
+        }
+    }
+    ENTRIES
 }
 
 /// Whether two kinds are one.

@@ -1,15 +1,16 @@
 //! The text of a run: its lines, and the section that closes it; the text of an audit; and the listing of an image's
 //! code. Each call appends to a sink exactly what `specs/RunLines.antt`, `specs/ClosingSection.antt`,
-//! `specs/AuditLines.antt` and `specs/ListingLines.antt` say, or a first part of that where the sink fails. The lines on an image are handed back instead, each as a `ShortLine`. It reads what it is
-//! handed, writes to the sink alone, and takes memory only for an audit, before its first line. Which line comes when, and
-//! what follows a fault, it leaves to the crates above. Floor: whole.
+//! `specs/AuditLines.antt` and `specs/ListingLines.antt` say, or a first part of that where the sink fails. The lines
+//! on an image are handed back instead, each as a `ShortLine`. It reads what it is handed, writes to the sink alone,
+//! and takes memory only for an audit, before its first line. Which line comes when, and what follows a fault, it
+//! leaves to the crates above. Floor: whole.
 #![tactic(auto)]
 
 // Words, each put before the one behind it.
 mod words;
 
 // The lines on an image.
-mod short_line;
+mod image_lines;
 
 // The lines of a run, and of its end.
 mod call_lines;
@@ -37,7 +38,7 @@ pub use call_lines::called;
 pub use closing::section;
 pub use code_listing::{code_listing_law, list};
 pub use counts::{RunCounts, summary};
+pub use image_lines::{ShortLine, admitted_line, image_line, protected_line};
 pub use region_audit::audit;
 pub use run_lines::{console, delivery, ending};
-pub use short_line::{ShortLine, admitted_line, image_line, protected_line};
 pub use two_states::Auditing;

@@ -1,4 +1,4 @@
-use Rattle.std.proofs.Common.{List, ℕ, refl, subst}
+use Rattle.std.proofs.Common.{refl, subst}
 use Rattle.std.specs.Prelude.{Result}
 use Rattle.nk_host.specs.TextPuts.{IsTextPut}
 use Rattle.report_text.proofs.Texts.{both_cut, both_put}
