@@ -1,5 +1,5 @@
 -- Files of exactly the most bytes, and an image that fills its memory exactly: what can be done with them is promised too.
-use Rattle.std.proofs.Common.{◌≡◌, ◌*◌, ◌≤◌, ℕ, List, [], ◌∷◌, None, Some, Option, Result, Ok, length, subst, sym, true, arith}
+use Rattle.std.proofs.Common.{◌≡◌, ◌/◌, ◌≤◌, ℕ, List, [], ◌∷◌, None, Some, Option, Result, Ok, length, subst, sym, true, arith}
 use Rattle.std.specs.Prelude.{All, IsOk, IsSomeAnd}
 use Rattle.std.proofs.lemmas.List.Elements.{All-cons, All-nil}
 use Rattle.irq_plan.specs.PlanFile.{plan_of}
