@@ -6,7 +6,7 @@ use Rattle.std.proofs.lemmas.Bool.{false≢true}
 use Rattle.nk_bits.specs.KernelLayout.{pool_start}
 use Rattle.phys_mem.specs.Memory.{byte_at, number_at}
 use Rattle.region_book.specs.declared.row.Row.{Row}
-use Rattle.region_book.specs.RegionBytes.{HasRowForm, HoldsRegions, RegionIndex, bits_in, book_in, row_in, slot_place}
+use Rattle.region_book.specs.RegionBytes.{DiffersInRegions, HasRowForm, HoldsRegions, RegionIndex, bits_in, book_in, row_in, slot_place}
 use Rattle.region_book.specs.RegionCalls.{free_rule, freed, with_one_more}
 use Rattle.region_book.specs.RegionLaws.{NumberedLaws}
 use Rattle.region_book.specs.RegionRecords.{Book, IsApart, IsBook, IsEachOnce, RegionRecord, declared_before, marked, region_of, with_region}
@@ -103,6 +103,17 @@ module _ (index : RegionIndex) (m : List ℕ) (it : HoldsRegions index m) where
   bit_of_no_region : (k : ℕ) → bit_in (bits_in m) k ≡ true
       → list_any (λ s. in_run (first_bit (row_in m s)) (row_in m s).size k) index.slots ≡ false → ⊥
   bit_of_no_region k set none = false≢true (sym none ∙ it.bits k set)
+
+-- a memory of a byte more, and one with another byte next to the slots or next to the bits
+module _ (before after : List ℕ) (it : DiffersInRegions before after) where
+  one_byte_more : length after ≡ length before + 1 → ⊥
+  one_byte_more is = let kept = it.size in omega (arith, is, kept)
+
+  byte_before_the_slots : byte_at after 0x29FFF ≢ byte_at before 0x29FFF → ⊥
+  byte_before_the_slots other = other (it.elsewhere 0x29FFF (inl (omega arith)))
+
+  byte_behind_the_bits : byte_at after 0x40000 ≢ byte_at before 0x40000 → ⊥
+  byte_behind_the_bits other = other (it.elsewhere 0x40000 (inr (omega arith)))
 
 -- what the laws on numbers of pages leave no room for: a slot that has another number than the pages declared before it, and
 -- a call that renumbers
