@@ -82,13 +82,13 @@ module _ (book : Book) (m later : List ℕ) where
       → byte_at later 0x2A000 ≢ byte_at m 0x2A000 → ⊥
   table_in_bits level frame leaves other = other (leaves.regions refl 0x2A000 (omega arith) (omega arith))
 
-  -- one that sets the handler changes the log
+  -- one that sets the handler changes the log's first byte
   handler_in_log : (address : ℕ) → LeavesBooks book (SetHandler address) m later
-      → byte_at later 0x1A008 ≢ byte_at m 0x1A008 → ⊥
-  handler_in_log address leaves other = other (leaves.log refl 0x1A008 (omega arith) (omega arith))
+      → byte_at later 0x1A000 ≢ byte_at m 0x1A000 → ⊥
+  handler_in_log address leaves other = other (leaves.log refl 0x1A000 (omega arith) (omega arith))
 
-  -- and so does a write in a region that is write-once
+  -- and a write in a region that is write-once its last
   once_in_log : (region offset place count : ℕ) (r : RegionRecord) → LeavesBooks book (Write region offset place count) m later
-      → region_of book region ≡ Some r → r.policy ≡ 1 → byte_at later 0x1A008 ≢ byte_at m 0x1A008 → ⊥
+      → region_of book region ≡ Some r → r.policy ≡ 1 → byte_at later 0x29FFF ≢ byte_at m 0x29FFF → ⊥
   once_in_log region offset place count r leaves found once other =
-      other (leaves.log (ap is_logged found ∙ ap (λ p. p == 4) once) 0x1A008 (omega arith) (omega arith))
+      other (leaves.log (ap is_logged found ∙ ap (λ p. p == 4) once) 0x29FFF (omega arith) (omega arith))
