@@ -4,7 +4,7 @@
 ghost use Rattle.std.specs.Prelude.{◌≡◌, ◌≤◌, ◌<◌, ◌+◌, ◌*◌, ◌/◌, if◌then◌else◌, IfSome, IsTrue, None, Some, [], length, vec_capacity};
 ghost use Rattle.phys_mem.specs.Memory.{entry_in};
 ghost use Rattle.nk_bits.specs.Paging.{is_canonical, page_of};
-ghost use Rattle.nk_bits.specs.Translations.{IsAccessible, NamesFramesIn, tlb_after, translation};
+ghost use Rattle.nk_bits.specs.Translations.{IsAccessible, NamesFramesIn, Pairs, look, tlb_after, translation};
 ghost use Rattle.cpu_step.specs.Processor.{IsSound};
 ghost use Rattle.nk_body.specs.CallRules.{Sourced, bytes_read};
 ghost use Rattle.nk_body.specs.Calls.{call_of};
@@ -15,10 +15,17 @@ ghost use Rattle.gate_state.specs.SourceBytes.{byte_through, kept_by, source_pla
 use crate::seen::Took;
 use cpu_step::Cpu;
 use mem_access::translate;
-use nk_bits::{CallWords, Leaf, canonical, named_law};
+use nk_bits::{CallWords, Leaf, canonical, named_law, translation_law};
 use nk_body::{Call, Source, call_of};
 use phys_mem::PhysMem;
 use tlb_model::Tlb;
+
+/// A page whose translation was found, which is kept since then.
+#[derive(Clone, Copy)]
+struct LastPage {
+    page: u64,
+    leaf: Leaf,
+}
 
 /// The address of the first byte that a call takes, if it takes any.
 pub(crate) fn source_place(words: &CallWords) -> u64
@@ -85,8 +92,9 @@ fn read_source(
         ≡ source_read mem.now root tlb.old va count }
     ensures room { vec_capacity into.old ≤ vec_capacity into.new }
 {
+    let mut last = None;
     for k in 0..count {
-        match read_byte(tlb, mem, root, va, k) {
+        match read_byte(tlb, mem, root, va, k, &mut last) {
             Some(byte) => into.push(byte).unwrap(),
             None => return false,
         }
@@ -95,14 +103,23 @@ fn read_source(
 }
 
 /// The byte that is so far behind an address, where that doesn't wrap, is canonical, and has a translation.
-fn read_byte(tlb: &mut Tlb, mem: &PhysMem, root: u32, va: u64, offset: u64) -> Option<u8>
+fn read_byte(
+    tlb: &mut Tlb,
+    mem: &PhysMem,
+    root: u32,
+    va: u64,
+    offset: u64,
+    last: &mut Option<LastPage>,
+) -> Option<u8>
     requires context { IsAccessible (length mem.now) root tlb.old }
+    requires last { IfSome last.old (λ it. look tlb.old.pairs it.page ≡ Some it.leaf) }
     ensures byte { result ≡ source_byte mem.now root tlb.old (va + offset) }
     ensures tlb { tlb.new ≡ source_tlb mem.now root tlb.old (va + offset) }
     ensures frames { NamesFramesIn (length mem.now) tlb.new }
+    ensures last { IfSome last.new (λ it. look tlb.new.pairs it.page ≡ Some it.leaf) }
 {
     match va.checked_add(offset) {
-        Some(at) if canonical(at) => byte_by(mem, at, look_up(mem, tlb, root, at)),
+        Some(at) if canonical(at) => byte_by(mem, at, look_up_once(mem, tlb, root, at, last)),
         _ => None,
     }
 }
@@ -116,6 +133,47 @@ fn byte_by(mem: &PhysMem, va: u64, leaf: Option<Leaf>) -> Option<u8>
     let _frames = mem.frames();
     match leaf {
         Some(leaf) => Some(mem.load8(4096 * u64::from(leaf.frame) + va % 4096)),
+        None => None,
+    }
+}
+
+/// The translation of a page, which isn't looked up again where it is the one that was found last.
+fn look_up_once(
+    mem: &PhysMem,
+    tlb: &mut Tlb,
+    root: u32,
+    va: u64,
+    last: &mut Option<LastPage>,
+) -> Option<Leaf>
+    requires context { IsAccessible (length mem.now) root tlb.old }
+    requires canonical { IsTrue (is_canonical va) }
+    requires last { IfSome last.old (λ it. look tlb.old.pairs it.page ≡ Some it.leaf) }
+    ensures found { result ≡ translation (entry_in mem.now) (length mem.now / 4096) root tlb.old (page_of va) }
+    ensures tlb { tlb.new ≡ kept_by result
+        (tlb_after (entry_in mem.now) (length mem.now / 4096) root tlb.old (page_of va)) (page_of va) }
+    ensures frame { IfSome result (λ leaf. 4096 * leaf.frame < length mem.now) }
+    ensures frames { NamesFramesIn (length mem.now) tlb.new }
+    ensures last { IfSome last.new (λ it. look tlb.new.pairs it.page ≡ Some it.leaf) }
+{
+    translation_law();
+    let page = va / 4096;
+    match *last {
+        Some(it) if it.page == page => Some(it.leaf),
+        _ => {
+            let leaf = look_up(mem, tlb, root, va);
+            *last = as_last(page, leaf);
+            leaf
+        }
+    }
+}
+
+/// What was found of a page, if anything was.
+fn as_last(page: u64, leaf: Option<Leaf>) -> Option<LastPage>
+    ensures { (pairs : Pairs) → (IfSome leaf (λ leaf. look pairs page ≡ Some leaf))
+        → IfSome result (λ it. look pairs it.page ≡ Some it.leaf) }
+{
+    match leaf {
+        Some(leaf) => Some(LastPage { page, leaf }),
         None => None,
     }
 }

@@ -16,6 +16,7 @@ loop-k-init c =
       so_far = ap length c.requires.none;
       most = omega arith;
       room = omega arith;
+      last = tt;
     }
 
 pub returns-in-None-clause-read : goal.returns-in-None-clause-read
@@ -41,6 +42,7 @@ loop-k-preserved c =
       so_far = grind (arith, common_steps);
       most = omega arith;
       room = omega (arith, c.push.ensures.capacity, c.loop-k.invariant.room);
+      last = c.read_byte.ensures.last;
     }
 
 pub returns-clause-read : goal.returns-clause-read

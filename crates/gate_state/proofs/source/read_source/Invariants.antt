@@ -1,5 +1,6 @@
-use Rattle.std.proofs.Common.{◌≡◌, ◌≤◌, ◌+◌, ◌-◌, length, vec_capacity}
-use Rattle.nk_bits.specs.Translations.{NamesFramesIn}
+use Rattle.std.proofs.Common.{◌≡◌, Some, ◌≤◌, ◌+◌, ◌-◌, length, vec_capacity}
+use Rattle.std.specs.Prelude.{IfSome}
+use Rattle.nk_bits.specs.Translations.{NamesFramesIn, look}
 use Rattle.gate_state.specs.SourceBytes.{source_read}
 use Rattle.gate_state.proofs.SourceReads.{with_front}
 use Rattle.gate_state.proofs.source.read_source.Given as goal
@@ -11,4 +12,5 @@ invariant-loop-k l = record {
   so_far : length l.into.items ≡ l.k;
   most : l.k ≤ l.count;
   room : vec_capacity l.fn.into ≤ vec_capacity l.into;
+  last : IfSome l.last (λ it. look l.tlb.pairs it.page ≡ Some it.leaf);
 }
