@@ -1,6 +1,7 @@
 pub mod LowerLaws
 pub mod Scene
 pub mod SourceReads
+mod SourceRuns
 pub mod SourceWants
 pub mod SceneProofsRespects
 pub mod SceneProofsUppers

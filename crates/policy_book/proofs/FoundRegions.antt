@@ -1,14 +1,12 @@
--- The region that an identifier names: it has the identifier, is shown with it, and is at most 65,536 bytes long.
-use Rattle.std.proofs.Common.{◌≡◌, ℕ, ◌≤◌, ◌+◌, Bool, true, false, List, [], ◌∷◌, arith, refl, sym, ap, ◌∙◌}
+-- The region that an identifier names: it has the identifier, and is at most 65,536 bytes long.
+use Rattle.std.proofs.Common.{◌≡◌, ℕ, ◌≤◌, ◌+◌, Bool, true, false, List, [], ◌∷◌, arith, refl}
 use Rattle.std.specs.Prelude.{◌==◌, All, IfSome, None, Option, Some, cond}
 use Rattle.std.specs.List.{find}
-use Rattle.std.specs.Option.{option_map}
 use Rattle.std.proofs.lemmas.Bool.{and_parts, eqb-true, leb-true}
 use Rattle.std.proofs.lemmas.List.Elements.{All-tail}
-use Rattle.std.proofs.lemmas.Option.{IfSome_then, same_Some}
-use Rattle.region_book.specs.declared.regions.Region.{Region}
+use Rattle.std.proofs.lemmas.Option.{IfSome_then}
 use Rattle.region_book.specs.RegionCalls.{fits_region}
-use Rattle.region_book.specs.RegionRecords.{Book, IsBook, IsRegion, RegionRecord, region_of, shown_region}
+use Rattle.region_book.specs.RegionRecords.{Book, IsBook, IsRegion, RegionRecord, region_of}
 
 -- what is found passes the test, and has what all have
 found : {X : Type 0} (p : X → Bool) (P : X → Type 0) (xs : List X) → All P xs → IfSome (find p xs) (λ x. (p x ≡ true) × P x)
@@ -35,11 +33,3 @@ has_size book id sound = IfSome_then (region_of book id) (is_sound book id sound
 pub fits_short : (o : Option RegionRecord) (offset count : ℕ) → IfSome o (λ r. r.size ≤ 65536) → fits_region o offset count ≡ true → offset + count ≤ 65536
 fits_short None offset count short fits = let no : false ≡ true = fits in cc
 fits_short (Some r) offset count short fits = omega (arith, short, leb-true (offset + count) r.size (and_parts _ _ fits).1)
-
--- a region is shown with the identifier by which it was found
-pub found_id : (book : Book) (id : ℕ) (s : Region) → option_map shown_region (region_of book id) ≡ Some s → s.id ≡ id
-found_id book id s is = go (region_of book id) is (has_id book id)
-  where
-    go : (o : Option RegionRecord) → option_map shown_region o ≡ Some s → IfSome o (λ r. r.id ≡ id) → s.id ≡ id
-    go None is same = let no : None ≡ Some s = is in cc
-    go (Some r) is same = ap (λ (s : Region). s.id) (sym (same_Some (shown_region r) s is)) ∙ same

@@ -75,12 +75,6 @@ module _ (log : List LogRecord) (offset count : ℕ) where
   other_rule None s is one two three four = refl
   other_rule (Some r) s is one two three four = sym (of_shown r s is ∙ by_other s.policy _ _ _ one two three four)
 
-  -- the rule of a range that fits is its policy's
-  pub within_rule : (o : Option RegionRecord) (rule : Option Rule) → fits_region o offset count ≡ true → rule ≡ policy_of log o offset count →
-      rule ≡ first_rule (bounds_of o offset count) (policy_of log o offset count)
-  within_rule None rule fits is = let no : false ≡ true = fits in cc
-  within_rule (Some r) rule fits is = rw fits is
-
   -- where no rule is broken the range fits, and the record of a region of policy 4 has room
   abbrev NoneBroken : Option RegionRecord → Type 0
   NoneBroken o = first_rule (bounds_of o offset count) (policy_of log o offset count) ≡ None
@@ -109,6 +103,12 @@ module _ (log : List LogRecord) (offset count : ℕ) where
   pub not_unlogged : (o : Option RegionRecord) → NoneBroken o → IfSome o (λ r. true ≡ (r.policy == 4)) → is_logged o ≡ false → ⊥
   not_unlogged None none four off = let no : Some BadRegion ≡ None = none in cc
   not_unlogged (Some r) none four off = false≢true (sym off ∙ sym four)
+
+-- what is shown of a region tells whether its writes are recorded
+pub shown_logged : (o : Option RegionRecord) (s : Region) → option_map shown_region o ≡ Some s → (s.policy == 4) ≡ true
+    → IfSome o (λ r. true ≡ (r.policy == 4))
+shown_logged None s is four = tt
+shown_logged (Some r) s is four = sym four ∙ ap (λ (s : Region). s.policy == 4) (sym (same_Some (shown_region r) s is))
 
 pub size_logged : (log : List LogRecord) (id offset : ℕ) (bytes : List ℕ) → log_size (logged log id offset bytes) ≡ log_size log + (24 + length bytes)
 unfolding log_size

@@ -1,13 +1,13 @@
 //! Writing in a region.
 
-ghost use Rattle.std.specs.Prelude.{◌≡◌, ◌≢◌, ◌==◌, ℕ, ◌+◌, ◌*◌, ◌/◌, ◌<◌, ◌≤◌, All, false, IfSome, OnErr, OnOk, None, Some, length, true};
+ghost use Rattle.std.specs.Prelude.{◌≡◌, ◌≢◌, ◌==◌, ℕ, ◌+◌, ◌*◌, ◌/◌, ◌<◌, ◌≤◌, All, false, IfNone, IfOk, IfSome, OnErr, OnOk, None, Some, length, slice_get, true};
 ghost use Rattle.std.specs.Option.{option_map};
 ghost use Rattle.phys_mem.specs.MaskedMemory.{is_book_frame, seen};
 ghost use Rattle.phys_mem.specs.Memory.{byte_at, stored};
 ghost use Rattle.nk_bits.specs.Rules.{rule_of};
-ghost use Rattle.policy_book.specs.PolicyRules.{book_written, is_logged, log_written, policy_of, stores_written, write_rule};
+ghost use Rattle.policy_book.specs.PolicyRules.{book_by, book_written, is_logged, log_written, policy_of, stores_by, stores_written, write_rule};
 ghost use Rattle.region_book.specs.RegionBytes.{HoldsRegions, book_in};
-ghost use Rattle.region_book.specs.RegionCalls.{fits_in};
+ghost use Rattle.region_book.specs.RegionCalls.{fits_region};
 ghost use Rattle.region_book.specs.RegionRecords.{IsBook, byte_place, region_of, shown_region};
 ghost use Rattle.write_log.specs.LogBytes.{HoldsLog, log_in};
 ghost use Rattle.write_log.specs.LogRecords.{logged, room_of};
@@ -27,6 +27,14 @@ const WRITE_LOG: u8 = 4;
 
 /// How many bytes of the log a record takes beside its own.
 const RECORD: u64 = 24;
+
+/// A live region that was found.
+#[derive(Clone, Copy)]
+struct Live {
+    /// Its place in the order of identifiers.
+    at: usize,
+    region: Region,
+}
 
 /// Writes bytes in the live region of an identifier, from an offset on, where its policy admits that. All other live regions
 /// keep their bytes.
@@ -62,14 +70,33 @@ pub fn write(
     ensures sound { IsBook (book_in regions.new mem.new) }
 {
     apart_law();
-    if let Some(rule) = judge(regions, log, mem, id, offset, bytes.len() as u64) {
-        return Err(rule);
+    match judge(regions, log, mem, id, offset, bytes.len() as u64) {
+        Ok(live) => {
+            put(regions, log, mem, id, &live, offset as u32, bytes);
+            Ok(())
+        }
+        Err(rule) => Err(rule),
     }
-    put(regions, log, mem, id, offset as u32, bytes);
-    Ok(())
 }
 
-/// The first rule that the write of so many bytes breaks.
+/// The live region that has an identifier, found once for all that is asked of it.
+fn find(regions: &Regions, mem: &PhysMem, id: u64) -> Option<Live>
+    requires held { HoldsRegions regions.now mem.now }
+    ensures none { IfNone result (region_of (book_in regions.now mem.now) id ≡ None) }
+    ensures some { IfSome result (λ live. (live.at < length regions.now.slots)
+        × (region_of (book_in regions.now mem.now) id ≡ slice_get (book_in regions.now mem.now).regions live.at)
+        × (option_map shown_region (region_of (book_in regions.now mem.now) id) ≡ Some live.region)) }
+{
+    match regions.position(mem, id) {
+        Some(at) => Some(Live {
+            at,
+            region: regions.nth(mem, at),
+        }),
+        None => None,
+    }
+}
+
+/// The region that is written, or the first rule that the write of so many bytes breaks.
 fn judge(
     regions: &Regions,
     log: &Log,
@@ -77,18 +104,23 @@ fn judge(
     id: u64,
     offset: u64,
     count: u64,
-) -> Option<Rule>
+) -> Result<Live, Rule>
     requires held { HoldsRegions regions.now mem.now }
     requires held_log { HoldsLog log.now mem.now }
-    ensures { result ≡ write_rule (book_in regions.now mem.now) (log_in log.now mem.now) id offset count }
+    ensures judged { rule_of result ≡ write_rule (book_in regions.now mem.now) (log_in log.now mem.now) id offset count }
+    ensures found { IfOk result (λ live. (live.at < length regions.now.slots)
+        × (region_of (book_in regions.now mem.now) id ≡ slice_get (book_in regions.now mem.now).regions live.at)
+        × (option_map shown_region (region_of (book_in regions.now mem.now) id) ≡ Some live.region)) }
 {
-    let Some(region) = regions.find(mem, id) else {
-        return Some(Rule::BadRegion);
+    let Some(live) = find(regions, mem, id) else {
+        return Err(Rule::BadRegion);
     };
-    if regions.fits(mem, id, offset, count) {
-        judge_policy(regions, log, mem, &region, offset as u32, count as u32)
-    } else {
-        Some(Rule::OutOfBounds)
+    if !live.region.fits(offset, count) {
+        return Err(Rule::OutOfBounds);
+    }
+    match judge_policy(regions, log, mem, &live, offset as u32, count as u32) {
+        Some(rule) => Err(rule),
+        None => Ok(live),
     }
 }
 
@@ -97,21 +129,22 @@ fn judge_policy(
     regions: &Regions,
     log: &Log,
     mem: &PhysMem,
-    region: &Region,
+    live: &Live,
     offset: u32,
     count: u32,
 ) -> Option<Rule>
     requires held { HoldsRegions regions.now mem.now }
     requires held_log { HoldsLog log.now mem.now }
-    requires found { option_map shown_region (region_of (book_in regions.now mem.now) region.now.id) ≡ Some region.now }
-    requires fits { fits_in (book_in regions.now mem.now) region.now.id offset count ≡ true }
-    ensures { result ≡ policy_of (log_in log.now mem.now) (region_of (book_in regions.now mem.now) region.now.id) offset count }
+    requires number { live.now.at < length regions.now.slots }
+    requires found { option_map shown_region (slice_get (book_in regions.now mem.now).regions live.now.at) ≡ Some live.now.region }
+    requires fits { fits_region (slice_get (book_in regions.now mem.now).regions live.now.at) offset count ≡ true }
+    ensures { result ≡ policy_of (log_in log.now mem.now) (slice_get (book_in regions.now mem.now).regions live.now.at) offset count }
 {
-    match region.policy {
+    match live.region.policy {
         WRITE_ONCE => regions
-            .written(mem, region.id, offset, count)
+            .written_at(mem, live.at, offset, count)
             .then_some(Rule::WrittenOnce),
-        APPEND_ONLY => (offset != region.tail).then_some(Rule::NotAtEnd),
+        APPEND_ONLY => (offset != live.region.tail).then_some(Rule::NotAtEnd),
         NO_WRITE => Some(Rule::NoWrite),
         WRITE_LOG => (RECORD + u64::from(count) > log.room()).then_some(Rule::LogFull),
         _ => None,
@@ -119,18 +152,22 @@ fn judge_policy(
 }
 
 /// Whether a region's writes are logged.
-fn is_logged(regions: &Regions, mem: &PhysMem, id: u64) -> bool
-    requires held { HoldsRegions regions.now mem.now }
-    ensures { IfSome (region_of (book_in regions.now mem.now) id) (λ r. result ≡ (r.policy == 4)) }
+fn is_logged(region: &Region) -> bool
+    ensures { result ≡ (region.now.policy == 4) }
 {
-    match regions.find(mem, id) {
-        Some(region) => region.policy == WRITE_LOG,
-        None => false,
-    }
+    region.policy == WRITE_LOG
 }
 
 /// Makes a write that breaks no rule.
-fn put(regions: &mut Regions, log: &mut Log, mem: &mut PhysMem, id: u64, offset: u32, bytes: &[u8])
+fn put(
+    regions: &mut Regions,
+    log: &mut Log,
+    mem: &mut PhysMem,
+    id: u64,
+    live: &Live,
+    offset: u32,
+    bytes: &[u8],
+)
     requires held { HoldsRegions regions.old mem.old }
     requires held_log { HoldsLog log.old mem.old }
     requires book { IsBook (book_in regions.old mem.old) }
@@ -138,6 +175,9 @@ fn put(regions: &mut Regions, log: &mut Log, mem: &mut PhysMem, id: u64, offset:
     requires apart { IfSome (region_of (book_in regions.old mem.old) id)
         (λ r. All (λ f. is_book_frame (length mem.old / 4096) f ≡ false) r.frames) }
     requires judged { write_rule (book_in regions.old mem.old) (log_in log.old mem.old) id offset (length bytes.now) ≡ None }
+    requires found { (live.now.at < length regions.old.slots)
+        × (region_of (book_in regions.old mem.old) id ≡ slice_get (book_in regions.old mem.old).regions live.now.at)
+        × (option_map shown_region (region_of (book_in regions.old mem.old) id) ≡ Some live.now.region) }
     ensures book { book_in regions.new mem.new ≡ book_written (book_in regions.old mem.old) id offset (length bytes.now) }
     ensures log { log_in log.new mem.new ≡ log_written (book_in regions.old mem.old) (log_in log.old mem.old) id offset bytes.now }
     ensures memory { seen mem.new ≡ stored (seen mem.old) (stores_written (book_in regions.old mem.old) id offset bytes.now) }
@@ -150,24 +190,25 @@ fn put(regions: &mut Regions, log: &mut Log, mem: &mut PhysMem, id: u64, offset:
     ensures size { length mem.new ≡ length mem.old }
     ensures sound { IsBook (book_in regions.new mem.new) }
 {
-    let logged = is_logged(regions, mem, id);
-    mark(regions, log, mem, id, offset, bytes);
-    if logged {
+    mark(regions, log, mem, live.at, offset, bytes);
+    if is_logged(&live.region) {
         note(regions, log, mem, id, offset, bytes);
     }
 }
 
-/// Writes bytes in a live region within its size; the log stays.
-fn mark(regions: &mut Regions, log: &Log, mem: &mut PhysMem, id: u64, offset: u32, bytes: &[u8])
+/// Writes bytes in the live region at a place of the order, within its size; the log stays.
+fn mark(regions: &mut Regions, log: &Log, mem: &mut PhysMem, at: usize, offset: u32, bytes: &[u8])
     requires held { HoldsRegions regions.old mem.old }
     requires held_log { HoldsLog log.now mem.old }
     requires book { IsBook (book_in regions.old mem.old) }
-    requires fits { fits_in (book_in regions.old mem.old) id offset (length bytes.now) ≡ true }
-    requires frames { IfSome (region_of (book_in regions.old mem.old) id) (λ r. All (λ f. 4096 * f + 4096 ≤ length mem.old) r.frames) }
-    requires apart { IfSome (region_of (book_in regions.old mem.old) id)
+    requires number { at < length regions.old.slots }
+    requires fits { fits_region (slice_get (book_in regions.old mem.old).regions at) offset (length bytes.now) ≡ true }
+    requires frames { IfSome (slice_get (book_in regions.old mem.old).regions at) (λ r. All (λ f. 4096 * f + 4096 ≤ length mem.old) r.frames) }
+    requires apart { IfSome (slice_get (book_in regions.old mem.old).regions at)
         (λ r. All (λ f. is_book_frame (length mem.old / 4096) f ≡ false) r.frames) }
-    ensures book { book_in regions.new mem.new ≡ book_written (book_in regions.old mem.old) id offset (length bytes.now) }
-    ensures memory { seen mem.new ≡ stored (seen mem.old) (stores_written (book_in regions.old mem.old) id offset bytes.now) }
+    ensures book { book_in regions.new mem.new ≡ book_by (book_in regions.old mem.old)
+        (slice_get (book_in regions.old mem.old).regions at) offset (length bytes.now) }
+    ensures memory { seen mem.new ≡ stored (seen mem.old) (stores_by (slice_get (book_in regions.old mem.old).regions at) offset bytes.now) }
     ensures log { log_in log.now mem.new ≡ log_in log.now mem.old }
     ensures held { HoldsRegions regions.new mem.new }
     ensures held_log { HoldsLog log.now mem.new }
@@ -178,7 +219,7 @@ fn mark(regions: &mut Regions, log: &Log, mem: &mut PhysMem, id: u64, offset: u3
     ensures sound { IsBook (book_in regions.new mem.new) }
 {
     held_log_law();
-    regions.mark(mem, id, offset, bytes);
+    regions.mark_at(mem, at, offset, bytes);
 }
 
 /// Adds a record to the log; the regions stay.

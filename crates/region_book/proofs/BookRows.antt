@@ -1,10 +1,10 @@
 -- The regions of a book by its rows: the one of an identifier, and which of its bytes were written.
-use Rattle.std.proofs.Common.{◌≡◌, ℕ, ◌+◌, ◌<◌, ◌≤◌, Bool, true, false, ◌==◌, List, [], ◌∷◌, map, arith, refl, sym, ap, ◌∙◌, subst, slice_index_or}
-use Rattle.std.specs.Prelude.{Option, Some, None, IfNone, IsSome, cond, option_map}
+use Rattle.std.proofs.Common.{◌≡◌, ℕ, ◌+◌, ◌<◌, ◌≤◌, Bool, true, false, ◌==◌, List, [], ◌∷◌, map, arith, refl, sym, ap, ◌∙◌, slice_index_or}
+use Rattle.std.specs.Prelude.{Some, None, cond, option_map}
 use Rattle.std.specs.List.{find, list_any, range_with_len}
 use Rattle.std.proofs.lemmas.List.FromFn.{get_or-map-range_with_len}
 use Rattle.region_book.specs.declared.row.Row.{Row}
-use Rattle.region_book.specs.RegionRecords.{Book, RegionRecord, is_written_in, region_of}
+use Rattle.region_book.specs.RegionRecords.{Book, is_written_in, region_of}
 use Rattle.region_book.specs.RegionRows.{bit_in, bits_from, book_of, first_bit, region_at, row_of}
 use Rattle.region_book.proofs.BitTests.{same_in_runs}
 
@@ -28,15 +28,6 @@ module _ (rows : List Row) (bits : List ℕ) (next declared : ℕ) (now : Book) 
 
   pub region_missing : row_of rows id ≡ None → region_of now id ≡ None
   region_missing none = region_by_row ∙ ap (option_map (region_at bits)) none
-
--- a look-up finds a row where the region is live
-pub is_located : (o : Option ℕ) (none : Type 0) → IfNone o none → (none → ⊥) → IsSome o
-is_located None none is live = absurd (live is)
-is_located (Some i) none is live = refl
-
-pub live_not_none : (o : Option RegionRecord) → IsSome o → o ≡ None → ⊥
-live_not_none o live none =
-    let no : IsSome {T = RegionRecord} None = subst IsSome none live in cc
 
 -- which bytes were written
 pub written_at : (bits : List ℕ) (first count k : ℕ) → k < count →

@@ -1,6 +1,6 @@
 -- Regions that live before a change and after it: their identifiers rise along the slots, and where all slots in use hold what
 -- they held, or a new region, each keeps its slot and the number of its first page.
-use Rattle.std.proofs.Common.{◌≡◌, ◌⊎◌, ℕ, ◌+◌, ◌<◌, ◌≤◌, List, length, map, arith, refl, sym, ap, ◌∙◌, subst, inl, inr, slice_index, slice_index_or}
+use Rattle.std.proofs.Common.{◌≡◌, ◌⊎◌, ℕ, ◌<◌, ◌≤◌, List, length, map, arith, refl, sym, ap, ◌∙◌, subst, inl, inr, slice_index, slice_index_or}
 use Rattle.std.specs.Prelude.{All, AllPairs}
 use Rattle.std.proofs.lemmas.Grind.{get_or_default_zero}
 use Rattle.std.proofs.lemmas.List.{get_or-map, length-map}

@@ -23,6 +23,7 @@ pub mod NumberedBooks
 pub mod NumberedRows
 pub mod OnceFrames
 pub mod PageRanges
+mod PlaceFound
 pub mod PoolPlaces
 pub mod PoolRegions
 mod BuiltRegions

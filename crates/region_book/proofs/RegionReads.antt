@@ -1,5 +1,5 @@
 -- What a region's byte and the bits of a range are, by the row that a look-up found.
-use Rattle.std.proofs.Common.{◌≡◌, ℕ, ◌+◌, ◌*◌, ◌/◌, ◌<◌, ◌≤◌, Bool, false, ◌==◌, List, length, arith, sym, ap, ◌∙◌, subst}
+use Rattle.std.proofs.Common.{◌≡◌, ℕ, ◌+◌, ◌*◌, ◌/◌, ◌<◌, ◌≤◌, Bool, false, ◌==◌, List, length, sym, ap, ◌∙◌, subst}
 use Rattle.std.specs.Prelude.{All, Option, Some, IfSome}
 use Rattle.std.specs.List.{list_any, range_with_len}
 use Rattle.phys_mem.specs.Memory.{stored}
@@ -63,19 +63,16 @@ module _ (now : Book) (id : ℕ) (o : Option Row) (row : Row) (is : o ≡ Some r
       (λ r. after ≡ stored before (region_stores r offset bytes)) found.1
       (was ∙ ap (stored before) (sym (region_stores_is 128 row found.0 offset bytes held_row fits)))
 
-module _ (now : Book) (id offset count : ℕ) (bits : List ℕ) (row : Row)
-    (within : IfSome (region_of now id) (λ r. offset + count ≤ r.size))
-    (found : region_of now id ≡ Some (region_at bits row)) where
+module _ (o : Option RegionRecord) (offset count : ℕ) (bits : List ℕ) (row : Row)
+    (within : IfSome o (λ r. offset + count ≤ r.size))
+    (found : o ≡ Some (region_at bits row)) where
   range_within : offset + count ≤ row.size
-  range_within = of_some (region_of now id) (region_at bits row) (λ r. offset + count ≤ r.size) found within
-
-  pub bits_within : (first most : ℕ) → first + row.size ≤ most → first + offset + count ≤ most
-  bits_within first most whole = omega (arith, range_within)
+  range_within = of_some o (region_at bits row) (λ r. offset + count ≤ r.size) found within
 
   pub written_is : (first : ℕ) (answer : Bool) → first ≡ first_bit row →
       answer ≡ list_any (bit_in bits) (range_with_len (first + offset) count) →
-      IfSome (region_of now id) (λ r. answer ≡ is_written_in r offset count)
+      IfSome o (λ r. answer ≡ is_written_in r offset count)
   written_is first answer first_is was =
-      for_some (region_of now id) (region_at bits row) (λ r. answer ≡ is_written_in r offset count) found
+      for_some o (region_at bits row) (λ r. answer ≡ is_written_in r offset count) found
       (was ∙ ap (λ first. list_any (bit_in bits) (range_with_len (first + offset) count)) first_is
       ∙ sym (written_by_bits bits row offset count range_within))

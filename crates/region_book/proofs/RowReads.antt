@@ -9,8 +9,8 @@ use Rattle.region_book.specs.declared.regions.Region.{Region}
 use Rattle.region_book.specs.declared.row.Row.{Row}
 use Rattle.region_book.specs.RegionBytes.{HoldsRegions, RegionIndex, bits_in, book_in, row_in}
 use Rattle.region_book.specs.RegionRecords.{region_of, shown_region}
-use Rattle.region_book.specs.RegionRows.{IsHeld, bits_from, first_bit, region_at, region_with, row_of}
-use Rattle.region_book.proofs.BookRows.{region_found, region_missing}
+use Rattle.region_book.specs.RegionRows.{IsHeld, region_at, row_of}
+use Rattle.region_book.proofs.BookRows.{region_missing}
 use Rattle.region_book.proofs.KeptRows.{held_more}
 
 pub row_stands : (m slots : List ℕ) (i s : ℕ) → i < length slots → slice_index slots i ≡ s → (row : Row) → row ≡ row_in m s
@@ -44,12 +44,6 @@ module _ (index : RegionIndex) (m slots : List ℕ) (order : slots ≡ index.slo
         (subst (IsHeld index.declared)
         (subst (λ xs. slice_index_or (map (row_in m) xs) i row ≡ row) order (row_stands m slots i s within place row read row))
         (held.kept.held i row (omega (arith, within, ap length order, length-map index.slots (row_in m)))))
-
-    pub region_stands : (id : ℕ) → ((d : Row) → row_of (map (row_in m) slots) id ≡ Some (slice_index_or (map (row_in m) slots) i d))
-        → region_of (book_in index m) id ≡ Some (region_with (bits_from (bits_in m) (first_bit row) row.size) row)
-    region_stands id found =
-        region_found (map (row_in m) index.slots) (bits_in m) index.next index.declared (book_in index m) id refl row
-        (subst (λ xs. row_of (map (row_in m) xs) id ≡ Some row) order (found row ∙ ap Some (row_stands m slots i s within place row read row)))
 
   pub region_lacks : (id : ℕ) → row_of (map (row_in m) slots) id ≡ None → region_of (book_in index m) id ≡ None
   region_lacks id none =

@@ -11,8 +11,8 @@ ghost use Rattle.nk_bits.specs.KernelLayout.{pool_start};
 ghost use Rattle.region_book.specs.RegionRecords.{Book, IsBook, byte_place, is_written_in, marked, region_of, region_stores, shown_region, with_region};
 ghost use Rattle.region_book.specs.declared.row.Row.{Row};
 ghost use Rattle.region_book.specs.SlotChanges.{DiffersInSlot, IsStorableRow};
-ghost use Rattle.region_book.specs.RegionBytes.{DiffersInRegions, HasRowForm, HoldsRegions, KeepsSlots, book_in, row_in};
-ghost use Rattle.region_book.specs.RegionRows.{IsHeld, moved, pages_of_row, region_of_row, region_with, row_of};
+ghost use Rattle.region_book.specs.RegionBytes.{DiffersInRegions, HasRowForm, HoldsRegions, KeepsSlots, bits_in, book_in, row_in};
+ghost use Rattle.region_book.specs.RegionRows.{IsHeld, moved, pages_of_row, region_at, region_of_row, region_with, row_of};
 
 use crate::bits::{any_set, clear_run, set_run};
 use crate::laws::held_regions_law;
@@ -43,6 +43,15 @@ pub struct Region {
     pub tail: u32,
     /// Whether it lies in the pool.
     pub pooled: bool,
+}
+
+impl Region {
+    /// Whether a range isn't empty and lies in the region.
+    pub fn fits(&self, offset: u64, length: u64) -> bool
+        ensures { result ≡ (nat_le 1 length && nat_le (offset + length) self.now.size) }
+    {
+        fits_size(self.size, offset, length)
+    }
 }
 
 /// A new region of the pool.
@@ -112,6 +121,26 @@ impl Regions {
         row_at(mem, self.slots.at(i)).shown()
     }
 
+    /// The place of a live region in the order of identifiers, from 0 on.
+    pub fn position(&self, mem: &PhysMem, id: u64) -> Option<usize>
+        requires held { HoldsRegions self.now mem.now }
+        ensures none { IfNone result (region_of (book_in self.now mem.now) id ≡ None) }
+        ensures some { IfSome result (λ i. (i < length self.now.slots)
+            × (region_of (book_in self.now mem.now) id ≡ slice_get (book_in self.now mem.now).regions i)) }
+    {
+        locate(&self.slots, mem, id)
+    }
+
+    /// The row of a live region, by its place in the order.
+    fn nth_row(&self, mem: &PhysMem, i: usize) -> Row
+        requires held { HoldsRegions self.now mem.now }
+        requires number { i < length self.now.slots }
+        ensures held { IsHeld 128 result }
+        ensures region { slice_get (book_in self.now mem.now).regions i ≡ Some (region_at (bits_in mem.now) result) }
+    {
+        row_at(mem, self.slots.at(i))
+    }
+
     /// The row of a live region.
     fn row(&self, mem: &PhysMem, id: u64) -> Option<Row>
         requires held { HoldsRegions self.now mem.now }
@@ -119,8 +148,8 @@ impl Regions {
         ensures held { IfSome result (λ row. IsHeld 128 row) }
         ensures some { IfSome result (λ row. (written : List Bool) × (region_of (book_in self.now mem.now) id ≡ Some (region_with written row))) }
     {
-        match locate(&self.slots, mem, id) {
-            Some(i) => Some(row_at(mem, self.slots.at(i))),
+        match self.position(mem, id) {
+            Some(i) => Some(self.nth_row(mem, i)),
             None => None,
         }
     }
@@ -167,20 +196,19 @@ impl Regions {
         requires within { IfSome (region_of (book_in self.now mem.now) id) (λ r. offset + length ≤ r.size) }
         ensures { IfSome (region_of (book_in self.now mem.now) id) (λ r. result ≡ is_written_in r offset length) }
     {
-        let i = self.live_at(mem, id);
-        let slot = self.slot_at(i);
-        let row = row_at(mem, slot);
-        any_set(mem, row.first_bit() + offset, length)
+        let i = self.position(mem, id).unwrap();
+        self.written_at(mem, i, offset, length)
     }
 
-    /// Where the row of a live region stands in the order.
-    fn live_at(&self, mem: &PhysMem, id: u64) -> usize
+    /// The same of the live region at a place of the order.
+    pub fn written_at(&self, mem: &PhysMem, i: usize, offset: u32, count: u32) -> bool
         requires held { HoldsRegions self.now mem.now }
-        requires live { IsSome (region_of (book_in self.now mem.now) id) }
-        ensures within { result < length self.now.slots }
-        ensures found { (d : Row) → row_of (map (row_in mem.now) self.now.slots) id ≡ Some (slice_index_or (map (row_in mem.now) self.now.slots) result d) }
+        requires number { i < length self.now.slots }
+        requires within { IfSome (slice_get (book_in self.now mem.now).regions i) (λ r. offset + count ≤ r.size) }
+        ensures { IfSome (slice_get (book_in self.now mem.now).regions i) (λ r. result ≡ is_written_in r offset count) }
     {
-        locate(&self.slots, mem, id).unwrap()
+        let row = self.nth_row(mem, i);
+        any_set(mem, row.first_bit() + offset, count)
     }
 
     /// The slot of a live region, by its place in the order.
@@ -211,26 +239,50 @@ impl Regions {
         ensures size { length mem.new ≡ length mem.old }
         ensures book { IsBook (book_in self.new mem.new) }
     {
+        let i = self.position(mem, id).unwrap();
+        self.mark_at(mem, i, offset, bytes);
+    }
+
+    /// The same with the live region at a place of the order.
+    pub fn mark_at(&mut self, mem: &mut PhysMem, i: usize, offset: u32, bytes: &[u8])
+        requires held { HoldsRegions self.old mem.old }
+        requires book { IsBook (book_in self.old mem.old) }
+        requires number { i < length self.old.slots }
+        requires within { IfSome (slice_get (book_in self.old mem.old).regions i) (λ r. offset + length bytes.now ≤ r.size) }
+        requires frames { IfSome (slice_get (book_in self.old mem.old).regions i)
+            (λ r. All (λ f. 4096 * f + 4096 ≤ length mem.old) r.frames) }
+        requires apart { IfSome (slice_get (book_in self.old mem.old).regions i)
+            (λ r. All (λ f. is_book_frame (length mem.old / 4096) f ≡ false) r.frames) }
+        ensures marked { IfSome (slice_get (book_in self.old mem.old).regions i)
+            (λ r. book_in self.new mem.new ≡ with_region (book_in self.old mem.old) (marked r offset (length bytes.now))) }
+        ensures memory { IfSome (slice_get (book_in self.old mem.old).regions i)
+            (λ r. seen mem.new ≡ stored (seen mem.old) (region_stores r offset bytes.now)) }
+        ensures held { HoldsRegions self.new mem.new }
+        ensures keeps { KeepsSlots self.old mem.old self.new mem.new }
+        ensures others { (p : ℕ) → is_book_frame (length mem.old / 4096) (p / 4096) ≡ true → (p < 0x2A000) ⊎ (0x40000 ≤ p)
+            → byte_at mem.new p ≡ byte_at mem.old p }
+        ensures size { length mem.new ≡ length mem.old }
+        ensures book { IsBook (book_in self.new mem.new) }
+    {
         held_regions_law();
-        let row = self.row(mem, id).unwrap();
+        let row = self.nth_row(mem, i);
         put(mem, &row, offset, bytes);
-        self.mark_range(mem, id, offset, bytes.len() as u32);
+        self.mark_range(mem, i, offset, bytes.len() as u32);
     }
 
     /// Marks a range as written.
-    fn mark_range(&self, mem: &mut PhysMem, id: u64, offset: u32, count: u32)
+    fn mark_range(&self, mem: &mut PhysMem, i: usize, offset: u32, count: u32)
         requires held { HoldsRegions self.now mem.old }
         requires book { IsBook (book_in self.now mem.old) }
-        requires live { IsSome (region_of (book_in self.now mem.old) id) }
-        requires within { IfSome (region_of (book_in self.now mem.old) id) (λ r. offset + count ≤ r.size) }
-        ensures marked { IfSome (region_of (book_in self.now mem.old) id)
+        requires number { i < length self.now.slots }
+        requires within { IfSome (slice_get (book_in self.now mem.old).regions i) (λ r. offset + count ≤ r.size) }
+        ensures marked { IfSome (slice_get (book_in self.now mem.old).regions i)
             (λ r. book_in self.now mem.new ≡ with_region (book_in self.now mem.old) (marked r offset count)) }
         ensures held { HoldsRegions self.now mem.new }
         ensures keeps { KeepsSlots self.now mem.old self.now mem.new }
         ensures elsewhere { DiffersInRegions mem.old mem.new }
         ensures book { IsBook (book_in self.now mem.new) }
     {
-        let i = self.live_at(mem, id);
         let slot = self.slot_at(i);
         let row = row_at(mem, slot);
         set_run(mem, row.first_bit() + offset, count);
@@ -452,26 +504,26 @@ impl Regions {
         ensures book { IsBook (book_in self.new mem.new) }
     {
         match self.judge_free(mem, id) {
-            Some(rule) => Err(rule),
-            None => {
-                self.remove(mem, id);
+            Ok(i) => {
+                self.remove(mem, i);
                 Ok(())
             }
+            Err(rule) => Err(rule),
         }
     }
 
-    /// Lets a region of the pool go.
-    fn remove(&mut self, mem: &mut PhysMem, id: u64)
+    /// Lets a region of the pool go, by its place in the order.
+    fn remove(&mut self, mem: &mut PhysMem, i: usize)
         requires held { HoldsRegions self.old mem.old }
         requires book { IsBook (book_in self.old mem.old) }
-        requires live { IsSome (region_of (book_in self.old mem.old) id) }
-        requires pooled { IfSome (region_of (book_in self.old mem.old) id) (λ r. r.pooled ≡ true) }
-        ensures freed { book_in self.new mem.new ≡ freed (book_in self.old mem.old) id }
+        requires number { i < length self.old.slots }
+        requires pooled { IfSome (slice_get (book_in self.old mem.old).regions i) (λ r. r.pooled ≡ true) }
+        ensures freed { IfSome (slice_get (book_in self.old mem.old).regions i)
+            (λ r. book_in self.new mem.new ≡ freed (book_in self.old mem.old) r.id) }
         ensures held { HoldsRegions self.new mem.new }
         ensures keeps { KeepsSlots self.old mem.old self.new mem.new }
         ensures elsewhere { DiffersInRegions mem.old mem.new }
     {
-        let i = self.live_at(mem, id);
         let slot = self.slot_at(i);
         let row = row_at(mem, slot);
         clear_run(mem, row.first_bit(), row.size);
@@ -479,20 +531,20 @@ impl Regions {
         self.slots.remove(i);
     }
 
-    /// The rule that freeing a region breaks.
-    fn judge_free(&self, mem: &PhysMem, id: u64) -> Option<Rule>
+    /// The place in the order of the region that goes, or the rule that freeing it breaks.
+    fn judge_free(&self, mem: &PhysMem, id: u64) -> Result<usize, Rule>
         requires held { HoldsRegions self.now mem.now }
-        ensures { result ≡ free_rule (book_in self.now mem.now) id }
+        ensures judged { rule_of result ≡ free_rule (book_in self.now mem.now) id }
+        ensures found { IfOk result (λ i. (i < length self.now.slots)
+            × (region_of (book_in self.now mem.now) id ≡ slice_get (book_in self.now mem.now).regions i)) }
     {
-        match self.row(mem, id) {
-            Some(row) => {
-                if row.pooled {
-                    None
-                } else {
-                    Some(Rule::NotAllocated)
-                }
-            }
-            None => Some(Rule::BadRegion),
+        let Some(i) = self.position(mem, id) else {
+            return Err(Rule::BadRegion);
+        };
+        if self.nth_row(mem, i).pooled {
+            Ok(i)
+        } else {
+            Err(Rule::NotAllocated)
         }
     }
 }
