@@ -34,7 +34,7 @@ replaced : (instr : Instr) (best bytes : List ℕ) → (improves best bytes && i
 unfolding better
 replaced instr best bytes h = cond-true (improves best bytes && is_spelled instr bytes) bytes best h
 
-kept : (instr : Instr) (best bytes : List ℕ) → (improves best bytes && is_spelled instr bytes) ≡ false → better instr best bytes ≡ best
+pub kept : (instr : Instr) (best bytes : List ℕ) → (improves best bytes && is_spelled instr bytes) ≡ false → better instr best bytes ≡ best
 unfolding better
 kept instr best bytes h = cond-false (improves best bytes && is_spelled instr bytes) bytes best h
 
@@ -129,7 +129,7 @@ range_more first (suc count) =
     let same : first + 1 + count ≡ first + suc count = omega arith in
     ap (λ r. first ∷ r) (range_more (first + 1) count) ∙ ap (λ (n : ℕ). first ∷ (range_with_len (first + 1) count ++ n ∷ [])) same
 
-range_next : (count : ℕ) → range_with_len 0 (count + 1) ≡ range_with_len 0 count ++ count ∷ []
+pub range_next : (count : ℕ) → range_with_len 0 (count + 1) ≡ range_with_len 0 count ++ count ∷ []
 range_next count =
     let one : count + 1 ≡ suc count = omega arith in
     let same : 0 + count ≡ count = omega arith in

@@ -34,9 +34,10 @@ use Rattle.x86_decode.specs.Spelling.{AreBytes, Fit, Parts, Spells, bytes_of, op
 use Rattle.asm_text.specs.Assembly.{front_of, operand_bytes}
 use Rattle.asm_text.specs.Candidates.{by_stem, candidates, stem_of, tail_of}
 use Rattle.asm_text.specs.Fitting.{wanted_form, is_by_number, is_by_reg, is_by_rm, is_plain_layout, letter_fits, low_of, modrm_fits, place_disp, reg_fits, reg_place, rex_fits, rm_fits, rm_place, row_fits, size_fits, size_prefixes, wanted_reg}
-use Rattle.asm_text.specs.OperationNumbers.{is_operation}
+use Rattle.asm_text.specs.Operations.{is_operation}
 use Rattle.asm_text.specs.LeastSpelling.{is_not_behind}
-use Rattle.asm_text.proofs.FrontSays.{IsRexOption, front_all, front_are, front_says, prefixes_by}
+use Rattle.asm_text.specs.Skipping.{IsRexOption}
+use Rattle.asm_text.proofs.FrontSays.{front_all, front_are, front_says, prefixes_by}
 use Rattle.asm_text.proofs.Fronts.{front_bare, front_least}
 use Rattle.asm_text.proofs.Letters.{IsByRm, IsFields, fields_are, letter_has_rex, letter_passes, letter_reg, letter_rm}
 use Rattle.asm_text.proofs.OperandBytes.{operands_split}
@@ -85,13 +86,13 @@ opcode_is OneByte opcode operands are = are 0 0 (omega arith)
 opcode_is TwoByte opcode operands are = are 1 0 (omega arith)
 
 -- what is known of a spelling
-record IsTold (p : Parts) : Type 0 where
-  fit : Fit p
-  byte : p.opcode < 256
-  code : AreBytes (opcode_bytes p.map p.opcode ++ p.operands)
-  operands : AreBytes p.operands
+pub record IsTold (p : Parts) : Type 0 where
+  pub fit : Fit p
+  pub byte : p.opcode < 256
+  pub code : AreBytes (opcode_bytes p.map p.opcode ++ p.operands)
+  pub operands : AreBytes p.operands
 
-told_by : (instr : Instr) (bytes : List ℕ) (s : Spells instr bytes) → IsTold s.parts
+pub told_by : (instr : Instr) (bytes : List ℕ) (s : Spells instr bytes) → IsTold s.parts
 told_by instr bytes s =
     let p : Parts = s.parts in
     let whole : AreBytes (p.front ++ (opcode_bytes p.map p.opcode ++ p.operands)) = subst AreBytes s.spelled s.are_bytes in

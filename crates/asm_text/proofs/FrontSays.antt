@@ -1,5 +1,5 @@
 -- The least prefix bytes say what they were made of.
-use Rattle.std.proofs.Common.{◌≡◌, ℕ, ◌+◌, ◌-◌, ◌<◌, ◌≤◌, Bool, true, false, ◌&&◌, nat_lt, Option, Some, None, List, [], ◌∷◌, length, refl, ap, subst, ◌∙◌, arith}
+use Rattle.std.proofs.Common.{◌≡◌, ℕ, ◌+◌, ◌-◌, ◌<◌, Bool, true, false, ◌&&◌, nat_lt, Option, Some, None, List, [], ◌∷◌, length, refl, ap, subst, ◌∙◌, arith}
 use Rattle.std.specs.List.{list_all}
 use Rattle.std.proofs.lemmas.Bool.{agree_below_at, and_parts, ltb-true}
 use Rattle.std.proofs.lemmas.List.Elements.{All-cons, All-nil}
@@ -8,6 +8,7 @@ use Rattle.decode_fields.specs.declared.parts.Rep.{Rep}
 use Rattle.decode_fields.specs.declared.parts.Rep.TheVariants.{No, WhileEqual, WhileNot}
 use Rattle.decode_fields.specs.Prefixes.{is_prefix, prefixes_of}
 use Rattle.x86_decode.specs.Spelling.{AreBytes}
+use Rattle.asm_text.specs.Skipping.{IsRexOption}
 use Rattle.asm_text.specs.Assembly.{front_of}
 use Rattle.asm_text.specs.Sameness.{is_flag, is_number, is_rep}
 use Rattle.asm_text.proofs.SamenessLaws.{flag_is, number_is, rep_is}
@@ -57,11 +58,6 @@ with_rex true false WhileNot low small = agree_below_at (says_at true false Whil
 with_rex true true No low small = agree_below_at (says_at true true No) yes_at 16 low refl small
 with_rex true true WhileEqual low small = agree_below_at (says_at true true WhileEqual) yes_at 16 low refl small
 with_rex true true WhileNot low small = agree_below_at (says_at true true WhileNot) yes_at 16 low refl small
-
--- REX is none, or 40 to 4F
-abbrev pub IsRexOption : Option ℕ → Type 0
-IsRexOption None = Unit {0}
-IsRexOption (Some rex) = (0x40 ≤ rex) × (rex < 0x50)
 
 says_all : (narrow lock : Bool) (rep : Rep) (rex : Option ℕ) → IsRexOption rex → says narrow lock rep rex ≡ true
 says_all narrow lock rep None is = without narrow lock rep

@@ -36,7 +36,7 @@ whole_says instr bytes TooLong h right = absurd (false_true h)
 whole_says instr bytes Unknown h right = absurd (false_true h)
 
 -- the test is right
-spelled_is : (laws : DecodingLaws) (instr : Instr) (bytes : List ℕ) → is_spelled instr bytes ≡ true → IsLawful instr bytes
+pub spelled_is : (laws : DecodingLaws) (instr : Instr) (bytes : List ℕ) → is_spelled instr bytes ≡ true → IsLawful instr bytes
 unfolding is_spelled
 spelled_is laws instr bytes h =
     let short_and_whole : Bool = nat_le (length bytes) 15 && is_whole instr (length bytes) (decoded_of bytes) in

@@ -14,6 +14,14 @@ pub mod Swaps
 pub mod Numbers
 pub mod OperandBytes
 pub mod Tails
+pub mod Ranges
+pub mod Skips
+pub mod RowLengths
+pub mod RexSkips
+pub mod PlaceSkips
+pub mod ModRmSkips
+pub mod AddressSkips
+pub mod RowIndexes
 pub mod RowTests
 pub mod Letters
 pub mod Tried

@@ -10,9 +10,8 @@ use Rattle.decode_fields.specs.declared.parts.Rep.TheVariants.{No}
 use Rattle.x86_decode.specs.declared.operation.Op.{Op}
 use Rattle.x86_decode.specs.declared.operation.Op.TheVariants.{Add, Cmov, J, Nop, Set}
 use Rattle.x86_decode.specs.WellFormed.{HasCondition}
-use Rattle.asm_text.specs.declared.operation.TheConstants.{ALL_OPS}
-use Rattle.asm_text.specs.OperationNames.{op_name}
-use Rattle.asm_text.specs.OperationNumbers.{number_of_operation}
+use Rattle.asm_text.specs.declared.operation.TheConstants.{ALL_OPS, OPERATIONS}
+use Rattle.asm_text.specs.Operations.{number_of_operation, op_name}
 use Rattle.asm_text.specs.ParsedTexts.{all_names, behind_rep, has_lock, name_at, op_at, op_named, place_of_name, rep_said}
 use Rattle.asm_text.proofs.OperationLemmas.{listed, number_small}
 use Rattle.asm_text.proofs.WordMarks.{lacks}
@@ -96,7 +95,7 @@ condition_is (Set condition) passed = ltb-true condition 16 passed
 condition_is (J condition) passed = ltb-true condition 16 passed
 condition_is _ passed = tt
 
-pub listed_has_condition : (place : ℕ) → place < 136 → HasCondition (op_at place)
+pub listed_has_condition : (place : ℕ) → place < OPERATIONS → HasCondition (op_at place)
 listed_has_condition place small =
     condition_is (op_at place)
-    (agree_below_at (λ n. condition_passes (op_at n)) (λ n. true) 136 place refl small)
+    (agree_below_at (λ n. condition_passes (op_at n)) (λ n. true) OPERATIONS place refl small)

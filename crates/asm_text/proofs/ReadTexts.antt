@@ -8,7 +8,7 @@ use Rattle.decode_fields.specs.declared.parts.Rep.{Rep}
 use Rattle.decode_fields.specs.declared.parts.Rep.TheVariants.{No, WhileEqual, WhileNot}
 use Rattle.x86_decode.specs.declared.instruction.Instr.{Instr}
 use Rattle.asm_text.specs.InstructionTexts.{HasText, IsRead, hex_digits, instr_text, lock_text, place_text, rep_text}
-use Rattle.asm_text.specs.OperationNames.{op_name}
+use Rattle.asm_text.specs.Operations.{op_name}
 use Rattle.asm_text.specs.ParsedTexts.{behind_lock, behind_rep, byte_said, bytes_past, bytes_to, has_lock, number_said, op_named, parsed, parsed_behind, place_said, rep_said}
 use Rattle.asm_text.specs.TextLaws.{TextLaws}
 use Rattle.asm_text.proofs.NameTests.{name_back, name_behind_rep, name_no_dot, name_no_lock, name_no_rep}

@@ -1,5 +1,5 @@
 -- What isn't the code of lines, and which line isn't the first without code.
-use Rattle.std.proofs.Common.{◌≢◌, ℕ, ◌+◌, List, [], ◌∷◌, ◌++◌, length, inl, inr}
+use Rattle.std.proofs.Common.{◌≢◌, ℕ, List, [], ◌∷◌, ◌++◌, length, inl, inr}
 use Rattle.x86_decode.specs.declared.instruction.Decoded.TheVariants.{Whole}
 use Rattle.x86_decode.specs.declared.instruction.Instr.{Instr}
 use Rattle.x86_decode.specs.Decoding.{Decodes}

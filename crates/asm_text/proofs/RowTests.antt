@@ -15,7 +15,7 @@ use Rattle.x86_decode.specs.declared.shape.Shape.{Shape}
 use Rattle.x86_decode.specs.declared.shape.Width.{Width}
 use Rattle.x86_decode.specs.declared.shape.Width.TheVariants as width
 use Rattle.x86_decode.specs.OpcodeTable.{OpcodeRow, one_byte_table, rows_at, two_byte_table}
-use Rattle.asm_text.specs.OperationNumbers.{is_operation}
+use Rattle.asm_text.specs.Operations.{is_operation}
 use Rattle.asm_text.specs.Fitting.{is_by_number, is_by_reg, is_by_rm, is_plain_layout}
 use Rattle.asm_text.proofs.Tails.{width_fits}
 

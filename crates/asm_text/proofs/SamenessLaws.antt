@@ -8,7 +8,7 @@ use Rattle.decode_fields.specs.declared.place.Place.{Place}
 use Rattle.decode_fields.specs.declared.place.Place.TheVariants.{Nothing, Reg, High, Mem, Value}
 use Rattle.x86_decode.specs.declared.instruction.Instr.{Instr}
 use Rattle.x86_decode.specs.declared.operation.Op.{Op}
-use Rattle.asm_text.specs.OperationNumbers.{is_operation}
+use Rattle.asm_text.specs.Operations.{is_operation}
 use Rattle.asm_text.specs.Sameness.{is_address, is_flag, is_instr, is_number, is_place, is_rep}
 use Rattle.asm_text.proofs.OperationLemmas.{operation_is, operation_same}
 

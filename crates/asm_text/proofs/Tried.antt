@@ -12,7 +12,7 @@ use Rattle.asm_text.specs.declared.fitting.Form.{Form}
 use Rattle.asm_text.specs.Assembly.{operand_bytes}
 use Rattle.asm_text.specs.Fitting.{asks_sib, wanted_form, is_plain_layout, modrm_fits, place_disp, row_fits, sib_low, size_fits}
 use Rattle.asm_text.specs.Candidates.{by_alone, by_front, by_map, by_modrm, by_modrms, by_opcode, by_place, by_place_row, by_rex, by_rexes, by_row, by_scale, by_scales, by_stem, candidates, stem_of, tail_of}
-use Rattle.asm_text.proofs.FrontSays.{IsRexOption}
+use Rattle.asm_text.specs.Skipping.{IsRexOption}
 use Rattle.asm_text.proofs.OperandBytes.{operands_alone}
 
 abbrev pub IsAmong : List ℕ → List (List ℕ) → Type 0

@@ -14,7 +14,7 @@ use Rattle.x86_decode.specs.SpellingLaws.{DecodingLaws, SpellingLaws}
 use Rattle.asm_text.specs.AssembledText.{assembled_of, code_from, code_then, is_spelled_line, line_code}
 use Rattle.asm_text.specs.InstructionTexts.{IsRead, instr_text, place_text}
 use Rattle.asm_text.specs.LeastSpelling.{is_not_behind}
-use Rattle.asm_text.specs.OperationNames.{op_name}
+use Rattle.asm_text.specs.Operations.{op_name}
 use Rattle.asm_text.specs.TextLaws.{TextLaws}
 use Rattle.asm_text.proofs.FirstStrings.{IsFirst, IsShort, first_is, first_says, none_says}
 use Rattle.asm_text.proofs.LineCodes.{unspelled_none}

@@ -10,7 +10,7 @@ use Rattle.x86_decode.specs.declared.instruction.Instr.{Instr}
 use Rattle.x86_decode.specs.declared.operation.Op.{Op}
 use Rattle.x86_decode.specs.declared.operation.Op.TheVariants.{Add, Cmov, J, Lea, Mov, Movs, Movfc, Movzx8, Scas, Set}
 use Rattle.asm_text.specs.InstructionTexts.{HasText, instr_text, place_text}
-use Rattle.asm_text.specs.OperationNames.{op_name}
+use Rattle.asm_text.specs.Operations.{op_name}
 use Rattle.asm_text.specs.ParsedTexts.{address_said, bytes_past, bytes_to, parsed, parsed_behind, place_of_name, place_said}
 use Rattle.asm_text.proofs.ReadTexts.{read_none}
 

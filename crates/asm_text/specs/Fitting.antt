@@ -17,7 +17,7 @@ use Rattle.x86_decode.specs.declared.shape.Operand.{Operand}
 use Rattle.x86_decode.specs.declared.shape.Operand.TheVariants.{Absent, Eb, Ev, Gb, Gv, Zb, Zv, Accumulator, Counter, Port, Constant}
 use Rattle.x86_decode.specs.Meaning.{width_of}
 use Rattle.asm_text.specs.declared.fitting.Form.{Form}
-use Rattle.asm_text.specs.OperationNumbers.{is_operation}
+use Rattle.asm_text.specs.Operations.{is_operation}
 
 abbrev pub is_no_place : Place → Bool
 is_no_place Nothing = true

@@ -9,7 +9,7 @@ use Rattle.decode_fields.specs.declared.place.Place.{Place}
 use Rattle.decode_fields.specs.declared.place.Place.TheVariants.{Nothing, Reg, High, Mem, Value}
 use Rattle.x86_decode.specs.declared.instruction.Instr.{Instr}
 use Rattle.x86_decode.specs.WellFormed.{HasCondition}
-use Rattle.asm_text.specs.OperationNames.{op_name}
+use Rattle.asm_text.specs.Operations.{op_name}
 
 -- hexadecimal digits in lower case, with no zeros in front
 abbrev pub hex_digits : ℕ → List ℕ

@@ -1,5 +1,5 @@
 -- What a reader must believe.
-pub mod OperationNames
+pub mod Operations
 pub mod InstructionTexts
 pub mod LeastSpelling
 pub mod AssembledText
@@ -8,8 +8,9 @@ pub mod TextLaws
 pub mod AssemblyLaws
 -- Words of private clauses and proofs.
 pub mod ParsedTexts
-pub mod OperationNumbers
 pub mod Sameness
 pub mod Assembly
 pub mod Fitting
 pub mod Candidates
+pub mod RowPlaces
+pub mod Skipping

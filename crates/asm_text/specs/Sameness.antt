@@ -8,7 +8,7 @@ use Rattle.decode_fields.specs.declared.place.Place.TheVariants.{Nothing, Reg, H
 use Rattle.x86_decode.specs.declared.instruction.Instr.{Instr}
 use Rattle.x86_decode.specs.declared.instruction.Decoded.{Decoded}
 use Rattle.x86_decode.specs.declared.instruction.Decoded.TheVariants.{Whole, Short, TooLong, Unknown}
-use Rattle.asm_text.specs.OperationNumbers.{is_operation}
+use Rattle.asm_text.specs.Operations.{is_operation}
 
 abbrev pub is_flag : Bool → Bool → Bool
 is_flag flag other = if flag then other else not other

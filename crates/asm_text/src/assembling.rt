@@ -2,10 +2,12 @@
 
 ghost use Rattle.std.specs.Prelude.{◌≡◌, ◌++◌, Ok, None, Some, IfErr, IfNone, IfOk, IfSome, true};
 ghost use Rattle.asm_text.specs.AssembledText.{IsTextFault, assembled_of, line_code};
+ghost use Rattle.asm_text.specs.RowPlaces.{IsIndexFrom};
 ghost use Rattle.asm_text.specs.AssemblyLaws.{AssemblyLaws};
 
-use crate::least::encode;
+use crate::least::encode_by;
 use crate::reading::read;
+use crate::row_index::{RowIndex, row_index};
 use crate::text_laws::text_law;
 use arrayvec::ArrayVec;
 use std::alloc::Global;
@@ -23,14 +25,15 @@ pub enum TextFault {
 }
 
 /// The code of a line.
-fn line_code(line: &[u8]) -> Option<ArrayVec<u8, 15>>
+fn line_code(line: &[u8], index: &RowIndex) -> Option<ArrayVec<u8, 15>>
+    requires { IsIndexFrom 0 index.now }
     ensures none { IfNone result (line_code line.now ≡ None) }
     ensures some { IfSome result (λ code. line_code line.now ≡ Some code.items) }
 {
     decoding_law();
     text_law();
     match read(line) {
-        Some(instr) => encode(&instr),
+        Some(instr) => encode_by(&instr, index),
         None => None,
     }
 }
@@ -51,9 +54,10 @@ pub fn assemble(alloc: Global, text: &[u8]) -> Result<Vec<u8>, TextFault>
     let mut code = Vec::new(alloc);
     let mut rest = text;
     let mut number = 1;
+    let index = row_index();
     while !rest.is_empty() {
         let (line, later) = cut_line(rest);
-        let Some(bytes) = line_code(line) else {
+        let Some(bytes) = line_code(line, &index) else {
             return Err(TextFault::Line(number));
         };
         if !put(&mut code, &bytes) {

@@ -3,9 +3,9 @@
 
 ghost use Rattle.std.specs.Prelude.{◌≡◌, ◌<◌, true};
 ghost use Rattle.decode_fields.specs.Widths.{IsWidth};
-ghost use Rattle.asm_text.specs.Fitting.{address_fits, wanted_form, has_bit, has_high_bit, is_by_number, is_by_reg, is_by_rm, is_byte_register, is_general, is_ignored_layout, is_memory_place, is_no_place, is_numbered, is_option_of, is_plain_layout, is_value, letter_fits, low_of, low_or, modrm_fits, place_disp, reg_fits, reg_place, rex_fits, rm_fits, rm_place, row_fits, sib_low, size_fits, wanted_reg};
+ghost use Rattle.asm_text.specs.Skipping.{shape_fits};
+ghost use Rattle.asm_text.specs.Fitting.{address_fits, wanted_form, has_bit, has_high_bit, is_by_number, is_by_reg, is_by_rm, is_byte_register, is_general, is_ignored_layout, is_memory_place, is_no_place, is_numbered, is_option_of, is_plain_layout, is_value, letter_fits, low_of, low_or, modrm_fits, place_disp, reg_fits, reg_place, rex_fits, rm_fits, rm_place, sib_low, size_fits, wanted_reg};
 
-use crate::operation::is_same_op;
 use decode_fields::{Place, Prefixes, Rep, names_register, reg_field, rm_field};
 use x86_decode::{Instr, Number, Operand, RowLayout, Shape, TableRow, row_width};
 
@@ -76,7 +76,7 @@ fn is_byte_register(place: Place) -> bool
 }
 
 /// The low three bits of a register's number; those of a high byte register are 4 to 7.
-fn low_of(place: Place) -> Option<u8>
+pub(crate) fn low_of(place: Place) -> Option<u8>
     ensures { result ≡ low_of place }
 {
     match place {
@@ -86,7 +86,7 @@ fn low_of(place: Place) -> Option<u8>
     }
 }
 
-fn is_option_of(option: Option<u8>, number: u8) -> bool
+pub(crate) fn is_option_of(option: Option<u8>, number: u8) -> bool
     ensures { result ≡ is_option_of option number }
 {
     match option {
@@ -141,7 +141,7 @@ pub(crate) fn is_plain_layout(layout: RowLayout) -> bool
     }
 }
 
-fn is_ignored_layout(layout: RowLayout) -> bool
+pub(crate) fn is_ignored_layout(layout: RowLayout) -> bool
     ensures { result ≡ is_ignored_layout layout }
 {
     match layout {
@@ -150,14 +150,11 @@ fn is_ignored_layout(layout: RowLayout) -> bool
     }
 }
 
-/// Whether the row can spell the instruction behind this opcode. Where ModRM names no operand, NOP by itself is shorter.
-pub(crate) fn row_fits(instr: &Instr, opcode: u8, row: &TableRow) -> bool
-    ensures { result ≡ row_fits instr.now opcode row.now }
+/// Whether a row of the instruction's operation can spell it behind this opcode. Where ModRM names no operand, NOP by
+/// itself is shorter.
+pub(crate) fn shape_fits(instr: &Instr, opcode: u8, shape: Shape) -> bool
+    ensures { result ≡ shape_fits instr.now opcode shape }
 {
-    if !is_same_op(row.op, instr.op) {
-        return false;
-    }
-    let shape = row.shape;
     letter_fits(shape.to, opcode, instr.to)
         & (letter_fits(shape.from, opcode, instr.from)
             & (is_plain_layout(shape.layout) | (is_by_rm(shape.to) | is_by_rm(shape.from))))

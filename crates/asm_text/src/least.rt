@@ -2,9 +2,11 @@
 
 ghost use Rattle.std.specs.Prelude.{◌≡◌, ℕ, List, IfNone, IfSome};
 ghost use Rattle.x86_decode.specs.Spelling.{IsLawful};
+ghost use Rattle.asm_text.specs.RowPlaces.{IsIndexFrom};
 ghost use Rattle.asm_text.specs.LeastSpelling.{IsLeastSpelling};
 
 use crate::best::Best;
+use crate::row_index::{RowIndex, row_index};
 use crate::search::find_best;
 use arrayvec::ArrayVec;
 use x86_decode::{Instr, decoding_law, rows_law};
@@ -15,10 +17,19 @@ pub fn encode(instr: &Instr) -> Option<ArrayVec<u8, 15>>
     ensures some { IfSome result (λ bytes. IsLeastSpelling instr.now bytes.items) }
     ensures none { IfNone result ((bytes : List ℕ) → IsLawful instr.now bytes → ⊥) }
 {
+    encode_by(instr, &row_index())
+}
+
+/// The same, by an index of rows that is there already.
+pub(crate) fn encode_by(instr: &Instr, index: &RowIndex) -> Option<ArrayVec<u8, 15>>
+    requires { IsIndexFrom 0 index.now }
+    ensures some { IfSome result (λ bytes. IsLeastSpelling instr.now bytes.items) }
+    ensures none { IfNone result ((bytes : List ℕ) → IsLawful instr.now bytes → ⊥) }
+{
     decoding_law();
     rows_law();
     let mut best: Best = ArrayVec::new();
-    find_best(instr, &mut best);
+    find_best(instr, index, &mut best);
     if best.is_empty() {
         return None;
     }

@@ -27,7 +27,9 @@ mod best;
 // What is tried.
 mod assembly;
 mod fitting;
+mod row_index;
 mod search;
+mod skipping;
 
 // The least of all.
 mod least;

@@ -4,7 +4,8 @@ ghost use Rattle.std.specs.Prelude.{◌≡◌, ◌<◌, ◌≤◌, [], IfSome, l
 ghost use Rattle.std.specs.List.{position};
 ghost use Rattle.std.specs.Str.{bytes_eq};
 ghost use Rattle.x86_decode.specs.WellFormed.{HasCondition};
-ghost use Rattle.asm_text.specs.OperationNames.{op_name};
+ghost use Rattle.asm_text.specs.declared.operation.TheConstants.{OPERATIONS};
+ghost use Rattle.asm_text.specs.Operations.{op_name};
 ghost use Rattle.asm_text.specs.ParsedTexts.{name_at, op_at, op_named, place_of_name};
 
 use crate::operation::{ALL_OPS, OP_NAMES, op_number};
@@ -19,7 +20,7 @@ fn name_in(names: &[&'static str], place: usize) -> &'static str
 
 #[tactic(auto, unfolding(crate::specs::ParsedTexts::all_names))]
 fn name_at(place: usize) -> &'static str
-    requires { place < 136 }
+    requires { place < OPERATIONS }
     ensures { result.now ≡ name_at place }
 {
     name_in(&OP_NAMES, place)
@@ -46,13 +47,13 @@ fn place_in(names: &[&str], name: &[u8]) -> Option<usize>
 #[tactic(auto, unfolding(crate::specs::ParsedTexts::place_of_name))]
 fn place_of_name(name: &[u8]) -> usize
     ensures value { result ≡ place_of_name name.now }
-    ensures small { result < 136 }
+    ensures small { result < OPERATIONS }
 {
     place_in(&OP_NAMES, name).unwrap_or(0)
 }
 
 fn op_at(place: usize) -> Op
-    requires { place < 136 }
+    requires { place < OPERATIONS }
     ensures value { result ≡ op_at place }
     ensures formed { HasCondition result }
 {

@@ -1,7 +1,8 @@
 //! The operations in a row, with the number and the name of each.
 
-ghost use Rattle.std.specs.Prelude.{◌≡◌};
-ghost use Rattle.asm_text.specs.OperationNumbers.{is_operation, number_of_operation};
+ghost use Rattle.std.specs.Prelude.{◌≡◌, ◌<◌};
+ghost use Rattle.asm_text.specs.declared.operation.TheConstants.{NUMBERS};
+ghost use Rattle.asm_text.specs.Operations.{is_operation, number_of_operation};
 
 use x86_decode::Op;
 use x86_decode::Op::*;
@@ -92,16 +93,23 @@ macro_rules! number {
     };
 }
 
+/// How many operations there are, those of each condition among them.
+pub(crate) const OPERATIONS: usize = 136;
+
+/// How many numbers there are, those of conditions past the sixteen among them.
+pub(crate) const NUMBERS: usize = OPERATIONS + 3 * 240;
+
 /// All operations: first those without a condition, then by condition the three that have one.
-pub(crate) static ALL_OPS: [Op; 136] = operations!(in_a_row);
+pub(crate) static ALL_OPS: [Op; OPERATIONS] = operations!(in_a_row);
 
 /// The names of all operations, in the same order.
-pub(crate) static OP_NAMES: [&str; 136] = operations!(names_in_a_row);
+pub(crate) static OP_NAMES: [&str; OPERATIONS] = operations!(names_in_a_row);
 
 /// The place of an operation in `ALL_OPS`. A condition past the sixteen that there are has its number too, past the
 /// last place, so that no two operations have one number.
 pub(crate) fn op_number(op: Op) -> u16
-    ensures { result ≡ number_of_operation op }
+    ensures value { result ≡ number_of_operation op }
+    ensures small { result < NUMBERS }
 {
     operations!(number op)
 }

@@ -4,7 +4,7 @@ ghost use Rattle.std.specs.Prelude.{◌≡◌};
 ghost use Rattle.asm_text.specs.LeastSpelling.{is_bytewise_least, is_not_behind};
 
 /// Whether the first bytes that differ are less in the first of the two; where none differ, whether it ends first.
-fn is_bytewise_least(bytes: &[u8], other: &[u8]) -> bool
+pub(crate) fn is_bytewise_least(bytes: &[u8], other: &[u8]) -> bool
     ensures { result ≡ is_bytewise_least bytes.now other.now }
 {
     for i in 0..bytes.len() {

@@ -3,7 +3,7 @@
 ghost use Rattle.std.specs.Prelude.{◌≡◌, ◌+◌, ◌<◌, ◌≤◌, ◌∷◌, ◌++◌, ◌^◌, [], false, codes, decimal, length};
 ghost use Rattle.std.specs.Fmt.{digit_glyph};
 ghost use Rattle.x86_decode.specs.WellFormed.{HasCondition};
-ghost use Rattle.asm_text.specs.OperationNames.{op_name};
+ghost use Rattle.asm_text.specs.Operations.{op_name};
 ghost use Rattle.asm_text.specs.InstructionTexts.{HasAddressText, HasPlaceText, HasText, address_text, base_text, hex_digits, instr_text, lock_text, place_text, register_text, rep_text};
 
 use crate::op_names::op_name;

@@ -1,13 +1,15 @@
-use Rattle.std.proofs.Common.{sym}
-use Rattle.asm_text.specs.Candidates.{by_rex}
-use Rattle.asm_text.proofs.Bests.{best_none, best_step}
+use Rattle.std.proofs.Common.{◌≡◌, ℕ, ◌+◌, ap, sym, ◌∙◌, arith}
+use Rattle.asm_text.specs.Candidates.{by_rexes}
+use Rattle.asm_text.specs.Skipping.{is_behind, narrow_length, row_least}
+use Rattle.asm_text.proofs.RowLengths.{rexes_begin}
+use Rattle.asm_text.proofs.Skips.{behind_kept}
 use Rattle.asm_text.proofs.search.try_rexes.Goals as goal
 
-pub loop-low-init : goal.loop-low-init
-loop-low-init c = sym (best_none c.args.instr.now c.try_front.new.best.items)
-
-pub loop-low-preserved : goal.loop-low-preserved
-loop-low-preserved c =
-    best_step c.args.instr.now c.try_front.new.best.items
-    (by_rex c.args.instr.now c.args.map c.args.opcode c.args.row.now c.args.narrow) c.loop-low.low
-    c.loop-low.best.items c.try_rex.new.best.items c.loop-low.invariant c.try_rex.ensures
+pub returns-then-is_behind : goal.returns-then-is_behind
+returns-then-is_behind c =
+    let least : ℕ = row_least c.args.map c.args.row.now.shape c.args.instr.now + narrow_length c.args.narrow in
+    let same : least ≡ c.args.least + c.narrow_length.result = omega (arith, c.requires.least, c.narrow_length.ensures.value) in
+    behind_kept c.args.instr.now c.args.best.now.items least
+    (by_rexes c.args.instr.now c.args.map c.args.opcode c.args.row.now c.args.narrow)
+    (ap (is_behind c.args.best.now.items) same ∙ (sym c.is_behind.ensures ∙ c.if-is_behind.true))
+    (rexes_begin c.args.instr.now c.args.map c.args.opcode c.args.row.now c.args.narrow)

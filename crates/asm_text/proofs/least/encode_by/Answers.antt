@@ -2,7 +2,7 @@ use Rattle.std.proofs.Common.{ap, length, sym, ◌∙◌}
 use Rattle.std.proofs.lemmas.Bool.{eq-eqb, eqb-true, false≢true}
 use Rattle.std.proofs.lemmas.List.{nil_from_length}
 use Rattle.asm_text.proofs.Leasts.{least_is, none_spells}
-use Rattle.asm_text.proofs.least.encode.Goals as goal
+use Rattle.asm_text.proofs.least.encode_by.Goals as goal
 
 pub returns-then-is_empty-clause-none : goal.returns-then-is_empty-clause-none
 returns-then-is_empty-clause-none c =
