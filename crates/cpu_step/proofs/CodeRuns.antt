@@ -15,7 +15,8 @@ use Rattle.x86_regs.specs.Operands.{wrapped}
 use Rattle.cpu_step.specs.declared.fetch.Fetched.{Fetched}
 use Rattle.cpu_step.specs.InstructionFetch.{byte_fetched, decided_by, fetched_from}
 use Rattle.cpu_step.proofs.LongerCode.{DecodingFacts, decoded_longer}
-use Rattle.cpu_step.proofs.WordBytes.{code_at, code_bytes, code_length}
+use Rattle.cpu_step.specs.CodeLines.{code_at}
+use Rattle.cpu_step.proofs.WordBytes.{code_bytes, code_length}
 
 -- what these bytes decide, with at most so many more
 abbrev pub settled_by : List ℕ → List ℕ → View → ℕ → Translations → ℕ → Outcome Fault Fetched

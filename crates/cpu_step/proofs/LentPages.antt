@@ -26,7 +26,8 @@ use Rattle.cpu_step.specs.DecodingMemo.{place_found}
 use Rattle.cpu_step.proofs.LongerCode.{DecodingFacts}
 use Rattle.cpu_step.proofs.CodeRuns.{settled_by}
 use Rattle.cpu_step.proofs.PageFetches.{PageFacts, run_on_page}
-use Rattle.cpu_step.proofs.WordBytes.{code_at, code_length}
+use Rattle.cpu_step.specs.CodeLines.{code_at}
+use Rattle.cpu_step.proofs.WordBytes.{code_length}
 
 -- a run of memory, byte by byte
 code_byte : (m : List ℕ) (p i n k : ℕ) → k < n → byte_at (code_at m p i n) k ≡ byte_at m (p + (i + k))
@@ -34,7 +35,7 @@ code_byte m p i zero k below = absurd (omega (arith, below))
 code_byte m p i (suc n) zero below = ap (byte_at m) (omega arith)
 code_byte m p i (suc n) (suc k) below = code_byte m p (suc i) n k (omega (arith, below)) ∙ ap (byte_at m) (omega arith)
 
-run_is_code : (m : List ℕ) (p n : ℕ) → length (take n (drop p m)) ≡ n → take n (drop p m) ≡ code_at m p 0 n
+pub run_is_code : (m : List ℕ) (p n : ℕ) → length (take n (drop p m)) ≡ n → take n (drop p m) ≡ code_at m p 0 n
 run_is_code m p n whole =
     ext_get_or 0 (take n (drop p m)) (code_at m p 0 n) (whole ∙ sym (code_length m p 0 n))
     (λ k below.

@@ -25,7 +25,7 @@ use Rattle.cpu_step.specs.InstructionFetch.{byte_fetched, decided_by, fetched_fr
 use Rattle.cpu_step.specs.DecodingMemo.{place_found}
 use Rattle.cpu_step.proofs.LongerCode.{DecodingFacts}
 use Rattle.cpu_step.proofs.CodeRuns.{run_fetched, settled_by}
-use Rattle.cpu_step.proofs.WordBytes.{code_at}
+use Rattle.cpu_step.specs.CodeLines.{code_at}
 
 -- what the law on accesses says of a page that was reached
 pub record PageFacts : Type 0 where

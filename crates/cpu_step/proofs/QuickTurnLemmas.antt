@@ -170,7 +170,7 @@ module _ (p : Processor) (m : List ℕ) (regs : Regs) (after : List ℕ) where
       ∙ by_settled (instruction_made p m) (made ∙ ap (λ (o : Outcome Fault Effect). settled o m) (sym effect)))))
 
 -- one turn more
-one_more : (k : ℕ) (p q r : Processor) (m n o : List ℕ) → AreQuickTurns k p m q n → IsQuickTurn q n → ran r o ≡ turned q n → AreQuickTurns (suc k) p m r o
+pub one_more : (k : ℕ) (p q r : Processor) (m n o : List ℕ) → AreQuickTurns k p m q n → IsQuickTurn q n → ran r o ≡ turned q n → AreQuickTurns (suc k) p m r o
 unfolding AreQuickTurns
 one_more zero p q r m n o are one made =
     let now : turned q n ≡ turned p m = λ j. turned (are.0 j) (are.1 j) in (
@@ -194,7 +194,7 @@ unfolding AreQuickTurns
 one_before p m k r o turn later = (turn, later)
 
 -- turns, and then turns
-more_turns : (k j : ℕ) (p q r : Processor) (m n o : List ℕ) → AreQuickTurns k p m q n → AreQuickTurns j q n r o → AreQuickTurns (k + j) p m r o
+pub more_turns : (k j : ℕ) (p q r : Processor) (m n o : List ℕ) → AreQuickTurns k p m q n → AreQuickTurns j q n r o → AreQuickTurns (k + j) p m r o
 unfolding AreQuickTurns
 more_turns zero j p q r m n o are later =
     let same : j ≡ 0 + j = omega arith in

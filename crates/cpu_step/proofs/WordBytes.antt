@@ -9,11 +9,7 @@ use Rattle.std.proofs.lemmas.Nat.{le_bytes_8}
 use Rattle.phys_mem.specs.Memory.{IsBytes, byte_at, number_at}
 use Rattle.x86_decode.specs.Spelling.{AreBytes}
 use Rattle.cpu_step.specs.DecodingMemo.{bytes_of_words}
-
--- the n bytes behind the first i bytes from place p on
-abbrev pub code_at : List ℕ → ℕ → ℕ → ℕ → List ℕ
-code_at m p i zero = []
-code_at m p i (suc n) = byte_at m (p + i) ∷ code_at m p (suc i) n
+use Rattle.cpu_step.specs.CodeLines.{code_at}
 
 pub code_length : (m : List ℕ) (p i n : ℕ) → length (code_at m p i n) ≡ n
 code_length m p i zero = refl
