@@ -30,7 +30,7 @@ use Rattle.cpu_step.specs.CodeLines.{code_at}
 use Rattle.cpu_step.proofs.WordBytes.{code_length}
 
 -- a run of memory, byte by byte
-code_byte : (m : List ℕ) (p i n k : ℕ) → k < n → byte_at (code_at m p i n) k ≡ byte_at m (p + (i + k))
+pub code_byte : (m : List ℕ) (p i n k : ℕ) → k < n → byte_at (code_at m p i n) k ≡ byte_at m (p + (i + k))
 code_byte m p i zero k below = absurd (omega (arith, below))
 code_byte m p i (suc n) zero below = ap (byte_at m) (omega arith)
 code_byte m p i (suc n) (suc k) below = code_byte m p (suc i) n k (omega (arith, below)) ∙ ap (byte_at m) (omega arith)

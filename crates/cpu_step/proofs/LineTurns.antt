@@ -42,7 +42,7 @@ code_alike m c p at size i (suc n) same within =
     λ j. byte j ∷ code_alike m c p at size (suc i) n same (omega (arith, within)) j
 
 -- the next form stands behind this one
-pub next_stands : (at size base start place last all here there : ℕ) → at + base ≡ start + (place + here) → there ≡ here + size → there + 15 ≤ all → place + all ≤ base + last + 15 →
+pub next_stands : (at size base start place last all here there : ℕ) → at + base ≡ start + (place + here) → there ≡ here + size → there + 16 ≤ all → place + all ≤ base + last + 16 →
     start % 4096 + last ≤ 4080 → start < 2 ^ 64 → (at + size) % 2 ^ 64 + base ≡ start + (place + there)
 next_stands at size base start place last all here there stands follows within inside page bound =
     omega (arith, stands, follows, within, inside, page, bound)
@@ -73,6 +73,9 @@ module _ (control : Control) (tlb : Translations) where
 
   pub no_turn : (regs : Regs) (m : List ℕ) → AreTurns 0 control tlb regs m regs m
   no_turn regs m = record { turns = λ p plain. no_turns_to p m regs plain.regs; size = refl; cpl = refl }
+
+  pub nothing_turned : (a b : Regs) (m n : List ℕ) → b ≡ a → n ≡ m → AreTurns 0 control tlb a m b n
+  nothing_turned a b m n same kept = subst (λ (x : Regs × List ℕ). AreTurns 0 control tlb a m x.0 x.1) (λ j. (sym same j, sym kept j)) (no_turn a m)
 
   -- nothing is made, but the window may be another
   pub left_on : (at : ℕ) (a b : Regs) (m n : List ℕ) (w v : Window) → b ≡ a → n ≡ m → v.off ≡ w.off → IsWindow (length m) control a.cpl tlb v →
@@ -186,28 +189,36 @@ module _ (control : Control) (tlb : Translations) where
         ∙ (ap (λ d. decided_by (decoded_of d) tlb (refused (General 0) tlb)) (code_alike m line.code line.place q.at line.size 0 15 is.same (omega (arith, form.within)))
         ∙ ap (λ d. decided_by d tlb (refused (General 0) tlb)) (form.stands quick).means)
 
+    turn : (r : Regs) (o : List ℕ) → quiet_outcome r o tlb ≡ effect_made (form_by q.kind) q (record a { rip = at }) control m tlb → (p : Processor) → IsPlain (record a { rip = at }) control tlb p →
+        AreQuickTurns 1 (record p { regs = record a { rip = at }; control = control; tlb = tlb }) m (record p { regs = r; control = control; tlb = tlb }) o
+    turn r o made p plain =
+        let it : Processor = record p { regs = record a { rip = at }; control = control; tlb = tlb } in
+        let elsewhere : is_at_body it.regs ≡ false = not_at_body (length m) it code ahead kept near stands_at in
+        let turns : ran (record it { regs = r }) o ≡ turned it m =
+        quick_turned it m r o q plain.none plain.open_to elsewhere (form.stands quick).form ((form.stands quick).lawful a.cpl) fetched made in
+        one_more 0 it it (record it { regs = r }) m m o (no_turns it m) (record {
+          no_body = ap (λ b. b && not (wp_of control.cr0)) elsewhere;
+          runs = plain.runs;
+          ran = ap (λ (t : Turned). t.stepped) (sym turns);
+          control = ap (λ (t : Turned). t.processor.control) (sym turns);
+        }) turns
+
+    pub turn_on : (r : Regs) (o : List ℕ) → quiet_outcome r o tlb ≡ effect_made (form_by q.kind) q (record a { rip = at }) control m tlb → length o ≡ length m → r.cpl ≡ a.cpl →
+        AreTurns 1 control tlb (record a { rip = at }) m r o
+    turn_on r o made size cpl = record {
+      turns = λ p plain. subst (λ (x : Processor). AreQuickTurns 1 x m (record x { regs = r }) o) (plain_is (record a { rip = at }) control tlb p plain) (turn r o made p plain);
+      size = size;
+      cpl = cpl;
+    }
+
     pub one_on : (r : Regs) (o : List ℕ) (v : Window) → quiet_outcome r o tlb ≡ effect_made (form_by q.kind) q (record a { rip = at }) control m tlb →
         IsSameOnPage w.off m o → v.off ≡ w.off → length o ≡ length m → r.cpl ≡ a.cpl → IsWindow (length m) control a.cpl tlb v →
         AreMadeOn 1 control tlb (record a { rip = at }) m w r o v
     one_on r o v made same off size cpl windowed = record {
-      turns = λ p plain. subst (λ (x : Processor). AreQuickTurns 1 x m (record x { regs = r }) o) (plain_is (record a { rip = at }) control tlb p plain) (turn p plain);
+      turns = (turn_on r o made size cpl).turns;
       code = same;
       off = off;
       size = size;
       cpl = cpl;
       windowed = subst (λ (x : ℕ × ℕ). IsWindow x.0 control x.1 tlb v) (λ j. (sym size j, sym cpl j)) windowed;
     }
-      where
-        turn : (p : Processor) → IsPlain (record a { rip = at }) control tlb p →
-            AreQuickTurns 1 (record p { regs = record a { rip = at }; control = control; tlb = tlb }) m (record p { regs = r; control = control; tlb = tlb }) o
-        turn p plain =
-            let it : Processor = record p { regs = record a { rip = at }; control = control; tlb = tlb } in
-            let elsewhere : is_at_body it.regs ≡ false = not_at_body (length m) it code ahead kept near stands_at in
-            let turns : ran (record it { regs = r }) o ≡ turned it m =
-            quick_turned it m r o q plain.none plain.open_to elsewhere (form.stands quick).form ((form.stands quick).lawful a.cpl) fetched made in
-            one_more 0 it it (record it { regs = r }) m m o (no_turns it m) (record {
-              no_body = ap (λ b. b && not (wp_of control.cr0)) elsewhere;
-              runs = plain.runs;
-              ran = ap (λ (t : Turned). t.stepped) (sym turns);
-              control = ap (λ (t : Turned). t.processor.control) (sym turns);
-            }) turns

@@ -50,7 +50,7 @@ module _ (m : List ℕ) (bytes : IsBytes m) where
       higher (suc i) v =
           ap (λ k. v / k % 256) (pow-suc 256 (suc i) ∙ mul_comm (256 ^ suc i) 256) ∙ ap (λ k. k % 256) (sym (div-div-eq-div-mul v 256 (256 ^ suc i)))
 
-  word_bytes : (n i k p : ℕ) → i + k ≤ n → bytes_low_first i k (number_at m n p) ≡ code_at m p i k
+  pub word_bytes : (n i k p : ℕ) → i + k ≤ n → bytes_low_first i k (number_at m n p) ≡ code_at m p i k
   word_bytes n i zero p within = refl
   word_bytes n i (suc k) p within = λ j. digit n i p (omega (arith, within)) j ∷ word_bytes n (suc i) k p (omega (arith, within)) j
 
@@ -71,7 +71,7 @@ module _ (m : List ℕ) (bytes : IsBytes m) where
       (λ j. (word_bytes 8 0 8 p (lit≤ tt) j, (word_bytes 8 0 8 (p + 7) (lit≤ tt) ∙ later p 7 0 8) j))
 
 -- a run of bytes has bytes
-small_run : (n : ℕ) (xs : List ℕ) → ((i : ℕ) → get_or xs i 0 < 256) → (i : ℕ) → get_or (take n xs) i 0 < 256
+pub small_run : (n : ℕ) (xs : List ℕ) → ((i : ℕ) → get_or xs i 0 < 256) → (i : ℕ) → get_or (take n xs) i 0 < 256
 small_run zero xs small i = lit< tt
 small_run (suc n) [] small i = lit< tt
 small_run (suc n) (x ∷ xs) small zero = small 0

@@ -21,11 +21,11 @@ code_at m p i zero = []
 code_at m p i (suc n) = byte_at m (p + i) ∷ code_at m p (suc i) n
 
 -- a quick form that can be made, and that stands for what fifteen bytes of this code decode to from its place in it on,
--- unless there is none; they are among the first `size` bytes
+-- unless there is none; they are among the first `size` bytes, with one more
 pub record IsFormIn (code : List ℕ) (size : ℕ) (q : Quick) : Type 0 where
   pub ready : IsQuick q
   pub register : has_register_first q.kind ≡ true → q.to < 16
-  pub within : q.at + 15 ≤ size
+  pub within : q.at + 16 ≤ size
   pub stands : is_slow q.kind ≡ false → StandsFor q (decoded_of (code_at code q.at 0 15))
 
 -- the first so many forms stand one behind the other
@@ -37,8 +37,9 @@ pub record IsRow (forms : List Quick) (count : ℕ) : Type 0 where
 
 -- a line whose forms are those of its code, and whose stamp isn't above this one
 pub record IsLineBy (stamp : ℕ) (line : Line) : Type 0 where
-  pub some : 15 ≤ line.size
+  pub some : 16 ≤ line.size
   pub size : line.size ≤ 64
+  pub whole : line.size % 8 ≡ 0
   pub forms : All (IsFormIn line.code line.size) line.forms
   pub row : IsRow line.forms line.count
   pub stamped : line.stamp ≤ stamp
@@ -46,7 +47,7 @@ pub record IsLineBy (stamp : ℕ) (line : Line) : Type 0 where
 -- memory has the line's code at its place, which is in this code
 pub record IsCodeIn (code : KeptCode) (m : List ℕ) (line : Line) : Type 0 where
   pub from : code.base ≤ line.place
-  pub to : line.place + line.size ≤ code.base + code.last + 15
+  pub to : line.place + line.size ≤ code.base + code.last + 16
   pub same : (k : ℕ) → k < line.size → byte_at line.code k ≡ byte_at m (line.place + k)
 
 -- the same where it has this stamp

@@ -96,13 +96,13 @@ impl KeptCode {
         self.base + ahead
     }
 
-    /// How many bytes a line may have that begins so far ahead: fifteen from each address on at which a turn may begin.
+    /// How many bytes a line may have that begins so far ahead: sixteen from each address on at which a turn may begin.
     #[inline(always)]
     pub(crate) fn room(&self, ahead: u64) -> usize
         requires ahead { ahead ≤ self.now.last }
         requires page { self.now.last ≤ 4080 }
-        ensures { result ≡ self.now.last + 15 - ahead }
+        ensures { result ≡ self.now.last + 16 - ahead }
     {
-        (self.last + 15 - ahead) as usize
+        (self.last + 16 - ahead) as usize
     }
 }

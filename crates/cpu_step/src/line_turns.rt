@@ -9,7 +9,7 @@ ghost use Rattle.cpu_step.specs.CodeLines.{AreMadeOn, AreTurns, IsCodeIn, IsForm
 
 use crate::kept_code::KeptCode;
 use crate::lines::{Line, line_slot, renew_line};
-use exec_quick::{Quick, Went, make};
+use exec_quick::{Quick, Went, make, make_at};
 use mem_access::Window;
 use nk_bits::{Control, access_law};
 use phys_mem::PhysMem;
@@ -183,7 +183,7 @@ fn line_turn(
     decoding_law();
     access_law();
     mem.bytes_law();
-    make(quick, at, regs, control, mem, tlb, window)
+    make_at(quick, at, regs, control, mem, tlb, window)
 }
 
 /// Makes one turn by the code at RIP, if any may be made, and if it is a quick one: it may write the page of the code.
@@ -237,28 +237,14 @@ fn first_turn(
     if line.count_within(most) == 0 {
         return 0;
     }
+    decoding_law();
+    access_law();
+    mem.bytes_law();
     let quick = line.form(0);
-    let at = regs.rip;
     let mut window = Window::new();
-    match line_turn(
-        code,
-        line,
-        quick,
-        at,
-        regs,
-        control,
-        mem,
-        tlb,
-        &mut window,
-    ) {
-        Went::On => {
-            regs.rip = at.wrapping_add(u64::from(quick.size));
-            1
-        }
-        Went::Off => 1,
-        Went::Left => {
-            regs.rip = at;
-            0
-        }
+    if make(quick, regs, control, mem, tlb, &mut window) {
+        1
+    } else {
+        0
     }
 }

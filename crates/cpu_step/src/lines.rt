@@ -11,6 +11,7 @@ ghost use Rattle.cpu_step.specs.declared.lines.Line.{Line};
 ghost use Rattle.cpu_step.specs.CodeLines.{IsCodeIn, IsFormIn, IsLineBy, IsLineOf, IsRow};
 
 use crate::kept_code::KeptCode;
+use crate::memo::word_at;
 use crate::processor::NoMemory;
 use exec_quick::{Kind, Quick, SLOW, quick_of};
 use mem_access::run_on_page;
@@ -66,7 +67,7 @@ fn no_line() -> Line
     Line {
         place: 0,
         stamp: 0,
-        size: LONGEST,
+        size: 16,
         code,
         count: 0,
         forms,
@@ -76,7 +77,7 @@ fn no_line() -> Line
 /// No quick forms.
 fn no_forms() -> [Quick; 16]
     ensures length { length result ≡ 16 }
-    ensures forms { (code : List ℕ) (size : ℕ) → 15 ≤ size → All (IsFormIn code size) result }
+    ensures forms { (code : List ℕ) (size : ℕ) → 16 ≤ size → All (IsFormIn code size) result }
 {
     [SLOW; FORMS]
 }
@@ -177,8 +178,8 @@ fn replace_line(
 fn is_code_of(line: &Line, mem: &PhysMem, place: u64, room: usize) -> bool
     requires room { place % 4096 + room ≤ 4096 }
     requires inside { place + room ≤ length mem.now }
-    requires some { 15 ≤ line.now.size }
     requires size { line.now.size ≤ 64 }
+    requires whole { line.now.size % 8 ≡ 0 }
     ensures place { result ≡ true → line.now.place ≡ place }
     ensures room { result ≡ true → line.now.size ≤ room }
     ensures same { result ≡ true → (k : ℕ) → k < line.now.size
@@ -187,22 +188,44 @@ fn is_code_of(line: &Line, mem: &PhysMem, place: u64, room: usize) -> bool
     if line.place != place || line.size > room {
         return false;
     }
-    are_same(
-        run_on_page(mem, place, line.size),
-        &line.code[..line.size],
-    )
+    has_code(&line.code, line.size, mem, place)
 }
 
-/// Whether two runs of bytes are the same.
-fn are_same(a: &[u8], b: &[u8]) -> bool
-    ensures { result ≡ true → a.now ≡ b.now }
+/// Whether memory has the first so many bytes of code from a place on, word by word.
+fn has_code(code: &[u8; 64], size: usize, mem: &PhysMem, place: u64) -> bool
+    requires inside { place + size ≤ length mem.now }
+    requires size { size ≤ 64 }
+    requires whole { size % 8 ≡ 0 }
+    ensures same { result ≡ true → (k : ℕ) → k < size → byte_at code.now k ≡ byte_at mem.now (place + k) }
 {
-    a == b
+    let mut at = 0;
+    while at < size {
+        if !has_word(code, at, mem, place) {
+            return false;
+        }
+        at += 8;
+    }
+    true
+}
+
+/// Whether memory has the word of code that stands so far behind its first byte, whose place this is.
+#[inline(always)]
+fn has_word(code: &[u8], at: usize, mem: &PhysMem, place: u64) -> bool
+    requires length { length code.now ≡ 64 }
+    requires inside { place + at + 8 ≤ length mem.now }
+    requires within { at + 8 ≤ 64 }
+    ensures same { result ≡ true → (k : ℕ) → at ≤ k → k < at + 8 → byte_at code.now k ≡ byte_at mem.now (place + k) }
+{
+    mem.bytes_law();
+    let _frames = mem.frames();
+    let kept = word_at(code, at);
+    let found = mem.load64(place + at as u64);
+    kept == found
 }
 
 /// The line of the code of this place, within so many bytes.
 fn line_at(mem: &PhysMem, place: u64, room: usize, stamp: u64) -> Line
-    requires some { 15 ≤ room }
+    requires some { 16 ≤ room }
     requires room { place % 4096 + room ≤ 4096 }
     requires inside { place + room ≤ length mem.now }
     ensures line { IsLineBy stamp result }
@@ -211,9 +234,9 @@ fn line_at(mem: &PhysMem, place: u64, room: usize, stamp: u64) -> Line
     ensures room { result.size ≤ room }
     ensures same { (k : ℕ) → k < result.size → byte_at result.code k ≡ byte_at mem.now (place + k) }
 {
-    let size = BYTES.min(room);
-    let code = copied(run_on_page(mem, place, size));
-    let (forms, count) = forms_of(&code, size);
+    let most = BYTES.min(room) / 8 * 8;
+    let code = copied(run_on_page(mem, place, most));
+    let (forms, count, size) = forms_of(&code, most);
     Line {
         place,
         stamp,
@@ -234,21 +257,28 @@ fn copied(bytes: &[u8]) -> [u8; 64]
     code
 }
 
-/// The quick forms of instructions one behind the other, up to the first that has none.
-fn forms_of(code: &[u8; 64], size: usize) -> ([Quick; 16], usize)
-    requires some { 15 ≤ size }
-    requires size { size ≤ 64 }
-    ensures forms { All (IsFormIn code.now size) result.0 }
+/// The quick forms of instructions one behind the other, up to the first that has none, how many they are, and how many
+/// bytes of the code decide them: words, at most so many bytes.
+fn forms_of(code: &[u8; 64], most: usize) -> ([Quick; 16], usize, usize)
+    requires some { 16 ≤ most }
+    requires most { most ≤ 64 }
+    requires whole { most % 8 ≡ 0 }
+    ensures forms { All (IsFormIn code.now result.2) result.0 }
     ensures row { IsRow result.0 result.1 }
+    ensures some { 16 ≤ result.2 }
+    ensures most { result.2 ≤ most }
+    ensures whole { result.2 % 8 ≡ 0 }
 {
     let mut forms = no_forms();
     let mut count = 0;
     let mut at = 0;
-    while count < FORMS && at <= size - LONGEST {
-        let quick = form_at(code, at, size);
+    let mut size = 16;
+    while count < FORMS && at <= most - 16 {
+        let quick = form_at(code, at);
         if quick.kind == Kind::Slow {
             break;
         }
+        size = (at + 23) / 8 * 8;
         forms[count] = quick;
         count += 1;
         at += usize::from(quick.size);
@@ -256,14 +286,13 @@ fn forms_of(code: &[u8; 64], size: usize) -> ([Quick; 16], usize)
             break;
         }
     }
-    (forms, count)
+    (forms, count, size)
 }
 
 /// The quick form of the instruction so far behind the first byte.
-fn form_at(code: &[u8; 64], at: usize, size: usize) -> Quick
-    requires size { size ≤ 64 }
-    requires within { at + 15 ≤ size }
-    ensures form { IsFormIn code.now size result }
+fn form_at(code: &[u8; 64], at: usize) -> Quick
+    requires within { at + 16 ≤ 64 }
+    ensures form { (size : ℕ) → at + 16 ≤ size → IsFormIn code.now size result }
     ensures at { result.at ≡ at }
 {
     let quick = quick_by(&decode(&code[at..at + LONGEST]));

@@ -195,7 +195,8 @@ fn decode_words(low: u64, high: u64) -> Decoded
 }
 
 /// The word that begins at a place of a run.
-fn word_at(bytes: &[u8], at: usize) -> u64
+#[inline(always)]
+pub(crate) fn word_at(bytes: &[u8], at: usize) -> u64
     requires { at + 8 ≤ length bytes.now }
     ensures { result ≡ from_le_bytes w64 (take 8 (drop at bytes.now)) }
 {

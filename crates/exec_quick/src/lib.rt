@@ -28,4 +28,4 @@ mod turn;
 
 pub use quick::{Kind, Quick, SLOW, Went};
 pub use taken_apart::quick_of;
-pub use turn::{make, make_one};
+pub use turn::{make, make_at};

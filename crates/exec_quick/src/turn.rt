@@ -24,10 +24,11 @@ use tlb_model::Tlb;
 use x86_decode::Op;
 use x86_regs::Regs;
 
-/// Makes the instruction of a quick form, with its write, where each page that it needs is kept and serves it and no fault is
-/// raised; else changes nothing, and says so.
+/// Makes the instruction of a quick form, which stands at `at`, with its write, where each page that it needs is kept and
+/// serves it and no fault is raised; else changes neither registers nor memory, and says so. RIP isn't read, and is written
+/// only where the instruction leads elsewhere than behind itself. The page that the window keeps off isn't written.
 #[inline(always)]
-pub fn make(
+pub fn make_at(
     quick: &Quick,
     at: u64,
     regs: &mut Regs,
@@ -180,9 +181,10 @@ fn make_rest(
     }
 }
 
-/// Makes the instruction of a quick form at RIP, and sets RIP.
+/// Makes the instruction of a quick form, which stands at RIP, with its write, where each page that it needs is kept and serves
+/// it and no fault is raised; else changes nothing, and says so.
 #[inline(never)]
-pub fn make_one(
+pub fn make(
     quick: &Quick,
     regs: &mut Regs,
     control: &Control,
@@ -203,7 +205,7 @@ pub fn make_one(
     ensures privilege { regs.new.cpl ≡ regs.old.cpl }
 {
     let at = regs.rip;
-    match make(quick, at, regs, control, mem, tlb, window) {
+    match make_at(quick, at, regs, control, mem, tlb, window) {
         Went::On => {
             regs.rip = next_at(quick, at);
             true

@@ -41,8 +41,8 @@ pub fn run_on_page(mem: &PhysMem, place: u64, count: usize) -> &[u8]
 {
     prove!(place < 4096 * u64::from(mem.frames()));
     let page = mem.frame((place / 4096) as u32);
-    let start = (place % 4096) as usize;
-    &page[start..start + count]
+    let first = (place % 4096) as usize;
+    &page[first..first + count]
 }
 
 /// The number of `width` bytes that stands at these places.

@@ -11,12 +11,12 @@ returns-clause-made c = λ quick.
     let pages : PageFacts = record { held = c.access_law.ensures.held; found_again = c.access_law.ensures.found_again } in
     let decodings : DecodingFacts = record { right = c.decoding_law.ensures.right; only = c.decoding_law.ensures.only } in
     one_on c.args.control.now c.args.tlb.now pages decodings c.args.code.now c.args.line.now c.args.quick.now c.args.at c.args.regs.now c.args.mem.now c.args.window.now
-    c.bytes_law.ensures c.requires.kept c.requires.code c.requires.form c.requires.here (c.make.ensures.quick quick)
-    (went c.make.result next c.make.new.regs) c.make.new.mem c.make.new.window (c.make.ensures.made quick) c.make.ensures.code c.make.ensures.off c.make.ensures.length
-    (went_cpl c.make.result next c.make.new.regs ∙ c.make.ensures.privilege) c.make.ensures.window
+    c.bytes_law.ensures c.requires.kept c.requires.code c.requires.form c.requires.here (c.make_at.ensures.quick quick)
+    (went c.make_at.result next c.make_at.new.regs) c.make_at.new.mem c.make_at.new.window (c.make_at.ensures.made quick) c.make_at.ensures.code c.make_at.ensures.off c.make_at.ensures.length
+    (went_cpl c.make_at.result next c.make_at.new.regs ∙ c.make_at.ensures.privilege) c.make_at.ensures.window
 
 pub returns-clause-left : goal.returns-clause-left
 returns-clause-left c = λ left.
-    let both = c.make.ensures.left left in
-    left_on c.args.control.now c.args.tlb.now c.args.at c.args.regs.now c.make.new.regs c.args.mem.now c.make.new.mem c.args.window.now c.make.new.window
-    both.0 both.1 c.make.ensures.off c.make.ensures.window
+    let both = c.make_at.ensures.left left in
+    left_on c.args.control.now c.args.tlb.now c.args.at c.args.regs.now c.make_at.new.regs c.args.mem.now c.make_at.new.mem c.args.window.now c.make_at.new.window
+    both.0 both.1 c.make_at.ensures.off c.make_at.ensures.window
