@@ -32,18 +32,18 @@ module _ (forms : List Quick) (count : ℕ) (q : Quick) (at : ℕ) (row : IsRow 
     all = length-set forms count q ∙ full;
     few = omega (arith, less);
     first = λ d some. elim (cases_lt 0 count) [
-        | inl more ↦ ap (λ (x : Quick). x.at) (other_is d 0 more) ∙ row.first d more
-        | inr none ↦ ap (λ (x : Quick). x.at) (last_is d 0 (omega (arith, none))) ∙ (here ∙ begins (omega (arith, none)))
-      ];
+      | inl more ↦ ap (λ (x : Quick). x.at) (other_is d 0 more) ∙ row.first d more
+      | inr none ↦ ap (λ (x : Quick). x.at) (last_is d 0 (omega (arith, none))) ∙ (here ∙ begins (omega (arith, none)))
+    ];
     next = λ d i within. elim (cases_lt (i + 1) count) [
-        | inl inside ↦
-            ap (λ (x : Quick). x.at) (other_is d (i + 1) inside)
-            ∙ (row.next d i inside ∙ sym (ap (λ (x : Quick). x.at + x.size) (other_is d i (omega (arith, inside)))))
-        | inr end ↦
-            let last : i + 1 ≡ count = omega (arith, within, end) in
-            ap (λ (x : Quick). x.at) (last_is d (i + 1) last)
-            ∙ (here ∙ (sym (before d i last) ∙ sym (ap (λ (x : Quick). x.at + x.size) (other_is d i (omega (arith, last))))))
-      ];
+      | inl inside ↦
+          ap (λ (x : Quick). x.at) (other_is d (i + 1) inside)
+          ∙ (row.next d i inside ∙ sym (ap (λ (x : Quick). x.at + x.size) (other_is d i (omega (arith, inside)))))
+      | inr end ↦
+          let last : i + 1 ≡ count = omega (arith, within, end) in
+          ap (λ (x : Quick). x.at) (last_is d (i + 1) last)
+          ∙ (here ∙ (sym (before d i last) ∙ sym (ap (λ (x : Quick). x.at + x.size) (other_is d i (omega (arith, last))))))
+    ];
   }
 
   pub behind_last : (d : Quick) (i : ℕ) → i + 1 ≡ count + 1 → (get_or longer i d).at + (get_or longer i d).size ≡ at + q.size

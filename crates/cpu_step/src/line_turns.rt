@@ -46,16 +46,7 @@ pub(crate) fn lines_run(
         let slot = slot_of(mem, code, ahead);
         renew_line(lines, slot, stamp, code, mem, ahead);
         let line = &lines[slot];
-        let made = line_turns(
-            code,
-            line,
-            regs,
-            control,
-            mem,
-            tlb,
-            window,
-            most - count,
-        );
+        let made = line_turns(code, line, regs, control, mem, tlb, window, most - count);
         count += made;
         if made == 0 {
             break;
@@ -98,16 +89,7 @@ fn line_turns(
     let start = regs.rip;
     let mut count = 0;
     while count < most {
-        let made = line_run(
-            code,
-            line,
-            regs,
-            control,
-            mem,
-            tlb,
-            window,
-            most - count,
-        );
+        let made = line_run(code, line, regs, control, mem, tlb, window, most - count);
         count += made;
         if made == 0 || regs.rip != start {
             break;
@@ -175,9 +157,11 @@ fn line_turn(
     requires code { IsCodeIn code.now mem.old line.now }
     requires form { IsFormIn line.now.code line.now.size quick.now }
     requires here { at + code.now.base ≡ code.now.start + (line.now.place + quick.now.at) }
-    ensures made { is_left result ≡ false → AreMadeOn 1 control.now tlb.now (record regs.old { rip = at }) mem.old window.old
+    ensures made { is_left result ≡ false
+        → AreMadeOn 1 control.now tlb.now (record regs.old { rip = at }) mem.old window.old
         (went result (next_at at quick.now.size) regs.new) mem.new window.new }
-    ensures left { is_left result ≡ true → AreMadeOn 0 control.now tlb.now (record regs.old { rip = at }) mem.old window.old
+    ensures left { is_left result ≡ true
+        → AreMadeOn 0 control.now tlb.now (record regs.old { rip = at }) mem.old window.old
         (record regs.new { rip = at }) mem.new window.new }
 {
     decoding_law();

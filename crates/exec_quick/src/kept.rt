@@ -24,14 +24,7 @@ pub(crate) fn load(mem: &PhysMem, place: u64, va: u64, bytes: u8) -> u64
 
 /// Puts a number on one page at this address, whose place was found kept.
 #[inline(always)]
-pub(crate) fn store(
-    mem: &mut PhysMem,
-    window: &Window,
-    place: u64,
-    va: u64,
-    bytes: u8,
-    value: u64,
-)
+pub(crate) fn store(mem: &mut PhysMem, window: &Window, place: u64, va: u64, bytes: u8, value: u64)
     requires bytes { IsAccessSize bytes }
     requires one { crosses va bytes ≡ false }
     requires fits { place + bytes ≤ length mem.old }

@@ -19,9 +19,7 @@ use nk_bits::Control;
 use phys_mem::PhysMem;
 use tlb_model::Tlb;
 use x86_decode::Op;
-use x86_regs::{
-    Regs, movement, set_place, source_width, usual_combination, usual_comparison,
-};
+use x86_regs::{Regs, movement, set_place, source_width, usual_combination, usual_comparison};
 
 /// ADD and its kin of a register and memory.
 #[inline(never)]
@@ -204,7 +202,8 @@ pub(crate) fn move_load(
     ensures made { is_left result ≡ false
         → quiet_outcome (went result (next_at at quick.now.size) regs.new) mem.new tlb.now
         ≡ effect_made (Data DataForm.Move)
-        (record quick.now { kind = Kind.MoveLoad; op = op; width = width }) (record regs.old { rip = at }) control.now mem.old tlb.now }
+        (record quick.now { kind = Kind.MoveLoad; op = op; width = width })
+        (record regs.old { rip = at }) control.now mem.old tlb.now }
     ensures left { is_left result ≡ true → (regs.new ≡ regs.old) × (mem.new ≡ mem.old) }
     ensures off { window.new.off ≡ window.old.off }
     ensures code { IsSameOnPage window.old.off mem.old mem.new }
@@ -246,7 +245,8 @@ pub(crate) fn move_store(
     ensures made { is_left result ≡ false
         → quiet_outcome (went result (next_at at quick.now.size) regs.new) mem.new tlb.now
         ≡ effect_made (Data DataForm.Move)
-        (record quick.now { kind = Kind.MoveStore; op = op; width = width }) (record regs.old { rip = at }) control.now mem.old tlb.now }
+        (record quick.now { kind = Kind.MoveStore; op = op; width = width })
+        (record regs.old { rip = at }) control.now mem.old tlb.now }
     ensures left { is_left result ≡ true → (regs.new ≡ regs.old) × (mem.new ≡ mem.old) }
     ensures off { window.new.off ≡ window.old.off }
     ensures code { IsSameOnPage window.old.off mem.old mem.new }

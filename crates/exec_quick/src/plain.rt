@@ -13,9 +13,7 @@ use decode_fields::Place;
 use nk_bits::Control;
 use phys_mem::PhysMem;
 use tlb_model::Tlb;
-use x86_regs::{
-    RAX, RDX, Regs, extended, flags_changed, low, ones, set_place, sign, source_width,
-};
+use x86_regs::{RAX, RDX, Regs, extended, flags_changed, low, ones, set_place, sign, source_width};
 
 /// NOP.
 #[inline(always)]

@@ -11,7 +11,7 @@ ghost use Rattle.mem_access.specs.Windows.{IsWindow};
 ghost use Rattle.exec_quick.specs.QuickForms.{IsQuick, IsSameOnPage, effect_made, instruction_of, is_left, next_at, quiet_outcome, went, width_by};
 
 use crate::kept::load;
-use crate::operands::{next_at, address, first};
+use crate::operands::{address, first, next_at};
 use crate::quick::{Quick, Went};
 use mem_access::Window;
 use nk_bits::Control;

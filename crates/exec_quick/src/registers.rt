@@ -7,7 +7,7 @@ ghost use Rattle.x86_regs.specs.declared.form.DataForm.TheVariants as DataForm;
 ghost use Rattle.exec_quick.specs.declared.quick.Kind.TheVariants as Kind;
 ghost use Rattle.exec_quick.specs.QuickForms.{IsQuick, effect_made, is_left, next_at, quiet_outcome, went};
 
-use crate::operands::{next_at, address, first_register, put_result, source};
+use crate::operands::{address, first_register, next_at, put_result, source};
 use crate::quick::{Quick, Went};
 use decode_fields::Place;
 use nk_bits::Control;
@@ -15,8 +15,7 @@ use phys_mem::PhysMem;
 use tlb_model::Tlb;
 use x86_decode::Op;
 use x86_regs::{
-    Regs, frequent_combination, frequent_comparison, low, movement, set_place,
-    source_width,
+    Regs, frequent_combination, frequent_comparison, low, movement, set_place, source_width,
 };
 
 /// ADD and all that writes its first operand by both.
@@ -38,7 +37,8 @@ pub(crate) fn combine(
     ensures made { is_left result ≡ false
         → quiet_outcome (went result (next_at at quick.now.size) regs.new) mem.new tlb.now
         ≡ effect_made (Data DataForm.Combine)
-        (record quick.now { kind = Kind.Combine; op = op; width = width }) (record regs.old { rip = at }) control.now mem.old tlb.now }
+        (record quick.now { kind = Kind.Combine; op = op; width = width })
+        (record regs.old { rip = at }) control.now mem.old tlb.now }
     ensures left { is_left result ≡ true → (regs.new ≡ regs.old) × (mem.new ≡ mem.old) }
     ensures memory { mem.new ≡ mem.old }
     ensures privilege { regs.new.cpl ≡ regs.old.cpl }
@@ -70,7 +70,8 @@ pub(crate) fn compare(
     ensures made { is_left result ≡ false
         → quiet_outcome (went result (next_at at quick.now.size) regs.new) mem.new tlb.now
         ≡ effect_made (Data DataForm.Compare)
-        (record quick.now { kind = Kind.Compare; op = op; width = width }) (record regs.old { rip = at }) control.now mem.old tlb.now }
+        (record quick.now { kind = Kind.Compare; op = op; width = width })
+        (record regs.old { rip = at }) control.now mem.old tlb.now }
     ensures left { is_left result ≡ true → (regs.new ≡ regs.old) × (mem.new ≡ mem.old) }
     ensures memory { mem.new ≡ mem.old }
     ensures privilege { regs.new.cpl ≡ regs.old.cpl }
@@ -100,7 +101,8 @@ pub(crate) fn move_over(
     ensures made { is_left result ≡ false
         → quiet_outcome (went result (next_at at quick.now.size) regs.new) mem.new tlb.now
         ≡ effect_made (Data DataForm.Move)
-        (record quick.now { kind = Kind.Move; op = op; width = width }) (record regs.old { rip = at }) control.now mem.old tlb.now }
+        (record quick.now { kind = Kind.Move; op = op; width = width })
+        (record regs.old { rip = at }) control.now mem.old tlb.now }
     ensures left { is_left result ≡ true → (regs.new ≡ regs.old) × (mem.new ≡ mem.old) }
     ensures memory { mem.new ≡ mem.old }
     ensures privilege { regs.new.cpl ≡ regs.old.cpl }

@@ -11,7 +11,7 @@ ghost use Rattle.mem_access.specs.Windows.{IsWindow};
 ghost use Rattle.exec_quick.specs.QuickForms.{IsQuick, IsSameOnPage, effect_made, has_memory_first, instruction_of, is_left, next_at, quiet_outcome, went, width_by};
 
 use crate::kept::load;
-use crate::operands::{next_at, address, source};
+use crate::operands::{address, next_at, source};
 use crate::quick::{Quick, Went};
 use decode_fields::Place;
 use mem_access::Window;

@@ -15,7 +15,7 @@ ghost use Rattle.exec_quick.specs.QuickForms.{IsQuick, IsSameOnPage, effect_made
 
 use crate::branches::target;
 use crate::kept::{load, store};
-use crate::operands::{next_at, address, operand};
+use crate::operands::{address, next_at, operand};
 use crate::quick::{Quick, Went};
 use decode_fields::Place;
 use mem_access::Window;

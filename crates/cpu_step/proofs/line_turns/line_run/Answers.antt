@@ -28,8 +28,7 @@ pub loop-count-preserved : goal.loop-count-preserved
 loop-count-preserved c =
     let inv = c.loop-count.invariant in
     let at : ℕ = c.loop-count.at in
-    let size : ℕ = c.form-quick.result.now.size in
-    (
+    let size : ℕ = c.form-quick.result.now.size in (
       omega (arith, c.loop-count-test.true),
       λ d less.
           let q : Quick = slice_index_or c.args.line.now.forms c.loop-count.count d in
@@ -41,11 +40,11 @@ loop-count-preserved c =
           (inv.1 d c.loop-count-test.true) (c.requires.row.next d c.loop-count.count inside ∙ ap (λ n. q.at + n) (sym sized)) form.within c.requires.code.to
           c.requires.stretch.kept.page c.requires.stretch.kept.bound,
       subst (λ n. AreMadeOn (c.loop-count.count + 1) c.args.control.now c.args.tlb.now c.args.regs.now c.args.mem.now c.args.window.now
-      (record c.line_turn.new.regs { rip = (at + n) % 18446744073709551616 }) c.line_turn.new.mem c.line_turn.new.window) (sym c.from-at.ensures)
-      (more_on c.args.control.now c.args.tlb.now c.loop-count.count 1 c.args.regs.now (record c.loop-count.regs { rip = at }) (record c.line_turn.new.regs { rip = next_at at size })
-      c.args.mem.now c.loop-count.mem c.line_turn.new.mem c.args.window.now c.loop-count.window c.line_turn.new.window inv.2
-      (behind_on c.args.control.now c.args.tlb.now c.line_turn.result (record c.loop-count.regs { rip = at }) c.line_turn.new.regs c.loop-count.mem c.line_turn.new.mem
-      c.loop-count.window c.line_turn.new.window (next_at at size) c.in-On.is c.line_turn.ensures.made)),
+          (record c.line_turn.new.regs { rip = (at + n) % 18446744073709551616 }) c.line_turn.new.mem c.line_turn.new.window) (sym c.from-at.ensures)
+          (more_on c.args.control.now c.args.tlb.now c.loop-count.count 1 c.args.regs.now (record c.loop-count.regs { rip = at }) (record c.line_turn.new.regs { rip = next_at at size })
+          c.args.mem.now c.loop-count.mem c.line_turn.new.mem c.args.window.now c.loop-count.window c.line_turn.new.window inv.2
+          (behind_on c.args.control.now c.args.tlb.now c.line_turn.result (record c.loop-count.regs { rip = at }) c.line_turn.new.regs c.loop-count.mem c.line_turn.new.mem
+          c.loop-count.window c.line_turn.new.window (next_at at size) c.in-On.is c.line_turn.ensures.made)),
     )
 
 pub returns-in-Left-clause-made : goal.returns-in-Left-clause-made

@@ -14,8 +14,8 @@ loop-count-preserved c = (
   omega (arith, c.loop-count-test.true, c.line_run-made.ensures.most, c.loop-count.invariant.0),
   search (rules, c.if-regs-start.false),
   more_on c.args.control.now c.args.tlb.now c.loop-count.count c.line_run-made.result c.args.regs.now c.loop-count.regs c.line_run-made.new.regs
-  c.args.mem.now c.loop-count.mem c.line_run-made.new.mem c.args.window.now c.loop-count.window c.line_run-made.new.window c.loop-count.invariant.2
-  c.line_run-made.ensures.made,
+      c.args.mem.now c.loop-count.mem c.line_run-made.new.mem c.args.window.now c.loop-count.window c.line_run-made.new.window c.loop-count.invariant.2
+      c.line_run-made.ensures.made,
 )
 
 pub returns-then-made-eq0-clause-made : goal.returns-then-made-eq0-clause-made

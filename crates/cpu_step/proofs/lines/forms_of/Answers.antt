@@ -24,11 +24,10 @@ loop-count-preserved c =
     let quick = c.form_at-quick.result in
     let at : ℕ = c.loop-count.at in
     let wide : ℕ = (at + 23) / 8 * 8 in
-    let room : at + 16 ≤ c.args.most = omega (arith, c.if-at-most.true, c.requires.some) in
-    (
+    let room : at + 16 ≤ c.args.most = omega (arith, c.if-at-most.true, c.requires.some) in (
       length-set c.loop-count.forms c.loop-count.count quick ∙ inv.0,
       All-set (IsFormIn c.args.code.now wide) c.loop-count.forms c.loop-count.count quick (c.form_at-quick.ensures.form wide (omega arith))
-      (wider_forms c.args.code.now c.loop-count.size wide c.loop-count.forms inv.8 inv.1),
+          (wider_forms c.args.code.now c.loop-count.size wide c.loop-count.forms inv.8 inv.1),
       row_more c.loop-count.forms c.loop-count.count quick at inv.2 inv.0 c.loop-count-test.true c.form_at-quick.ensures.at inv.3 inv.4,
       λ e. absurd (omega (arith, e)),
       λ d i last.

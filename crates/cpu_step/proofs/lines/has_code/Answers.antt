@@ -4,8 +4,7 @@ use Rattle.cpu_step.proofs.lines.has_code.Goals as goal
 
 pub loop-at-preserved : goal.loop-at-preserved
 loop-at-preserved c =
-    let inv = c.loop-at.invariant in
-    (
+    let inv = c.loop-at.invariant in (
       omega (arith, inv.0, inv.1, c.loop-at-test.true, c.requires.whole),
       omega (arith, inv.1),
       λ k below. elim (cases_lt k c.loop-at.at) [
