@@ -15,7 +15,8 @@ use Rattle.x86_regs.specs.Operands.{wrapped}
 use Rattle.cpu_step.specs.declared.fetch.Fetched.{Fetched}
 use Rattle.cpu_step.specs.InstructionFetch.{byte_fetched, decided_by, fetched_from}
 use Rattle.cpu_step.proofs.LongerCode.{DecodingFacts, decoded_longer}
-use Rattle.cpu_step.proofs.WordBytes.{code_at, code_bytes, code_length}
+use Rattle.cpu_step.specs.CodeLines.{code_behind}
+use Rattle.cpu_step.proofs.WordBytes.{code_bytes, code_length}
 
 -- what these bytes decide, with at most so many more
 abbrev pub settled_by : List ℕ → List ℕ → View → ℕ → Translations → ℕ → Outcome Fault Fetched
@@ -40,11 +41,11 @@ module _ (decodings : DecodingFacts) where
     step : (more n left i : ℕ) (front : List ℕ) (now : Translations) → length front ≡ base + i → i + suc n ≡ count → base + count ≤ 15 → AreBytes front →
         byte_fetched m view (wrapped (rip + (base + i))) now ≡ answered (byte_at m (place + i)) after →
         (decoded_of (front ++ byte_at m (place + i) ∷ []) ≡ Short → fetched_from more m view rip (front ++ byte_at m (place + i) ∷ []) after
-        ≡ settled_by ((front ++ byte_at m (place + i) ∷ []) ++ code_at m place (suc i) n) m view rip after left) →
-        fetched_from (suc more) m view rip front now ≡ settled_by (front ++ code_at m place i (suc n)) m view rip after left
+        ≡ settled_by ((front ++ byte_at m (place + i) ∷ []) ++ code_behind m place (suc i) n) m view rip after left) →
+        fetched_from (suc more) m view rip front now ≡ settled_by (front ++ code_behind m place i (suc n)) m view rip after left
     step more n left i front now size whole few are fetch later =
         let byte : ℕ = byte_at m (place + i) in
-        let rest : List ℕ = code_at m place (suc i) n in
+        let rest : List ℕ = code_behind m place (suc i) n in
         let longer : List ℕ = front ++ byte ∷ [] in
         let some : AreBytes longer = All-append (λ b. b < 256) front (byte ∷ []) are (code_bytes m bytes place i 1) in
         let all : AreBytes (longer ++ rest) = All-append (λ b. b < 256) longer rest some (code_bytes m bytes place (suc i) n) in
@@ -56,7 +57,7 @@ module _ (decodings : DecodingFacts) where
 
     pub run_fetched : (n left more i : ℕ) (front : List ℕ) (now : Translations) → more ≡ n + left → length front ≡ base + i → i + suc n ≡ count → base + count ≤ 15 → AreBytes front →
         byte_fetched m view (wrapped (rip + (base + i))) now ≡ answered (byte_at m (place + i)) after →
-        fetched_from (suc more) m view rip front now ≡ settled_by (front ++ code_at m place i (suc n)) m view rip after left
+        fetched_from (suc more) m view rip front now ≡ settled_by (front ++ code_behind m place i (suc n)) m view rip after left
     run_fetched zero left more i front now is size whole few are fetch =
         let longer : List ℕ = front ++ byte_at m (place + i) ∷ [] in
         let none : more ≡ left = omega (arith, is) in

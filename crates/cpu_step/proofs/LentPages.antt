@@ -26,17 +26,18 @@ use Rattle.cpu_step.specs.DecodingMemo.{place_found}
 use Rattle.cpu_step.proofs.LongerCode.{DecodingFacts}
 use Rattle.cpu_step.proofs.CodeRuns.{settled_by}
 use Rattle.cpu_step.proofs.PageFetches.{PageFacts, run_on_page}
-use Rattle.cpu_step.proofs.WordBytes.{code_at, code_length}
+use Rattle.cpu_step.specs.CodeLines.{code_behind}
+use Rattle.cpu_step.proofs.WordBytes.{code_length}
 
 -- a run of memory, byte by byte
-code_byte : (m : List ℕ) (p i n k : ℕ) → k < n → byte_at (code_at m p i n) k ≡ byte_at m (p + (i + k))
+pub code_byte : (m : List ℕ) (p i n k : ℕ) → k < n → byte_at (code_behind m p i n) k ≡ byte_at m (p + (i + k))
 code_byte m p i zero k below = absurd (omega (arith, below))
 code_byte m p i (suc n) zero below = ap (byte_at m) (omega arith)
 code_byte m p i (suc n) (suc k) below = code_byte m p (suc i) n k (omega (arith, below)) ∙ ap (byte_at m) (omega arith)
 
-run_is_code : (m : List ℕ) (p n : ℕ) → length (take n (drop p m)) ≡ n → take n (drop p m) ≡ code_at m p 0 n
+pub run_is_code : (m : List ℕ) (p n : ℕ) → length (take n (drop p m)) ≡ n → take n (drop p m) ≡ code_behind m p 0 n
 run_is_code m p n whole =
-    ext_get_or 0 (take n (drop p m)) (code_at m p 0 n) (whole ∙ sym (code_length m p 0 n))
+    ext_get_or 0 (take n (drop p m)) (code_behind m p 0 n) (whole ∙ sym (code_length m p 0 n))
     (λ k below.
     let inside : k < n = omega (arith, below, whole) in
     let plain : p + (0 + k) ≡ p + k = omega arith in
@@ -146,7 +147,7 @@ module _ (facts : PageFacts) (decodings : DecodingFacts) (m : List ℕ) (bytes :
       let count : ℕ = bytes_left rip in
       let bounds = left_bounds rip in
       let here : rip ≡ wrapped (rip + 0) = omega (arith, fits) in
-      let code : lent ≡ code_at m there.place 0 count = there.run ∙ run_is_code m there.place count (sym (ap length there.run) ∙ size) in
+      let code : lent ≡ code_behind m there.place 0 count = there.run ∙ run_is_code m there.place count (sym (ap length there.run) ∙ size) in
       let whole : 15 ≡ count + (15 - count) = omega (arith, bounds.1) in
       ap (λ x. fetched_from x m view rip [] now) whole
       ∙ (run_on_page facts decodings m bytes view rip [] now after there.place count (15 - count) bounds.0 (omega (arith, bounds.1)) (All-nil (λ b. b < 256)) (omega (arith, fits, bounds.2))
@@ -178,10 +179,10 @@ module _ (facts : PageFacts) (decodings : DecodingFacts) (m : List ℕ) (bytes :
       let fifteen : bytes_left next ≡ 15 = at_the_start next start in
       let part : take left lent ≡ take left (drop there.place m) =
       ap (take left) (there.run ∙ ap (λ x. take x (drop there.place m)) fifteen) ∙ take-take left 15 (drop there.place m) (omega arith) in
-      let code : take left lent ≡ code_at m there.place 0 left =
+      let code : take left lent ≡ code_behind m there.place 0 left =
       part ∙ run_is_code m there.place left (sym (ap length part) ∙ length-take-le left lent (omega (arith, all, fifteen))) in
       let whole : 15 ≡ length front + left = omega (arith, less) in
-      let both : take 15 (front ++ lent) ≡ front ++ code_at m there.place 0 left =
+      let both : take 15 (front ++ lent) ≡ front ++ code_behind m there.place 0 left =
       ap (λ x. take x (front ++ lent)) whole ∙ (take-append-add front lent left ∙ ap (λ x. front ++ x) code) in
       let more : left ≡ left + 0 = omega arith in
       ap (λ x. fetched_from x m view rip front now) more

@@ -2,6 +2,8 @@ mod AlikeFetches
 mod CodeRuns
 pub mod FetchFaults
 mod LentPages
+mod LineForms
+mod LineTurns
 pub mod LongerCode
 pub mod PageFetches
 pub mod PendingVectors

@@ -25,7 +25,7 @@ use Rattle.cpu_step.specs.InstructionFetch.{byte_fetched, decided_by, fetched_fr
 use Rattle.cpu_step.specs.DecodingMemo.{place_found}
 use Rattle.cpu_step.proofs.LongerCode.{DecodingFacts}
 use Rattle.cpu_step.proofs.CodeRuns.{run_fetched, settled_by}
-use Rattle.cpu_step.proofs.WordBytes.{code_at}
+use Rattle.cpu_step.specs.CodeLines.{code_behind}
 
 -- what the law on accesses says of a page that was reached
 pub record PageFacts : Type 0 where
@@ -121,7 +121,7 @@ module _ (facts : PageFacts) (decodings : DecodingFacts) (m : List ℕ) (bytes :
   -- what bytes decide with those that follow on the page that the first of them is on, and what comes if they are too few
   pub run_on_page : (front : List ℕ) (now after : Translations) (place count left : ℕ) → 0 < count → length front + count ≤ 15 → AreBytes front →
       wrapped (rip + length front) % 4096 + count ≤ 4096 → place_found view (wrapped (rip + length front)) now ≡ answered place after →
-      fetched_from (count + left) m view rip front now ≡ settled_by (front ++ code_at m place 0 count) m view rip after left
+      fetched_from (count + left) m view rip front now ≡ settled_by (front ++ code_behind m place 0 count) m view rip after left
   run_on_page front now after place zero left some few are within found = absurd (omega (arith, some))
   run_on_page front now after place (suc n) left some few are within found =
       let base : ℕ = length front in
@@ -142,7 +142,7 @@ module _ (facts : PageFacts) (decodings : DecodingFacts) (m : List ℕ) (bytes :
 
   -- the instruction is what the bytes from the place on decide
   pub decided_on_page : (tlb after : Translations) (place : ℕ) → rip < 2 ^ 64 → rip % 4096 ≤ 4080 → place_found view rip tlb ≡ answered place after →
-      instruction_at m view rip tlb ≡ decided_by (decoded_of (code_at m place 0 15)) after (refused (General 0) after)
+      instruction_at m view rip tlb ≡ decided_by (decoded_of (code_behind m place 0 15)) after (refused (General 0) after)
   unfolding instruction_at
   decided_on_page tlb after place fits within found =
       let here : rip ≡ wrapped (rip + 0) = omega (arith, fits) in

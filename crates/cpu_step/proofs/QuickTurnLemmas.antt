@@ -170,7 +170,7 @@ module _ (p : Processor) (m : List ℕ) (regs : Regs) (after : List ℕ) where
       ∙ by_settled (instruction_made p m) (made ∙ ap (λ (o : Outcome Fault Effect). settled o m) (sym effect)))))
 
 -- one turn more
-one_more : (k : ℕ) (p q r : Processor) (m n o : List ℕ) → AreQuickTurns k p m q n → IsQuickTurn q n → ran r o ≡ turned q n → AreQuickTurns (suc k) p m r o
+pub one_more : (k : ℕ) (p q r : Processor) (m n o : List ℕ) → AreQuickTurns k p m q n → IsQuickTurn q n → ran r o ≡ turned q n → AreQuickTurns (suc k) p m r o
 unfolding AreQuickTurns
 one_more zero p q r m n o are one made =
     let now : turned q n ≡ turned p m = λ j. turned (are.0 j) (are.1 j) in (
@@ -194,7 +194,7 @@ unfolding AreQuickTurns
 one_before p m k r o turn later = (turn, later)
 
 -- turns, and then turns
-more_turns : (k j : ℕ) (p q r : Processor) (m n o : List ℕ) → AreQuickTurns k p m q n → AreQuickTurns j q n r o → AreQuickTurns (k + j) p m r o
+pub more_turns : (k j : ℕ) (p q r : Processor) (m n o : List ℕ) → AreQuickTurns k p m q n → AreQuickTurns j q n r o → AreQuickTurns (k + j) p m r o
 unfolding AreQuickTurns
 more_turns zero j p q r m n o are later =
     let same : j ≡ 0 + j = omega arith in
@@ -261,53 +261,3 @@ some_made most count more window after p q r m n o before fit turns rest sound s
   size = size ∙ before.size;
   windowed = windowed;
 }
-
--- the same by code that is kept, which goes on being kept
-pub record AreMadeBy (most count : ℕ) (code : KeptCode) (window : Window) (p : Processor) (m : List ℕ) (q : Processor) (n : List ℕ) : Type 0 where
-  pub made : AreMade most count window p m q n
-  pub kept : IsKeptCode (length n) q.control q.regs.cpl q.tlb code
-  pub rest : q ≡ record p { regs = q.regs }
-
-pub none_made_by : (most : ℕ) (code : KeptCode) (window : Window) (p : Processor) (m : List ℕ) → p.halted ≡ false → p.shielded ≡ false → p.pending ≡ 0 →
-    IsKeptCode (length m) p.control p.regs.cpl p.tlb code → IsSound (length m) p → IsWindow (length m) p.control p.regs.cpl p.tlb window →
-    AreMadeBy most 0 code window p m p m
-none_made_by most code window p m runs open_to none kept sound windowed = record {
-  made = none_made most window p m runs open_to none sound windowed;
-  kept = kept;
-  rest = refl;
-}
-
--- what goes by the size of memory, control registers, CPL and translations goes on
-on : (P : ℕ → Control → ℕ → Translations → Type 0) (q r : Processor) (n o : List ℕ) → r ≡ record q { regs = r.regs } → r.regs.cpl ≡ q.regs.cpl →
-    length o ≡ length n → P (length n) q.control q.regs.cpl q.tlb → P (length o) r.control r.regs.cpl r.tlb
-on P q r n o rest cpl size before =
-    subst (λ (x : ℕ × Control × ℕ × Translations). P x.0 x.1 x.2 x.3)
-    (λ j. (sym size j, sym (ap (λ (x : Processor). x.control) rest) j, sym cpl j, sym (ap (λ (x : Processor). x.tlb) rest) j)) before
-
-pub one_made : (most count : ℕ) (code : KeptCode) (window after : Window) (p q r : Processor) (m n o : List ℕ) → AreMadeBy most count code window p m q n →
-    count < most → enters_body q ≡ false → ran r o ≡ turned q n → r ≡ record q { regs = r.regs } →
-    r.regs.cpl ≡ q.regs.cpl → IsSound (length o) r → length o ≡ length n → IsWindow (length n) q.control q.regs.cpl q.tlb after →
-    AreMadeBy most (count + 1) code after p m r o
-one_made most count code window after p q r m n o before less no_body made rest cpl sound size windowed =
-    let turn : IsQuickTurn q n = record {
-      no_body = no_body;
-      runs = before.made.runs;
-      ran = ap (λ (t : Turned). t.stepped) (sym made);
-      control = ap (λ (t : Turned). t.processor.control) (sym made) ∙ ap (λ (x : Processor). x.control) rest;
-    } in
-    let all : AreQuickTurns (count + 1) p m r o =
-    subst (λ k. AreQuickTurns k p m r o) (omega arith) (one_more count p q r m n o before.made.turns turn made) in
-    record {
-      made = record {
-        within = omega (arith, less);
-        turns = all;
-        runs = ap (λ (x : Processor). x.halted) rest ∙ before.made.runs;
-        open_to = ap (λ (x : Processor). x.shielded) rest ∙ before.made.open_to;
-        none = ap (λ (x : Processor). x.pending) rest ∙ before.made.none;
-        sound = sound;
-        size = size ∙ before.made.size;
-        windowed = on (λ size control cpl tlb. IsWindow size control cpl tlb after) q r n o rest cpl size windowed;
-      };
-      kept = on (λ size control cpl tlb. IsKeptCode size control cpl tlb code) q r n o rest cpl size before.kept;
-      rest = rest ∙ ap (λ (x : Processor). record x { regs = r.regs }) before.rest;
-    }

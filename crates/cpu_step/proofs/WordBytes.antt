@@ -9,13 +9,9 @@ use Rattle.std.proofs.lemmas.Nat.{le_bytes_8}
 use Rattle.phys_mem.specs.Memory.{IsBytes, byte_at, number_at}
 use Rattle.x86_decode.specs.Spelling.{AreBytes}
 use Rattle.cpu_step.specs.DecodingMemo.{bytes_of_words}
+use Rattle.cpu_step.specs.CodeLines.{code_behind}
 
--- the n bytes behind the first i bytes from place p on
-abbrev pub code_at : List ℕ → ℕ → ℕ → ℕ → List ℕ
-code_at m p i zero = []
-code_at m p i (suc n) = byte_at m (p + i) ∷ code_at m p (suc i) n
-
-pub code_length : (m : List ℕ) (p i n : ℕ) → length (code_at m p i n) ≡ n
+pub code_length : (m : List ℕ) (p i n : ℕ) → length (code_behind m p i n) ≡ n
 code_length m p i zero = refl
 code_length m p i (suc n) = ap suc (code_length m p (suc i) n)
 
@@ -31,9 +27,9 @@ shifted n =
     ∷ (div-div-eq-div-mul n 256 281474976710656 j % 256 ∷ []))))))
 
 module _ (m : List ℕ) (bytes : IsBytes m) where
-  pub code_bytes : (p i n : ℕ) → AreBytes (code_at m p i n)
+  pub code_bytes : (p i n : ℕ) → AreBytes (code_behind m p i n)
   code_bytes p i zero = All-nil (λ byte. byte < 256)
-  code_bytes p i (suc n) = All-cons (λ byte. byte < 256) (byte_at m (p + i)) (code_at m p (suc i) n) (bytes (p + i)) (code_bytes p (suc i) n)
+  code_bytes p i (suc n) = All-cons (λ byte. byte < 256) (byte_at m (p + i)) (code_behind m p (suc i) n) (bytes (p + i)) (code_bytes p (suc i) n)
 
   -- byte i of the number at a place
   digit : (n i p : ℕ) → i < n → byte_of i (number_at m n p) ≡ byte_at m (p + i)
@@ -54,20 +50,20 @@ module _ (m : List ℕ) (bytes : IsBytes m) where
       higher (suc i) v =
           ap (λ k. v / k % 256) (pow-suc 256 (suc i) ∙ mul_comm (256 ^ suc i) 256) ∙ ap (λ k. k % 256) (sym (div-div-eq-div-mul v 256 (256 ^ suc i)))
 
-  word_bytes : (n i k p : ℕ) → i + k ≤ n → bytes_low_first i k (number_at m n p) ≡ code_at m p i k
+  pub word_bytes : (n i k p : ℕ) → i + k ≤ n → bytes_low_first i k (number_at m n p) ≡ code_behind m p i k
   word_bytes n i zero p within = refl
   word_bytes n i (suc k) p within = λ j. digit n i p (omega (arith, within)) j ∷ word_bytes n (suc i) k p (omega (arith, within)) j
 
   -- code behind the first a bytes
-  later : (p a i n : ℕ) → code_at m (p + a) i n ≡ code_at m p (a + i) n
+  later : (p a i n : ℕ) → code_behind m (p + a) i n ≡ code_behind m p (a + i) n
   later p a i zero = refl
   later p a i (suc n) =
       let place : p + a + i ≡ p + (a + i) = omega arith in
       let next : a + suc i ≡ suc (a + i) = omega arith in
-      λ j. byte_at m (place j) ∷ (later p a (suc i) n ∙ ap (λ x. code_at m p x n) next) j
+      λ j. byte_at m (place j) ∷ (later p a (suc i) n ∙ ap (λ x. code_behind m p x n) next) j
 
   -- a word, and another one without its first byte, have the bytes of memory
-  pub words_are_code : (p : ℕ) → bytes_of_words (number_at m 8 p) (number_at m 8 (p + 7) / 256) ≡ code_at m p 0 15
+  pub words_are_code : (p : ℕ) → bytes_of_words (number_at m 8 p) (number_at m 8 (p + 7) / 256) ≡ code_behind m p 0 15
   unfolding bytes_of_words
   words_are_code p =
       ap (λ x. to_le_bytes w64 (number_at m 8 p) ++ x) (shifted (number_at m 8 (p + 7)))
@@ -75,7 +71,7 @@ module _ (m : List ℕ) (bytes : IsBytes m) where
       (λ j. (word_bytes 8 0 8 p (lit≤ tt) j, (word_bytes 8 0 8 (p + 7) (lit≤ tt) ∙ later p 7 0 8) j))
 
 -- a run of bytes has bytes
-small_run : (n : ℕ) (xs : List ℕ) → ((i : ℕ) → get_or xs i 0 < 256) → (i : ℕ) → get_or (take n xs) i 0 < 256
+pub small_run : (n : ℕ) (xs : List ℕ) → ((i : ℕ) → get_or xs i 0 < 256) → (i : ℕ) → get_or (take n xs) i 0 < 256
 small_run zero xs small i = lit< tt
 small_run (suc n) [] small i = lit< tt
 small_run (suc n) (x ∷ xs) small zero = small 0

@@ -1,5 +1,5 @@
--- What the processor keeps of earlier decodings: at each entry two words of code, and what they decode to, or the quick
--- form of that; and the place of the code on its page.
+-- What the processor keeps of earlier decodings: at each entry two words of code, and what they decode to; and the
+-- place of the code on its page.
 use Rattle.std.specs.Prelude.{◌≡◌, ◌<◌, ℕ, true, false, List, ◌++◌, take}
 use Rattle.std.specs.Int.{w64, to_le_bytes}
 use Rattle.nk_bits.specs.declared.access.Access.TheVariants.{Fetch}
@@ -13,10 +13,8 @@ use Rattle.x86_decode.specs.WellFormed.{IsWellFormed}
 use Rattle.x86_decode.specs.declared.instruction.Decoded.{Decoded}
 use Rattle.x86_regs.specs.declared.faults.Fault.{Fault}
 use Rattle.x86_regs.specs.declared.faults.Fault.TheVariants.{General}
-use Rattle.exec_quick.specs.QuickForms.{IsQuick, StandsFor, has_register_first, is_slow}
 use Rattle.cpu_step.specs.declared.fetch.Fetched.{Fetched}
 use Rattle.cpu_step.specs.declared.memo.KeptAnswer.{KeptAnswer}
-use Rattle.cpu_step.specs.declared.memo.KeptForm.{KeptForm}
 use Rattle.cpu_step.specs.InstructionFetch.{decided_by}
 
 -- the first fifteen bytes of two words, of each the least significant byte first
@@ -31,12 +29,6 @@ pub record IsAnswerOf (low high : ℕ) (answer : Decoded) : Type 0 where
 -- an entry has the answer of its own words
 abbrev pub IsRight : KeptAnswer → Type 0
 IsRight entry = IsAnswerOf entry.low entry.high entry.answer
-
--- an entry has a quick form that can be made, and that stands for what its own words decode to, unless there is none
-pub record IsRightForm (entry : KeptForm) : Type 0 where
-  pub ready : IsQuick entry.quick
-  pub register : has_register_first entry.quick.kind ≡ true → entry.quick.to < 16
-  pub quick : is_slow entry.quick.kind ≡ false → StandsFor entry.quick (decoded_of (bytes_of_words entry.low entry.high))
 
 -- the place in memory of the byte at this address, for execution
 abbrev pub place_found : View → ℕ → Translations → Outcome AccessFault ℕ

@@ -12,3 +12,4 @@ pub mod TurnLaws
 -- Words of private clauses and proofs.
 pub mod DecodingMemo
 pub mod KeptFetches
+pub mod CodeLines

@@ -1,7 +1,6 @@
 //! The fetch of an instruction.
 
 ghost use Rattle.std.specs.Prelude.{◌≡◌, ◌+◌, ◌-◌, ◌%◌, ◌<◌, ◌≤◌, ◌++◌, ℕ, true, false, IfErr, IfOk, IfSome, None, length, take};
-ghost use Rattle.nk_bits.specs.declared.control.Control.{Control};
 ghost use Rattle.nk_bits.specs.Translations.{IsAccessible, NamesFramesIn, Translations};
 ghost use Rattle.nk_bits.specs.Outcomes.{answered, outcome_of, refused};
 ghost use Rattle.page_walk.specs.MemoryAccess.{bytes_left, page_fetched, view_of};
@@ -9,16 +8,10 @@ ghost use Rattle.x86_decode.specs.Decoding.{IfWhole};
 ghost use Rattle.x86_decode.specs.Reader.{decoded_of};
 ghost use Rattle.x86_decode.specs.WellFormed.{IsWellFormed};
 ghost use Rattle.x86_regs.specs.declared.faults.Fault.TheVariants.{General};
-ghost use Rattle.x86_regs.specs.Effects.{refusal};
-ghost use Rattle.x86_regs.specs.OperandPlans.{instr_form};
-ghost use Rattle.exec_quick.specs.QuickForms.{IsQuick, form_by, has_register_first, instruction_of, is_slow};
 ghost use Rattle.cpu_step.specs.InstructionFetch.{decided_by, fetched_from, in_fetch, instruction_at};
 ghost use Rattle.cpu_step.specs.DecodingMemo.{IsFetched};
-ghost use Rattle.cpu_step.specs.KeptFetches.{IsKeptCode};
 
-use crate::kept_code::KeptCode;
 use crate::memo::{Memo, words};
-use exec_quick::Quick;
 use mem_access::{AccessFault, page_bytes};
 use nk_bits::{Control, access_law};
 use phys_mem::PhysMem;
@@ -105,36 +98,6 @@ pub(crate) fn code_on_page<'a>(
     match bytes_at(mem, tlb, control, regs.cpl, regs.rip) {
         Ok(bytes) => Ok(answer_of(memo, regs.rip, bytes)),
         Err(fault) => Err(fault),
-    }
-}
-
-/// The quick form of kept code, so far ahead in it, where the memo has it.
-#[inline(always)]
-pub(crate) fn quick_code<'a>(
-    memo: &'a Memo,
-    code: &KeptCode,
-    mem: &PhysMem,
-    ahead: u64,
-) -> Option<&'a Quick>
-    requires ahead { ahead ≤ code.now.last }
-    requires inside { code.now.base + code.now.last + 16 ≤ length mem.now }
-    requires slots { code.now.slot + code.now.last < 16384 }
-    ensures ready { IfSome result (λ quick. IsQuick quick.now) }
-    ensures register { IfSome result (λ quick. has_register_first quick.now.kind ≡ true → quick.now.to < 16) }
-    ensures form { IfSome result (λ quick. is_slow quick.now.kind ≡ false
-        → instr_form (instruction_of quick.now) ≡ form_by quick.now.kind) }
-    ensures lawful { IfSome result (λ quick. is_slow quick.now.kind ≡ false
-        → (cpl : ℕ) → refusal (instruction_of quick.now) cpl ≡ None) }
-    ensures fetched { IfSome result (λ quick. is_slow quick.now.kind ≡ false
-        → (control : Control) (cpl : ℕ) (tlb : Translations)
-        → IsKeptCode (length mem.now) control cpl tlb code.now
-        → instruction_at mem.now (view_of mem.now control cpl) (code.now.start + ahead) tlb
-        ≡ answered (record { instr = instruction_of quick.now; size = quick.now.size }) tlb) }
-{
-    let (low, high) = code.words(mem, ahead);
-    match memo.quick(code.slot_of(ahead), low, high) {
-        Some(quick) => Some(quick),
-        None => None,
     }
 }
 

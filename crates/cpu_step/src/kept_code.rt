@@ -1,26 +1,17 @@
 //! Code whose page is kept. Control registers, CPL and translations stay the same through quick turns in a row, so the page
 //! of the code is looked up once for all of them that lie on it.
 
-ghost use Rattle.std.specs.Prelude.{◌≡◌, ◌≢◌, ◌⊎◌, ◌+◌, ◌/◌, ◌%◌, ◌<◌, ◌≤◌, ℕ, IfSome, length};
-ghost use Rattle.nk_bits.specs.declared.control.Control.{Control};
-ghost use Rattle.nk_bits.specs.Translations.{NamesFramesIn, Translations};
-ghost use Rattle.nk_bits.specs.Outcomes.{refused};
+ghost use Rattle.std.specs.Prelude.{◌≡◌, ◌≢◌, ◌⊎◌, ◌+◌, ◌-◌, ◌/◌, ◌%◌, ◌^◌, ◌<◌, ◌≤◌, IfSome, length};
+ghost use Rattle.nk_bits.specs.Translations.{NamesFramesIn};
 ghost use Rattle.nk_bits.specs.KernelLayout.{body_address};
-ghost use Rattle.page_walk.specs.MemoryAccess.{view_of};
-ghost use Rattle.x86_decode.specs.Reader.{decoded_of};
-ghost use Rattle.x86_regs.specs.declared.faults.Fault.TheVariants.{General};
-ghost use Rattle.cpu_step.specs.InstructionFetch.{decided_by, instruction_at};
-ghost use Rattle.cpu_step.specs.DecodingMemo.{bytes_of_words};
 ghost use Rattle.cpu_step.specs.KeptFetches.{IsKeptCode};
 
 use crate::fetch::{LAST_ON_PAGE, is_on_page};
-use crate::memo::form_slot;
 use crate::turn::is_at_body;
 use mem_access::kept_frame;
-use nk_bits::{Access, BODY, Control, access_law};
+use nk_bits::{Access, BODY, Control};
 use phys_mem::PhysMem;
 use tlb_model::Tlb;
-use x86_decode::decoding_law;
 use x86_regs::Regs;
 
 /// Code on a page whose translation is kept and serves fetches: addresses in a row, at each of which a turn may begin.
@@ -32,8 +23,6 @@ pub(crate) struct KeptCode {
     last: u64,
     /// The place in memory of the first one's byte.
     base: u64,
-    /// The place of the first one's quick form, which those behind it follow.
-    slot: usize,
 }
 
 /// The code around RIP, where its page is kept and serves fetches, fifteen bytes from RIP on lie on it, with one more, and
@@ -58,7 +47,6 @@ pub(crate) fn kept_code(
             start,
             last,
             base: base + start % 4096,
-            slot: form_slot(start),
         }),
         None => None,
     }
@@ -99,31 +87,22 @@ impl KeptCode {
         }
     }
 
-    /// The place of the quick form of the address so far ahead.
+    /// The place in memory of the byte so far ahead.
     #[inline(always)]
-    pub(crate) fn slot_of(&self, ahead: u64) -> usize
-        requires ahead { ahead ≤ self.now.last }
-        requires slots { self.now.slot + self.now.last < 16384 }
-        ensures { result < 16384 }
+    pub(crate) fn place_of(&self, ahead: u64) -> u64
+        requires inside { self.now.base + ahead < 2 ^ 64 }
+        ensures { result ≡ self.now.base + ahead }
     {
-        self.slot + ahead as usize
+        self.base + ahead
     }
 
-    /// Two words of the fifteen bytes from the address so far ahead on.
+    /// How many bytes a line may have that begins so far ahead: sixteen from each address on at which a turn may begin.
     #[inline(always)]
-    pub(crate) fn words(&self, mem: &PhysMem, ahead: u64) -> (u64, u64)
+    pub(crate) fn room(&self, ahead: u64) -> usize
         requires ahead { ahead ≤ self.now.last }
-        requires inside { self.now.base + self.now.last + 16 ≤ length mem.now }
-        ensures decided { (control : Control) (cpl : ℕ) (tlb : Translations)
-            → IsKeptCode (length mem.now) control cpl tlb self.now
-            → instruction_at mem.now (view_of mem.now control cpl) (self.now.start + ahead) tlb
-            ≡ decided_by (decoded_of (bytes_of_words result.0 result.1)) tlb (refused (General 0) tlb) }
+        requires page { self.now.last ≤ 4080 }
+        ensures { result ≡ self.now.last + 16 - ahead }
     {
-        decoding_law();
-        access_law();
-        mem.bytes_law();
-        let _frames = mem.frames();
-        let place = self.base + ahead;
-        (mem.load64(place), mem.load64(place + 7) >> 8)
+        (self.last + 16 - ahead) as usize
     }
 }

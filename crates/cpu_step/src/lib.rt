@@ -9,6 +9,8 @@
 // What a turn shows, and the fetch that begins it.
 mod fetch;
 mod kept_code;
+mod line_turns;
+mod lines;
 mod memo;
 mod stepped;
 mod touched;

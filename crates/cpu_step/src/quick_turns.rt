@@ -5,12 +5,9 @@ ghost use Rattle.mem_access.specs.Windows.{IsWindow};
 ghost use Rattle.cpu_step.specs.KeptFetches.{IsKeptCode};
 ghost use Rattle.cpu_step.specs.Processor.{IsSound};
 ghost use Rattle.cpu_step.specs.QuickTurns.{AreQuickTurns};
-ghost use Rattle.cpu_step.specs.Turns.{enters_body, ran, turned};
 
-use crate::fetch::quick_code;
 use crate::kept_code::{KeptCode, kept_code};
 use crate::processor::Cpu;
-use exec_quick::make;
 use mem_access::Window;
 use phys_mem::PhysMem;
 
@@ -85,48 +82,14 @@ impl Cpu {
         ensures sound { IsSound (length mem.new) self.new }
         ensures length { length mem.new ≡ length mem.old }
     {
-        let mut count = 0;
-        while count < most {
-            let Some(ahead) = code.ahead(self.regs.rip) else {
-                break;
-            };
-            if !self.quick_turn(code, ahead, mem, window) {
-                break;
-            }
-            count += 1;
-        }
-        count
-    }
-
-    /// Makes one turn by code that is kept, RIP so far ahead in it, or changes nothing and says so.
-    #[inline(always)]
-    fn quick_turn(
-        &mut self,
-        code: &KeptCode,
-        ahead: u64,
-        mem: &mut PhysMem,
-        window: &mut Window,
-    ) -> bool
-        requires sound { IsSound (length mem.old) self.old }
-        requires runs { self.old.halted ≡ false }
-        requires shielded { self.old.shielded ≡ false }
-        requires pending { self.old.pending ≡ 0 }
-        requires kept { IsKeptCode (length mem.old) self.old.control self.old.regs.cpl self.old.tlb code.now }
-        requires ahead { ahead ≤ code.now.last }
-        requires here { code.now.start + ahead ≡ self.old.regs.rip }
-        requires window { IsWindow (length mem.old) self.old.control self.old.regs.cpl self.old.tlb window.old }
-        ensures window { IsWindow (length mem.old) self.old.control self.old.regs.cpl self.old.tlb window.new }
-        ensures turned { result ≡ true → ran self.new mem.new ≡ turned self.old mem.old }
-        ensures no_body { result ≡ true → enters_body self.old ≡ false }
-        ensures left { result ≡ false → (self.new ≡ self.old) × (mem.new ≡ mem.old) }
-        ensures rest { self.new ≡ record self.old { regs = self.new.regs } }
-        ensures privilege { self.new.regs.cpl ≡ self.old.regs.cpl }
-        ensures sound { IsSound (length mem.new) self.new }
-        ensures length { length mem.new ≡ length mem.old }
-    {
-        match quick_code(&self.memo, code, mem, ahead) {
-            Some(quick) => make(quick, &mut self.regs, &self.control, mem, &self.tlb, window),
-            None => false,
-        }
+        self.memo.turns(
+            code,
+            &mut self.regs,
+            &self.control,
+            mem,
+            &self.tlb,
+            window,
+            most,
+        )
     }
 }

@@ -16,6 +16,7 @@ add_of_memory = record {
   op = op.Add;
   width = 64;
   size = 5;
+  at = 0;
   to = 0;
   from = 17;
   base = 3;

@@ -1,6 +1,6 @@
 -- Quick forms: an instruction of a common kind, taken apart once, when it is decoded. A quick form means an instruction, and
 -- what it does is that instruction's effect with its write made.
-use Rattle.std.specs.Prelude.{ℕ, ◌≡◌, ◌<◌, ◌≤◌, Bool, true, false, ◌==◌, ◌-◌, nat_le, if◌then◌else◌, List, Option, None, Some, Result, Ok, Err}
+use Rattle.std.specs.Prelude.{ℕ, ◌≡◌, ◌+◌, ◌<◌, ◌≤◌, Bool, true, false, ◌==◌, ◌-◌, nat_le, if◌then◌else◌, List, Option, None, Some, Result, Ok, Err}
 use Rattle.decode_fields.specs.declared.place.Address.{Address}
 use Rattle.decode_fields.specs.declared.place.Place.{Place}
 use Rattle.decode_fields.specs.declared.place.Place.TheVariants.{Nothing, Reg, High, Mem, Value}
@@ -25,10 +25,14 @@ use Rattle.x86_regs.specs.declared.form.FlowForm.TheVariants as flow_form
 use Rattle.x86_regs.specs.declared.registers.Regs.{Regs}
 use Rattle.x86_regs.specs.Effects.{memory_after, planned_effect, refusal}
 use Rattle.x86_regs.specs.OperandPlans.{instr_form}
+use Rattle.x86_regs.specs.Operands.{wrapped}
 use Rattle.x86_regs.specs.Registers.{held}
+use Rattle.phys_mem.specs.Memory.{byte_at}
 use Rattle.exec_quick.specs.declared.quick.Kind.{Kind}
 use Rattle.exec_quick.specs.declared.quick.Kind.TheVariants as kind
 use Rattle.exec_quick.specs.declared.quick.Quick.{Quick}
+use Rattle.exec_quick.specs.declared.quick.Went.{Went}
+use Rattle.exec_quick.specs.declared.quick.Went.TheVariants.{Left, On, Off}
 
 -- a kind is no quick one
 abbrev pub is_slow : Kind → Bool
@@ -306,3 +310,23 @@ quiet_outcome regs m tlb = answered (record { regs = regs; memory = m; act = Qui
 abbrev pub effect_made : Form → Quick → Regs → Control → List ℕ → Translations → Outcome Fault Settled
 effect_made form q regs control m tlb =
     settled (planned_effect form (instruction_of q) q.size regs control m (view_of m control regs.cpl) tlb) m
+
+-- nothing came of an instruction
+abbrev pub is_left : Went → Bool
+is_left Left = true
+is_left On = false
+is_left Off = false
+
+-- the address of the instruction behind one of so many bytes
+abbrev pub next_address : ℕ → ℕ → ℕ
+next_address at size = wrapped (at + size)
+
+-- registers with RIP where the processor goes on, which is this address unless they say it themselves
+abbrev pub went : Went → ℕ → Regs → Regs
+went On next regs = record regs { rip = next }
+went Off next regs = regs
+went Left next regs = regs
+
+-- the bytes of the page at this place stay
+abbrev pub IsSameOnPage : ℕ → List ℕ → List ℕ → Type 0
+IsSameOnPage place m n = (p : ℕ) → place ≤ p → p < place + 4096 → byte_at n p ≡ byte_at m p

@@ -9,18 +9,18 @@ ghost use Rattle.page_walk.specs.declared.plan.Origin.TheVariants.{Is};
 ghost use Rattle.x86_regs.specs.OperandOutcomes.{target_by};
 ghost use Rattle.x86_regs.specs.Operands.{source_by};
 ghost use Rattle.mem_access.specs.Windows.{IsWindow};
-ghost use Rattle.exec_quick.specs.QuickForms.{IsQuick, effect_made, operand_of, operand_value, quiet_outcome};
+ghost use Rattle.exec_quick.specs.QuickForms.{IsQuick, IsSameOnPage, effect_made, is_left, next_address, operand_of, operand_value, quiet_outcome, went};
 
 use crate::kept::load;
-use crate::operands::address;
-use crate::quick::Quick;
+use crate::operands::{address, next_address};
+use crate::quick::{Quick, Went};
 use mem_access::Window;
 use nk_bits::{Control, canonical};
 use phys_mem::PhysMem;
 use tlb_model::Tlb;
 use x86_alu::ZF;
 use x86_decode::Op;
-use x86_regs::{Regs, bit, count_by, count_taken, is_taken, next_of, set_count};
+use x86_regs::{Regs, bit, count_by, count_taken, is_taken, set_count};
 
 /// A branch's target: a displacement from the next instruction, or what a register holds.
 #[inline(always)]
@@ -48,30 +48,31 @@ pub(crate) fn target(quick: &Quick, next: u64, general: &[u64; 16]) -> u64
 pub(crate) fn branch(
     quick: &Quick,
     op: Op,
+    at: u64,
     regs: &mut Regs,
     control: &Control,
     mem: &mut PhysMem,
     tlb: &Tlb,
-) -> bool
+) -> Went
     requires ready { IsQuick quick.now }
-    ensures made { result ≡ true → quiet_outcome regs.new mem.new tlb.now
+    ensures made { is_left result ≡ false
+        → quiet_outcome (went result (next_address at quick.now.size) regs.new) mem.new tlb.now
         ≡ effect_made (Flow FlowForm.Branch)
-        (record quick.now { kind = Kind.Branch; op = op }) regs.old control.now mem.old tlb.now }
-    ensures left { result ≡ false → (regs.new ≡ regs.old) × (mem.new ≡ mem.old) }
-    ensures length { length mem.new ≡ length mem.old }
+        (record quick.now { kind = Kind.Branch; op = op }) (record regs.old { rip = at }) control.now mem.old tlb.now }
+    ensures left { is_left result ≡ true → (regs.new ≡ regs.old) × (mem.new ≡ mem.old) }
+    ensures memory { mem.new ≡ mem.old }
     ensures privilege { regs.new.cpl ≡ regs.old.cpl }
 {
-    let next = next_of(regs, quick.size);
+    let next = next_address(quick, at);
     if !is_taken(op, regs.flags) {
-        regs.rip = next;
-        return true;
+        return Went::On;
     }
     let target = target(quick, next, &regs.general);
     if !canonical(target) {
-        return false;
+        return Went::Left;
     }
     regs.rip = target;
-    true
+    Went::Off
 }
 
 /// JMP to an address in memory. No jump with a condition has one.
@@ -79,37 +80,41 @@ pub(crate) fn branch(
 #[tactic(auto, unfolding(page_walk::specs::AccessPlans::gathered))]
 pub(crate) fn branch_load(
     quick: &Quick,
+    at: u64,
     regs: &mut Regs,
     control: &Control,
     mem: &mut PhysMem,
     tlb: &Tlb,
     window: &mut Window,
-) -> bool
+) -> Went
     requires ready { IsQuick quick.now }
     requires kind { quick.now.kind ≡ Kind.BranchLoad }
     requires frames { NamesFramesIn (length mem.old) tlb.now }
     requires window { IsWindow (length mem.old) control.now regs.old.cpl tlb.now window.old }
     ensures window { IsWindow (length mem.old) control.now regs.old.cpl tlb.now window.new }
-    ensures made { result ≡ true → quiet_outcome regs.new mem.new tlb.now
-        ≡ effect_made (Flow FlowForm.Branch) quick.now regs.old control.now mem.old tlb.now }
-    ensures left { result ≡ false → (regs.new ≡ regs.old) × (mem.new ≡ mem.old) }
+    ensures made { is_left result ≡ false
+        → quiet_outcome (went result (next_address at quick.now.size) regs.new) mem.new tlb.now
+        ≡ effect_made (Flow FlowForm.Branch) quick.now (record regs.old { rip = at }) control.now mem.old tlb.now }
+    ensures left { is_left result ≡ true → (regs.new ≡ regs.old) × (mem.new ≡ mem.old) }
+    ensures off { window.new.off ≡ window.old.off }
+    ensures code { IsSameOnPage window.old.off mem.old mem.new }
     ensures length { length mem.new ≡ length mem.old }
     ensures privilege { regs.new.cpl ≡ regs.old.cpl }
 {
     if !is_taken(quick.op, regs.flags) {
-        return false;
+        return Went::Left;
     }
-    let next = next_of(regs, quick.size);
+    let next = next_address(quick, at);
     let va = address(quick, &regs.general, next);
     let Some(place) = window.readable(mem, tlb, control, regs.cpl, va, 8) else {
-        return false;
+        return Went::Left;
     };
     let target = load(mem, place, va, 8);
     if !canonical(target) {
-        return false;
+        return Went::Left;
     }
     regs.rip = target;
-    true
+    Went::Off
 }
 
 /// LOOP, LOOPE, LOOPNE and JRCXZ, which count RCX down but for JRCXZ.
@@ -118,20 +123,22 @@ pub(crate) fn branch_load(
 pub(crate) fn count_down(
     quick: &Quick,
     op: Op,
+    at: u64,
     regs: &mut Regs,
     control: &Control,
     mem: &mut PhysMem,
     tlb: &Tlb,
-) -> bool
+) -> Went
     requires ready { IsQuick quick.now }
-    ensures made { result ≡ true → quiet_outcome regs.new mem.new tlb.now
+    ensures made { is_left result ≡ false
+        → quiet_outcome (went result (next_address at quick.now.size) regs.new) mem.new tlb.now
         ≡ effect_made (Flow FlowForm.CountDown)
-        (record quick.now { kind = Kind.CountDown; op = op }) regs.old control.now mem.old tlb.now }
-    ensures left { result ≡ false → (regs.new ≡ regs.old) × (mem.new ≡ mem.old) }
-    ensures length { length mem.new ≡ length mem.old }
+        (record quick.now { kind = Kind.CountDown; op = op }) (record regs.old { rip = at }) control.now mem.old tlb.now }
+    ensures left { is_left result ≡ true → (regs.new ≡ regs.old) × (mem.new ≡ mem.old) }
+    ensures memory { mem.new ≡ mem.old }
     ensures privilege { regs.new.cpl ≡ regs.old.cpl }
 {
-    let next = next_of(regs, quick.size);
+    let next = next_address(quick, at);
     let count = count_by(op, &regs.general);
     let rip = if count_taken(op, count, bit(regs.flags, ZF)) {
         next.wrapping_add(quick.value)
@@ -139,9 +146,9 @@ pub(crate) fn count_down(
         next
     };
     if !canonical(rip) {
-        return false;
+        return Went::Left;
     }
     set_count(op, count, regs);
     regs.rip = rip;
-    true
+    Went::Off
 }

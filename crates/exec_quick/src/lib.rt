@@ -26,6 +26,6 @@ mod strings;
 // The call.
 mod turn;
 
-pub use quick::{Kind, Quick, SLOW};
+pub use quick::{Kind, Quick, SLOW, Went};
 pub use taken_apart::quick_of;
-pub use turn::make;
+pub use turn::{make, make_at};

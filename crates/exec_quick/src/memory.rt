@@ -8,62 +8,57 @@ ghost use Rattle.x86_regs.specs.declared.form.Form.TheVariants.{Data};
 ghost use Rattle.x86_regs.specs.declared.form.DataForm.TheVariants as DataForm;
 ghost use Rattle.exec_quick.specs.declared.quick.Kind.TheVariants as Kind;
 ghost use Rattle.mem_access.specs.Windows.{IsWindow};
-ghost use Rattle.exec_quick.specs.QuickForms.{IsQuick, effect_made, quiet_outcome};
+ghost use Rattle.exec_quick.specs.QuickForms.{IsQuick, IsSameOnPage, effect_made, is_left, next_address, quiet_outcome, went};
 
 use crate::kept::{load, store};
-use crate::operands::{address, source};
-use crate::quick::Quick;
+use crate::operands::{address, first_register, next_address, put_result, source};
+use crate::quick::{Quick, Went};
 use decode_fields::Place;
 use mem_access::Window;
 use nk_bits::Control;
 use phys_mem::PhysMem;
 use tlb_model::Tlb;
 use x86_decode::Op;
-use x86_regs::{
-    Regs, movement, next_of, set_place, source_width, usual_combination, usual_comparison,
-};
+use x86_regs::{Regs, movement, set_place, source_width, usual_combination, usual_comparison};
 
 /// ADD and its kin of a register and memory.
 #[inline(never)]
 #[tactic(auto, unfolding(page_walk::specs::AccessPlans::gathered))]
 pub(crate) fn combine_load(
     quick: &Quick,
+    at: u64,
     regs: &mut Regs,
     control: &Control,
     mem: &mut PhysMem,
     tlb: &Tlb,
     window: &mut Window,
-) -> bool
+) -> Went
     requires ready { IsQuick quick.now }
     requires kind { quick.now.kind ≡ Kind.CombineLoad }
     requires register { quick.now.to < 16 }
     requires frames { NamesFramesIn (length mem.old) tlb.now }
     requires window { IsWindow (length mem.old) control.now regs.old.cpl tlb.now window.old }
     ensures window { IsWindow (length mem.old) control.now regs.old.cpl tlb.now window.new }
-    ensures made { result ≡ true → quiet_outcome regs.new mem.new tlb.now
-        ≡ effect_made (Data DataForm.Combine) quick.now regs.old control.now mem.old tlb.now }
-    ensures left { result ≡ false → (regs.new ≡ regs.old) × (mem.new ≡ mem.old) }
+    ensures made { is_left result ≡ false
+        → quiet_outcome (went result (next_address at quick.now.size) regs.new) mem.new tlb.now
+        ≡ effect_made (Data DataForm.Combine) quick.now (record regs.old { rip = at }) control.now mem.old tlb.now }
+    ensures left { is_left result ≡ true → (regs.new ≡ regs.old) × (mem.new ≡ mem.old) }
+    ensures off { window.new.off ≡ window.old.off }
+    ensures code { IsSameOnPage window.old.off mem.old mem.new }
     ensures length { length mem.new ≡ length mem.old }
     ensures privilege { regs.new.cpl ≡ regs.old.cpl }
 {
-    let next = next_of(regs, quick.size);
+    let next = next_address(quick, at);
     let bytes = source_width(quick.op, quick.width) / 8;
     let va = address(quick, &regs.general, next);
     let Some(place) = window.readable(mem, tlb, control, regs.cpl, va, bytes) else {
-        return false;
+        return Went::Left;
     };
     let from = load(mem, place, va, bytes);
-    let to = regs.general[usize::from(quick.to)];
+    let to = first_register(quick, quick.width, at, regs);
     let it = usual_combination(quick.op, quick.width, to, from, quick.value, regs.flags);
-    set_place(
-        &mut regs.general,
-        &Place::Reg(quick.to),
-        quick.width,
-        it.value,
-    );
-    regs.flags = it.flags;
-    regs.rip = next;
-    true
+    put_result(quick, quick.width, it, regs);
+    Went::On
 }
 
 /// ADD and its kin of memory, which is read and written: what may be written may be read.
@@ -71,37 +66,40 @@ pub(crate) fn combine_load(
 #[tactic(auto, unfolding(page_walk::specs::AccessPlans::gathered))]
 pub(crate) fn combine_store(
     quick: &Quick,
+    at: u64,
     regs: &mut Regs,
     control: &Control,
     mem: &mut PhysMem,
     tlb: &Tlb,
     window: &mut Window,
-) -> bool
+) -> Went
     requires ready { IsQuick quick.now }
     requires kind { quick.now.kind ≡ Kind.CombineStore }
     requires frames { NamesFramesIn (length mem.old) tlb.now }
     requires window { IsWindow (length mem.old) control.now regs.old.cpl tlb.now window.old }
     ensures window { IsWindow (length mem.old) control.now regs.old.cpl tlb.now window.new }
-    ensures made { result ≡ true → quiet_outcome regs.new mem.new tlb.now
-        ≡ effect_made (Data DataForm.Combine) quick.now regs.old control.now mem.old tlb.now }
-    ensures left { result ≡ false → (regs.new ≡ regs.old) × (mem.new ≡ mem.old) }
+    ensures made { is_left result ≡ false
+        → quiet_outcome (went result (next_address at quick.now.size) regs.new) mem.new tlb.now
+        ≡ effect_made (Data DataForm.Combine) quick.now (record regs.old { rip = at }) control.now mem.old tlb.now }
+    ensures left { is_left result ≡ true → (regs.new ≡ regs.old) × (mem.new ≡ mem.old) }
+    ensures off { window.new.off ≡ window.old.off }
+    ensures code { IsSameOnPage window.old.off mem.old mem.new }
     ensures length { length mem.new ≡ length mem.old }
     ensures privilege { regs.new.cpl ≡ regs.old.cpl }
 {
-    let next = next_of(regs, quick.size);
+    let next = next_address(quick, at);
     let bytes = quick.width / 8;
     let va = address(quick, &regs.general, next);
     let Some(kept) = window.writable(mem, tlb, control, regs.cpl, va, bytes) else {
-        return false;
+        return Went::Left;
     };
     let to = load(mem, kept, va, bytes);
     let width = source_width(quick.op, quick.width);
-    let from = source(quick, width, regs);
+    let from = source(quick, width, at, regs);
     let it = usual_combination(quick.op, quick.width, to, from, quick.value, regs.flags);
-    store(mem, kept, va, bytes, it.value);
+    store(mem, window, kept, va, bytes, it.value);
     regs.flags = it.flags;
-    regs.rip = next;
-    true
+    Went::On
 }
 
 /// CMP and TEST of a register and memory.
@@ -109,35 +107,38 @@ pub(crate) fn combine_store(
 #[tactic(auto, unfolding(page_walk::specs::AccessPlans::gathered))]
 pub(crate) fn compare_load(
     quick: &Quick,
+    at: u64,
     regs: &mut Regs,
     control: &Control,
     mem: &mut PhysMem,
     tlb: &Tlb,
     window: &mut Window,
-) -> bool
+) -> Went
     requires ready { IsQuick quick.now }
     requires kind { quick.now.kind ≡ Kind.CompareLoad }
     requires register { quick.now.to < 16 }
     requires frames { NamesFramesIn (length mem.old) tlb.now }
     requires window { IsWindow (length mem.old) control.now regs.old.cpl tlb.now window.old }
     ensures window { IsWindow (length mem.old) control.now regs.old.cpl tlb.now window.new }
-    ensures made { result ≡ true → quiet_outcome regs.new mem.new tlb.now
-        ≡ effect_made (Data DataForm.Compare) quick.now regs.old control.now mem.old tlb.now }
-    ensures left { result ≡ false → (regs.new ≡ regs.old) × (mem.new ≡ mem.old) }
+    ensures made { is_left result ≡ false
+        → quiet_outcome (went result (next_address at quick.now.size) regs.new) mem.new tlb.now
+        ≡ effect_made (Data DataForm.Compare) quick.now (record regs.old { rip = at }) control.now mem.old tlb.now }
+    ensures left { is_left result ≡ true → (regs.new ≡ regs.old) × (mem.new ≡ mem.old) }
+    ensures off { window.new.off ≡ window.old.off }
+    ensures code { IsSameOnPage window.old.off mem.old mem.new }
     ensures length { length mem.new ≡ length mem.old }
     ensures privilege { regs.new.cpl ≡ regs.old.cpl }
 {
-    let next = next_of(regs, quick.size);
+    let next = next_address(quick, at);
     let bytes = quick.width / 8;
     let va = address(quick, &regs.general, next);
     let Some(place) = window.readable(mem, tlb, control, regs.cpl, va, bytes) else {
-        return false;
+        return Went::Left;
     };
     let from = load(mem, place, va, bytes);
-    let to = regs.general[usize::from(quick.to)];
+    let to = first_register(quick, quick.width, at, regs);
     regs.flags = usual_comparison(quick.op, quick.width, to, from, regs.flags);
-    regs.rip = next;
-    true
+    Went::On
 }
 
 /// CMP and TEST of memory.
@@ -145,34 +146,37 @@ pub(crate) fn compare_load(
 #[tactic(auto, unfolding(page_walk::specs::AccessPlans::gathered))]
 pub(crate) fn compare_store(
     quick: &Quick,
+    at: u64,
     regs: &mut Regs,
     control: &Control,
     mem: &mut PhysMem,
     tlb: &Tlb,
     window: &mut Window,
-) -> bool
+) -> Went
     requires ready { IsQuick quick.now }
     requires kind { quick.now.kind ≡ Kind.CompareStore }
     requires frames { NamesFramesIn (length mem.old) tlb.now }
     requires window { IsWindow (length mem.old) control.now regs.old.cpl tlb.now window.old }
     ensures window { IsWindow (length mem.old) control.now regs.old.cpl tlb.now window.new }
-    ensures made { result ≡ true → quiet_outcome regs.new mem.new tlb.now
-        ≡ effect_made (Data DataForm.Compare) quick.now regs.old control.now mem.old tlb.now }
-    ensures left { result ≡ false → (regs.new ≡ regs.old) × (mem.new ≡ mem.old) }
+    ensures made { is_left result ≡ false
+        → quiet_outcome (went result (next_address at quick.now.size) regs.new) mem.new tlb.now
+        ≡ effect_made (Data DataForm.Compare) quick.now (record regs.old { rip = at }) control.now mem.old tlb.now }
+    ensures left { is_left result ≡ true → (regs.new ≡ regs.old) × (mem.new ≡ mem.old) }
+    ensures off { window.new.off ≡ window.old.off }
+    ensures code { IsSameOnPage window.old.off mem.old mem.new }
     ensures length { length mem.new ≡ length mem.old }
     ensures privilege { regs.new.cpl ≡ regs.old.cpl }
 {
-    let next = next_of(regs, quick.size);
+    let next = next_address(quick, at);
     let bytes = quick.width / 8;
     let va = address(quick, &regs.general, next);
     let Some(place) = window.readable(mem, tlb, control, regs.cpl, va, bytes) else {
-        return false;
+        return Went::Left;
     };
     let to = load(mem, place, va, bytes);
-    let from = source(quick, quick.width, regs);
+    let from = source(quick, quick.width, at, regs);
     regs.flags = usual_comparison(quick.op, quick.width, to, from, regs.flags);
-    regs.rip = next;
-    true
+    Went::On
 }
 
 /// MOV and its kin from memory.
@@ -182,37 +186,41 @@ pub(crate) fn move_load(
     quick: &Quick,
     op: Op,
     width: u8,
+    at: u64,
     regs: &mut Regs,
     control: &Control,
     mem: &mut PhysMem,
     tlb: &Tlb,
     window: &mut Window,
-) -> bool
+) -> Went
     requires ready { IsQuick quick.now }
     requires width { IsWidth width }
     requires register { quick.now.to < 16 }
     requires frames { NamesFramesIn (length mem.old) tlb.now }
     requires window { IsWindow (length mem.old) control.now regs.old.cpl tlb.now window.old }
     ensures window { IsWindow (length mem.old) control.now regs.old.cpl tlb.now window.new }
-    ensures made { result ≡ true → quiet_outcome regs.new mem.new tlb.now
+    ensures made { is_left result ≡ false
+        → quiet_outcome (went result (next_address at quick.now.size) regs.new) mem.new tlb.now
         ≡ effect_made (Data DataForm.Move)
-        (record quick.now { kind = Kind.MoveLoad; op = op; width = width }) regs.old control.now mem.old tlb.now }
-    ensures left { result ≡ false → (regs.new ≡ regs.old) × (mem.new ≡ mem.old) }
+        (record quick.now { kind = Kind.MoveLoad; op = op; width = width })
+        (record regs.old { rip = at }) control.now mem.old tlb.now }
+    ensures left { is_left result ≡ true → (regs.new ≡ regs.old) × (mem.new ≡ mem.old) }
+    ensures off { window.new.off ≡ window.old.off }
+    ensures code { IsSameOnPage window.old.off mem.old mem.new }
     ensures length { length mem.new ≡ length mem.old }
     ensures privilege { regs.new.cpl ≡ regs.old.cpl }
 {
-    let next = next_of(regs, quick.size);
+    let next = next_address(quick, at);
     let read = source_width(op, width);
     let bytes = read / 8;
     let va = address(quick, &regs.general, next);
     let Some(place) = window.readable(mem, tlb, control, regs.cpl, va, bytes) else {
-        return false;
+        return Went::Left;
     };
     let from = load(mem, place, va, bytes);
     let value = movement(op, width, from, regs.flags);
     set_place(&mut regs.general, &Place::Reg(quick.to), width, value);
-    regs.rip = next;
-    true
+    Went::On
 }
 
 /// MOV and its kin to memory.
@@ -222,34 +230,38 @@ pub(crate) fn move_store(
     quick: &Quick,
     op: Op,
     width: u8,
+    at: u64,
     regs: &mut Regs,
     control: &Control,
     mem: &mut PhysMem,
     tlb: &Tlb,
     window: &mut Window,
-) -> bool
+) -> Went
     requires ready { IsQuick quick.now }
     requires width { IsWidth width }
     requires frames { NamesFramesIn (length mem.old) tlb.now }
     requires window { IsWindow (length mem.old) control.now regs.old.cpl tlb.now window.old }
     ensures window { IsWindow (length mem.old) control.now regs.old.cpl tlb.now window.new }
-    ensures made { result ≡ true → quiet_outcome regs.new mem.new tlb.now
+    ensures made { is_left result ≡ false
+        → quiet_outcome (went result (next_address at quick.now.size) regs.new) mem.new tlb.now
         ≡ effect_made (Data DataForm.Move)
-        (record quick.now { kind = Kind.MoveStore; op = op; width = width }) regs.old control.now mem.old tlb.now }
-    ensures left { result ≡ false → (regs.new ≡ regs.old) × (mem.new ≡ mem.old) }
+        (record quick.now { kind = Kind.MoveStore; op = op; width = width })
+        (record regs.old { rip = at }) control.now mem.old tlb.now }
+    ensures left { is_left result ≡ true → (regs.new ≡ regs.old) × (mem.new ≡ mem.old) }
+    ensures off { window.new.off ≡ window.old.off }
+    ensures code { IsSameOnPage window.old.off mem.old mem.new }
     ensures length { length mem.new ≡ length mem.old }
     ensures privilege { regs.new.cpl ≡ regs.old.cpl }
 {
-    let next = next_of(regs, quick.size);
+    let next = next_address(quick, at);
     let bytes = width / 8;
     let va = address(quick, &regs.general, next);
     let Some(place) = window.writable(mem, tlb, control, regs.cpl, va, bytes) else {
-        return false;
+        return Went::Left;
     };
     let read = source_width(op, width);
-    let from = source(quick, read, regs);
+    let from = source(quick, read, at, regs);
     let value = movement(op, width, from, regs.flags);
-    store(mem, place, va, bytes, value);
-    regs.rip = next;
-    true
+    store(mem, window, place, va, bytes, value);
+    Went::On
 }

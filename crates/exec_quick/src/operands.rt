@@ -4,9 +4,9 @@ ghost use Rattle.std.specs.Prelude.{◌≡◌, ◌<◌, ◌≤◌, ◌*◌, ◌^
 ghost use Rattle.decode_fields.specs.Widths.{IsWidth};
 ghost use Rattle.x86_alu.specs.SignedNumbers.{cut};
 ghost use Rattle.page_walk.specs.declared.plan.Origin.TheVariants.{Is};
-ghost use Rattle.x86_regs.specs.Operands.{added, address_by, next_of, place_span, source_by};
+ghost use Rattle.x86_regs.specs.Operands.{added, address_by, place_span, source_by};
 ghost use Rattle.x86_regs.specs.Registers.{written};
-ghost use Rattle.exec_quick.specs.QuickForms.{IsQuick, quick_address, operand_of, operand_value, register_of};
+ghost use Rattle.exec_quick.specs.QuickForms.{IsQuick, next_address, quick_address, operand_of, operand_value, register_of};
 
 use crate::quick::Quick;
 use decode_fields::Place;
@@ -30,12 +30,20 @@ pub(crate) fn operand(number: u8, value: u64, general: &[u64; 16]) -> u64
     }
 }
 
+/// The address of the next instruction, where this one stands at `at`.
+#[inline(always)]
+pub(crate) fn next_address(quick: &Quick, at: u64) -> u64
+    ensures { result ≡ next_address at quick.now.size }
+{
+    at.wrapping_add(u64::from(quick.size))
+}
+
 /// The value of the first operand, which isn't in memory, of which so many low bits count.
 #[inline(always)]
-pub(crate) fn first(quick: &Quick, width: u8, regs: &Regs) -> u64
+pub(crate) fn first(quick: &Quick, width: u8, at: u64, regs: &Regs) -> u64
     requires ready { IsQuick quick.now }
     requires width { IsWidth width }
-    ensures source { source_by regs.now.general (next_of regs.now quick.now.size) width quick.now.value
+    ensures source { source_by regs.now.general (next_address at quick.now.size) width quick.now.value
         (operand_of quick.now.to) ≡ Is (operand_value quick.now.to quick.now.value regs.now.general width) }
     ensures value { cut width result
         ≡ cut width (operand_value quick.now.to quick.now.value regs.now.general width) }
@@ -45,39 +53,37 @@ pub(crate) fn first(quick: &Quick, width: u8, regs: &Regs) -> u64
 
 /// The value of the first operand, which is a register, of which so many low bits count.
 #[inline(always)]
-pub(crate) fn first_register(quick: &Quick, width: u8, regs: &Regs) -> u64
+pub(crate) fn first_register(quick: &Quick, width: u8, at: u64, regs: &Regs) -> u64
     requires register { quick.now.to < 16 }
     requires width { IsWidth width }
-    ensures source { source_by regs.now.general (next_of regs.now quick.now.size) width quick.now.value
+    ensures source { source_by regs.now.general (next_address at quick.now.size) width quick.now.value
         (operand_of quick.now.to) ≡ Is (cut width result) }
-    ensures span { place_span regs.now.general (next_of regs.now quick.now.size) width (operand_of quick.now.to)
+    ensures span { place_span regs.now.general (next_address at quick.now.size) width (operand_of quick.now.to)
         ≡ None }
 {
     regs.general[usize::from(quick.to)]
 }
 
-/// Puts a result into the first operand, which is a register, with flags, and goes on to the next instruction.
+/// Puts a result into the first operand, which is a register, with flags.
 #[inline(always)]
-pub(crate) fn put_result(quick: &Quick, width: u8, it: Out, next: u64, regs: &mut Regs)
+pub(crate) fn put_result(quick: &Quick, width: u8, it: Out, regs: &mut Regs)
     requires register { quick.now.to < 16 }
     requires width { IsWidth width }
     ensures put { regs.new ≡ record regs.old {
       general = written regs.old.general (operand_of quick.now.to) width it.value;
       flags = it.flags;
-      rip = next;
     } }
 {
     set_place(&mut regs.general, &Place::Reg(quick.to), width, it.value);
     regs.flags = it.flags;
-    regs.rip = next;
 }
 
 /// The value of the second operand, which isn't in memory, of which so many low bits count.
 #[inline(always)]
-pub(crate) fn source(quick: &Quick, width: u8, regs: &Regs) -> u64
+pub(crate) fn source(quick: &Quick, width: u8, at: u64, regs: &Regs) -> u64
     requires ready { IsQuick quick.now }
     requires width { IsWidth width }
-    ensures source { source_by regs.now.general (next_of regs.now quick.now.size) width quick.now.value
+    ensures source { source_by regs.now.general (next_address at quick.now.size) width quick.now.value
         (operand_of quick.now.from) ≡ Is (operand_value quick.now.from quick.now.value regs.now.general width) }
     ensures value { cut width result
         ≡ cut width (operand_value quick.now.from quick.now.value regs.now.general width) }

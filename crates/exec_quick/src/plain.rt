@@ -6,37 +6,36 @@ ghost use Rattle.x86_alu.specs.SignedNumbers.{cut, sign};
 ghost use Rattle.x86_regs.specs.declared.form.Form.TheVariants.{Data};
 ghost use Rattle.x86_regs.specs.declared.form.DataForm.TheVariants as DataForm;
 ghost use Rattle.exec_quick.specs.declared.quick.Kind.TheVariants as Kind;
-ghost use Rattle.exec_quick.specs.QuickForms.{IsQuick, effect_made, quiet_outcome};
+ghost use Rattle.exec_quick.specs.QuickForms.{IsQuick, effect_made, is_left, next_address, quiet_outcome, went};
 
-use crate::quick::Quick;
+use crate::quick::{Quick, Went};
 use decode_fields::Place;
 use nk_bits::Control;
 use phys_mem::PhysMem;
 use tlb_model::Tlb;
-use x86_regs::{
-    RAX, RDX, Regs, extended, flags_changed, low, next_of, ones, set_place, sign, source_width,
-};
+use x86_regs::{RAX, RDX, Regs, extended, flags_changed, low, ones, set_place, sign, source_width};
 
 /// NOP.
 #[inline(always)]
 #[tactic(auto, unfolding(page_walk::specs::AccessPlans::gathered))]
 pub(crate) fn nothing(
     quick: &Quick,
+    at: u64,
     regs: &mut Regs,
     control: &Control,
     mem: &mut PhysMem,
     tlb: &Tlb,
-) -> bool
+) -> Went
     requires ready { IsQuick quick.now }
     requires kind { quick.now.kind ≡ Kind.Nothing }
-    ensures made { result ≡ true → quiet_outcome regs.new mem.new tlb.now
-        ≡ effect_made (Data DataForm.Nothing) quick.now regs.old control.now mem.old tlb.now }
-    ensures left { result ≡ false → (regs.new ≡ regs.old) × (mem.new ≡ mem.old) }
-    ensures length { length mem.new ≡ length mem.old }
+    ensures made { is_left result ≡ false
+        → quiet_outcome (went result (next_address at quick.now.size) regs.new) mem.new tlb.now
+        ≡ effect_made (Data DataForm.Nothing) quick.now (record regs.old { rip = at }) control.now mem.old tlb.now }
+    ensures left { is_left result ≡ true → (regs.new ≡ regs.old) × (mem.new ≡ mem.old) }
+    ensures memory { mem.new ≡ mem.old }
     ensures privilege { regs.new.cpl ≡ regs.old.cpl }
 {
-    regs.rip = next_of(regs, quick.size);
-    true
+    Went::On
 }
 
 /// CBW, CWDE and CDQE.
@@ -44,26 +43,26 @@ pub(crate) fn nothing(
 #[tactic(auto, unfolding(page_walk::specs::AccessPlans::gathered))]
 pub(crate) fn widen(
     quick: &Quick,
+    at: u64,
     regs: &mut Regs,
     control: &Control,
     mem: &mut PhysMem,
     tlb: &Tlb,
-) -> bool
+) -> Went
     requires ready { IsQuick quick.now }
     requires kind { quick.now.kind ≡ Kind.Widen }
-    ensures made { result ≡ true → quiet_outcome regs.new mem.new tlb.now
-        ≡ effect_made (Data DataForm.Widen) quick.now regs.old control.now mem.old tlb.now }
-    ensures left { result ≡ false → (regs.new ≡ regs.old) × (mem.new ≡ mem.old) }
-    ensures length { length mem.new ≡ length mem.old }
+    ensures made { is_left result ≡ false
+        → quiet_outcome (went result (next_address at quick.now.size) regs.new) mem.new tlb.now
+        ≡ effect_made (Data DataForm.Widen) quick.now (record regs.old { rip = at }) control.now mem.old tlb.now }
+    ensures left { is_left result ≡ true → (regs.new ≡ regs.old) × (mem.new ≡ mem.old) }
+    ensures memory { mem.new ≡ mem.old }
     ensures privilege { regs.new.cpl ≡ regs.old.cpl }
 {
-    let next = next_of(regs, quick.size);
     let width = source_width(quick.op, quick.width);
     let number = low(width, regs.general[usize::from(RAX)]);
     let value = extended(width, quick.width, number);
     set_place(&mut regs.general, &Place::Reg(RAX), quick.width, value);
-    regs.rip = next;
-    true
+    Went::On
 }
 
 /// CWD, CDQ and CQO.
@@ -71,24 +70,24 @@ pub(crate) fn widen(
 #[tactic(auto, unfolding(page_walk::specs::AccessPlans::gathered))]
 pub(crate) fn double(
     quick: &Quick,
+    at: u64,
     regs: &mut Regs,
     control: &Control,
     mem: &mut PhysMem,
     tlb: &Tlb,
-) -> bool
+) -> Went
     requires ready { IsQuick quick.now }
     requires kind { quick.now.kind ≡ Kind.Double }
-    ensures made { result ≡ true → quiet_outcome regs.new mem.new tlb.now
-        ≡ effect_made (Data DataForm.Double) quick.now regs.old control.now mem.old tlb.now }
-    ensures left { result ≡ false → (regs.new ≡ regs.old) × (mem.new ≡ mem.old) }
-    ensures length { length mem.new ≡ length mem.old }
+    ensures made { is_left result ≡ false
+        → quiet_outcome (went result (next_address at quick.now.size) regs.new) mem.new tlb.now
+        ≡ effect_made (Data DataForm.Double) quick.now (record regs.old { rip = at }) control.now mem.old tlb.now }
+    ensures left { is_left result ≡ true → (regs.new ≡ regs.old) × (mem.new ≡ mem.old) }
+    ensures memory { mem.new ≡ mem.old }
     ensures privilege { regs.new.cpl ≡ regs.old.cpl }
 {
-    let next = next_of(regs, quick.size);
     let value = signs(quick.width, regs.general[usize::from(RAX)]);
     set_place(&mut regs.general, &Place::Reg(RDX), quick.width, value);
-    regs.rip = next;
-    true
+    Went::On
 }
 
 /// The sign of a number's low bits, as many as the width, at each of as many places.
@@ -109,21 +108,21 @@ fn signs(width: u8, number: u64) -> u64
 #[tactic(auto, unfolding(page_walk::specs::AccessPlans::gathered))]
 pub(crate) fn change_flag(
     quick: &Quick,
+    at: u64,
     regs: &mut Regs,
     control: &Control,
     mem: &mut PhysMem,
     tlb: &Tlb,
-) -> bool
+) -> Went
     requires ready { IsQuick quick.now }
     requires kind { quick.now.kind ≡ Kind.ChangeFlag }
-    ensures made { result ≡ true → quiet_outcome regs.new mem.new tlb.now
-        ≡ effect_made (Data DataForm.ChangeFlag) quick.now regs.old control.now mem.old tlb.now }
-    ensures left { result ≡ false → (regs.new ≡ regs.old) × (mem.new ≡ mem.old) }
-    ensures length { length mem.new ≡ length mem.old }
+    ensures made { is_left result ≡ false
+        → quiet_outcome (went result (next_address at quick.now.size) regs.new) mem.new tlb.now
+        ≡ effect_made (Data DataForm.ChangeFlag) quick.now (record regs.old { rip = at }) control.now mem.old tlb.now }
+    ensures left { is_left result ≡ true → (regs.new ≡ regs.old) × (mem.new ≡ mem.old) }
+    ensures memory { mem.new ≡ mem.old }
     ensures privilege { regs.new.cpl ≡ regs.old.cpl }
 {
-    let next = next_of(regs, quick.size);
     regs.flags = flags_changed(quick.op, regs.flags);
-    regs.rip = next;
-    true
+    Went::On
 }

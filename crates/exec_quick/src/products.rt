@@ -8,23 +8,24 @@ ghost use Rattle.x86_regs.specs.declared.form.DataForm.TheVariants as DataForm;
 ghost use Rattle.x86_regs.specs.OperandOutcomes.{divided, is_signed, multiplied_wide, quietly};
 ghost use Rattle.exec_quick.specs.declared.quick.Kind.TheVariants as Kind;
 ghost use Rattle.mem_access.specs.Windows.{IsWindow};
-ghost use Rattle.exec_quick.specs.QuickForms.{IsQuick, effect_made, instruction_of, quiet_outcome, width_by};
+ghost use Rattle.exec_quick.specs.QuickForms.{IsQuick, IsSameOnPage, effect_made, instruction_of, is_left, next_address, quiet_outcome, went, width_by};
 
 use crate::kept::load;
-use crate::operands::{address, first};
-use crate::quick::Quick;
+use crate::operands::{address, first, next_address};
+use crate::quick::{Quick, Went};
 use mem_access::Window;
 use nk_bits::Control;
 use phys_mem::PhysMem;
 use tlb_model::Tlb;
-use x86_regs::{RAX, Regs, is_signed, next_of, set_halves, upper_half};
+use x86_regs::{RAX, Regs, is_signed, set_halves, upper_half};
 
-/// The accumulator times a number, into both halves, with CF and OF; and on to the next instruction.
+/// The accumulator times a number, into both halves, with CF and OF.
 #[inline(always)]
-fn multiply_by(quick: &Quick, next: u64, regs: &mut Regs, by: u64)
+fn multiply_by(quick: &Quick, at: u64, regs: &mut Regs, by: u64)
     requires ready { IsQuick quick.now }
     requires width { width_by quick.now.kind quick.now.width ≡ quick.now.width }
-    ensures product { quietly regs.new ≡ multiplied_wide (instruction_of quick.now) regs.old next
+    ensures product { quietly (record regs.new { rip = next_address at quick.now.size })
+        ≡ multiplied_wide (instruction_of quick.now) (record regs.old { rip = at }) (next_address at quick.now.size)
         (is_signed quick.now.op) (cut quick.now.width by) }
     ensures privilege { regs.new.cpl ≡ regs.old.cpl }
 {
@@ -34,29 +35,29 @@ fn multiply_by(quick: &Quick, next: u64, regs: &mut Regs, by: u64)
     let high = x86_alu::multiply(signed, true, quick.width, accumulator, by, regs.flags);
     set_halves(&mut regs.general, quick.width, low.value, high.value);
     regs.flags = low.flags;
-    regs.rip = next;
 }
 
-/// Both halves by a number, into quotient and remainder, and on to the next instruction; where the number is 0 or the
+/// Both halves by a number, into quotient and remainder; where the number is 0 or the
 /// quotient doesn't fit, nothing.
 #[inline(always)]
-fn divide_by(quick: &Quick, next: u64, regs: &mut Regs, by: u64) -> bool
+fn divide_by(quick: &Quick, at: u64, regs: &mut Regs, by: u64) -> Went
     requires ready { IsQuick quick.now }
     requires width { width_by quick.now.kind quick.now.width ≡ quick.now.width }
-    ensures quotient { result ≡ true → quietly regs.new ≡ divided (instruction_of quick.now) regs.old next
+    ensures quotient { is_left result ≡ false
+        → quietly (went result (next_address at quick.now.size) regs.new)
+        ≡ divided (instruction_of quick.now) (record regs.old { rip = at }) (next_address at quick.now.size)
         (is_signed quick.now.op) (cut quick.now.width by) }
-    ensures left { result ≡ false → regs.new ≡ regs.old }
+    ensures left { is_left result ≡ true → regs.new ≡ regs.old }
     ensures privilege { regs.new.cpl ≡ regs.old.cpl }
 {
     let signed = is_signed(quick.op);
     let high = upper_half(&regs.general, quick.width);
     let low = regs.general[usize::from(RAX)];
     let Ok(it) = x86_alu::divide(signed, quick.width, high, low, by) else {
-        return false;
+        return Went::Left;
     };
     set_halves(&mut regs.general, quick.width, it.value, it.rest);
-    regs.rip = next;
-    true
+    Went::On
 }
 
 /// MUL, and IMUL of one operand.
@@ -64,23 +65,24 @@ fn divide_by(quick: &Quick, next: u64, regs: &mut Regs, by: u64) -> bool
 #[tactic(auto, unfolding(page_walk::specs::AccessPlans::gathered))]
 pub(crate) fn multiply(
     quick: &Quick,
+    at: u64,
     regs: &mut Regs,
     control: &Control,
     mem: &mut PhysMem,
     tlb: &Tlb,
-) -> bool
+) -> Went
     requires ready { IsQuick quick.now }
     requires kind { quick.now.kind ≡ Kind.Multiply }
-    ensures made { result ≡ true → quiet_outcome regs.new mem.new tlb.now
-        ≡ effect_made (Data DataForm.Multiply) quick.now regs.old control.now mem.old tlb.now }
-    ensures left { result ≡ false → (regs.new ≡ regs.old) × (mem.new ≡ mem.old) }
-    ensures length { length mem.new ≡ length mem.old }
+    ensures made { is_left result ≡ false
+        → quiet_outcome (went result (next_address at quick.now.size) regs.new) mem.new tlb.now
+        ≡ effect_made (Data DataForm.Multiply) quick.now (record regs.old { rip = at }) control.now mem.old tlb.now }
+    ensures left { is_left result ≡ true → (regs.new ≡ regs.old) × (mem.new ≡ mem.old) }
+    ensures memory { mem.new ≡ mem.old }
     ensures privilege { regs.new.cpl ≡ regs.old.cpl }
 {
-    let next = next_of(regs, quick.size);
-    let by = first(quick, quick.width, regs);
-    multiply_by(quick, next, regs, by);
-    true
+    let by = first(quick, quick.width, at, regs);
+    multiply_by(quick, at, regs, by);
+    Went::On
 }
 
 /// The same by a number in memory.
@@ -88,32 +90,36 @@ pub(crate) fn multiply(
 #[tactic(auto, unfolding(page_walk::specs::AccessPlans::gathered))]
 pub(crate) fn multiply_load(
     quick: &Quick,
+    at: u64,
     regs: &mut Regs,
     control: &Control,
     mem: &mut PhysMem,
     tlb: &Tlb,
     window: &mut Window,
-) -> bool
+) -> Went
     requires ready { IsQuick quick.now }
     requires kind { quick.now.kind ≡ Kind.MultiplyLoad }
     requires frames { NamesFramesIn (length mem.old) tlb.now }
     requires window { IsWindow (length mem.old) control.now regs.old.cpl tlb.now window.old }
     ensures window { IsWindow (length mem.old) control.now regs.old.cpl tlb.now window.new }
-    ensures made { result ≡ true → quiet_outcome regs.new mem.new tlb.now
-        ≡ effect_made (Data DataForm.Multiply) quick.now regs.old control.now mem.old tlb.now }
-    ensures left { result ≡ false → (regs.new ≡ regs.old) × (mem.new ≡ mem.old) }
+    ensures made { is_left result ≡ false
+        → quiet_outcome (went result (next_address at quick.now.size) regs.new) mem.new tlb.now
+        ≡ effect_made (Data DataForm.Multiply) quick.now (record regs.old { rip = at }) control.now mem.old tlb.now }
+    ensures left { is_left result ≡ true → (regs.new ≡ regs.old) × (mem.new ≡ mem.old) }
+    ensures off { window.new.off ≡ window.old.off }
+    ensures code { IsSameOnPage window.old.off mem.old mem.new }
     ensures length { length mem.new ≡ length mem.old }
     ensures privilege { regs.new.cpl ≡ regs.old.cpl }
 {
-    let next = next_of(regs, quick.size);
+    let next = next_address(quick, at);
     let bytes = quick.width / 8;
     let va = address(quick, &regs.general, next);
     let Some(place) = window.readable(mem, tlb, control, regs.cpl, va, bytes) else {
-        return false;
+        return Went::Left;
     };
     let by = load(mem, place, va, bytes);
-    multiply_by(quick, next, regs, by);
-    true
+    multiply_by(quick, at, regs, by);
+    Went::On
 }
 
 /// DIV and IDIV.
@@ -121,22 +127,23 @@ pub(crate) fn multiply_load(
 #[tactic(auto, unfolding(page_walk::specs::AccessPlans::gathered))]
 pub(crate) fn divide(
     quick: &Quick,
+    at: u64,
     regs: &mut Regs,
     control: &Control,
     mem: &mut PhysMem,
     tlb: &Tlb,
-) -> bool
+) -> Went
     requires ready { IsQuick quick.now }
     requires kind { quick.now.kind ≡ Kind.Divide }
-    ensures made { result ≡ true → quiet_outcome regs.new mem.new tlb.now
-        ≡ effect_made (Data DataForm.Divide) quick.now regs.old control.now mem.old tlb.now }
-    ensures left { result ≡ false → (regs.new ≡ regs.old) × (mem.new ≡ mem.old) }
-    ensures length { length mem.new ≡ length mem.old }
+    ensures made { is_left result ≡ false
+        → quiet_outcome (went result (next_address at quick.now.size) regs.new) mem.new tlb.now
+        ≡ effect_made (Data DataForm.Divide) quick.now (record regs.old { rip = at }) control.now mem.old tlb.now }
+    ensures left { is_left result ≡ true → (regs.new ≡ regs.old) × (mem.new ≡ mem.old) }
+    ensures memory { mem.new ≡ mem.old }
     ensures privilege { regs.new.cpl ≡ regs.old.cpl }
 {
-    let next = next_of(regs, quick.size);
-    let by = first(quick, quick.width, regs);
-    divide_by(quick, next, regs, by)
+    let by = first(quick, quick.width, at, regs);
+    divide_by(quick, at, regs, by)
 }
 
 /// The same by a number in memory.
@@ -144,29 +151,33 @@ pub(crate) fn divide(
 #[tactic(auto, unfolding(page_walk::specs::AccessPlans::gathered))]
 pub(crate) fn divide_load(
     quick: &Quick,
+    at: u64,
     regs: &mut Regs,
     control: &Control,
     mem: &mut PhysMem,
     tlb: &Tlb,
     window: &mut Window,
-) -> bool
+) -> Went
     requires ready { IsQuick quick.now }
     requires kind { quick.now.kind ≡ Kind.DivideLoad }
     requires frames { NamesFramesIn (length mem.old) tlb.now }
     requires window { IsWindow (length mem.old) control.now regs.old.cpl tlb.now window.old }
     ensures window { IsWindow (length mem.old) control.now regs.old.cpl tlb.now window.new }
-    ensures made { result ≡ true → quiet_outcome regs.new mem.new tlb.now
-        ≡ effect_made (Data DataForm.Divide) quick.now regs.old control.now mem.old tlb.now }
-    ensures left { result ≡ false → (regs.new ≡ regs.old) × (mem.new ≡ mem.old) }
+    ensures made { is_left result ≡ false
+        → quiet_outcome (went result (next_address at quick.now.size) regs.new) mem.new tlb.now
+        ≡ effect_made (Data DataForm.Divide) quick.now (record regs.old { rip = at }) control.now mem.old tlb.now }
+    ensures left { is_left result ≡ true → (regs.new ≡ regs.old) × (mem.new ≡ mem.old) }
+    ensures off { window.new.off ≡ window.old.off }
+    ensures code { IsSameOnPage window.old.off mem.old mem.new }
     ensures length { length mem.new ≡ length mem.old }
     ensures privilege { regs.new.cpl ≡ regs.old.cpl }
 {
-    let next = next_of(regs, quick.size);
+    let next = next_address(quick, at);
     let bytes = quick.width / 8;
     let va = address(quick, &regs.general, next);
     let Some(place) = window.readable(mem, tlb, control, regs.cpl, va, bytes) else {
-        return false;
+        return Went::Left;
     };
     let by = load(mem, place, va, bytes);
-    divide_by(quick, next, regs, by)
+    divide_by(quick, at, regs, by)
 }

@@ -91,6 +91,15 @@ pub enum Kind {
     JumpGreater,
 }
 
+/// What came of an instruction: nothing; it was made, and goes on behind it, which RIP doesn't say yet; or it was made, and
+/// RIP says where it goes on.
+#[derive(Clone, Copy, Debug, PartialEq, Eq)]
+pub enum Went {
+    Left,
+    On,
+    Off,
+}
+
 /// An instruction taken apart: numbers of registers stand at fixed places.
 #[derive(Clone, Copy, Debug, PartialEq, Eq)]
 pub struct Quick {
@@ -100,6 +109,8 @@ pub struct Quick {
     pub width: u8,
     /// The instruction's length in bytes.
     pub size: u8,
+    /// Where it begins in the line of code that it is kept in, in bytes.
+    pub at: u8,
     /// The first operand where it isn't in memory: a register, 16 for the number, 17 for nothing, or from 18 on AH, CH, DH
     /// or BH.
     pub to: u8,
@@ -125,6 +136,7 @@ pub const SLOW: Quick = Quick {
     op: Op::Nop,
     width: 64,
     size: 1,
+    at: 0,
     to: 17,
     from: 17,
     base: 16,

@@ -5,18 +5,17 @@ ghost use Rattle.decode_fields.specs.Widths.{IsWidth};
 ghost use Rattle.x86_regs.specs.declared.form.Form.TheVariants.{Data};
 ghost use Rattle.x86_regs.specs.declared.form.DataForm.TheVariants as DataForm;
 ghost use Rattle.exec_quick.specs.declared.quick.Kind.TheVariants as Kind;
-ghost use Rattle.exec_quick.specs.QuickForms.{IsQuick, effect_made, quiet_outcome};
+ghost use Rattle.exec_quick.specs.QuickForms.{IsQuick, effect_made, is_left, next_address, quiet_outcome, went};
 
-use crate::operands::{address, first_register, put_result, source};
-use crate::quick::Quick;
+use crate::operands::{address, first_register, next_address, put_result, source};
+use crate::quick::{Quick, Went};
 use decode_fields::Place;
 use nk_bits::Control;
 use phys_mem::PhysMem;
 use tlb_model::Tlb;
 use x86_decode::Op;
 use x86_regs::{
-    Regs, frequent_combination, frequent_comparison, low, movement, next_of, set_place,
-    source_width,
+    Regs, frequent_combination, frequent_comparison, low, movement, set_place, source_width,
 };
 
 /// ADD and all that writes its first operand by both.
@@ -26,28 +25,30 @@ pub(crate) fn combine(
     quick: &Quick,
     op: Op,
     width: u8,
+    at: u64,
     regs: &mut Regs,
     control: &Control,
     mem: &mut PhysMem,
     tlb: &Tlb,
-) -> bool
+) -> Went
     requires ready { IsQuick quick.now }
     requires width { IsWidth width }
     requires register { quick.now.to < 16 }
-    ensures made { result ≡ true → quiet_outcome regs.new mem.new tlb.now
+    ensures made { is_left result ≡ false
+        → quiet_outcome (went result (next_address at quick.now.size) regs.new) mem.new tlb.now
         ≡ effect_made (Data DataForm.Combine)
-        (record quick.now { kind = Kind.Combine; op = op; width = width }) regs.old control.now mem.old tlb.now }
-    ensures left { result ≡ false → (regs.new ≡ regs.old) × (mem.new ≡ mem.old) }
-    ensures length { length mem.new ≡ length mem.old }
+        (record quick.now { kind = Kind.Combine; op = op; width = width })
+        (record regs.old { rip = at }) control.now mem.old tlb.now }
+    ensures left { is_left result ≡ true → (regs.new ≡ regs.old) × (mem.new ≡ mem.old) }
+    ensures memory { mem.new ≡ mem.old }
     ensures privilege { regs.new.cpl ≡ regs.old.cpl }
 {
-    let next = next_of(regs, quick.size);
-    let to = first_register(quick, width, regs);
+    let to = first_register(quick, width, at, regs);
     let bits = source_width(op, width);
-    let from = source(quick, bits, regs);
+    let from = source(quick, bits, at, regs);
     let it = frequent_combination(op, width, to, from, quick.value, regs.flags);
-    put_result(quick, width, it, next, regs);
-    true
+    put_result(quick, width, it, regs);
+    Went::On
 }
 
 /// CMP, TEST and BT.
@@ -57,27 +58,28 @@ pub(crate) fn compare(
     quick: &Quick,
     op: Op,
     width: u8,
+    at: u64,
     regs: &mut Regs,
     control: &Control,
     mem: &mut PhysMem,
     tlb: &Tlb,
-) -> bool
+) -> Went
     requires ready { IsQuick quick.now }
     requires width { IsWidth width }
     requires register { quick.now.to < 16 }
-    ensures made { result ≡ true → quiet_outcome regs.new mem.new tlb.now
+    ensures made { is_left result ≡ false
+        → quiet_outcome (went result (next_address at quick.now.size) regs.new) mem.new tlb.now
         ≡ effect_made (Data DataForm.Compare)
-        (record quick.now { kind = Kind.Compare; op = op; width = width }) regs.old control.now mem.old tlb.now }
-    ensures left { result ≡ false → (regs.new ≡ regs.old) × (mem.new ≡ mem.old) }
-    ensures length { length mem.new ≡ length mem.old }
+        (record quick.now { kind = Kind.Compare; op = op; width = width })
+        (record regs.old { rip = at }) control.now mem.old tlb.now }
+    ensures left { is_left result ≡ true → (regs.new ≡ regs.old) × (mem.new ≡ mem.old) }
+    ensures memory { mem.new ≡ mem.old }
     ensures privilege { regs.new.cpl ≡ regs.old.cpl }
 {
-    let next = next_of(regs, quick.size);
-    let to = first_register(quick, width, regs);
-    let from = source(quick, width, regs);
+    let to = first_register(quick, width, at, regs);
+    let from = source(quick, width, at, regs);
     regs.flags = frequent_comparison(op, width, to, from, regs.flags);
-    regs.rip = next;
-    true
+    Went::On
 }
 
 /// MOV and its kin, and SETcc.
@@ -87,28 +89,29 @@ pub(crate) fn move_over(
     quick: &Quick,
     op: Op,
     width: u8,
+    at: u64,
     regs: &mut Regs,
     control: &Control,
     mem: &mut PhysMem,
     tlb: &Tlb,
-) -> bool
+) -> Went
     requires ready { IsQuick quick.now }
     requires width { IsWidth width }
     requires register { quick.now.to < 16 }
-    ensures made { result ≡ true → quiet_outcome regs.new mem.new tlb.now
+    ensures made { is_left result ≡ false
+        → quiet_outcome (went result (next_address at quick.now.size) regs.new) mem.new tlb.now
         ≡ effect_made (Data DataForm.Move)
-        (record quick.now { kind = Kind.Move; op = op; width = width }) regs.old control.now mem.old tlb.now }
-    ensures left { result ≡ false → (regs.new ≡ regs.old) × (mem.new ≡ mem.old) }
-    ensures length { length mem.new ≡ length mem.old }
+        (record quick.now { kind = Kind.Move; op = op; width = width })
+        (record regs.old { rip = at }) control.now mem.old tlb.now }
+    ensures left { is_left result ≡ true → (regs.new ≡ regs.old) × (mem.new ≡ mem.old) }
+    ensures memory { mem.new ≡ mem.old }
     ensures privilege { regs.new.cpl ≡ regs.old.cpl }
 {
-    let next = next_of(regs, quick.size);
     let bits = source_width(op, width);
-    let from = source(quick, bits, regs);
+    let from = source(quick, bits, at, regs);
     let value = movement(op, width, from, regs.flags);
     set_place(&mut regs.general, &Place::Reg(quick.to), width, value);
-    regs.rip = next;
-    true
+    Went::On
 }
 
 /// LEA.
@@ -116,23 +119,24 @@ pub(crate) fn move_over(
 #[tactic(auto, unfolding(page_walk::specs::AccessPlans::gathered))]
 pub(crate) fn load_address(
     quick: &Quick,
+    at: u64,
     regs: &mut Regs,
     control: &Control,
     mem: &mut PhysMem,
     tlb: &Tlb,
-) -> bool
+) -> Went
     requires ready { IsQuick quick.now }
     requires kind { quick.now.kind ≡ Kind.Address }
     requires register { quick.now.to < 16 }
-    ensures made { result ≡ true → quiet_outcome regs.new mem.new tlb.now
-        ≡ effect_made (Data DataForm.Address) quick.now regs.old control.now mem.old tlb.now }
-    ensures left { result ≡ false → (regs.new ≡ regs.old) × (mem.new ≡ mem.old) }
-    ensures length { length mem.new ≡ length mem.old }
+    ensures made { is_left result ≡ false
+        → quiet_outcome (went result (next_address at quick.now.size) regs.new) mem.new tlb.now
+        ≡ effect_made (Data DataForm.Address) quick.now (record regs.old { rip = at }) control.now mem.old tlb.now }
+    ensures left { is_left result ≡ true → (regs.new ≡ regs.old) × (mem.new ≡ mem.old) }
+    ensures memory { mem.new ≡ mem.old }
     ensures privilege { regs.new.cpl ≡ regs.old.cpl }
 {
-    let next = next_of(regs, quick.size);
+    let next = next_address(quick, at);
     let value = low(quick.width, address(quick, &regs.general, next));
     set_place(&mut regs.general, &Place::Reg(quick.to), quick.width, value);
-    regs.rip = next;
-    true
+    Went::On
 }

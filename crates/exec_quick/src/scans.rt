@@ -8,28 +8,29 @@ ghost use Rattle.x86_regs.specs.declared.form.DataForm.TheVariants as DataForm;
 ghost use Rattle.x86_regs.specs.OperandOutcomes.{bits_scanned, is_forward, quietly};
 ghost use Rattle.exec_quick.specs.declared.quick.Kind.TheVariants as Kind;
 ghost use Rattle.mem_access.specs.Windows.{IsWindow};
-ghost use Rattle.exec_quick.specs.QuickForms.{IsQuick, effect_made, has_memory_first, instruction_of, quiet_outcome, width_by};
+ghost use Rattle.exec_quick.specs.QuickForms.{IsQuick, IsSameOnPage, effect_made, has_memory_first, instruction_of, is_left, next_address, quiet_outcome, went, width_by};
 
 use crate::kept::load;
-use crate::operands::{address, source};
-use crate::quick::Quick;
+use crate::operands::{address, next_address, source};
+use crate::quick::{Quick, Went};
 use decode_fields::Place;
 use mem_access::Window;
 use nk_bits::Control;
 use phys_mem::PhysMem;
 use tlb_model::Tlb;
 use x86_alu::scan_bit;
-use x86_regs::{Regs, is_forward, low, next_of, set_place};
+use x86_regs::{Regs, is_forward, low, set_place};
 
-/// The place of the first or the last set bit of a number, into the register, and on to the next instruction; where no
-/// bit is set the register keeps its whole value.
+/// The place of the first or the last set bit of a number, into the register; where no bit
+/// is set the register keeps its whole value.
 #[inline(always)]
-fn scan(quick: &Quick, next: u64, regs: &mut Regs, from: u64)
+fn scan(quick: &Quick, at: u64, regs: &mut Regs, from: u64)
     requires ready { IsQuick quick.now }
     requires width { width_by quick.now.kind quick.now.width ≡ quick.now.width }
     requires first { has_memory_first quick.now.kind ≡ false }
     requires register { quick.now.to < 16 }
-    ensures scanned { quietly regs.new ≡ bits_scanned (instruction_of quick.now) regs.old next
+    ensures scanned { quietly (record regs.new { rip = next_address at quick.now.size })
+        ≡ bits_scanned (instruction_of quick.now) (record regs.old { rip = at }) (next_address at quick.now.size)
         (is_forward quick.now.op) (cut quick.now.width from) }
     ensures privilege { regs.new.cpl ≡ regs.old.cpl }
 {
@@ -43,7 +44,6 @@ fn scan(quick: &Quick, next: u64, regs: &mut Regs, from: u64)
         );
     }
     regs.flags = it.flags;
-    regs.rip = next;
 }
 
 /// BSF and BSR of a register.
@@ -51,24 +51,25 @@ fn scan(quick: &Quick, next: u64, regs: &mut Regs, from: u64)
 #[tactic(auto, unfolding(page_walk::specs::AccessPlans::gathered))]
 pub(crate) fn scan_bits(
     quick: &Quick,
+    at: u64,
     regs: &mut Regs,
     control: &Control,
     mem: &mut PhysMem,
     tlb: &Tlb,
-) -> bool
+) -> Went
     requires ready { IsQuick quick.now }
     requires kind { quick.now.kind ≡ Kind.ScanBits }
     requires register { quick.now.to < 16 }
-    ensures made { result ≡ true → quiet_outcome regs.new mem.new tlb.now
-        ≡ effect_made (Data DataForm.ScanBits) quick.now regs.old control.now mem.old tlb.now }
-    ensures left { result ≡ false → (regs.new ≡ regs.old) × (mem.new ≡ mem.old) }
-    ensures length { length mem.new ≡ length mem.old }
+    ensures made { is_left result ≡ false
+        → quiet_outcome (went result (next_address at quick.now.size) regs.new) mem.new tlb.now
+        ≡ effect_made (Data DataForm.ScanBits) quick.now (record regs.old { rip = at }) control.now mem.old tlb.now }
+    ensures left { is_left result ≡ true → (regs.new ≡ regs.old) × (mem.new ≡ mem.old) }
+    ensures memory { mem.new ≡ mem.old }
     ensures privilege { regs.new.cpl ≡ regs.old.cpl }
 {
-    let next = next_of(regs, quick.size);
-    let from = source(quick, quick.width, regs);
-    scan(quick, next, regs, from);
-    true
+    let from = source(quick, quick.width, at, regs);
+    scan(quick, at, regs, from);
+    Went::On
 }
 
 /// BSF and BSR of memory.
@@ -76,31 +77,35 @@ pub(crate) fn scan_bits(
 #[tactic(auto, unfolding(page_walk::specs::AccessPlans::gathered))]
 pub(crate) fn scan_bits_load(
     quick: &Quick,
+    at: u64,
     regs: &mut Regs,
     control: &Control,
     mem: &mut PhysMem,
     tlb: &Tlb,
     window: &mut Window,
-) -> bool
+) -> Went
     requires ready { IsQuick quick.now }
     requires kind { quick.now.kind ≡ Kind.ScanBitsLoad }
     requires register { quick.now.to < 16 }
     requires frames { NamesFramesIn (length mem.old) tlb.now }
     requires window { IsWindow (length mem.old) control.now regs.old.cpl tlb.now window.old }
     ensures window { IsWindow (length mem.old) control.now regs.old.cpl tlb.now window.new }
-    ensures made { result ≡ true → quiet_outcome regs.new mem.new tlb.now
-        ≡ effect_made (Data DataForm.ScanBits) quick.now regs.old control.now mem.old tlb.now }
-    ensures left { result ≡ false → (regs.new ≡ regs.old) × (mem.new ≡ mem.old) }
+    ensures made { is_left result ≡ false
+        → quiet_outcome (went result (next_address at quick.now.size) regs.new) mem.new tlb.now
+        ≡ effect_made (Data DataForm.ScanBits) quick.now (record regs.old { rip = at }) control.now mem.old tlb.now }
+    ensures left { is_left result ≡ true → (regs.new ≡ regs.old) × (mem.new ≡ mem.old) }
+    ensures off { window.new.off ≡ window.old.off }
+    ensures code { IsSameOnPage window.old.off mem.old mem.new }
     ensures length { length mem.new ≡ length mem.old }
     ensures privilege { regs.new.cpl ≡ regs.old.cpl }
 {
-    let next = next_of(regs, quick.size);
+    let next = next_address(quick, at);
     let bytes = quick.width / 8;
     let va = address(quick, &regs.general, next);
     let Some(place) = window.readable(mem, tlb, control, regs.cpl, va, bytes) else {
-        return false;
+        return Went::Left;
     };
     let from = load(mem, place, va, bytes);
-    scan(quick, next, regs, from);
-    true
+    scan(quick, at, regs, from);
+    Went::On
 }

@@ -10,10 +10,11 @@ ghost use Rattle.x86_regs.specs.OperandPlans.{is_idle};
 ghost use Rattle.x86_regs.specs.OperandOutcomes.{counted, is_again, pointer_moved};
 ghost use Rattle.exec_quick.specs.declared.quick.Kind.TheVariants as Kind;
 ghost use Rattle.mem_access.specs.Windows.{IsWindow};
-ghost use Rattle.exec_quick.specs.QuickForms.{IsQuick, effect_made, instruction_of, quiet_outcome};
+ghost use Rattle.exec_quick.specs.QuickForms.{IsQuick, IsSameOnPage, effect_made, instruction_of, is_left, next_address, quiet_outcome, went};
 
 use crate::kept::{load, store};
-use crate::quick::Quick;
+use crate::operands::next_address;
+use crate::quick::{Quick, Went};
 use decode_fields::Place;
 use mem_access::Window;
 use nk_bits::Control;
@@ -22,7 +23,7 @@ use tlb_model::Tlb;
 use x86_alu::ZF;
 use x86_regs::{
     DF, RAX, RCX, RDI, RSI, Regs, bit, difference, held, is_asked, is_repeated, low, lowered,
-    next_of, set_place, set_register,
+    set_place, set_register,
 };
 
 /// A repeated instruction whose count is 0 does nothing.
@@ -63,17 +64,16 @@ fn count(quick: &Quick, regs: &mut Regs)
 
 /// Counts a repeated instruction and goes on: at itself where it is made again, else at the next one.
 #[inline(always)]
-fn go_on(quick: &Quick, regs: &mut Regs, next: u64, asked: bool)
+fn go_on(quick: &Quick, at: u64, regs: &mut Regs, asked: bool)
     ensures { let after = counted (instruction_of quick.now) regs.old.general in
         regs.new ≡ record regs.old {
           general = after;
-          rip = if is_again (instruction_of quick.now) after asked then regs.old.rip else next;
+          rip = if is_again (instruction_of quick.now) after asked then at else next_address at quick.now.size;
         } }
 {
     count(quick, regs);
-    if !(is_repeated(quick.rep) & (regs.general[usize::from(RCX)] != 0) & asked) {
-        regs.rip = next;
-    }
+    let again = is_repeated(quick.rep) & (regs.general[usize::from(RCX)] != 0) & asked;
+    regs.rip = if again { at } else { next_address(quick, at) };
 }
 
 /// MOVS: the bytes are read before they are written, since they may be the same.
@@ -81,43 +81,45 @@ fn go_on(quick: &Quick, regs: &mut Regs, next: u64, asked: bool)
 #[tactic(auto, unfolding(page_walk::specs::AccessPlans::gathered))]
 pub(crate) fn move_string(
     quick: &Quick,
+    at: u64,
     regs: &mut Regs,
     control: &Control,
     mem: &mut PhysMem,
     tlb: &Tlb,
     window: &mut Window,
-) -> bool
+) -> Went
     requires ready { IsQuick quick.now }
     requires kind { quick.now.kind ≡ Kind.MoveString }
     requires frames { NamesFramesIn (length mem.old) tlb.now }
     requires window { IsWindow (length mem.old) control.now regs.old.cpl tlb.now window.old }
     ensures window { IsWindow (length mem.old) control.now regs.old.cpl tlb.now window.new }
-    ensures made { result ≡ true → quiet_outcome regs.new mem.new tlb.now
-        ≡ effect_made (Data DataForm.MoveString) quick.now regs.old control.now mem.old tlb.now }
-    ensures left { result ≡ false → (regs.new ≡ regs.old) × (mem.new ≡ mem.old) }
+    ensures made { is_left result ≡ false
+        → quiet_outcome (went result (next_address at quick.now.size) regs.new) mem.new tlb.now
+        ≡ effect_made (Data DataForm.MoveString) quick.now (record regs.old { rip = at }) control.now mem.old tlb.now }
+    ensures left { is_left result ≡ true → (regs.new ≡ regs.old) × (mem.new ≡ mem.old) }
+    ensures off { window.new.off ≡ window.old.off }
+    ensures code { IsSameOnPage window.old.off mem.old mem.new }
     ensures length { length mem.new ≡ length mem.old }
     ensures privilege { regs.new.cpl ≡ regs.old.cpl }
 {
-    let next = next_of(regs, quick.size);
     if is_idle(quick, regs) {
-        regs.rip = next;
-        return true;
+        return Went::On;
     }
     let bytes = quick.width / 8;
     let from = regs.general[usize::from(RSI)];
     let Some(from_place) = window.readable(mem, tlb, control, regs.cpl, from, bytes) else {
-        return false;
+        return Went::Left;
     };
     let to = regs.general[usize::from(RDI)];
     let Some(to_place) = window.writable(mem, tlb, control, regs.cpl, to, bytes) else {
-        return false;
+        return Went::Left;
     };
     let value = load(mem, from_place, from, bytes);
-    store(mem, to_place, to, bytes, low(quick.width, value));
+    store(mem, window, to_place, to, bytes, low(quick.width, value));
     move_pointer(regs, quick.width, RSI);
     move_pointer(regs, quick.width, RDI);
-    go_on(quick, regs, next, true);
-    true
+    go_on(quick, at, regs, true);
+    Went::Off
 }
 
 /// STOS.
@@ -125,38 +127,40 @@ pub(crate) fn move_string(
 #[tactic(auto, unfolding(page_walk::specs::AccessPlans::gathered))]
 pub(crate) fn store_string(
     quick: &Quick,
+    at: u64,
     regs: &mut Regs,
     control: &Control,
     mem: &mut PhysMem,
     tlb: &Tlb,
     window: &mut Window,
-) -> bool
+) -> Went
     requires ready { IsQuick quick.now }
     requires kind { quick.now.kind ≡ Kind.StoreString }
     requires frames { NamesFramesIn (length mem.old) tlb.now }
     requires window { IsWindow (length mem.old) control.now regs.old.cpl tlb.now window.old }
     ensures window { IsWindow (length mem.old) control.now regs.old.cpl tlb.now window.new }
-    ensures made { result ≡ true → quiet_outcome regs.new mem.new tlb.now
-        ≡ effect_made (Data DataForm.StoreString) quick.now regs.old control.now mem.old tlb.now }
-    ensures left { result ≡ false → (regs.new ≡ regs.old) × (mem.new ≡ mem.old) }
+    ensures made { is_left result ≡ false
+        → quiet_outcome (went result (next_address at quick.now.size) regs.new) mem.new tlb.now
+        ≡ effect_made (Data DataForm.StoreString) quick.now (record regs.old { rip = at }) control.now mem.old tlb.now }
+    ensures left { is_left result ≡ true → (regs.new ≡ regs.old) × (mem.new ≡ mem.old) }
+    ensures off { window.new.off ≡ window.old.off }
+    ensures code { IsSameOnPage window.old.off mem.old mem.new }
     ensures length { length mem.new ≡ length mem.old }
     ensures privilege { regs.new.cpl ≡ regs.old.cpl }
 {
-    let next = next_of(regs, quick.size);
     if is_idle(quick, regs) {
-        regs.rip = next;
-        return true;
+        return Went::On;
     }
     let bytes = quick.width / 8;
     let to = regs.general[usize::from(RDI)];
     let Some(place) = window.writable(mem, tlb, control, regs.cpl, to, bytes) else {
-        return false;
+        return Went::Left;
     };
     let value = held(&regs.general, &Place::Reg(RAX), quick.width);
-    store(mem, place, to, bytes, value);
+    store(mem, window, place, to, bytes, value);
     move_pointer(regs, quick.width, RDI);
-    go_on(quick, regs, next, true);
-    true
+    go_on(quick, at, regs, true);
+    Went::Off
 }
 
 /// LODS.
@@ -164,38 +168,40 @@ pub(crate) fn store_string(
 #[tactic(auto, unfolding(page_walk::specs::AccessPlans::gathered))]
 pub(crate) fn load_string(
     quick: &Quick,
+    at: u64,
     regs: &mut Regs,
     control: &Control,
     mem: &mut PhysMem,
     tlb: &Tlb,
     window: &mut Window,
-) -> bool
+) -> Went
     requires ready { IsQuick quick.now }
     requires kind { quick.now.kind ≡ Kind.LoadString }
     requires frames { NamesFramesIn (length mem.old) tlb.now }
     requires window { IsWindow (length mem.old) control.now regs.old.cpl tlb.now window.old }
     ensures window { IsWindow (length mem.old) control.now regs.old.cpl tlb.now window.new }
-    ensures made { result ≡ true → quiet_outcome regs.new mem.new tlb.now
-        ≡ effect_made (Data DataForm.LoadString) quick.now regs.old control.now mem.old tlb.now }
-    ensures left { result ≡ false → (regs.new ≡ regs.old) × (mem.new ≡ mem.old) }
+    ensures made { is_left result ≡ false
+        → quiet_outcome (went result (next_address at quick.now.size) regs.new) mem.new tlb.now
+        ≡ effect_made (Data DataForm.LoadString) quick.now (record regs.old { rip = at }) control.now mem.old tlb.now }
+    ensures left { is_left result ≡ true → (regs.new ≡ regs.old) × (mem.new ≡ mem.old) }
+    ensures off { window.new.off ≡ window.old.off }
+    ensures code { IsSameOnPage window.old.off mem.old mem.new }
     ensures length { length mem.new ≡ length mem.old }
     ensures privilege { regs.new.cpl ≡ regs.old.cpl }
 {
-    let next = next_of(regs, quick.size);
     if is_idle(quick, regs) {
-        regs.rip = next;
-        return true;
+        return Went::On;
     }
     let bytes = quick.width / 8;
     let from = regs.general[usize::from(RSI)];
     let Some(place) = window.readable(mem, tlb, control, regs.cpl, from, bytes) else {
-        return false;
+        return Went::Left;
     };
     let value = low(quick.width, load(mem, place, from, bytes));
     move_pointer(regs, quick.width, RSI);
     set_place(&mut regs.general, &Place::Reg(RAX), quick.width, value);
-    go_on(quick, regs, next, true);
-    true
+    go_on(quick, at, regs, true);
+    Went::Off
 }
 
 /// CMPS: the bytes at RDI are taken from those at RSI, which are read first.
@@ -203,44 +209,46 @@ pub(crate) fn load_string(
 #[tactic(auto, unfolding(page_walk::specs::AccessPlans::gathered))]
 pub(crate) fn compare_strings(
     quick: &Quick,
+    at: u64,
     regs: &mut Regs,
     control: &Control,
     mem: &mut PhysMem,
     tlb: &Tlb,
     window: &mut Window,
-) -> bool
+) -> Went
     requires ready { IsQuick quick.now }
     requires kind { quick.now.kind ≡ Kind.CompareStrings }
     requires frames { NamesFramesIn (length mem.old) tlb.now }
     requires window { IsWindow (length mem.old) control.now regs.old.cpl tlb.now window.old }
     ensures window { IsWindow (length mem.old) control.now regs.old.cpl tlb.now window.new }
-    ensures made { result ≡ true → quiet_outcome regs.new mem.new tlb.now
-        ≡ effect_made (Data DataForm.CompareStrings) quick.now regs.old control.now mem.old tlb.now }
-    ensures left { result ≡ false → (regs.new ≡ regs.old) × (mem.new ≡ mem.old) }
+    ensures made { is_left result ≡ false
+        → quiet_outcome (went result (next_address at quick.now.size) regs.new) mem.new tlb.now
+        ≡ effect_made (Data DataForm.CompareStrings) quick.now (record regs.old { rip = at }) control.now mem.old tlb.now }
+    ensures left { is_left result ≡ true → (regs.new ≡ regs.old) × (mem.new ≡ mem.old) }
+    ensures off { window.new.off ≡ window.old.off }
+    ensures code { IsSameOnPage window.old.off mem.old mem.new }
     ensures length { length mem.new ≡ length mem.old }
     ensures privilege { regs.new.cpl ≡ regs.old.cpl }
 {
-    let next = next_of(regs, quick.size);
     if is_idle(quick, regs) {
-        regs.rip = next;
-        return true;
+        return Went::On;
     }
     let bytes = quick.width / 8;
     let to = regs.general[usize::from(RSI)];
     let Some(to_place) = window.readable(mem, tlb, control, regs.cpl, to, bytes) else {
-        return false;
+        return Went::Left;
     };
     let from = regs.general[usize::from(RDI)];
     let Some(from_place) = window.readable(mem, tlb, control, regs.cpl, from, bytes) else {
-        return false;
+        return Went::Left;
     };
     let to = load(mem, to_place, to, bytes);
     let from = load(mem, from_place, from, bytes);
     move_pointer(regs, quick.width, RSI);
     move_pointer(regs, quick.width, RDI);
     regs.flags = difference(quick.width, to, from, false, regs.flags).flags;
-    go_on(quick, regs, next, is_asked(quick.rep, bit(regs.flags, ZF)));
-    true
+    go_on(quick, at, regs, is_asked(quick.rep, bit(regs.flags, ZF)));
+    Went::Off
 }
 
 /// SCAS: the bytes at RDI are taken from RAX.
@@ -248,37 +256,39 @@ pub(crate) fn compare_strings(
 #[tactic(auto, unfolding(page_walk::specs::AccessPlans::gathered))]
 pub(crate) fn scan_string(
     quick: &Quick,
+    at: u64,
     regs: &mut Regs,
     control: &Control,
     mem: &mut PhysMem,
     tlb: &Tlb,
     window: &mut Window,
-) -> bool
+) -> Went
     requires ready { IsQuick quick.now }
     requires kind { quick.now.kind ≡ Kind.ScanString }
     requires frames { NamesFramesIn (length mem.old) tlb.now }
     requires window { IsWindow (length mem.old) control.now regs.old.cpl tlb.now window.old }
     ensures window { IsWindow (length mem.old) control.now regs.old.cpl tlb.now window.new }
-    ensures made { result ≡ true → quiet_outcome regs.new mem.new tlb.now
-        ≡ effect_made (Data DataForm.ScanString) quick.now regs.old control.now mem.old tlb.now }
-    ensures left { result ≡ false → (regs.new ≡ regs.old) × (mem.new ≡ mem.old) }
+    ensures made { is_left result ≡ false
+        → quiet_outcome (went result (next_address at quick.now.size) regs.new) mem.new tlb.now
+        ≡ effect_made (Data DataForm.ScanString) quick.now (record regs.old { rip = at }) control.now mem.old tlb.now }
+    ensures left { is_left result ≡ true → (regs.new ≡ regs.old) × (mem.new ≡ mem.old) }
+    ensures off { window.new.off ≡ window.old.off }
+    ensures code { IsSameOnPage window.old.off mem.old mem.new }
     ensures length { length mem.new ≡ length mem.old }
     ensures privilege { regs.new.cpl ≡ regs.old.cpl }
 {
-    let next = next_of(regs, quick.size);
     if is_idle(quick, regs) {
-        regs.rip = next;
-        return true;
+        return Went::On;
     }
     let bytes = quick.width / 8;
     let from = regs.general[usize::from(RDI)];
     let Some(place) = window.readable(mem, tlb, control, regs.cpl, from, bytes) else {
-        return false;
+        return Went::Left;
     };
     let from = load(mem, place, from, bytes);
     let to = regs.general[usize::from(RAX)];
     move_pointer(regs, quick.width, RDI);
     regs.flags = difference(quick.width, to, from, false, regs.flags).flags;
-    go_on(quick, regs, next, is_asked(quick.rep, bit(regs.flags, ZF)));
-    true
+    go_on(quick, at, regs, is_asked(quick.rep, bit(regs.flags, ZF)));
+    Went::Off
 }

@@ -292,6 +292,7 @@ fn over(kind: Kind, instr: &Instr, size: u8, to: u8, from: u8) -> Quick
       op = instr.now.op;
       width = instr.now.width;
       size = size;
+      at = 0;
       to = to;
       from = from;
       base = 16;
@@ -308,6 +309,7 @@ fn over(kind: Kind, instr: &Instr, size: u8, to: u8, from: u8) -> Quick
         op: instr.op,
         width: instr.width,
         size,
+        at: 0,
         to,
         from,
         base: 16,

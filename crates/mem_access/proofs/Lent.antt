@@ -28,3 +28,11 @@ lent_run m page va place count agrees is few =
     ∙ (ap (λ x. take count (drop start x)) is
     ∙ (run_of_frame m place start count (omega arith) (omega (arith, few, room))
     ∙ ap (λ x. take x (drop place m)) all))
+
+pub run_lent : (m page : List ℕ) (place count : ℕ) → place % 4096 + count ≤ 4096 → page ≡ frame_bytes m (place / 4096) →
+    take (place % 4096 + count - place % 4096) (drop (place % 4096) page) ≡ take count (drop place m)
+run_lent m page place count within is =
+    let start : ℕ = place % 4096 in
+    let same : start + count - start ≡ count = omega arith in
+    ap (λ x. take x (drop start page)) same
+    ∙ (ap (λ x. take count (drop start x)) is ∙ run_of_frame m place start count (omega arith) within)

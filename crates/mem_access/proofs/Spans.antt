@@ -1,8 +1,9 @@
 -- How the bytes of an access lie on its pages, and that the places found are those of a target.
-use Rattle.std.proofs.Common.{◌≡◌, ℕ, ◌+◌, ◌-◌, ◌%◌, ◌<◌, ◌≤◌, true, false, arith, refl}
+use Rattle.std.proofs.Common.{◌≡◌, ℕ, ◌+◌, ◌-◌, ◌%◌, ◌<◌, ◌≤◌, ◌⊎◌, inl, inr, true, false, arith, refl}
+use Rattle.std.specs.Prelude.{◌≢◌}
 use Rattle.std.proofs.Math.Nat.{min-le_right, min-eq_left}
 use borrow.Author.Tests.{ltb-true, ltb-false}
-use Rattle.std.proofs.lemmas.Bool.{le-ltb}
+use Rattle.std.proofs.lemmas.Bool.{cases_lt, le-ltb}
 use Rattle.std.proofs.lemmas.Bool.Decides.{nat_tests}
 use Rattle.nk_bits.specs.Accesses.{IsTarget, first_part, crosses}
 
@@ -28,6 +29,24 @@ target_of_one size va width first agrees inside one = record {
 pub bytes_fit : (size va width first : ℕ) → first + (4096 - va % 4096) ≤ size → crosses va width ≡ false → first + width ≤ size
 unfolding crosses
 bytes_fit size va width first inside one = let within : va % 4096 + width ≤ 4096 = ltb-false 4096 (va % 4096 + width) one in omega (arith, within, inside)
+
+-- two numbers apart
+one_way : (a b : ℕ) → a ≢ b → (a < b) ⊎ (b < a)
+one_way a b apart = elim (cases_lt a b) [
+  | inl less ↦ inl less
+  | inr not_less ↦ inr (omega (arith, not_less, apart))
+]
+
+-- an access on one page touches no other
+pub apart_from : (base off va width : ℕ) → base % 4096 ≡ 0 → off % 4096 ≡ 0 → base ≢ off → crosses va width ≡ false →
+    (base + va % 4096 + width ≤ off) ⊎ (off + 4096 ≤ base + va % 4096)
+unfolding crosses
+apart_from base off va width page other apart one =
+    let within : va % 4096 + width ≤ 4096 = ltb-false 4096 (va % 4096 + width) one in
+    elim (one_way base off apart) [
+      | inl below ↦ inl (omega (arith, below, page, other, within))
+      | inr above ↦ inr (omega (arith, above, page, other))
+    ]
 
 -- a second page begins at a multiple of 4,096
 pub target_of_two : (size va width first second next : ℕ) → first % 4096 ≡ va % 4096 → first + (4096 - va % 4096) ≤ size →

@@ -1,5 +1,5 @@
 -- Pages of data whose translations are kept and serve reads, and writes.
-use Rattle.std.specs.Prelude.{◌≡◌, ℕ, ◌+◌, ◌/◌, ◌%◌, ◌<◌, ◌≤◌, false, List}
+use Rattle.std.specs.Prelude.{◌≡◌, ◌≢◌, ℕ, ◌+◌, ◌/◌, ◌%◌, ◌<◌, ◌≤◌, false, List}
 use Rattle.nk_bits.specs.declared.access.Access.{Access}
 use Rattle.nk_bits.specs.declared.access.Access.TheVariants.{Read, Write}
 use Rattle.nk_bits.specs.declared.control.Control.{Control}
@@ -19,10 +19,12 @@ pub record IsKeptPage (size : ℕ) (control : Control) (cpl : ℕ) (access : Acc
   pub found : (m : List ℕ) (at width : ℕ) → at / 4096 ≡ page.start / 4096 → 1 ≤ width → crosses at width ≡ false →
       answered (record { first = page.base + at % 4096; second = 0 }) tlb ≡ accessed (view_of m control cpl) access tlb at width
 
--- each page of a window with room is kept; the one for writes serves reads too
+-- each page of a window with room is kept; the one for writes serves reads too, and isn't the page that is kept off
 pub record IsWindow (size : ℕ) (control : Control) (cpl : ℕ) (tlb : Translations) (window : Window) : Type 0 where
   pub read_room : window.read.room ≤ 4089
   pub read : 0 < window.read.room → IsKeptPage size control cpl Read tlb window.read
   pub write_room : window.write.room ≤ 4089
   pub write : 0 < window.write.room → IsKeptPage size control cpl Write tlb window.write
   pub rewritten : 0 < window.write.room → IsKeptPage size control cpl Read tlb window.write
+  pub off_page : window.off % 4096 ≡ 0
+  pub off : 0 < window.write.room → window.write.base ≢ window.off

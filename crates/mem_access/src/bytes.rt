@@ -31,6 +31,20 @@ pub fn lend(mem: &PhysMem, va: u64, place: u64) -> &[u8]
     &page[start..start + count]
 }
 
+/// Lends so many bytes from a place on, which lie on one page.
+pub fn run_on_page(mem: &PhysMem, place: u64, count: usize) -> &[u8]
+    requires page { place % 4096 + count ≤ 4096 }
+    requires inside { place + count ≤ length mem.now }
+    requires some { 0 < count }
+    ensures bytes { result.now ≡ take count (drop place mem.now) }
+    ensures length { length result.now ≡ count }
+{
+    prove!(place < 4096 * u64::from(mem.frames()));
+    let page = mem.frame((place / 4096) as u32);
+    let first = (place % 4096) as usize;
+    &page[first..first + count]
+}
+
 /// The number of `width` bytes that stands at these places.
 pub fn read(mem: &PhysMem, target: &Target, va: u64, width: u8) -> u64
     requires width { width ≤ 8 }

@@ -31,6 +31,7 @@ pub fn kept_frame(
     ensures place { IfSome result (λ base. (m : List ℕ) (at : ℕ) → at < 2 ^ 64 → at / 4096 ≡ va / 4096
         → answered (record { first = base + at % 4096; second = 0 }) tlb.now
         ≡ accessed (view_of m control.now cpl) access tlb.now at 1) }
+    ensures aligned { IfSome result (λ base. base % 4096 ≡ 0) }
     ensures inside { IfSome result (λ base. base + 4096 ≤ length mem.now) }
 {
     access_law();

@@ -21,6 +21,7 @@ mod bytes;
 mod rights;
 
 pub use access::{check_store, commit, fetch_byte, fetch_place, load, page_bytes, store};
+pub use bytes::run_on_page;
 pub use kept::{kept_frame, kept_number, one_page_law, put_kept};
 pub use nk_bits::{AccessFault, Control, Target};
 pub use page_walk::{AccessPlan, Gathered, Missing, Origin, Span, SpanFault};

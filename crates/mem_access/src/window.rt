@@ -1,7 +1,7 @@
 //! A window of data: the page that was read last and the page that was written last, where their translations are kept.
 //! While control registers, CPL and translations stay the same, an access on one of them needs no look-up.
 
-ghost use Rattle.std.specs.Prelude.{◌≡◌, ℕ, ◌+◌, ◌-◌, ◌/◌, ◌%◌, ◌^◌, ◌<◌, ◌≤◌, IfSome, false, length};
+ghost use Rattle.std.specs.Prelude.{◌≡◌, ◌≢◌, ◌⊎◌, ℕ, ◌+◌, ◌-◌, ◌/◌, ◌%◌, ◌^◌, ◌<◌, ◌≤◌, IfSome, false, length};
 ghost use Rattle.nk_bits.specs.declared.access.Access.TheVariants.{Read, Write};
 ghost use Rattle.nk_bits.specs.declared.control.Control.{Control};
 ghost use Rattle.nk_bits.specs.Translations.{NamesFramesIn, Translations};
@@ -32,6 +32,8 @@ pub struct KeptPage {
 pub struct Window {
     read: KeptPage,
     write: KeptPage,
+    /// The place in memory of the page that isn't kept for writes.
+    off: u64,
 }
 
 const NO_PAGE: KeptPage = KeptPage {
@@ -39,6 +41,9 @@ const NO_PAGE: KeptPage = KeptPage {
     base: 0,
     room: 0,
 };
+
+/// The place of a page that memory doesn't reach.
+const NOWHERE: u64 = 0xFFFF_FFFF_FFFF_F000;
 
 /// At so many addresses of a page eight bytes lie on it.
 const ROOM: u64 = 4089;
@@ -72,6 +77,19 @@ impl Window {
         Window {
             read: NO_PAGE,
             write: NO_PAGE,
+            off: NOWHERE,
+        }
+    }
+
+    /// Keeps no page for writes whose bytes are those of the page of this place.
+    pub fn keep_off(&mut self, place: u64)
+        ensures off { self.new.off ≡ place - place % 4096 }
+        ensures window { (size : ℕ) (control : Control) (cpl : ℕ) (tlb : Translations)
+            → IsWindow size control cpl tlb self.old → IsWindow size control cpl tlb self.new }
+    {
+        self.off = place - place % 4096;
+        if self.write.base == self.off {
+            self.write = NO_PAGE;
         }
     }
 
@@ -91,6 +109,7 @@ impl Window {
         requires frames { NamesFramesIn (length mem.now) tlb.now }
         requires window { IsWindow (length mem.now) control.now cpl tlb.now self.old }
         ensures window { IsWindow (length mem.now) control.now cpl tlb.now self.new }
+        ensures off { self.new.off ≡ self.old.off }
         ensures place { IfSome result (λ first. answered (record { first = first; second = 0 }) tlb.now
             ≡ accessed (view_of mem.now control.now cpl) Read tlb.now va width) }
         ensures target { IfSome result (λ first. IsTarget (length mem.now) va width (record { first = first; second = 0 })) }
@@ -120,6 +139,7 @@ impl Window {
         requires frames { NamesFramesIn (length mem.now) tlb.now }
         requires window { IsWindow (length mem.now) control.now cpl tlb.now self.old }
         ensures window { IsWindow (length mem.now) control.now cpl tlb.now self.new }
+        ensures off { self.new.off ≡ self.old.off }
         ensures place { IfSome result (λ first. answered (record { first = first; second = 0 }) tlb.now
             ≡ accessed (view_of mem.now control.now cpl) Read tlb.now va width) }
         ensures target { IfSome result (λ first. IsTarget (length mem.now) va width (record { first = first; second = 0 })) }
@@ -153,6 +173,8 @@ impl Window {
         requires frames { NamesFramesIn (length mem.now) tlb.now }
         requires window { IsWindow (length mem.now) control.now cpl tlb.now self.old }
         ensures window { IsWindow (length mem.now) control.now cpl tlb.now self.new }
+        ensures off { self.new.off ≡ self.old.off }
+        ensures apart { IfSome result (λ first. (first + width ≤ self.old.off) ⊎ (self.old.off + 4096 ≤ first)) }
         ensures place { IfSome result (λ first. answered (record { first = first; second = 0 }) tlb.now
             ≡ accessed (view_of mem.now control.now cpl) Write tlb.now va width) }
         ensures read { IfSome result (λ first. answered (record { first = first; second = 0 }) tlb.now
@@ -184,6 +206,8 @@ impl Window {
         requires frames { NamesFramesIn (length mem.now) tlb.now }
         requires window { IsWindow (length mem.now) control.now cpl tlb.now self.old }
         ensures window { IsWindow (length mem.now) control.now cpl tlb.now self.new }
+        ensures off { self.new.off ≡ self.old.off }
+        ensures apart { IfSome result (λ first. (first + width ≤ self.old.off) ⊎ (self.old.off + 4096 ≤ first)) }
         ensures place { IfSome result (λ first. answered (record { first = first; second = 0 }) tlb.now
             ≡ accessed (view_of mem.now control.now cpl) Write tlb.now va width) }
         ensures read { IfSome result (λ first. answered (record { first = first; second = 0 }) tlb.now
@@ -196,11 +220,11 @@ impl Window {
             return None;
         }
         match kept_around(mem, tlb, Access::Write, control, cpl, va) {
-            Some(page) => {
+            Some(page) if page.base != self.off => {
                 self.write = page;
                 Some(page.base + va % 4096)
             }
-            None => None,
+            _ => None,
         }
     }
 }

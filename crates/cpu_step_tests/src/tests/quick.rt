@@ -29,17 +29,19 @@ fn rounds_of_a_loop(rt: HostRuntime) {
     assert_eq!(rt; first_failing(rt.alloc(), steps), None);
 }
 
-/// A store that was decoded is made with its own bytes in its place, and not with others, without the translation of its
-/// page, and where an interrupt is pending.
+/// A store is made with its own bytes in its place, and not where HLT has come there, without the translation of its page,
+/// and where an interrupt is pending.
 #[test]
 fn where_none_is_made(rt: HostRuntime) {
     let steps: &[Step] = &[
         Begins(Supervisor, LOOP),
         Turn(Ran(2)),
         Sets(Rip(0)),
-        Byte(0x8001, 0x07),
+        Quick(1, 1, &[Rip(2)]),
+        Sets(Rip(0)),
+        Byte(0x8000, 0xF4),
         Quick(1, 0, &[]),
-        Byte(0x8001, 0x06),
+        Byte(0x8000, 0x89),
         Quick(1, 1, &[Rip(2)]),
         Sets(Rip(0)),
         Takes(What::Drop(0x1000)),

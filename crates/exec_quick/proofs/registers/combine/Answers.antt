@@ -15,5 +15,4 @@ returns-clause-made c _ =
       ← value,
       cut_again,
       ← c.frequent_combination-it.ensures,
-      c.next_of-next.ensures,
     )

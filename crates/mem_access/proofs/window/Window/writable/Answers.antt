@@ -1,9 +1,9 @@
-use Rattle.std.proofs.Common.{◌≡◌, arith, length, subst, sym}
+use Rattle.std.proofs.Common.{◌≡◌, ◌+◌, ◌≤◌, ◌⊎◌, arith, length, subst, sym}
 use Rattle.nk_bits.specs.Outcomes.{answered}
 use Rattle.nk_bits.specs.Accesses.{accessed}
 use Rattle.nk_bits.specs.declared.access.Access.TheVariants.{Read, Write}
 use Rattle.page_walk.specs.MemoryAccess.{view_of}
-use Rattle.mem_access.proofs.Spans.{bytes_fit, target_of_one}
+use Rattle.mem_access.proofs.Spans.{apart_from, bytes_fit, target_of_one}
 use Rattle.mem_access.proofs.window.Window.writable.Goals as goal
 
 pub returns-in-Some-clause-place : goal.returns-in-Some-clause-place
@@ -29,3 +29,10 @@ returns-in-Some-clause-fits c =
     let kept = c.requires.window.write c.in-Some.ensures.room in
     bytes_fit (length c.args.mem.now) c.args.va c.args.width c.in-Some.place
     (omega (arith, c.in-Some.ensures.place, kept.inside)) (c.in-Some.ensures.one c.args.width (omega arith))
+
+pub returns-in-Some-clause-apart : goal.returns-in-Some-clause-apart
+returns-in-Some-clause-apart c =
+    let kept = c.requires.window.write c.in-Some.ensures.room in
+    subst (λ first. (first + c.args.width ≤ c.args.self.now.off) ⊎ (c.args.self.now.off + 4096 ≤ first)) (sym c.in-Some.ensures.place)
+    (apart_from c.args.self.now.write.base c.args.self.now.off c.args.va c.args.width kept.base c.requires.window.off_page
+    (c.requires.window.off c.in-Some.ensures.room) (c.in-Some.ensures.one c.args.width (omega arith)))

@@ -1,5 +1,5 @@
-use Rattle.std.proofs.Common.{◌+◌, ◌%◌, length, arith, sym, ◌∙◌}
-use Rattle.mem_access.proofs.Spans.{target_of_one, bytes_fit}
+use Rattle.std.proofs.Common.{rules, ◌+◌, ◌%◌, length, arith, sym, ◌∙◌}
+use Rattle.mem_access.proofs.Spans.{apart_from, target_of_one, bytes_fit}
 use Rattle.mem_access.proofs.window.Window.write_elsewhere.Goals as goal
 
 pub returns-in-Some-clause-target : goal.returns-in-Some-clause-target
@@ -11,3 +11,8 @@ pub returns-in-Some-clause-fits : goal.returns-in-Some-clause-fits
 returns-in-Some-clause-fits c =
     bytes_fit (length c.args.mem.now) c.args.va c.args.width (c.in-Some.page.base + c.args.va % 4096)
     (omega (arith, c.in-Some.ensures.kept.inside)) (sym c.crosses.ensures ∙ c.if-crosses.false)
+
+pub returns-in-Some-clause-apart : goal.returns-in-Some-clause-apart
+returns-in-Some-clause-apart c =
+    apart_from c.in-Some.page.base c.args.self.now.off c.args.va c.args.width c.in-Some.ensures.kept.base c.requires.window.off_page
+    (search rules) (sym c.crosses.ensures ∙ c.if-crosses.false)
