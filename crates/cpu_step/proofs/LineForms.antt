@@ -1,5 +1,5 @@
 -- The forms of a line, one more behind those that there are; and lines that are told of a stretch, and no longer.
-use Rattle.std.proofs.Common.{◌≡◌, ℕ, zero, suc, ◌+◌, ◌-◌, ◌<◌, ◌≤◌, ◌⊎◌, inl, inr, true, false, List, [], ◌∷◌, All, length, take, drop, refl, set, get_or, ap, sym, subst, ◌∙◌, arith, w64, lit≤}
+use Rattle.std.proofs.Common.{◌≡◌, ℕ, zero, suc, ◌+◌, ◌-◌, ◌<◌, ◌≤◌, inl, inr, true, false, List, [], ◌∷◌, All, length, take, drop, refl, set, get_or, ap, sym, subst, ◌∙◌, arith, w64, lit≤}
 use Rattle.std.proofs.lemmas.Bool.{cases_lt}
 use Rattle.std.proofs.lemmas.List.{get_or-drop, get_or-set_other, get_or-set_same, get_or-take, length-drop, length-set, length-take-le}
 use Rattle.std.proofs.lemmas.List.Elements.{All-weaker}

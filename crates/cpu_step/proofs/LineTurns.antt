@@ -18,16 +18,16 @@ use Rattle.mem_access.specs.Windows.{IsWindow}
 use Rattle.exec_quick.specs.declared.quick.Quick.{Quick}
 use Rattle.exec_quick.specs.declared.quick.Went.{Went}
 use Rattle.exec_quick.specs.declared.quick.Went.TheVariants.{Left, On, Off}
-use Rattle.exec_quick.specs.QuickForms.{IsSameOnPage, StandsFor, effect_made, form_by, instruction_of, is_left, is_slow, quiet_outcome, went}
+use Rattle.exec_quick.specs.QuickForms.{IsSameOnPage, effect_made, form_by, instruction_of, is_left, is_slow, quiet_outcome, went}
 use Rattle.cpu_step.specs.declared.kept_code.KeptCode.{KeptCode}
 use Rattle.cpu_step.specs.declared.lines.Line.{Line}
-use Rattle.cpu_step.specs.CodeLines.{AreMadeOn, AreTurns, IsCodeIn, IsFormIn, IsLineBy, IsLineOf, IsPlain, IsStretch, code_behind}
+use Rattle.cpu_step.specs.CodeLines.{AreMadeOn, AreTurns, IsCodeIn, IsFormIn, IsLineOf, IsPlain, IsStretch, code_behind}
 use Rattle.cpu_step.specs.DecodingMemo.{place_found}
 use Rattle.cpu_step.specs.InstructionFetch.{decided_by, instruction_at}
 use Rattle.cpu_step.specs.KeptFetches.{IsKeptCode}
 use Rattle.cpu_step.specs.Processor.{Processor}
-use Rattle.cpu_step.specs.QuickTurns.{AreQuickTurns, IsQuickTurn}
-use Rattle.cpu_step.specs.Turns.{Turned, enters_body, is_at_body, ran, turned}
+use Rattle.cpu_step.specs.QuickTurns.{AreQuickTurns}
+use Rattle.cpu_step.specs.Turns.{Turned, is_at_body, ran, turned}
 use Rattle.cpu_step.proofs.LongerCode.{DecodingFacts}
 use Rattle.cpu_step.proofs.PageFetches.{PageFacts, decided_on_page}
 use Rattle.cpu_step.proofs.QuickTurnLemmas.{more_turns, no_turns, not_at_body, one_more, quick_turned}

@@ -29,7 +29,7 @@ use Rattle.mem_access.specs.Windows.{IsWindow}
 use Rattle.cpu_step.specs.KeptFetches.{IsKeptCode}
 use Rattle.cpu_step.specs.Processor.{IsSound, Processor, deliverable, highest_pending}
 use Rattle.cpu_step.specs.QuickTurns.{AreQuickTurns, IsQuickTurn}
-use Rattle.cpu_step.specs.Turns.{Turned, acted, enters_body, instructed, instruction_made, is_at_body, ran, turned, turned_by}
+use Rattle.cpu_step.specs.Turns.{Turned, acted, instructed, instruction_made, is_at_body, ran, turned, turned_by}
 use Rattle.cpu_step.proofs.TurnLemmas.{instructed_elsewhere, turned_by_vector}
 
 -- nothing is delivered where nothing is pending

@@ -1,6 +1,6 @@
 -- What the processor keeps of earlier decodings: at each entry two words of code, and what they decode to; and the
 -- place of the code on its page.
-use Rattle.std.specs.Prelude.{◌≡◌, ◌<◌, ℕ, true, false, List, ◌++◌, take}
+use Rattle.std.specs.Prelude.{◌≡◌, ℕ, List, ◌++◌, take}
 use Rattle.std.specs.Int.{w64, to_le_bytes}
 use Rattle.nk_bits.specs.declared.access.Access.TheVariants.{Fetch}
 use Rattle.nk_bits.specs.declared.fault.AccessFault.{AccessFault}

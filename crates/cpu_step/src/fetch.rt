@@ -1,6 +1,6 @@
 //! The fetch of an instruction.
 
-ghost use Rattle.std.specs.Prelude.{◌≡◌, ◌+◌, ◌-◌, ◌%◌, ◌<◌, ◌≤◌, ◌++◌, ℕ, true, false, IfErr, IfOk, IfSome, None, length, take};
+ghost use Rattle.std.specs.Prelude.{◌≡◌, ◌+◌, ◌-◌, ◌%◌, ◌<◌, ◌≤◌, ◌++◌, true, IfErr, IfOk, length, take};
 ghost use Rattle.nk_bits.specs.Translations.{IsAccessible, NamesFramesIn, Translations};
 ghost use Rattle.nk_bits.specs.Outcomes.{answered, outcome_of, refused};
 ghost use Rattle.page_walk.specs.MemoryAccess.{bytes_left, page_fetched, view_of};

@@ -1,6 +1,6 @@
 //! Turns by lines of code.
 
-ghost use Rattle.std.specs.Prelude.{◌≡◌, ◌+◌, ◌<◌, ◌≤◌, ℕ, true, false, All, length, slice_index_or};
+ghost use Rattle.std.specs.Prelude.{◌≡◌, ◌+◌, ◌<◌, ◌≤◌, true, false, All, length};
 ghost use Rattle.exec_quick.specs.QuickForms.{is_left, next_address, went};
 ghost use Rattle.mem_access.specs.Windows.{IsWindow};
 ghost use Rattle.nk_bits.specs.Translations.{NamesFramesIn};

@@ -8,7 +8,7 @@ ghost use Rattle.x86_decode.specs.declared.instruction.Decoded.TheVariants.{Whol
 ghost use Rattle.x86_decode.specs.Decoding.{IfWhole};
 ghost use Rattle.x86_decode.specs.WellFormed.{IsWellFormed};
 ghost use Rattle.cpu_step.specs.declared.lines.Line.{Line};
-ghost use Rattle.cpu_step.specs.CodeLines.{IsCodeIn, IsFormIn, IsLineBy, IsLineOf, IsRow};
+ghost use Rattle.cpu_step.specs.CodeLines.{IsFormIn, IsLineBy, IsLineOf, IsRow};
 
 use crate::kept_code::KeptCode;
 use crate::memo::word_at;

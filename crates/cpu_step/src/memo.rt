@@ -1,11 +1,7 @@
 //! A memo of decodings: code that was decoded before isn't decoded again while its bytes are the same.
 
-ghost use Rattle.std.specs.Prelude.{◌≡◌, ◌+◌, ◌%◌, ◌<◌, ◌≤◌, true, false, All, IfOk, IfSome, drop, length, slice_index_or, take};
+ghost use Rattle.std.specs.Prelude.{◌≡◌, ◌+◌, ◌%◌, ◌<◌, ◌≤◌, All, IfOk, drop, length, slice_index_or, take};
 ghost use Rattle.std.specs.Int.{from_le_bytes, w64};
-ghost use Rattle.x86_decode.specs.declared.instruction.Decoded.TheVariants.{Whole};
-ghost use Rattle.x86_decode.specs.Decoding.{IfWhole};
-ghost use Rattle.x86_decode.specs.Reader.{decoded_of};
-ghost use Rattle.x86_decode.specs.WellFormed.{IsWellFormed};
 ghost use Rattle.cpu_step.specs.declared.memo.KeptAnswer.{KeptAnswer};
 ghost use Rattle.cpu_step.specs.DecodingMemo.{IsAnswerOf, IsRight, bytes_of_words};
 ghost use Rattle.cpu_step.specs.CodeLines.{AreTurns};

@@ -1,6 +1,6 @@
 //! Turns by quick forms.
 
-ghost use Rattle.std.specs.Prelude.{◌≡◌, ◌+◌, ◌≤◌, true, false, IfSome, length};
+ghost use Rattle.std.specs.Prelude.{◌≡◌, ◌+◌, ◌≤◌, false, IfSome, length};
 ghost use Rattle.mem_access.specs.Windows.{IsWindow};
 ghost use Rattle.cpu_step.specs.KeptFetches.{IsKeptCode};
 ghost use Rattle.cpu_step.specs.Processor.{IsSound};

@@ -1,6 +1,6 @@
 //! Kinds without an operand, over registers and flags alone.
 
-ghost use Rattle.std.specs.Prelude.{◌≡◌, ◌-◌, ◌^◌, if◌then◌else◌, true, false, length};
+ghost use Rattle.std.specs.Prelude.{◌≡◌, ◌-◌, ◌^◌, if◌then◌else◌, true, false};
 ghost use Rattle.decode_fields.specs.Widths.{IsWidth};
 ghost use Rattle.x86_alu.specs.SignedNumbers.{cut, sign};
 ghost use Rattle.x86_regs.specs.declared.form.Form.TheVariants.{Data};

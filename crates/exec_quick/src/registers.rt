@@ -1,6 +1,6 @@
 //! Kinds over registers alone: they are always made.
 
-ghost use Rattle.std.specs.Prelude.{◌≡◌, ◌<◌, true, false, length};
+ghost use Rattle.std.specs.Prelude.{◌≡◌, ◌<◌, true, false};
 ghost use Rattle.decode_fields.specs.Widths.{IsWidth};
 ghost use Rattle.x86_regs.specs.declared.form.Form.TheVariants.{Data};
 ghost use Rattle.x86_regs.specs.declared.form.DataForm.TheVariants as DataForm;

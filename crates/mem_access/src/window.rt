@@ -1,7 +1,7 @@
 //! A window of data: the page that was read last and the page that was written last, where their translations are kept.
 //! While control registers, CPL and translations stay the same, an access on one of them needs no look-up.
 
-ghost use Rattle.std.specs.Prelude.{◌≡◌, ◌≢◌, ◌⊎◌, ℕ, ◌+◌, ◌-◌, ◌/◌, ◌%◌, ◌^◌, ◌<◌, ◌≤◌, IfSome, false, length};
+ghost use Rattle.std.specs.Prelude.{◌≡◌, ◌⊎◌, ℕ, ◌+◌, ◌-◌, ◌/◌, ◌%◌, ◌^◌, ◌<◌, ◌≤◌, IfSome, false, length};
 ghost use Rattle.nk_bits.specs.declared.access.Access.TheVariants.{Read, Write};
 ghost use Rattle.nk_bits.specs.declared.control.Control.{Control};
 ghost use Rattle.nk_bits.specs.Translations.{NamesFramesIn, Translations};

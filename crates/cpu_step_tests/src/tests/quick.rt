@@ -6,7 +6,7 @@ use super::after::Start::Supervisor;
 use super::cases::Step::{Begins, Byte, Holds, Put, Quick, Sets, Takes, Turn};
 use super::cases::{Step, first_failing};
 use irq_plan::What;
-use x86_regs::RCX;
+use x86_regs::{RAX, RCX, RSI};
 
 const LOOP: &[u8] = b"\x89\x06\x01\x0E\x83\xE9\x01\x75\xF7\xF4";
 
@@ -74,6 +74,26 @@ fn ends_of_pages(rt: HostRuntime) {
         Sets(Rip(0xFF0)),
         Quick(100, 1, &[Rip(0xFF2)]),
         Holds(0x9100, &[0x41]),
+    ];
+    assert_eq!(rt; first_failing(rt.alloc(), steps), None);
+}
+
+/// add ecx, 1; mov [rsi], eax; jmp 0, where the store makes the first instruction add ecx, 2: turns behind it add 2, though
+/// the loop stood in a line before.
+#[test]
+fn code_that_is_written(rt: HostRuntime) {
+    let steps: &[Step] = &[
+        Begins(Supervisor, b"\x83\xC1\x01\x89\x06\xEB\xF9"),
+        Sets(Register(RAX, 0x8902_C183)),
+        Sets(Register(RSI, 0)),
+        Sets(Register(RCX, 0)),
+        Turn(Changed(3, &[Register(RCX, 1), Flags(2)])),
+        Turn(Ran(5)),
+        Turn(Ran(0)),
+        Sets(Register(RCX, 0)),
+        Byte(0x8002, 0x01),
+        Quick(6, 6, &[Register(RCX, 3), Flags(6)]),
+        Holds(0x8000, &[0x00F9_EB06_8902_C183]),
     ];
     assert_eq!(rt; first_failing(rt.alloc(), steps), None);
 }
