@@ -40,3 +40,4 @@ mod RefutedOutcomes
 mod BuiltPremises
 mod RefutedFiles
 mod BuiltLimits
+mod RefutedBeginnings
