@@ -74,9 +74,6 @@ module _ (control : Control) (tlb : Translations) where
   pub no_turn : (regs : Regs) (m : List ℕ) → AreTurns 0 control tlb regs m regs m
   no_turn regs m = record { turns = λ p plain. no_turns_to p m regs plain.regs; size = refl; cpl = refl }
 
-  pub nothing_turned : (a b : Regs) (m n : List ℕ) → b ≡ a → n ≡ m → AreTurns 0 control tlb a m b n
-  nothing_turned a b m n same kept = subst (λ (x : Regs × List ℕ). AreTurns 0 control tlb a m x.0 x.1) (λ j. (sym same j, sym kept j)) (no_turn a m)
-
   -- nothing is made, but the window may be another
   pub left_on : (at : ℕ) (a b : Regs) (m n : List ℕ) (w v : Window) → b ≡ a → n ≡ m → v.off ≡ w.off → IsWindow (length m) control a.cpl tlb v →
       AreMadeOn 0 control tlb (record a { rip = at }) m w (record b { rip = at }) n v
@@ -107,23 +104,6 @@ module _ (control : Control) (tlb : Translations) where
     size = later.size ∙ first.size;
     cpl = later.cpl ∙ first.cpl;
     windowed = later.windowed;
-  }
-
-  -- turns behind none
-  pub turns_then : (k j : ℕ) (a b d : Regs) (m n o : List ℕ) (w v : Window) → AreMadeOn k control tlb a m w b n v → k ≡ 0 → AreTurns j control tlb b n d o →
-      AreTurns j control tlb a m d o
-  turns_then k j a b d m n o w v first none later = record {
-    turns = λ p plain. subst (λ i. AreQuickTurns i p m (record p { regs = d }) o) (omega (arith, none)) (more_turns k j p (record p { regs = b }) (record p { regs = d }) m n o (first.turns p plain)
-        (later.turns (record p { regs = b }) (record {
-          regs = refl;
-          control = plain.control;
-          tlb = plain.tlb;
-          runs = plain.runs;
-          open_to = plain.open_to;
-          none = plain.none;
-        })));
-    size = later.size ∙ first.size;
-    cpl = later.cpl ∙ first.cpl;
   }
 
   -- a turn that sets RIP, one that goes on behind its instruction, and none

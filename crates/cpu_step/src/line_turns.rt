@@ -9,7 +9,7 @@ ghost use Rattle.cpu_step.specs.CodeLines.{AreMadeOn, AreTurns, IsCodeIn, IsForm
 
 use crate::kept_code::KeptCode;
 use crate::lines::{Line, line_slot, renew_line};
-use exec_quick::{Quick, Went, make, make_at};
+use exec_quick::{Quick, Went, make_at};
 use mem_access::Window;
 use nk_bits::{Control, access_law};
 use phys_mem::PhysMem;
@@ -168,67 +168,4 @@ fn line_turn(
     access_law();
     mem.bytes_law();
     make_at(quick, at, regs, control, mem, tlb, window)
-}
-
-/// Makes one turn by the code at RIP, if any may be made, and if it is a quick one: it may write the page of the code.
-#[inline(never)]
-pub(crate) fn one_turn(
-    lines: &mut Vec<Line>,
-    stamp: u64,
-    code: &KeptCode,
-    regs: &mut Regs,
-    control: &Control,
-    mem: &mut PhysMem,
-    tlb: &Tlb,
-    most: u64,
-) -> u64
-    requires count { length lines.old.items ≡ 4096 }
-    requires lines { All (IsLineOf stamp code.now mem.old) lines.old.items }
-    requires kept { IsKeptCode (length mem.old) control.now regs.old.cpl tlb.now code.now }
-    requires frames { NamesFramesIn (length mem.old) tlb.now }
-    ensures count { length lines.new.items ≡ 4096 }
-    ensures lines { All (IsLineBy stamp) lines.new.items }
-    ensures most { result ≤ most }
-    ensures made { AreTurns result control.now tlb.now regs.old mem.old regs.new mem.new }
-{
-    let Some(ahead) = code.ahead(regs.rip) else {
-        return 0;
-    };
-    let slot = slot_of(mem, code, ahead);
-    renew_line(lines, slot, stamp, code, mem, ahead);
-    first_turn(code, &lines[slot], regs, control, mem, tlb, most)
-}
-
-/// Makes the turn of a line's first form, RIP at its first byte, if any may be made.
-fn first_turn(
-    code: &KeptCode,
-    line: &Line,
-    regs: &mut Regs,
-    control: &Control,
-    mem: &mut PhysMem,
-    tlb: &Tlb,
-    most: u64,
-) -> u64
-    requires kept { IsKeptCode (length mem.old) control.now regs.old.cpl tlb.now code.now }
-    requires frames { NamesFramesIn (length mem.old) tlb.now }
-    requires code { IsCodeIn code.now mem.old line.now }
-    requires forms { All (IsFormIn line.now.code line.now.size) line.now.forms }
-    requires row { IsRow line.now.forms line.now.count }
-    requires here { regs.old.rip + code.now.base ≡ code.now.start + line.now.place }
-    ensures most { result ≤ most }
-    ensures made { AreTurns result control.now tlb.now regs.old mem.old regs.new mem.new }
-{
-    if line.count_within(most) == 0 {
-        return 0;
-    }
-    decoding_law();
-    access_law();
-    mem.bytes_law();
-    let quick = line.form(0);
-    let mut window = Window::new();
-    if make(quick, regs, control, mem, tlb, &mut window) {
-        1
-    } else {
-        0
-    }
 }

@@ -10,7 +10,7 @@ ghost use Rattle.mem_access.specs.Windows.{IsWindow};
 ghost use Rattle.nk_bits.specs.Translations.{NamesFramesIn};
 
 use crate::kept_code::KeptCode;
-use crate::line_turns::{lines_run, one_turn};
+use crate::line_turns::lines_run;
 use crate::lines::{Line, lines};
 use crate::processor::NoMemory;
 use mem_access::Window;
@@ -77,8 +77,8 @@ impl Memo {
         &self.answers[slot].answer
     }
 
-    /// Makes quick turns by lines of code that is kept, at most so many, as long as RIP stays in it. Where the first of them
-    /// writes the page of the code, it alone is made.
+    /// Makes quick turns by lines of code that is kept, at most so many, as long as RIP stays in it and none would write
+    /// its page.
     pub(crate) fn turns(
         &mut self,
         code: &KeptCode,
@@ -101,7 +101,7 @@ impl Memo {
         }
         self.stamp += 1;
         window.keep_off(code.place_of(0));
-        let made = lines_run(
+        lines_run(
             &mut self.lines,
             self.stamp,
             code,
@@ -110,19 +110,6 @@ impl Memo {
             mem,
             tlb,
             window,
-            most,
-        );
-        if made > 0 {
-            return made;
-        }
-        one_turn(
-            &mut self.lines,
-            self.stamp,
-            code,
-            regs,
-            control,
-            mem,
-            tlb,
             most,
         )
     }

@@ -78,8 +78,8 @@ fn ends_of_pages(rt: HostRuntime) {
     assert_eq!(rt; first_failing(rt.alloc(), steps), None);
 }
 
-/// add ecx, 1; mov [rsi], eax; jmp 0, where the store makes the first instruction add ecx, 2: turns behind it add 2, though
-/// the loop stood in a line before.
+/// add ecx, 1; mov [rsi], eax; jmp 0, where the store makes the first instruction add ecx, 2: it is no quick turn, and turns
+/// behind it add 2, though the loop stood in a line before.
 #[test]
 fn code_that_is_written(rt: HostRuntime) {
     let steps: &[Step] = &[
@@ -92,7 +92,9 @@ fn code_that_is_written(rt: HostRuntime) {
         Turn(Ran(0)),
         Sets(Register(RCX, 0)),
         Byte(0x8002, 0x01),
-        Quick(6, 6, &[Register(RCX, 3), Flags(6)]),
+        Quick(6, 1, &[Rip(3), Register(RCX, 1), Flags(2)]),
+        Turn(Ran(5)),
+        Quick(6, 2, &[Rip(3), Register(RCX, 3), Flags(6)]),
         Holds(0x8000, &[0x00F9_EB06_8902_C183]),
     ];
     assert_eq!(rt; first_failing(rt.alloc(), steps), None);
