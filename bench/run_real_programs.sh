@@ -1,15 +1,15 @@
 #!/bin/sh
 # Times real programs in C under `nkrun run`, beside the same machine code on this machine's own processor and under
 # QEMU with one instruction a block, in one run: zlib deflates and inflates texts, LZ4 compresses and decompresses them,
-# and SHA-256 takes their digests. A program's answer depends on each byte that it makes, and has to be the same
-# everywhere. A benchmark, not a test.
+# SHA-256 takes their digests, and pForth, an interpreter, counts their bytes and words. A program's answer depends on
+# each byte that it makes, and has to be the same everywhere. A benchmark, not a test.
 # usage: bench/run_real_programs.sh [ROUNDS [SECONDS [PROGRAM [SOURCES]]]]
-#   SECONDS is about what one run takes; PROGRAM is an nkrun that is built already. SOURCES is a folder with zlib-* and
-#   lz4-*, sources as Debian's packages have them: what isn't there is fetched to it by apt-get, and left out where that
-#   fails. Without the word they are fetched anew.
+#   SECONDS is about what one run takes; PROGRAM is an nkrun that is built already. SOURCES is a folder with zlib-*,
+#   lz4-* and pforth-*, sources as Debian's packages have them: what isn't there is fetched to it by apt-get, and left
+#   out where that fails. Without the word they are fetched anew.
 #   CC  the compiler, gcc or clang: gcc where it isn't set
 #   OPT its further flags, -O2 where it isn't set
-# needs gcc, ld, objcopy, objdump, GNU grep, python3; apt-get and dpkg-dev for sources; QEMU where it is to be measured
+# needs gcc, ld, make, objcopy, objdump, GNU grep, python3; apt-get and dpkg-dev for sources; QEMU where it is to be measured
 # (Debian: qemu-system-x86)
 set -eu
 bench=$(cd "$(dirname "$0")" && pwd)
@@ -108,6 +108,20 @@ if [ "$lz4" ]; then
         echo "sources: ${lz4##*/}"
 else
         echo "left out: no sources of lz4"
+fi
+pforth=$(find_sources pforth csrc/pf_core.c)
+if [ "$pforth" ]; then
+        # What pForth has of words beyond its kernel it compiles itself, to a table in C.
+        cp -r "$pforth" "$work/words"
+        make -C "$work/words/platforms/unix" XCPPFLAGS="-D_DEFAULT_SOURCE -D_GNU_SOURCE" pfdicdat.h > "$work/made" 2>&1
+        compile pforth "-DPF_EMBEDDED -DPF_STATIC_DIC -w -I $pforth/csrc -I $work/words/platforms/unix" \
+                "$pforth/csrc/pf_cglue.c" "$pforth/csrc/pf_clib.c" "$pforth/csrc/pf_core.c" "$pforth/csrc/pf_inner.c" \
+                "$pforth/csrc/pf_io.c" "$pforth/csrc/pf_io_none.c" "$pforth/csrc/pf_mem.c" "$pforth/csrc/pf_save.c" \
+                "$pforth/csrc/pf_text.c" "$pforth/csrc/pf_words.c" "$pforth/csrc/pfcompil.c" \
+                "$pforth/csrc/pfcustom.c" "$programs/pforth_rounds.c"
+        echo "sources: ${pforth##*/}"
+else
+        echo "left out: no sources of pforth"
 fi
 command -v qemu-system-x86_64 > /dev/null || echo "left out: no qemu-system-x86_64"
 $CC --version | head -n 1

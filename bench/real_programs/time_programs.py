@@ -10,7 +10,7 @@ import subprocess
 import sys
 
 ROUNDS, SECONDS, NKRUN, WORK = int(sys.argv[1]), float(sys.argv[2]), sys.argv[3], pathlib.Path(sys.argv[4])
-PROGRAMS = [name for name in ("zlib", "lz4", "sha256") if (WORK / name).is_dir()]
+PROGRAMS = [name for name in ("zlib", "lz4", "sha256", "pforth") if (WORK / name).is_dir()]
 TEXTS = 4                               # a program goes through so many texts again and again
 MOST_TURNS = 4294967296
 FRAMES = 2048
