@@ -1,6 +1,8 @@
 mod AlikeFetches
+mod CodePages
 mod CodeRuns
 pub mod FetchFaults
+mod KeptBytes
 mod LentPages
 mod LineForms
 mod LineTurns

@@ -12,7 +12,7 @@ use Rattle.exec_quick.specs.declared.quick.Quick.{Quick}
 use Rattle.exec_quick.specs.QuickForms.{IsQuick, StandsFor, has_register_first, is_slow}
 use Rattle.cpu_step.specs.declared.kept_code.KeptCode.{KeptCode}
 use Rattle.cpu_step.specs.declared.lines.Line.{Line}
-use Rattle.cpu_step.specs.CodeLines.{IsCodeIn, IsFormIn, IsLineBy, IsLineOf, IsRow, code_behind}
+use Rattle.cpu_step.specs.CodeLines.{AreFrom, IsCodeIn, IsFormIn, IsLineBy, IsLineOf, IsRow, code_behind, code_number}
 use Rattle.cpu_step.proofs.LentPages.{code_byte, run_is_code}
 use Rattle.cpu_step.proofs.WordBytes.{small_run, word_bytes}
 
@@ -77,20 +77,26 @@ any_default (x ∷ xs) (suc i) d e less = any_default xs i d e (omega (arith, le
 pub one_element : {X : Type 0} (xs : List X) (i : ℕ) (x y : X) → i < length xs → x ≡ get_or xs i x → y ≡ get_or xs i y → x ≡ y
 one_element xs i x y less one other = one ∙ (any_default xs i x y less ∙ sym other)
 
-module _ (stamp : ℕ) (code : KeptCode) (m : List ℕ) (line : Line) (ahead place room : ℕ) (is : IsLineBy stamp line) (near : ahead ≤ code.last) (there : place ≡ code.base + ahead) (wide : room ≡ code.last + 16 - ahead)
-    (at : line.place ≡ place) (fits : line.size ≤ room) (same : (k : ℕ) → k < line.size → byte_at line.code k ≡ byte_at m (place + k)) where
-  code_told : IsCodeIn code m line
-  code_told = record {
-    from = omega (arith, at, there);
-    to = omega (arith, at, there, fits, wide, near);
-    same = λ k inside. same k inside ∙ ap (λ p. byte_at m (p + k)) (sym at);
-  }
+module _ (stamp : ℕ) (codes : List KeptCode) (code : KeptCode) (m : List ℕ) (line : Line) (at ahead place room : ℕ) (is : IsLineBy stamp line)
+    (chosen : (d : KeptCode) → code ≡ get_or codes (code_number at) d) (near : ahead ≤ code.last) (stands : code.start + ahead ≡ at)
+    (there : place ≡ code.base + ahead) (wide : room ≡ code.last + 16 - ahead)
+    (same_at : line.at ≡ at) (fits : line.size ≤ room) (same : (k : ℕ) → k < line.size → byte_at line.code k ≡ byte_at m (place + k)) where
+  chosen_code : (d : KeptCode) → code ≡ get_or codes (code_number line.at) d
+  chosen_code d = chosen d ∙ ap (λ x. get_or codes (code_number x) d) (sym same_at)
 
-  pub line_told : IsLineOf stamp code m line
-  line_told = record { by = is; here = λ e. code_told }
+  code_told : IsCodeIn code m line
+  code_told =
+      let begins : place ≡ code.base + (line.at - code.start) = omega (arith, there, same_at, stands) in record {
+        from = omega (arith, same_at, stands);
+        to = omega (arith, same_at, stands, fits, wide, near);
+        same = λ k inside. same k inside ∙ ap (λ p. byte_at m (p + k)) begins;
+      }
+
+  pub line_told : IsLineOf stamp codes m line
+  line_told = record { by = is; here = λ e d. subst (λ (c : KeptCode). IsCodeIn c m line) (chosen_code d) code_told }
 
   -- memory has the code of a line that was made before
-  pub line_seen : IsLineOf stamp code m (record line { stamp = stamp })
+  pub line_seen : IsLineOf stamp codes m (record line { stamp = stamp })
   line_seen = record {
     by = record {
       some = is.some;
@@ -100,7 +106,9 @@ module _ (stamp : ℕ) (code : KeptCode) (m : List ℕ) (line : Line) (ahead pla
       row = is.row;
       stamped = omega arith;
     };
-    here = λ e. record { from = code_told.from; to = code_told.to; same = code_told.same };
+    here = λ e d.
+        let told : IsCodeIn (get_or codes (code_number line.at) d) m line = subst (λ (c : KeptCode). IsCodeIn c m line) (chosen_code d) code_told in
+        record { from = told.from; to = told.to; same = told.same };
   }
 
 -- the bytes of a word that two lists have
@@ -168,9 +176,9 @@ form_in code at q answer all few is ready register stands size within =
     }
 
 -- no line has a stamp that is new
-pub fresh_lines : (stamp : ℕ) (code : KeptCode) (m : List ℕ) (lines : List Line) → All (IsLineBy stamp) lines → All (IsLineOf (stamp + 1) code m) lines
-fresh_lines stamp code m lines all =
-    All-weaker (IsLineBy stamp) (IsLineOf (stamp + 1) code m)
+pub fresh_lines : (stamp : ℕ) (codes : List KeptCode) (m : List ℕ) (lines : List Line) → All (IsLineBy stamp) lines → All (IsLineOf (stamp + 1) codes m) lines
+fresh_lines stamp codes m lines all =
+    All-weaker (IsLineBy stamp) (IsLineOf (stamp + 1) codes m)
     (λ (line : Line) (is : IsLineBy stamp line). record {
       by = record {
         some = is.some;
@@ -183,5 +191,28 @@ fresh_lines stamp code m lines all =
       here = λ (same : line.stamp ≡ stamp + 1). absurd (omega (arith, same, is.stamped));
     }) lines all
 
-pub lines_by : (stamp : ℕ) (code : KeptCode) (m : List ℕ) (lines : List Line) → All (IsLineOf stamp code m) lines → All (IsLineBy stamp) lines
-lines_by stamp code m lines all = All-weaker (IsLineOf stamp code m) (IsLineBy stamp) (λ (line : Line) (is : IsLineOf stamp code m line). is.by) lines all
+pub lines_by : (stamp : ℕ) (codes : List KeptCode) (m : List ℕ) (lines : List Line) → All (IsLineOf stamp codes m) lines → All (IsLineBy stamp) lines
+lines_by stamp codes m lines all = All-weaker (IsLineOf stamp codes m) (IsLineBy stamp) (λ (line : Line) (is : IsLineOf stamp codes m line). is.by) lines all
+
+-- forms of which each stands behind the one before it, from this address on
+from_one : (start at n : ℕ) (forms : List Quick) → n ≤ length forms → ((d : Quick) → 0 < n → at ≡ start + (get_or forms 0 d).at) →
+    ((d : Quick) (i : ℕ) → i + 1 < n → (get_or forms (i + 1) d).at ≡ (get_or forms i d).at + (get_or forms i d).size) → AreFrom start at (take n forms)
+from_one start at zero forms few first next = tt
+from_one start at (suc n) [] few first next = absurd (omega (arith, few))
+from_one start at (suc n) (q ∷ forms) few first next =
+    let here : at ≡ start + q.at = first q (omega arith) in
+    let later : (d : Quick) (i k : ℕ) → k ≡ suc i → k < suc n → (get_or (q ∷ forms) k d).at ≡ (get_or (q ∷ forms) i d).at + (get_or (q ∷ forms) i d).size =
+    λ d i k is less.
+    let same : i + 1 ≡ k = omega (arith, is) in
+    subst (λ j. (get_or (q ∷ forms) j d).at ≡ (get_or (q ∷ forms) i d).at + (get_or (q ∷ forms) i d).size) same (next d i (omega (arith, is, less))) in (
+      here,
+      from_one start (at + q.size) n forms (omega (arith, few))
+          (λ d some. omega (arith, here, later d 0 1 refl (omega (arith, some))))
+          (λ d i less. subst (λ k. (get_or forms k d).at ≡ (get_or forms i d).at + (get_or forms i d).size) (omega arith) (later d (suc i) (suc (suc i)) refl (omega (arith, less)))),
+    )
+
+-- the first forms of a row
+pub first_forms : (start n count : ℕ) (forms : List Quick) → IsRow forms count → n ≤ count → AreFrom start start (take n forms)
+first_forms start n count forms row few =
+    from_one start start n forms (omega (arith, few, row.few, row.all)) (λ d some. omega (arith, row.first d (omega (arith, some, few))))
+    (λ d i less. row.next d i (omega (arith, less, few)))

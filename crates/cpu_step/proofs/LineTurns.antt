@@ -1,5 +1,5 @@
 -- Turns by lines of code: what they leave, one after the other, and what stays as it was seen.
-use Rattle.std.proofs.Common.{◌≡◌, ℕ, zero, suc, ◌+◌, ◌-◌, ◌%◌, ◌^◌, ◌<◌, ◌≤◌, true, false, List, ◌∷◌, All, length, refl, ap, sym, subst, ◌∙◌, arith}
+use Rattle.std.proofs.Common.{◌≡◌, ℕ, zero, suc, ◌+◌, ◌-◌, ◌%◌, ◌^◌, ◌<◌, ◌≤◌, true, false, List, [], ◌∷◌, All, length, get_or, refl, ap, sym, subst, ◌∙◌, arith}
 use Rattle.std.specs.Prelude.{◌&&◌, not}
 use Rattle.std.proofs.lemmas.List.Elements.{All-weaker}
 use Rattle.nk_bits.specs.declared.control.Control.{Control}
@@ -18,10 +18,10 @@ use Rattle.mem_access.specs.Windows.{IsWindow}
 use Rattle.exec_quick.specs.declared.quick.Quick.{Quick}
 use Rattle.exec_quick.specs.declared.quick.Went.{Went}
 use Rattle.exec_quick.specs.declared.quick.Went.TheVariants.{Left, On, Off}
-use Rattle.exec_quick.specs.QuickForms.{IsSameOnPage, effect_made, form_by, instruction_of, is_left, is_slow, quiet_outcome, went}
+use Rattle.exec_quick.specs.QuickForms.{AreSameOnPages, effect_made, form_by, instruction_of, is_left, is_slow, is_supervisor, quiet_outcome, went}
 use Rattle.cpu_step.specs.declared.kept_code.KeptCode.{KeptCode}
 use Rattle.cpu_step.specs.declared.lines.Line.{Line}
-use Rattle.cpu_step.specs.CodeLines.{AreMadeOn, AreTurns, IsCodeIn, IsFormIn, IsLineOf, IsPlain, IsStretch, code_behind}
+use Rattle.cpu_step.specs.CodeLines.{AreFrom, AreMadeOn, AreTurns, IsCodeIn, IsCodeInOne, IsFormIn, IsLineOf, IsPageStretch, IsPlain, IsStretch, code_behind, code_number, page_place}
 use Rattle.cpu_step.specs.DecodingMemo.{place_found}
 use Rattle.cpu_step.specs.InstructionFetch.{decided_by, instruction_at}
 use Rattle.cpu_step.specs.KeptFetches.{IsKeptCode}
@@ -41,11 +41,13 @@ code_alike m c p at size i (suc n) same within =
     let byte : byte_at m (p + at + i) ≡ byte_at c (at + i) = sym (same (at + i) less ∙ ap (byte_at m) place) in
     λ j. byte j ∷ code_alike m c p at size (suc i) n same (omega (arith, within)) j
 
--- the next form stands behind this one
-pub next_stands : (at size base start place last all here there : ℕ) → at + base ≡ start + (place + here) → there ≡ here + size → there + 16 ≤ all → place + all ≤ base + last + 16 →
-    start % 4096 + last ≤ 4080 → start < 2 ^ 64 → (at + size) % 2 ^ 64 + base ≡ start + (place + there)
-next_stands at size base start place last all here there stands follows within inside page bound =
-    omega (arith, stands, follows, within, inside, page, bound)
+-- the forms behind this one stand where RIP goes on: a line ends below 2 ^ 64
+pub wrapped_from : (code : List ℕ) (start at size all : ℕ) (forms : List Quick) → start + all ≤ 2 ^ 64 → All (IsFormIn code all) forms →
+    AreFrom start (at + size) forms → AreFrom start ((at + size) % 2 ^ 64) forms
+wrapped_from code start at size all [] bound right from = tt
+wrapped_from code start at size all (q ∷ forms) bound right from =
+    let here : (at + size) % 2 ^ 64 ≡ at + size = omega (arith, bound, from.0, (right 0 q (omega arith)).within) in
+    subst (λ n. AreFrom start n (q ∷ forms)) (sym here) from
 
 -- no turn
 no_turns_to : (p : Processor) (m : List ℕ) (regs : Regs) → p.regs ≡ regs → AreQuickTurns 0 p m (record p { regs = regs }) m
@@ -64,7 +66,7 @@ module _ (control : Control) (tlb : Translations) where
   pub none_on : (regs : Regs) (m : List ℕ) (w : Window) → IsWindow (length m) control regs.cpl tlb w → AreMadeOn 0 control tlb regs m w regs m w
   none_on regs m w windowed = record {
     turns = λ p plain. no_turns_to p m regs plain.regs;
-    code = λ p from to. refl;
+    code = λ i few p from to. refl;
     off = refl;
     size = refl;
     cpl = refl;
@@ -80,7 +82,7 @@ module _ (control : Control) (tlb : Translations) where
   left_on at a b m n w v same kept off windowed =
       subst (λ (x : Regs × List ℕ). AreMadeOn 0 control tlb (record a { rip = at }) m w (record x.0 { rip = at }) x.1 v) (λ j. (sym same j, sym kept j)) (record {
         turns = λ p plain. no_turns_to p m (record a { rip = at }) plain.regs;
-        code = λ p from to. refl;
+        code = λ i few p from to. refl;
         off = off;
         size = refl;
         cpl = refl;
@@ -99,11 +101,29 @@ module _ (control : Control) (tlb : Translations) where
           open_to = plain.open_to;
           none = plain.none;
         }));
-    code = λ p from to. later.code p (omega (arith, from, first.off)) (omega (arith, to, first.off)) ∙ first.code p from to;
+    code = λ i few p from to.
+        let same : get_or v.off i 0 ≡ get_or w.off i 0 = ap (λ (off : List ℕ). get_or off i 0) first.off in
+        later.code i few p (omega (arith, from, same)) (omega (arith, to, same)) ∙ first.code i few p from to;
     off = later.off ∙ first.off;
     size = later.size ∙ first.size;
     cpl = later.cpl ∙ first.cpl;
     windowed = later.windowed;
+  }
+
+  pub turns_more : (k j : ℕ) (a b d : Regs) (m n o : List ℕ) (v u : Window) → AreTurns k control tlb a m b n → AreMadeOn j control tlb b n v d o u →
+      AreTurns (k + j) control tlb a m d o
+  turns_more k j a b d m n o v u first later = record {
+    turns = λ p plain. more_turns k j p (record p { regs = b }) (record p { regs = d }) m n o (first.turns p plain)
+        (later.turns (record p { regs = b }) (record {
+          regs = refl;
+          control = plain.control;
+          tlb = plain.tlb;
+          runs = plain.runs;
+          open_to = plain.open_to;
+          none = plain.none;
+        }));
+    size = later.size ∙ first.size;
+    cpl = later.cpl ∙ first.cpl;
   }
 
   -- a turn that sets RIP, one that goes on behind its instruction, and none
@@ -123,31 +143,50 @@ module _ (control : Control) (tlb : Translations) where
       AreMadeOn k control tlb a m w d o u
   none_more k a b d m n o w v u first later = subst (λ i. AreMadeOn i control tlb a m w d o u) (omega arith) (more_on k 0 a b d m n o w v u first later)
 
-  module _ (code : KeptCode) (n : ℕ) (a b : Regs) (m o : List ℕ) (w v : Window) (made : AreMadeOn n control tlb a m w b o v) (stretch : IsStretch (length m) control a.cpl tlb code w) where
-    pub stretch_on : IsStretch (length o) control b.cpl tlb code v
-    stretch_on = record {
+  -- code is kept, and memory has the code of lines, behind turns that were made
+  module _ (n : ℕ) (a b : Regs) (m o : List ℕ) (w v : Window) (made : AreMadeOn n control tlb a m w b o v) where
+    pub page_stretch_on : (code : KeptCode) → IsPageStretch (length m) control a.cpl tlb code w → IsPageStretch (length o) control b.cpl tlb code v
+    page_stretch_on code stretch = record {
       kept = subst (λ (x : ℕ × ℕ). IsKeptCode x.0 control x.1 tlb code) (λ j. (sym made.size j, sym made.cpl j)) stretch.kept;
       windowed = made.windowed;
-      off = made.off ∙ stretch.off;
+      off = ap (λ (off : List ℕ). get_or off (code_number code.start) 0) made.off ∙ stretch.off;
       frames = subst (λ size. NamesFramesIn size tlb) (sym made.size) stretch.frames;
     }
 
-    pub code_on : (line : Line) → IsCodeIn code m line → IsCodeIn code o line
-    code_on line is = record {
-      from = is.from;
-      to = is.to;
-      same = λ k less. is.same k less ∙ sym (made.code (line.place + k) (omega (arith, stretch.off, is.from))
-          (omega (arith, stretch.off, is.to, less, stretch.kept.page, stretch.kept.aligned)));
-    }
+    module _ (codes : List KeptCode) (stretch : IsStretch (length m) control a.cpl tlb codes w) where
+      pub stretch_on : IsStretch (length o) control b.cpl tlb codes v
+      stretch_on = record {
+        count = stretch.count;
+        kept = subst (λ (x : ℕ × ℕ). All (IsKeptCode x.0 control x.1 tlb) codes) (λ j. (sym made.size j, sym made.cpl j)) stretch.kept;
+        windowed = made.windowed;
+        off = λ i d few. ap (λ (off : List ℕ). get_or off i 0) made.off ∙ stretch.off i d few;
+        frames = subst (λ size. NamesFramesIn size tlb) (sym made.size) stretch.frames;
+      }
 
-    pub lines_on : (stamp : ℕ) (lines : List Line) → All (IsLineOf stamp code m) lines → All (IsLineOf stamp code o) lines
-    lines_on stamp lines all = All-weaker (IsLineOf stamp code m) (IsLineOf stamp code o) (λ (line : Line) (is : IsLineOf stamp code m line). record { by = is.by; here = λ e. code_on line (is.here e) }) lines all
+      code_on : (line : Line) → IsCodeInOne codes m line → IsCodeInOne codes o line
+      code_on line one = λ d.
+          let number : ℕ = code_number line.at in
+          let code : KeptCode = get_or codes number d in
+          let is : IsCodeIn code m line = one d in
+          let off : get_or w.off number 0 ≡ page_place code = stretch.off number d (omega arith) in
+          let kept : IsKeptCode (length m) control a.cpl tlb code = stretch.kept number d (omega (arith, stretch.count)) in
+          let place : ℕ = code.base + (line.at - code.start) in record {
+            from = is.from;
+            to = is.to;
+            same = λ k less. is.same k less ∙ sym (made.code number (omega arith) (place + k) (omega (arith, off))
+                (omega (arith, off, is.from, is.to, less, kept.page, kept.aligned)));
+          }
+
+      pub lines_on : (stamp : ℕ) (lines : List Line) → All (IsLineOf stamp codes m) lines → All (IsLineOf stamp codes o) lines
+      lines_on stamp lines all =
+          All-weaker (IsLineOf stamp codes m) (IsLineOf stamp codes o)
+          (λ (line : Line) (is : IsLineOf stamp codes m line). record { by = is.by; here = λ e. code_on line (is.here e) }) lines all
 
   module _ (pages : PageFacts) (decodings : DecodingFacts) (code : KeptCode) (line : Line) (q : Quick) (at : ℕ) (a : Regs) (m : List ℕ) (w : Window)
       (bytes : IsBytes m) (kept : IsKeptCode (length m) control a.cpl tlb code) (is : IsCodeIn code m line) (form : IsFormIn line.code line.size q)
-      (here : at + code.base ≡ code.start + (line.place + q.at)) (quick : is_slow q.kind ≡ false) where
+      (here : at ≡ line.at + q.at) (quick : is_slow q.kind ≡ false) (supervisor : is_supervisor q.kind ≡ true → a.cpl ≡ 0) where
     abbrev ahead : ℕ
-    ahead = line.place + q.at - code.base
+    ahead = line.at + q.at - code.start
 
     near : ahead ≤ code.last
     near = omega (arith, is.from, is.to, form.within)
@@ -158,7 +197,8 @@ module _ (control : Control) (tlb : Translations) where
     fetched : instruction_at m (view_of m control a.cpl) at tlb ≡ answered (record { instr = instruction_of q; size = q.size }) tlb
     fetched =
         let view : View = view_of m control a.cpl in
-        let place : ℕ = line.place + q.at in
+        let begins : ℕ = code.base + (line.at - code.start) in
+        let place : ℕ = begins + q.at in
         let there : code.base + ahead ≡ place = omega (arith, is.from) in
         let fits : at < 2 ^ 64 = omega (arith, stands_at, near, kept.page, kept.bound) in
         let within : at % 4096 ≤ 4080 = omega (arith, stands_at, near, kept.page) in
@@ -166,7 +206,7 @@ module _ (control : Control) (tlb : Translations) where
         subst (λ (x : ℕ × ℕ). place_found view x.0 tlb ≡ answered x.1 tlb) (λ j. (stands_at j, there j))
         (ap (λ (o : Outcome AccessFault Target). and_then o (λ target after. answered target.first after)) (sym (kept.fetched m ahead near))) in
         decided_on_page pages decodings m bytes view at tlb tlb place fits within found
-        ∙ (ap (λ d. decided_by (decoded_of d) tlb (refused (General 0) tlb)) (code_alike m line.code line.place q.at line.size 0 15 is.same (omega (arith, form.within)))
+        ∙ (ap (λ d. decided_by (decoded_of d) tlb (refused (General 0) tlb)) (code_alike m line.code begins q.at line.size 0 15 is.same (omega (arith, form.within)))
         ∙ ap (λ d. decided_by d tlb (refused (General 0) tlb)) (form.stands quick).means)
 
     turn : (r : Regs) (o : List ℕ) → quiet_outcome r o tlb ≡ effect_made (form_by q.kind) q (record a { rip = at }) control m tlb → (p : Processor) → IsPlain (record a { rip = at }) control tlb p →
@@ -175,7 +215,7 @@ module _ (control : Control) (tlb : Translations) where
         let it : Processor = record p { regs = record a { rip = at }; control = control; tlb = tlb } in
         let elsewhere : is_at_body it.regs ≡ false = not_at_body (length m) it code ahead kept near stands_at in
         let turns : ran (record it { regs = r }) o ≡ turned it m =
-        quick_turned it m r o q plain.none plain.open_to elsewhere (form.stands quick).form ((form.stands quick).lawful a.cpl) fetched made in
+        quick_turned it m r o q plain.none plain.open_to elsewhere (form.stands quick).form ((form.stands quick).lawful a.cpl supervisor) fetched made in
         one_more 0 it it (record it { regs = r }) m m o (no_turns it m) (record {
           no_body = ap (λ b. b && not (wp_of control.cr0)) elsewhere;
           runs = plain.runs;
@@ -192,7 +232,7 @@ module _ (control : Control) (tlb : Translations) where
     }
 
     pub one_on : (r : Regs) (o : List ℕ) (v : Window) → quiet_outcome r o tlb ≡ effect_made (form_by q.kind) q (record a { rip = at }) control m tlb →
-        IsSameOnPage w.off m o → v.off ≡ w.off → length o ≡ length m → r.cpl ≡ a.cpl → IsWindow (length m) control a.cpl tlb v →
+        AreSameOnPages w.off m o → v.off ≡ w.off → length o ≡ length m → r.cpl ≡ a.cpl → IsWindow (length m) control a.cpl tlb v →
         AreMadeOn 1 control tlb (record a { rip = at }) m w r o v
     one_on r o v made same off size cpl windowed = record {
       turns = (turn_on r o made size cpl).turns;

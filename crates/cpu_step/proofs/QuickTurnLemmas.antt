@@ -1,5 +1,5 @@
 -- A turn by a quick form is the processor's turn; and such turns in a row.
-use Rattle.std.proofs.Common.{◌≡◌, ℕ, zero, suc, ◌+◌, ◌-◌, ◌<◌, ◌≤◌, ◌⊎◌, inl, inr, length, arith, Bool, true, false, List, Option, None, Ok, Err, refl, sym, ap, subst, ◌∙◌}
+use Rattle.std.proofs.Common.{◌≡◌, ℕ, zero, suc, ◌+◌, ◌<◌, ◌≤◌, ◌⊎◌, inl, inr, arith, Bool, true, false, List, Option, None, Ok, Err, refl, sym, ap, subst, ◌∙◌}
 use Rattle.std.proofs.lemmas.Bool.{and_parts, eqb-true}
 use Rattle.std.specs.Prelude.{◌==◌, ◌&&◌, not, Result, if◌then◌else◌}
 use Rattle.nk_bits.specs.declared.control.Control.{Control}
@@ -24,10 +24,8 @@ use Rattle.exec_quick.specs.QuickForms.{Settled, effect_made, form_by, instructi
 use Rattle.cpu_step.specs.declared.fetch.Fetched.{Fetched}
 use Rattle.cpu_step.specs.declared.kept_code.KeptCode.{KeptCode}
 use Rattle.cpu_step.specs.InstructionFetch.{instruction_at}
-use Rattle.mem_access.specs.declared.window.Window.{Window}
-use Rattle.mem_access.specs.Windows.{IsWindow}
 use Rattle.cpu_step.specs.KeptFetches.{IsKeptCode}
-use Rattle.cpu_step.specs.Processor.{IsSound, Processor, deliverable, highest_pending}
+use Rattle.cpu_step.specs.Processor.{Processor, deliverable, highest_pending}
 use Rattle.cpu_step.specs.QuickTurns.{AreQuickTurns, IsQuickTurn}
 use Rattle.cpu_step.specs.Turns.{Turned, acted, instructed, instruction_made, is_at_body, ran, turned, turned_by}
 use Rattle.cpu_step.proofs.TurnLemmas.{instructed_elsewhere, turned_by_vector}
@@ -46,78 +44,7 @@ nothing_deliverable p none =
 by_kind : (k : Kind) (i : Instr) (size : ℕ) (regs : Regs) (control : Control) (m : List ℕ) (view : View) (tlb : Translations) →
     effect_by (form_by k) i size regs control m view tlb ≡ planned_effect (form_by k) i size regs control m view tlb
 by_kind kind.Slow i size regs control m view tlb = refl
-by_kind kind.Combine i size regs control m view tlb = refl
-by_kind kind.CombineLoad i size regs control m view tlb = refl
-by_kind kind.CombineStore i size regs control m view tlb = refl
-by_kind kind.Compare i size regs control m view tlb = refl
-by_kind kind.CompareLoad i size regs control m view tlb = refl
-by_kind kind.CompareStore i size regs control m view tlb = refl
-by_kind kind.Move i size regs control m view tlb = refl
-by_kind kind.MoveLoad i size regs control m view tlb = refl
-by_kind kind.MoveStore i size regs control m view tlb = refl
-by_kind kind.Address i size regs control m view tlb = refl
-by_kind kind.Push i size regs control m view tlb = refl
-by_kind kind.PushLoad i size regs control m view tlb = refl
-by_kind kind.Pop i size regs control m view tlb = refl
-by_kind kind.Leave i size regs control m view tlb = refl
-by_kind kind.Branch i size regs control m view tlb = refl
-by_kind kind.BranchLoad i size regs control m view tlb = refl
-by_kind kind.Call i size regs control m view tlb = refl
-by_kind kind.CallLoad i size regs control m view tlb = refl
-by_kind kind.Return i size regs control m view tlb = refl
-by_kind kind.CountDown i size regs control m view tlb = refl
-by_kind kind.ScanBits i size regs control m view tlb = refl
-by_kind kind.ScanBitsLoad i size regs control m view tlb = refl
-by_kind kind.Multiply i size regs control m view tlb = refl
-by_kind kind.MultiplyLoad i size regs control m view tlb = refl
-by_kind kind.Divide i size regs control m view tlb = refl
-by_kind kind.DivideLoad i size regs control m view tlb = refl
-by_kind kind.Widen i size regs control m view tlb = refl
-by_kind kind.Double i size regs control m view tlb = refl
-by_kind kind.ChangeFlag i size regs control m view tlb = refl
-by_kind kind.Nothing i size regs control m view tlb = refl
-by_kind kind.MoveString i size regs control m view tlb = refl
-by_kind kind.StoreString i size regs control m view tlb = refl
-by_kind kind.LoadString i size regs control m view tlb = refl
-by_kind kind.CompareStrings i size regs control m view tlb = refl
-by_kind kind.ScanString i size regs control m view tlb = refl
-by_kind kind.Add64 i size regs control m view tlb = refl
-by_kind kind.Add32 i size regs control m view tlb = refl
-by_kind kind.Sub64 i size regs control m view tlb = refl
-by_kind kind.Sub32 i size regs control m view tlb = refl
-by_kind kind.And64 i size regs control m view tlb = refl
-by_kind kind.And32 i size regs control m view tlb = refl
-by_kind kind.Or64 i size regs control m view tlb = refl
-by_kind kind.Or32 i size regs control m view tlb = refl
-by_kind kind.Xor64 i size regs control m view tlb = refl
-by_kind kind.Xor32 i size regs control m view tlb = refl
-by_kind kind.Inc64 i size regs control m view tlb = refl
-by_kind kind.Inc32 i size regs control m view tlb = refl
-by_kind kind.Dec64 i size regs control m view tlb = refl
-by_kind kind.Dec32 i size regs control m view tlb = refl
-by_kind kind.Cmp64 i size regs control m view tlb = refl
-by_kind kind.Cmp32 i size regs control m view tlb = refl
-by_kind kind.Test64 i size regs control m view tlb = refl
-by_kind kind.Test32 i size regs control m view tlb = refl
-by_kind kind.Mov64 i size regs control m view tlb = refl
-by_kind kind.Mov32 i size regs control m view tlb = refl
-by_kind kind.Load64 i size regs control m view tlb = refl
-by_kind kind.Load32 i size regs control m view tlb = refl
-by_kind kind.LoadByte i size regs control m view tlb = refl
-by_kind kind.Store64 i size regs control m view tlb = refl
-by_kind kind.Store32 i size regs control m view tlb = refl
-by_kind kind.Loop i size regs control m view tlb = refl
-by_kind kind.Jump i size regs control m view tlb = refl
-by_kind kind.JumpZero i size regs control m view tlb = refl
-by_kind kind.JumpNotZero i size regs control m view tlb = refl
-by_kind kind.JumpBelow i size regs control m view tlb = refl
-by_kind kind.JumpNotBelow i size regs control m view tlb = refl
-by_kind kind.JumpNotAbove i size regs control m view tlb = refl
-by_kind kind.JumpAbove i size regs control m view tlb = refl
-by_kind kind.JumpLess i size regs control m view tlb = refl
-by_kind kind.JumpNotLess i size regs control m view tlb = refl
-by_kind kind.JumpNotGreater i size regs control m view tlb = refl
-by_kind kind.JumpGreater i size regs control m view tlb = refl
+by_kind _ i size regs control m view tlb = refl
 
 effect_plain : (k : Kind) (i : Instr) (size : ℕ) (regs : Regs) (control : Control) (m : List ℕ) (tlb : Translations) →
     instr_form i ≡ form_by k → refusal i regs.cpl ≡ None →
@@ -222,42 +149,3 @@ away cpl rip start last ahead near here apart = go (cpl == 0 && rip == 0xFFFFFF8
 pub not_at_body : (size : ℕ) (p : Processor) (code : KeptCode) (ahead : ℕ) → IsKeptCode size p.control p.regs.cpl p.tlb code →
     ahead ≤ code.last → code.start + ahead ≡ p.regs.rip → is_at_body p.regs ≡ false
 not_at_body size p code ahead kept near here = away p.regs.cpl p.regs.rip code.start code.last ahead near here kept.elsewhere
-
--- so many turns of at most this many were made, and the next one may be quick, by this window of data
-pub record AreMade (most count : ℕ) (window : Window) (p : Processor) (m : List ℕ) (q : Processor) (n : List ℕ) : Type 0 where
-  pub within : count ≤ most
-  pub turns : AreQuickTurns count p m q n
-  pub runs : q.halted ≡ false
-  pub open_to : q.shielded ≡ false
-  pub none : q.pending ≡ 0
-  pub sound : IsSound (length n) q
-  pub size : length n ≡ length m
-  pub windowed : IsWindow (length n) q.control q.regs.cpl q.tlb window
-
-pub none_made : (most : ℕ) (window : Window) (p : Processor) (m : List ℕ) → p.halted ≡ false → p.shielded ≡ false → p.pending ≡ 0 →
-    IsSound (length m) p → IsWindow (length m) p.control p.regs.cpl p.tlb window → AreMade most 0 window p m p m
-none_made most window p m runs open_to none sound windowed = record {
-  within = omega arith;
-  turns = no_turns p m;
-  runs = runs;
-  open_to = open_to;
-  none = none;
-  sound = sound;
-  size = refl;
-  windowed = windowed;
-}
-
--- some more of them
-pub some_made : (most count more : ℕ) (window after : Window) (p q r : Processor) (m n o : List ℕ) → AreMade most count window p m q n → more ≤ most - count →
-    AreQuickTurns more q n r o → r ≡ record q { regs = r.regs } → IsSound (length o) r → length o ≡ length n →
-    IsWindow (length o) r.control r.regs.cpl r.tlb after → AreMade most (count + more) after p m r o
-some_made most count more window after p q r m n o before fit turns rest sound size windowed = record {
-  within = omega (arith, fit, before.within);
-  turns = more_turns count more p q r m n o before.turns turns;
-  runs = ap (λ (x : Processor). x.halted) rest ∙ before.runs;
-  open_to = ap (λ (x : Processor). x.shielded) rest ∙ before.open_to;
-  none = ap (λ (x : Processor). x.pending) rest ∙ before.none;
-  sound = sound;
-  size = size ∙ before.size;
-  windowed = windowed;
-}

@@ -20,3 +20,10 @@ pub record IsKeptCode (size : ℕ) (control : Control) (cpl : ℕ) (tlb : Transl
   pub fetched : (m : List ℕ) (ahead : ℕ) → ahead ≤ code.last →
       answered (record { first = code.base + ahead; second = 0 }) tlb
       ≡ accessed (view_of m control cpl) Fetch tlb (code.start + ahead) 1
+
+-- the code lies in a memory of so many bytes and on one page
+pub record LiesOnPage (size : ℕ) (code : KeptCode) : Type 0 where
+  pub page : code.start % 4096 + code.last ≤ 4080
+  pub bound : code.start < 2 ^ 64
+  pub inside : code.base + code.last + 16 ≤ size
+  pub aligned : code.base % 4096 ≡ code.start % 4096

@@ -2,13 +2,13 @@
 
 ghost use Rattle.std.specs.Prelude.{◌≡◌, length};
 ghost use Rattle.cpu_step.specs.Processor.{IsSound};
-ghost use Rattle.cpu_step.specs.Turns.{error_code_of, control_after, delivery_of, fault_raised, stepped_by, trapped, vector_of};
+ghost use Rattle.cpu_step.specs.Turns.{error_code_of, control_after, delivery_of, fault_raised, trapped, vector_of};
 
 use crate::processor::Cpu;
 use crate::stepped::Stepped;
 use nk_bits::Delivery;
 use phys_mem::PhysMem;
-use trap_unit::{Shut, deliver};
+use trap_unit::deliver;
 use x86_regs::Fault;
 
 /// The vector of a page fault.
@@ -18,15 +18,21 @@ impl Cpu {
     /// Delivers a vector, with an error code or without.
     #[inline(never)]
     #[tactic(auto, unfolding(crate::specs::Turns::trapped))]
-    pub(crate) fn deliver(&mut self, vector: u8, code: Option<u64>, mem: &mut PhysMem) -> Stepped
+    pub(crate) fn deliver(
+        &mut self,
+        vector: u8,
+        code: Option<u64>,
+        mem: &mut PhysMem,
+        shown: &mut Stepped,
+    )
         requires sound { IsSound (length mem.old) self.old }
-        ensures trapped { record { processor = self.new; memory = mem.new; stepped = result }
+        ensures trapped { record { processor = self.new; memory = mem.new; stepped = shown.new }
             ≡ trapped vector code self.old mem.old }
         ensures sound { IsSound (length mem.new) self.new }
         ensures length { length mem.new ≡ length mem.old }
     {
-        let shown = self.shown(vector, code);
-        let answer = deliver(
+        *shown = Stepped::Delivered(self.shown(vector, code));
+        if deliver(
             mem,
             &mut self.tlb,
             &mut self.regs,
@@ -34,8 +40,11 @@ impl Cpu {
             &self.tables,
             vector,
             code,
-        );
-        shown_by(&answer, shown)
+        )
+        .is_err()
+        {
+            *shown = Stepped::Shutdown;
+        }
     }
 
     /// What the delivery of a vector shows.
@@ -56,15 +65,15 @@ impl Cpu {
 
     /// Delivers a fault, whose linear address CR2 gets where it is a page fault.
     #[inline(never)]
-    pub(crate) fn raise(&mut self, fault: Fault, mem: &mut PhysMem) -> Stepped
+    pub(crate) fn raise(&mut self, fault: Fault, mem: &mut PhysMem, shown: &mut Stepped)
         requires sound { IsSound (length mem.old) self.old }
-        ensures raised { record { processor = self.new; memory = mem.new; stepped = result }
+        ensures raised { record { processor = self.new; memory = mem.new; stepped = shown.new }
             ≡ fault_raised fault self.old mem.old }
         ensures sound { IsSound (length mem.new) self.new }
         ensures length { length mem.new ≡ length mem.old }
     {
         self.note(fault);
-        self.deliver(vector_of(fault), code_of(fault), mem)
+        self.deliver(vector_of(fault), code_of(fault), mem, shown);
     }
 
     /// CR2 gets the linear address of a page fault.
@@ -74,16 +83,6 @@ impl Cpu {
         if let Fault::Page { address, .. } = fault {
             self.control.cr2 = address;
         }
-    }
-}
-
-/// What a turn shows whose delivery was made or shut the machine down.
-fn shown_by(answer: &Result<(), Shut>, shown: Delivery) -> Stepped
-    ensures { result ≡ stepped_by answer.now shown }
-{
-    match answer {
-        Ok(()) => Stepped::Delivered(shown),
-        Err(_) => Stepped::Shutdown,
     }
 }
 

@@ -57,7 +57,7 @@ fn bytes_at<'m>(
 }
 
 /// What fifteen bytes decode to, by the memo.
-fn answer_of<'a>(memo: &'a mut Memo, rip: u64, bytes: &[u8]) -> &'a Decoded
+pub(crate) fn answer_of<'a>(memo: &'a mut Memo, rip: u64, bytes: &[u8]) -> &'a Decoded
     requires length { length bytes.now ≡ 15 }
     ensures decoded { result.now ≡ decoded_of bytes.now }
     ensures formed { IfWhole result.now (λ instr size. IsWellFormed instr) }

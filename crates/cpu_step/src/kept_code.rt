@@ -1,9 +1,11 @@
 //! Code whose page is kept. Control registers, CPL and translations stay the same through quick turns in a row, so the page
 //! of the code is looked up once for all of them that lie on it.
 
-ghost use Rattle.std.specs.Prelude.{◌≡◌, ◌≢◌, ◌⊎◌, ◌+◌, ◌-◌, ◌/◌, ◌%◌, ◌^◌, ◌<◌, ◌≤◌, IfSome, length};
+ghost use Rattle.std.specs.Prelude.{◌≡◌, ◌≢◌, ◌⊎◌, ◌+◌, ◌-◌, ◌/◌, ◌%◌, ◌^◌, ◌<◌, ◌≤◌, IfSome, length, slice_index_or};
 ghost use Rattle.nk_bits.specs.Translations.{NamesFramesIn};
 ghost use Rattle.nk_bits.specs.KernelLayout.{body_address};
+ghost use Rattle.cpu_step.specs.CodeLines.{code_number};
+ghost use Rattle.cpu_step.specs.declared.kept_code.KeptCode.{KeptCode};
 ghost use Rattle.cpu_step.specs.KeptFetches.{IsKeptCode};
 
 use crate::fetch::{LAST_ON_PAGE, is_on_page};
@@ -70,6 +72,23 @@ fn around(rip: u64, cpl: u8) -> (u64, u64)
     } else {
         (BODY + 1, LAST_ON_PAGE - offset - 1)
     }
+}
+
+/// The number among four codes of the one for this address: by the low bits of its page's number.
+#[inline(always)]
+pub(crate) fn code_slot(at: u64) -> usize
+    ensures number { result ≡ code_number at }
+    ensures few { result < 4 }
+{
+    (at / 4096 % 4) as usize
+}
+
+/// The one of four codes for this address.
+#[inline(always)]
+pub(crate) fn code_for(codes: &[KeptCode; 4], at: u64) -> &KeptCode
+    ensures { (d : KeptCode) → result.now ≡ slice_index_or codes.now (code_number at) d }
+{
+    &codes[code_slot(at)]
 }
 
 impl KeptCode {

@@ -13,12 +13,14 @@ mod line_turns;
 mod lines;
 mod memo;
 mod stepped;
+mod stretches;
 mod touched;
 
 // What an instruction does, and what it asks; deliveries.
 mod acts;
 mod delivered;
 mod execution;
+mod sole_turns;
 
 // The events of a plan.
 mod events;

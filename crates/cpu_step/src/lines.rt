@@ -8,9 +8,11 @@ ghost use Rattle.x86_decode.specs.declared.instruction.Decoded.TheVariants.{Whol
 ghost use Rattle.x86_decode.specs.Decoding.{IfWhole};
 ghost use Rattle.x86_decode.specs.WellFormed.{IsWellFormed};
 ghost use Rattle.cpu_step.specs.declared.lines.Line.{Line};
-ghost use Rattle.cpu_step.specs.CodeLines.{IsFormIn, IsLineBy, IsLineOf, IsRow};
+ghost use Rattle.cpu_step.specs.CodeLines.{AreFrom, IsFormIn, IsLineBy, IsLineOf, IsRow, code_number};
+ghost use Rattle.cpu_step.specs.KeptFetches.{LiesOnPage};
+ghost use Rattle.cpu_step.specs.declared.kept_code.KeptCode.{KeptCode};
 
-use crate::kept_code::KeptCode;
+use crate::kept_code::{KeptCode, code_for};
 use crate::memo::word_at;
 use crate::processor::NoMemory;
 use exec_quick::{Kind, Quick, SLOW, quick_of};
@@ -34,9 +36,9 @@ const LINES: usize = 4_096;
 /// Bytes of code, and the quick forms of instructions in them.
 #[derive(Clone, Copy)]
 pub(crate) struct Line {
-    /// The place in memory of the first byte.
-    place: u64,
-    /// The stretch of quick turns in which memory was seen to have the code there.
+    /// The address of the first byte.
+    at: u64,
+    /// The stamp of the quick turns in which memory was seen to have the code there.
     stamp: u64,
     /// So many bytes of the code count, at most 64.
     size: usize,
@@ -65,7 +67,7 @@ fn no_line() -> Line
     let code = [0; BYTES];
     let forms = no_forms();
     Line {
-        place: 0,
+        at: 0,
         stamp: 0,
         size: 16,
         code,
@@ -82,110 +84,132 @@ fn no_forms() -> [Quick; 16]
     [SLOW; FORMS]
 }
 
-/// The place of a line among those that are kept.
+/// The number of an address' line among those that are kept.
 #[inline(always)]
-pub(crate) fn line_slot(place: u64) -> usize
+pub(crate) fn line_slot(at: u64) -> usize
     ensures { result < 4096 }
 {
-    (place % 4096) as usize
+    (at % 4096) as usize
 }
 
 impl Line {
-    /// How many quick forms there are, and no more than this.
+    /// The quick forms, no more than so many.
     #[inline(always)]
-    pub(crate) fn count_within(&self, most: u64) -> usize
-        ensures most { result ≤ most }
-        ensures forms { result ≤ self.now.count }
+    pub(crate) fn forms_within(&self, most: u64) -> &[Quick]
+        requires forms { All (IsFormIn self.now.code self.now.size) self.now.forms }
+        requires row { IsRow self.now.forms self.now.count }
+        ensures most { length result.now ≤ most }
+        ensures forms { All (IsFormIn self.now.code self.now.size) result.now }
+        ensures row { AreFrom self.now.at self.now.at result.now }
     {
-        if (self.count as u64) < most {
+        let count = if (self.count as u64) < most {
             self.count
         } else {
             most as usize
-        }
-    }
-
-    /// A quick form.
-    #[inline(always)]
-    pub(crate) fn form(&self, number: usize) -> &Quick
-        requires number { number < 16 }
-        requires forms { All (IsFormIn self.now.code self.now.size) self.now.forms }
-        ensures form { (d : Quick) → result.now ≡ slice_index_or self.now.forms number d }
-        ensures right { IsFormIn self.now.code self.now.size result.now }
-    {
-        &self.forms[number]
+        };
+        &self.forms[..count]
     }
 }
 
-/// Makes the line at a slot that of the code so far ahead, if it isn't that already.
+/// Whether the line at a slot is that of this address, with code that memory has: it is made that, if it isn't already and
+/// the address is in one of the four codes.
 #[inline(always)]
-pub(crate) fn renew_line(
+pub(crate) fn find_line(
     lines: &mut Vec<Line>,
     slot: usize,
     stamp: u64,
-    code: &KeptCode,
+    codes: &[KeptCode; 4],
     mem: &PhysMem,
-    ahead: u64,
-)
+    at: u64,
+) -> bool
     requires slot { slot < length lines.old.items }
-    requires ahead { ahead ≤ code.now.last }
-    requires page { code.now.base % 4096 + code.now.last ≤ 4080 }
-    requires inside { code.now.base + code.now.last + 16 ≤ length mem.now }
-    requires lines { All (IsLineOf stamp code.now mem.now) lines.old.items }
-    ensures lines { All (IsLineOf stamp code.now mem.now) lines.new.items }
+    requires codes { All (LiesOnPage (length mem.now)) codes.now }
+    requires lines { All (IsLineOf stamp codes.now mem.now) lines.old.items }
+    ensures lines { All (IsLineOf stamp codes.now mem.now) lines.new.items }
     ensures length { length lines.new.items ≡ length lines.old.items }
-    ensures stamp { (d : Line) → (slice_index_or lines.new.items slot d).stamp ≡ stamp }
-    ensures place { (d : Line) → (slice_index_or lines.new.items slot d).place ≡ code.now.base + ahead }
+    ensures stamp { result ≡ true → (d : Line) → (slice_index_or lines.new.items slot d).stamp ≡ stamp }
+    ensures at { result ≡ true → (d : Line) → (slice_index_or lines.new.items slot d).at ≡ at }
 {
-    let _frames = mem.frames();
     let line = &lines[slot];
-    if line.stamp != stamp || line.place != code.place_of(ahead) {
-        replace_line(lines, slot, stamp, code, mem, ahead);
+    if line.at == at && line.stamp == stamp {
+        return true;
+    }
+    renew_line(lines, slot, stamp, codes, mem, at)
+}
+
+/// The same of a line that isn't that of this address, or whose code memory wasn't seen to have yet.
+#[inline(never)]
+fn renew_line(
+    lines: &mut Vec<Line>,
+    slot: usize,
+    stamp: u64,
+    codes: &[KeptCode; 4],
+    mem: &PhysMem,
+    at: u64,
+) -> bool
+    requires slot { slot < length lines.old.items }
+    requires codes { All (LiesOnPage (length mem.now)) codes.now }
+    requires lines { All (IsLineOf stamp codes.now mem.now) lines.old.items }
+    ensures lines { All (IsLineOf stamp codes.now mem.now) lines.new.items }
+    ensures length { length lines.new.items ≡ length lines.old.items }
+    ensures stamp { result ≡ true → (d : Line) → (slice_index_or lines.new.items slot d).stamp ≡ stamp }
+    ensures at { result ≡ true → (d : Line) → (slice_index_or lines.new.items slot d).at ≡ at }
+{
+    let code = code_for(codes, at);
+    match code.ahead(at) {
+        Some(ahead) => {
+            replace_line(lines, slot, stamp, codes, code, mem, at, ahead);
+            true
+        }
+        None => false,
     }
 }
 
-/// Makes the line at a slot that of the code so far ahead.
-#[inline(never)]
+/// Makes the line at a slot that of this address, which is so far ahead in its code.
 fn replace_line(
     lines: &mut Vec<Line>,
     slot: usize,
     stamp: u64,
+    codes: &[KeptCode; 4],
     code: &KeptCode,
     mem: &PhysMem,
+    at: u64,
     ahead: u64,
 )
     requires slot { slot < length lines.old.items }
+    requires code { (d : KeptCode) → code.now ≡ slice_index_or codes.now (code_number at) d }
+    requires lies { LiesOnPage (length mem.now) code.now }
     requires ahead { ahead ≤ code.now.last }
-    requires page { code.now.base % 4096 + code.now.last ≤ 4080 }
-    requires inside { code.now.base + code.now.last + 16 ≤ length mem.now }
-    requires lines { All (IsLineOf stamp code.now mem.now) lines.old.items }
-    ensures lines { All (IsLineOf stamp code.now mem.now) lines.new.items }
+    requires here { code.now.start + ahead ≡ at }
+    requires lines { All (IsLineOf stamp codes.now mem.now) lines.old.items }
+    ensures lines { All (IsLineOf stamp codes.now mem.now) lines.new.items }
     ensures length { length lines.new.items ≡ length lines.old.items }
     ensures stamp { (d : Line) → (slice_index_or lines.new.items slot d).stamp ≡ stamp }
-    ensures place { (d : Line) → (slice_index_or lines.new.items slot d).place ≡ code.now.base + ahead }
+    ensures at { (d : Line) → (slice_index_or lines.new.items slot d).at ≡ at }
 {
     let _frames = mem.frames();
     let place = code.place_of(ahead);
     let room = code.room(ahead);
     let line = &lines[slot];
-    if is_code_of(line, mem, place, room) {
+    if is_code_of(line, at, mem, place, room) {
         lines[slot].stamp = stamp;
     } else {
-        lines[slot] = line_at(mem, place, room, stamp);
+        lines[slot] = line_at(at, mem, place, room, stamp);
     }
 }
 
-/// Whether a line has the code of this place, within so many bytes.
-fn is_code_of(line: &Line, mem: &PhysMem, place: u64, room: usize) -> bool
+/// Whether a line is that of this address, and has the code of this place, within so many bytes.
+fn is_code_of(line: &Line, at: u64, mem: &PhysMem, place: u64, room: usize) -> bool
     requires room { place % 4096 + room ≤ 4096 }
     requires inside { place + room ≤ length mem.now }
     requires size { line.now.size ≤ 64 }
     requires whole { line.now.size % 8 ≡ 0 }
-    ensures place { result ≡ true → line.now.place ≡ place }
+    ensures at { result ≡ true → line.now.at ≡ at }
     ensures room { result ≡ true → line.now.size ≤ room }
     ensures same { result ≡ true → (k : ℕ) → k < line.now.size
         → byte_at line.now.code k ≡ byte_at mem.now (place + k) }
 {
-    if line.place != place || line.size > room {
+    if line.at != at || line.size > room {
         return false;
     }
     has_code(&line.code, line.size, mem, place)
@@ -223,14 +247,14 @@ fn has_word(code: &[u8], at: usize, mem: &PhysMem, place: u64) -> bool
     kept == found
 }
 
-/// The line of the code of this place, within so many bytes.
-fn line_at(mem: &PhysMem, place: u64, room: usize, stamp: u64) -> Line
+/// The line of this address, with the code of this place, within so many bytes.
+fn line_at(at: u64, mem: &PhysMem, place: u64, room: usize, stamp: u64) -> Line
     requires some { 16 ≤ room }
     requires room { place % 4096 + room ≤ 4096 }
     requires inside { place + room ≤ length mem.now }
     ensures line { IsLineBy stamp result }
     ensures stamp { result.stamp ≡ stamp }
-    ensures place { result.place ≡ place }
+    ensures at { result.at ≡ at }
     ensures room { result.size ≤ room }
     ensures same { (k : ℕ) → k < result.size → byte_at result.code k ≡ byte_at mem.now (place + k) }
 {
@@ -238,7 +262,7 @@ fn line_at(mem: &PhysMem, place: u64, room: usize, stamp: u64) -> Line
     let code = copied(run_on_page(mem, place, most));
     let (forms, count, size) = forms_of(&code, most);
     Line {
-        place,
+        at,
         stamp,
         size,
         code,

@@ -6,14 +6,13 @@ ghost use Rattle.cpu_step.specs.declared.memo.KeptAnswer.{KeptAnswer};
 ghost use Rattle.cpu_step.specs.DecodingMemo.{IsAnswerOf, IsRight, bytes_of_words};
 ghost use Rattle.cpu_step.specs.CodeLines.{AreTurns};
 ghost use Rattle.cpu_step.specs.KeptFetches.{IsKeptCode};
-ghost use Rattle.mem_access.specs.Windows.{IsWindow};
 ghost use Rattle.nk_bits.specs.Translations.{NamesFramesIn};
 
 use crate::kept_code::KeptCode;
-use crate::line_turns::lines_run;
 use crate::lines::{Line, lines};
 use crate::processor::NoMemory;
-use mem_access::Window;
+use crate::stretches::stretch;
+use exec_quick::Running;
 use nk_bits::Control;
 use phys_mem::PhysMem;
 use std::alloc::Global;
@@ -39,7 +38,7 @@ pub(crate) struct KeptAnswer {
 pub(crate) struct Memo {
     answers: Vec<KeptAnswer>,
     lines: Vec<Line>,
-    /// The stretch of quick turns that was begun last.
+    /// The greatest stamp of a line: it rises where a stretch of quick turns begins, and where it keeps other code.
     stamp: u64,
 }
 
@@ -77,41 +76,35 @@ impl Memo {
         &self.answers[slot].answer
     }
 
-    /// Makes quick turns by lines of code that is kept, at most so many, as long as RIP stays in it and none would write
-    /// its page.
+    /// Makes quick turns by lines of code, at most so many, as long as they lead to code whose page is kept and none would
+    /// write a page of code; the first code is kept.
     pub(crate) fn turns(
         &mut self,
-        code: &KeptCode,
+        first: &KeptCode,
         regs: &mut Regs,
         control: &Control,
         mem: &mut PhysMem,
         tlb: &Tlb,
-        window: &mut Window,
         most: u64,
     ) -> u64
-        requires kept { IsKeptCode (length mem.old) control.now regs.old.cpl tlb.now code.now }
+        requires kept { IsKeptCode (length mem.old) control.now regs.old.cpl tlb.now first.now }
         requires frames { NamesFramesIn (length mem.old) tlb.now }
-        requires window { IsWindow (length mem.old) control.now regs.old.cpl tlb.now window.old }
         ensures most { result ≤ most }
         ensures made { AreTurns result control.now tlb.now regs.old mem.old regs.new mem.new }
-        ensures window { IsWindow (length mem.new) control.now regs.new.cpl tlb.now window.new }
     {
-        if self.stamp == u64::MAX {
-            return 0;
-        }
-        self.stamp += 1;
-        window.keep_off(code.place_of(0));
-        lines_run(
+        let mut running = Running::new(regs);
+        let count = stretch(
             &mut self.lines,
-            self.stamp,
-            code,
-            regs,
+            &mut self.stamp,
+            first,
+            &mut running,
             control,
             mem,
             tlb,
-            window,
             most,
-        )
+        );
+        *regs = running.regs();
+        count
     }
 }
 

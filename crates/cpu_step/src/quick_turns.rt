@@ -1,14 +1,12 @@
 //! Turns by quick forms.
 
 ghost use Rattle.std.specs.Prelude.{◌≡◌, ◌+◌, ◌≤◌, false, IfSome, length};
-ghost use Rattle.mem_access.specs.Windows.{IsWindow};
 ghost use Rattle.cpu_step.specs.KeptFetches.{IsKeptCode};
 ghost use Rattle.cpu_step.specs.Processor.{IsSound};
 ghost use Rattle.cpu_step.specs.QuickTurns.{AreQuickTurns};
 
 use crate::kept_code::{KeptCode, kept_code};
 use crate::processor::Cpu;
-use mem_access::Window;
 use phys_mem::PhysMem;
 
 impl Cpu {
@@ -38,19 +36,10 @@ impl Cpu {
         ensures sound { IsSound (length mem.new) self.new }
         ensures length { length mem.new ≡ length mem.old }
     {
-        let mut window = Window::new();
-        let mut count = 0;
-        while count < most {
-            let Some(code) = self.code_at(mem) else {
-                break;
-            };
-            let made = self.turns_by(&code, mem, &mut window, most - count);
-            count += made;
-            if made == 0 {
-                break;
-            }
-        }
-        count
+        let Some(code) = self.code_at(mem) else {
+            return 0;
+        };
+        self.turns_by(&code, mem, most)
     }
 
     /// The code around RIP, looked up.
@@ -61,35 +50,19 @@ impl Cpu {
         kept_code(mem, &self.tlb, &self.control, &self.regs)
     }
 
-    /// Makes quick turns by code that is kept, at most so many, as long as RIP stays in it.
-    fn turns_by(
-        &mut self,
-        code: &KeptCode,
-        mem: &mut PhysMem,
-        window: &mut Window,
-        most: u64,
-    ) -> u64
+    /// Makes quick turns, at most so many, the first by code that is kept.
+    fn turns_by(&mut self, code: &KeptCode, mem: &mut PhysMem, most: u64) -> u64
         requires sound { IsSound (length mem.old) self.old }
         requires runs { self.old.halted ≡ false }
         requires shielded { self.old.shielded ≡ false }
         requires pending { self.old.pending ≡ 0 }
         requires kept { IsKeptCode (length mem.old) self.old.control self.old.regs.cpl self.old.tlb code.now }
-        requires window { IsWindow (length mem.old) self.old.control self.old.regs.cpl self.old.tlb window.old }
-        ensures window { IsWindow (length mem.new) self.new.control self.new.regs.cpl self.new.tlb window.new }
         ensures most { result ≤ most }
         ensures turns { AreQuickTurns result self.old mem.old self.new mem.new }
-        ensures rest { self.new ≡ record self.old { regs = self.new.regs } }
         ensures sound { IsSound (length mem.new) self.new }
         ensures length { length mem.new ≡ length mem.old }
     {
-        self.memo.turns(
-            code,
-            &mut self.regs,
-            &self.control,
-            mem,
-            &self.tlb,
-            window,
-            most,
-        )
+        self.memo
+            .turns(code, &mut self.regs, &self.control, mem, &self.tlb, most)
     }
 }

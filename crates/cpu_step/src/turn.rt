@@ -1,10 +1,11 @@
 //! A turn.
 
-ghost use Rattle.std.specs.Prelude.{◌≡◌, ◌⊎◌, ℕ, ◌%◌, ◌≤◌, false, IsSome, IfOk, length};
+ghost use Rattle.std.specs.Prelude.{◌≡◌, ◌⊎◌, ℕ, None, ◌%◌, ◌≤◌, false, IsSome, IfOk, length};
 ghost use Rattle.nk_bits.specs.Translations.{faulted};
 ghost use Rattle.nk_bits.specs.Outcomes.{outcome_of};
 ghost use Rattle.x86_regs.specs.Effects.{FitsIn, HasAccessSize, LeavesToDelivery, LoadsFrameIn, memory_after};
 ghost use Rattle.cpu_step.specs.FramesTouched.{StaysOutside, instruction_touched, touched_by, turn_touched};
+ghost use Rattle.cpu_step.specs.declared.stepped.Stepped.TheVariants.{Ran};
 ghost use Rattle.cpu_step.specs.Processor.{IsSound, deliverable};
 ghost use Rattle.cpu_step.specs.Turns.{acted, enters_body, instructed, instruction_made, is_at_body, refused_body, turned};
 
@@ -35,7 +36,9 @@ impl Cpu {
         ensures sound { IsSound (length mem.new) self.new }
         ensures length { length mem.new ≡ length mem.old }
     {
-        self.step_touching(mem).0
+        let mut shown = Stepped::Ran;
+        self.turn(mem, &mut shown);
+        shown
     }
 
     /// One turn, with the frames that it may have changed: every byte of memory outside them is as it was.
@@ -50,14 +53,34 @@ impl Cpu {
         ensures touched { StaysOutside result.1 mem.old mem.new }
         ensures told { result.1 ≡ turn_touched self.old mem.old }
     {
+        let mut shown = Stepped::Ran;
+        let touched = self.turn(mem, &mut shown);
+        (shown, touched)
+    }
+
+    /// One turn, which tells in place what it shows.
+    #[inline]
+    fn turn(&mut self, mem: &mut PhysMem, shown: &mut Stepped) -> Touched
+        requires ran { shown.old ≡ Ran }
+        requires body { enters_body self.old ≡ false }
+        requires running { (self.old.halted ≡ false) ⊎ IsSome (deliverable self.old) }
+        requires sound { IsSound (length mem.old) self.old }
+        ensures turned { record { processor = self.new; memory = mem.new; stepped = shown.new }
+            ≡ turned self.old mem.old }
+        ensures sound { IsSound (length mem.new) self.new }
+        ensures length { length mem.new ≡ length mem.old }
+        ensures touched { StaysOutside result mem.old mem.new }
+        ensures told { result ≡ turn_touched self.old mem.old }
+    {
         match self.deliverable() {
             Some(vector) => {
                 self.wake(vector);
-                (self.deliver(vector, None, mem), Touched::Any)
+                self.deliver(vector, None, mem, shown);
+                Touched::Any
             }
             None => {
                 self.shielded = false;
-                self.instruct(mem)
+                self.instruct(mem, shown)
             }
         }
     }
@@ -72,56 +95,80 @@ impl Cpu {
 
     /// Makes an instruction, unless RIP is at the body's place.
     #[inline]
-    fn instruct(&mut self, mem: &mut PhysMem) -> (Stepped, Touched)
+    fn instruct(&mut self, mem: &mut PhysMem, shown: &mut Stepped) -> Touched
+        requires ran { shown.old ≡ Ran }
         requires sound { IsSound (length mem.old) self.old }
-        ensures instructed { record { processor = self.new; memory = mem.new; stepped = result.0 }
+        ensures instructed { record { processor = self.new; memory = mem.new; stepped = shown.new }
             ≡ instructed self.old mem.old }
         ensures sound { IsSound (length mem.new) self.new }
         ensures length { length mem.new ≡ length mem.old }
-        ensures touched { StaysOutside result.1 mem.old mem.new }
-        ensures told { result.1 ≡ instruction_touched self.old mem.old }
+        ensures touched { StaysOutside result mem.old mem.new }
+        ensures told { result ≡ instruction_touched self.old mem.old }
     {
         if is_at_body(&self.regs) {
-            return (self.refuse_body(mem), Touched::Any);
+            self.refuse_body(mem, shown);
+            return Touched::Any;
         }
+        if self.act_alone(mem, shown) {
+            return touched_by(shown, &None);
+        }
+        self.instruct_by_effect(mem, shown)
+    }
+
+    /// Makes an instruction by its effect, away from the body's place.
+    #[inline(never)]
+    fn instruct_by_effect(&mut self, mem: &mut PhysMem, shown: &mut Stepped) -> Touched
+        requires ran { shown.old ≡ Ran }
+        requires elsewhere { is_at_body self.old.regs ≡ false }
+        requires sound { IsSound (length mem.old) self.old }
+        ensures instructed { record { processor = self.new; memory = mem.new; stepped = shown.new }
+            ≡ instructed self.old mem.old }
+        ensures sound { IsSound (length mem.new) self.new }
+        ensures length { length mem.new ≡ length mem.old }
+        ensures touched { StaysOutside result mem.old mem.new }
+        ensures told { result ≡ instruction_touched self.old mem.old }
+    {
         match self.make(mem) {
             Ok(effect) => {
-                let stepped = self.finish(&effect, mem);
-                let touched = touched_by(&stepped, &effect.write);
-                (stepped, touched)
+                self.finish(&effect, mem, shown);
+                touched_by(shown, &effect.write)
             }
-            Err(fault) => (self.raise(fault, mem), Touched::Any),
+            Err(fault) => {
+                self.raise(fault, mem, shown);
+                Touched::Any
+            }
         }
     }
 
     /// Takes the registers of an effect, makes its write, and does what it asks.
     #[inline]
-    fn finish(&mut self, effect: &Effect, mem: &mut PhysMem) -> Stepped
+    fn finish(&mut self, effect: &Effect, mem: &mut PhysMem, shown: &mut Stepped)
+        requires ran { shown.old ≡ Ran }
         requires privilege { effect.now.regs.cpl ≡ self.old.regs.cpl }
         requires places { FitsIn (length mem.old) effect.now.write }
         requires sized { HasAccessSize effect.now.write }
         requires loads { LoadsFrameIn (length mem.old) effect.now.act }
         requires sound { IsSound (length mem.old) self.old }
-        ensures acted { record { processor = self.new; memory = mem.new; stepped = result }
+        ensures acted { record { processor = self.new; memory = mem.new; stepped = shown.new }
             ≡ acted effect.now.act (record effect.now.regs { rip = self.old.regs.rip })
             (record self.old { regs = effect.now.regs }) (memory_after effect.now.write mem.old) }
         ensures sound { IsSound (length mem.new) self.new }
         ensures length { length mem.new ≡ length mem.old }
-        ensures touched { StaysOutside (touched_by result effect.now.write) mem.old mem.new }
+        ensures touched { StaysOutside (touched_by shown.new effect.now.write) mem.old mem.new }
     {
         memory_law();
         places_law();
         let rip = self.regs.rip;
         self.regs = effect.regs;
         put(mem, &effect.write);
-        self.act(&effect.act, rip, mem)
+        self.act(&effect.act, rip, mem, shown);
     }
 
     /// With WP set the first push of the body is a page fault.
     #[inline(never)]
-    fn refuse_body(&mut self, mem: &mut PhysMem) -> Stepped
+    fn refuse_body(&mut self, mem: &mut PhysMem, shown: &mut Stepped)
         requires sound { IsSound (length mem.old) self.old }
-        ensures refused { record { processor = self.new; memory = mem.new; stepped = result }
+        ensures refused { record { processor = self.new; memory = mem.new; stepped = shown.new }
             ≡ refused_body self.old mem.old }
         ensures sound { IsSound (length mem.new) self.new }
         ensures length { length mem.new ≡ length mem.old }
@@ -133,7 +180,8 @@ impl Cpu {
                 address: BODY_STACK,
             },
             mem,
-        )
+            shown,
+        );
     }
 
     /// A page fault forgets the translation of the page with this number, and the upper entries that serve it.

@@ -12,6 +12,7 @@ mod machine;
 // The cases.
 mod acts;
 mod body;
+mod deliveries;
 mod events;
 mod faults;
 mod fetches;

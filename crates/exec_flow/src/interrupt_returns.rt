@@ -1,19 +1,22 @@
 //! INT3 and INT (SDM volume 2, 3.3), and IRETQ with the frame that it pops (SDM volume 3, 6.14.3).
 
-ghost use Rattle.std.specs.Prelude.{◌≡◌, None, Ok, IfOk, length};
+ghost use Rattle.std.specs.Prelude.{◌≡◌, None, Ok, IfOk, IfSome, length};
 ghost use Rattle.nk_bits.specs.Translations.{IsAccessible, NamesFramesIn};
-ghost use Rattle.nk_bits.specs.Outcomes.{outcome_of};
+ghost use Rattle.nk_bits.specs.Outcomes.{answered, outcome_of};
 ghost use Rattle.page_walk.specs.MemoryAccess.{view_of};
 ghost use Rattle.x86_regs.specs.Effects.{frame_popped, popped, return_effect};
 ghost use Rattle.x86_regs.specs.OperandOutcomes.{change, going_on, interrupt_vector};
 
-use mem_access::load;
-use nk_bits::Control;
+use mem_access::{kept_number, kept_run, load, one_page_law};
+use nk_bits::{Access, Control};
 use page_walk::SpanFault;
 use phys_mem::PhysMem;
 use tlb_model::Tlb;
 use x86_decode::Op;
 use x86_regs::{Act, Change, Effect, Fault, Frame, RSP, Regs, going_on, raised};
+
+/// The bytes of the frame that IRETQ pops.
+const FRAME_SIZE: u16 = 40;
 
 /// INT3, and INT of a vector; the trap itself is left to a delivery.
 pub(crate) fn trap(op: Op, value: u64, next: u64, regs: &Regs) -> Change
@@ -27,7 +30,7 @@ pub(crate) fn trap(op: Op, value: u64, next: u64, regs: &Regs) -> Change
     }
 }
 
-fn vector_of(op: Op, value: u64) -> u8
+pub(crate) fn vector_of(op: Op, value: u64) -> u8
     ensures { result ≡ interrupt_vector op value }
 {
     match op {
@@ -97,6 +100,34 @@ fn pop_frame(regs: &Regs, control: &Control, mem: &PhysMem, tlb: &mut Tlb) -> Re
         rsp,
         ss,
     })
+}
+
+/// The same frame, where its bytes lie on one page that is kept: one look-up reads them all, and changes nothing.
+#[tactic(auto, unfolding(x86_regs::specs::Effects::frame_popped))]
+pub(crate) fn pop_kept_frame(
+    regs: &Regs,
+    control: &Control,
+    mem: &PhysMem,
+    tlb: &Tlb,
+) -> Option<Frame>
+    requires context { IsAccessible (length mem.now) control.now.root tlb.now }
+    ensures { IfSome result (λ frame. answered frame tlb.now
+        ≡ frame_popped mem.now (view_of mem.now control.now regs.now.cpl) regs.now tlb.now) }
+{
+    one_page_law();
+    // places are below 2^64
+    let _frames = mem.frames();
+    let top = regs.general[RSP as usize];
+    match kept_run(mem, tlb, Access::Read, control, regs.cpl, top, FRAME_SIZE) {
+        Some(place) => Some(Frame {
+            rip: kept_number(mem, place, 8),
+            cs: kept_number(mem, place + 8, 8),
+            flags: kept_number(mem, place + 16, 8),
+            rsp: kept_number(mem, place + 24, 8),
+            ss: kept_number(mem, place + 32, 8),
+        }),
+        None => None,
+    }
 }
 
 /// Eight bytes of the frame, by their place in it.

@@ -9,6 +9,7 @@
 mod execution;
 mod outcomes;
 mod plans;
+mod sole_acts;
 
 // What each form makes of the values that it reads.
 mod branches;
@@ -17,3 +18,4 @@ mod interrupt_returns;
 mod system;
 
 pub use execution::{effect, effect_of};
+pub use sole_acts::sole_act;

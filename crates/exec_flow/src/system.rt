@@ -8,7 +8,7 @@ ghost use Rattle.x86_regs.specs.OperandOutcomes.{change, control_act, control_lo
 
 use decode_fields::Place;
 use nk_bits::{Control, canonical};
-use x86_regs::{Act, Change, Fault, Regs, bit, going_on, written};
+use x86_regs::{Act, Change, Fault, Regs, bit, control_value, going_on, written};
 
 /// Goes on at the next instruction with an act, as HLT, IN, OUT, LIDT and INVLPG do.
 pub(crate) fn acting(next: u64, regs: &Regs, act: Act) -> Change
@@ -52,19 +52,19 @@ pub(crate) fn drop_page(va: u64, next: u64, regs: &Regs) -> Change
     acting(next, regs, page_dropped(va))
 }
 
-fn low_8(number: u64) -> u8
+pub(crate) fn low_8(number: u64) -> u8
     ensures { result ≡ cut 8 number }
 {
     (number % 0x100) as u8
 }
 
-fn low_16(number: u64) -> u16
+pub(crate) fn low_16(number: u64) -> u16
     ensures { result ≡ cut 16 number }
 {
     (number % 0x1_0000) as u16
 }
 
-fn page_dropped(va: u64) -> Act
+pub(crate) fn page_dropped(va: u64) -> Act
     ensures { result ≡ page_dropped va }
 {
     if canonical(va) {
@@ -92,18 +92,6 @@ pub(crate) fn from_control(
         regs: going_on(regs, general, regs.flags, next),
         value: 0,
         act: Act::Quiet,
-    }
-}
-
-fn control_value(control: &Control, number: u64) -> u64
-    requires { 4096 * control.now.root < 2 ^ 64 }
-    ensures { result ≡ control_value control.now number }
-{
-    match number {
-        0 => control.cr0,
-        2 => control.cr2,
-        3 => 4096 * u64::from(control.root),
-        _ => control.cr4,
     }
 }
 
@@ -138,21 +126,21 @@ fn control_act(admitted: bool, next: u64, regs: &Regs, act: Act) -> Result<Chang
 }
 
 /// A value that CR0 takes: PE and PG are set, NW only where CD is, and no bit from 32 on.
-fn is_cr0(value: u64) -> bool
+pub(crate) fn is_cr0(value: u64) -> bool
     ensures { result ≡ is_cr0 value }
 {
     (value < 1 << 32) & bit(value, 0) & bit(value, 31) & (!bit(value, 29) | bit(value, 30))
 }
 
 /// A value that CR3 takes: its frame is in memory.
-fn is_cr3(frames: u32, value: u64) -> bool
+pub(crate) fn is_cr3(frames: u32, value: u64) -> bool
     ensures { result ≡ is_cr3 frames value }
 {
     value / 4096 < u64::from(frames)
 }
 
 /// A value that CR4 takes: PAE, and SMEP or not.
-fn is_cr4(value: u64) -> bool
+pub(crate) fn is_cr4(value: u64) -> bool
     ensures { result ≡ is_cr4 value }
 {
     value == 0x20 || value == 0x10_0020

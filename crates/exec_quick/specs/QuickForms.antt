@@ -1,6 +1,6 @@
 -- Quick forms: an instruction of a common kind, taken apart once, when it is decoded. A quick form means an instruction, and
 -- what it does is that instruction's effect with its write made.
-use Rattle.std.specs.Prelude.{ℕ, ◌≡◌, ◌+◌, ◌<◌, ◌≤◌, Bool, true, false, ◌==◌, ◌-◌, nat_le, if◌then◌else◌, List, Option, None, Some, Result, Ok, Err}
+use Rattle.std.specs.Prelude.{ℕ, ◌≡◌, ◌+◌, ◌<◌, ◌≤◌, Bool, true, false, ◌==◌, ◌-◌, nat_le, if◌then◌else◌, List, Option, None, Some, unwrap_or, Result, Ok, Err, slice_index_or}
 use Rattle.decode_fields.specs.declared.place.Address.{Address}
 use Rattle.decode_fields.specs.declared.place.Place.{Place}
 use Rattle.decode_fields.specs.declared.place.Place.TheVariants.{Nothing, Reg, High, Mem, Value}
@@ -20,6 +20,7 @@ use Rattle.x86_regs.specs.declared.effects.Effect.{Effect}
 use Rattle.x86_regs.specs.declared.faults.Fault.{Fault}
 use Rattle.x86_regs.specs.declared.form.Form.{Form}
 use Rattle.x86_regs.specs.declared.form.Form.TheVariants.{Data, Flow}
+use Rattle.x86_regs.specs.declared.form.DataForm.{DataForm}
 use Rattle.x86_regs.specs.declared.form.DataForm.TheVariants as data_form
 use Rattle.x86_regs.specs.declared.form.FlowForm.TheVariants as flow_form
 use Rattle.x86_regs.specs.declared.registers.Regs.{Regs}
@@ -39,176 +40,237 @@ abbrev pub is_slow : Kind → Bool
 is_slow kind.Slow = true
 is_slow _ = false
 
+-- which operand stands in memory
+pub data InMemory : Type 0 where
+  Neither : InMemory
+  First : InMemory
+  Second : InMemory
+
+-- what a kind says of its instructions: their form; their operation and their width in bits, where it has one alone; which
+-- operand stands in memory; and that the first operand is a register
+pub record Meaning : Type 0 where
+  pub form : Form
+  pub operation : Option Op
+  pub width : Option ℕ
+  pub memory : InMemory
+  pub register : Bool
+
+-- every operation of a form, at every width
+abbrev pub every : Form → InMemory → Bool → Meaning
+every form memory register = record { form = form; operation = None; width = None; memory = memory; register = register }
+
+-- one operation at one width: over a register, with the second operand in memory, and with the first one there
+abbrev pub over : DataForm → Op → ℕ → Meaning
+over form op width = record { form = Data form; operation = Some op; width = Some width; memory = Neither; register = true }
+
+abbrev pub load : DataForm → Op → ℕ → Meaning
+load form op width = record { form = Data form; operation = Some op; width = Some width; memory = Second; register = true }
+
+abbrev pub store : DataForm → Op → ℕ → Meaning
+store form op width = record { form = Data form; operation = Some op; width = Some width; memory = First; register = false }
+
+-- a push and a pop of 64 bits
+abbrev pub stacked : DataForm → Bool → Meaning
+stacked form register = record { form = Data form; operation = None; width = Some 64; memory = Neither; register = register }
+
+-- one branch, by a condition and by the count in RCX
+abbrev pub jump : Op → Meaning
+jump op = record { form = Flow flow_form.Branch; operation = Some op; width = None; memory = Neither; register = false }
+
+abbrev pub counting : Op → Meaning
+counting op = record { form = Flow flow_form.CountDown; operation = Some op; width = None; memory = Neither; register = false }
+
+-- what each kind says
+abbrev pub meaning : Kind → Meaning
+meaning kind.Slow = every (Data data_form.Nothing) Neither false
+meaning kind.Combine = every (Data data_form.Combine) Neither true
+meaning kind.CombineLoad = every (Data data_form.Combine) Second true
+meaning kind.CombineStore = every (Data data_form.Combine) First false
+meaning kind.Compare = every (Data data_form.Compare) Neither true
+meaning kind.CompareLoad = every (Data data_form.Compare) Second true
+meaning kind.CompareStore = every (Data data_form.Compare) First false
+meaning kind.Move = every (Data data_form.Move) Neither true
+meaning kind.MoveLoad = every (Data data_form.Move) Second true
+meaning kind.MoveStore = every (Data data_form.Move) First false
+meaning kind.Address = every (Data data_form.Address) Second true
+meaning kind.Push = every (Data data_form.Push) Neither false
+meaning kind.PushLoad = every (Data data_form.Push) Second false
+meaning kind.Pop = every (Data data_form.Pop) Neither true
+meaning kind.Leave = every (Data data_form.Leave) Neither false
+meaning kind.Branch = every (Flow flow_form.Branch) Neither false
+meaning kind.BranchLoad = every (Flow flow_form.Branch) Second false
+meaning kind.Call = every (Flow flow_form.Call) Neither false
+meaning kind.CallLoad = every (Flow flow_form.Call) Second false
+meaning kind.Return = every (Flow flow_form.Return) Neither false
+meaning kind.CountDown = every (Flow flow_form.CountDown) Neither false
+meaning kind.ScanBits = every (Data data_form.ScanBits) Neither true
+meaning kind.ScanBitsLoad = every (Data data_form.ScanBits) Second true
+meaning kind.Multiply = every (Data data_form.Multiply) Neither false
+meaning kind.MultiplyLoad = every (Data data_form.Multiply) First false
+meaning kind.Divide = every (Data data_form.Divide) Neither false
+meaning kind.DivideLoad = every (Data data_form.Divide) First false
+meaning kind.Widen = every (Data data_form.Widen) Neither false
+meaning kind.Double = every (Data data_form.Double) Neither false
+meaning kind.ChangeFlag = every (Data data_form.ChangeFlag) Neither false
+meaning kind.Nothing = every (Data data_form.Nothing) Neither false
+meaning kind.MoveString = every (Data data_form.MoveString) Neither false
+meaning kind.StoreString = every (Data data_form.StoreString) Neither false
+meaning kind.LoadString = every (Data data_form.LoadString) Neither false
+meaning kind.CompareStrings = every (Data data_form.CompareStrings) Neither false
+meaning kind.ScanString = every (Data data_form.ScanString) Neither false
+meaning kind.Add64 = over data_form.Combine op.Add 64
+meaning kind.Add32 = over data_form.Combine op.Add 32
+meaning kind.Sub64 = over data_form.Combine op.Sub 64
+meaning kind.Sub32 = over data_form.Combine op.Sub 32
+meaning kind.And64 = over data_form.Combine op.And 64
+meaning kind.And32 = over data_form.Combine op.And 32
+meaning kind.Or64 = over data_form.Combine op.Or 64
+meaning kind.Or32 = over data_form.Combine op.Or 32
+meaning kind.Xor64 = over data_form.Combine op.Xor 64
+meaning kind.Xor32 = over data_form.Combine op.Xor 32
+meaning kind.Inc64 = over data_form.Combine op.Inc 64
+meaning kind.Inc32 = over data_form.Combine op.Inc 32
+meaning kind.Dec64 = over data_form.Combine op.Dec 64
+meaning kind.Dec32 = over data_form.Combine op.Dec 32
+meaning kind.Shl64 = over data_form.Combine op.Shl 64
+meaning kind.Shl32 = over data_form.Combine op.Shl 32
+meaning kind.Shr64 = over data_form.Combine op.Shr 64
+meaning kind.Shr32 = over data_form.Combine op.Shr 32
+meaning kind.Sar64 = over data_form.Combine op.Sar 64
+meaning kind.Sar32 = over data_form.Combine op.Sar 32
+meaning kind.Rol64 = over data_form.Combine op.Rol 64
+meaning kind.Rol32 = over data_form.Combine op.Rol 32
+meaning kind.Ror64 = over data_form.Combine op.Ror 64
+meaning kind.Ror32 = over data_form.Combine op.Ror 32
+meaning kind.Neg64 = over data_form.Combine op.Neg 64
+meaning kind.Neg32 = over data_form.Combine op.Neg 32
+meaning kind.Not64 = over data_form.Combine op.Not 64
+meaning kind.Not32 = over data_form.Combine op.Not 32
+meaning kind.Adc64 = over data_form.Combine op.Adc 64
+meaning kind.Adc32 = over data_form.Combine op.Adc 32
+meaning kind.Sbb64 = over data_form.Combine op.Sbb 64
+meaning kind.Sbb32 = over data_form.Combine op.Sbb 32
+meaning kind.AddLoad64 = load data_form.Combine op.Add 64
+meaning kind.AddLoad32 = load data_form.Combine op.Add 32
+meaning kind.SubLoad64 = load data_form.Combine op.Sub 64
+meaning kind.SubLoad32 = load data_form.Combine op.Sub 32
+meaning kind.AndLoad64 = load data_form.Combine op.And 64
+meaning kind.AndLoad32 = load data_form.Combine op.And 32
+meaning kind.OrLoad64 = load data_form.Combine op.Or 64
+meaning kind.OrLoad32 = load data_form.Combine op.Or 32
+meaning kind.XorLoad64 = load data_form.Combine op.Xor 64
+meaning kind.XorLoad32 = load data_form.Combine op.Xor 32
+meaning kind.AddStore64 = store data_form.Combine op.Add 64
+meaning kind.AddStore32 = store data_form.Combine op.Add 32
+meaning kind.SubStore64 = store data_form.Combine op.Sub 64
+meaning kind.SubStore32 = store data_form.Combine op.Sub 32
+meaning kind.AndStore64 = store data_form.Combine op.And 64
+meaning kind.AndStore32 = store data_form.Combine op.And 32
+meaning kind.OrStore64 = store data_form.Combine op.Or 64
+meaning kind.OrStore32 = store data_form.Combine op.Or 32
+meaning kind.IncStore64 = store data_form.Combine op.Inc 64
+meaning kind.IncStore32 = store data_form.Combine op.Inc 32
+meaning kind.DecStore64 = store data_form.Combine op.Dec 64
+meaning kind.DecStore32 = store data_form.Combine op.Dec 32
+meaning kind.IncStore8 = store data_form.Combine op.Inc 8
+meaning kind.DecStore8 = store data_form.Combine op.Dec 8
+meaning kind.AndStore8 = store data_form.Combine op.And 8
+meaning kind.OrStore8 = store data_form.Combine op.Or 8
+meaning kind.Cmp64 = over data_form.Compare op.Cmp 64
+meaning kind.Cmp32 = over data_form.Compare op.Cmp 32
+meaning kind.Test64 = over data_form.Compare op.Test 64
+meaning kind.Test32 = over data_form.Compare op.Test 32
+meaning kind.Cmp8 = over data_form.Compare op.Cmp 8
+meaning kind.Test8 = over data_form.Compare op.Test 8
+meaning kind.CmpLoad64 = load data_form.Compare op.Cmp 64
+meaning kind.CmpLoad32 = load data_form.Compare op.Cmp 32
+meaning kind.CmpLoad8 = load data_form.Compare op.Cmp 8
+meaning kind.CmpStore64 = store data_form.Compare op.Cmp 64
+meaning kind.CmpStore32 = store data_form.Compare op.Cmp 32
+meaning kind.CmpStore8 = store data_form.Compare op.Cmp 8
+meaning kind.TestStore64 = store data_form.Compare op.Test 64
+meaning kind.TestStore32 = store data_form.Compare op.Test 32
+meaning kind.TestStore8 = store data_form.Compare op.Test 8
+meaning kind.Mov64 = over data_form.Move op.Mov 64
+meaning kind.Mov32 = over data_form.Move op.Mov 32
+meaning kind.MovzxByte32 = over data_form.Move op.Movzx8 32
+meaning kind.MovzxWord32 = over data_form.Move op.Movzx16 32
+meaning kind.MovsxByte64 = over data_form.Move op.Movsx8 64
+meaning kind.MovsxByte32 = over data_form.Move op.Movsx8 32
+meaning kind.MovsxWord64 = over data_form.Move op.Movsx16 64
+meaning kind.MovsxWord32 = over data_form.Move op.Movsx16 32
+meaning kind.Movsxd64 = over data_form.Move op.Movsxd 64
+meaning kind.Load64 = load data_form.Move op.Mov 64
+meaning kind.Load32 = load data_form.Move op.Mov 32
+meaning kind.Load8 = load data_form.Move op.Mov 8
+meaning kind.LoadByte = load data_form.Move op.Movzx8 32
+meaning kind.MovzxWordLoad32 = load data_form.Move op.Movzx16 32
+meaning kind.MovsxByteLoad64 = load data_form.Move op.Movsx8 64
+meaning kind.MovsxByteLoad32 = load data_form.Move op.Movsx8 32
+meaning kind.MovsxWordLoad64 = load data_form.Move op.Movsx16 64
+meaning kind.MovsxWordLoad32 = load data_form.Move op.Movsx16 32
+meaning kind.MovsxdLoad64 = load data_form.Move op.Movsxd 64
+meaning kind.Store64 = store data_form.Move op.Mov 64
+meaning kind.Store32 = store data_form.Move op.Mov 32
+meaning kind.Store16 = store data_form.Move op.Mov 16
+meaning kind.Store8 = store data_form.Move op.Mov 8
+meaning kind.Push64 = stacked data_form.Push false
+meaning kind.Pop64 = stacked data_form.Pop true
+meaning kind.PushFlags = every (Flow flow_form.PushFlags) Neither false
+meaning kind.PopFlags = every (Flow flow_form.PopFlags) Neither false
+meaning kind.ClearInterrupts = record { form = Flow flow_form.ChangeInterruptFlag; operation = Some op.Cli; width = None; memory = Neither; register = false }
+meaning kind.FromControl = every (Flow flow_form.FromControl) Neither true
+meaning kind.Loop = counting op.Loop
+meaning kind.Jump = jump op.Jmp
+meaning kind.JumpZero = jump (op.J 4)
+meaning kind.JumpNotZero = jump (op.J 5)
+meaning kind.JumpBelow = jump (op.J 2)
+meaning kind.JumpNotBelow = jump (op.J 3)
+meaning kind.JumpNotAbove = jump (op.J 6)
+meaning kind.JumpAbove = jump (op.J 7)
+meaning kind.JumpLess = jump (op.J 12)
+meaning kind.JumpNotLess = jump (op.J 13)
+meaning kind.JumpNotGreater = jump (op.J 14)
+meaning kind.JumpGreater = jump (op.J 15)
+
 -- the first operand stands in memory, and the second
+abbrev pub is_first : InMemory → Bool
+is_first First = true
+is_first _ = false
+
+abbrev pub is_second : InMemory → Bool
+is_second Second = true
+is_second _ = false
+
 abbrev pub has_memory_first : Kind → Bool
-has_memory_first kind.CombineStore = true
-has_memory_first kind.CompareStore = true
-has_memory_first kind.MoveStore = true
-has_memory_first kind.MultiplyLoad = true
-has_memory_first kind.DivideLoad = true
-has_memory_first kind.Store64 = true
-has_memory_first kind.Store32 = true
-has_memory_first _ = false
+has_memory_first kind = is_first (meaning kind).memory
 
 abbrev pub has_memory_second : Kind → Bool
-has_memory_second kind.CombineLoad = true
-has_memory_second kind.CompareLoad = true
-has_memory_second kind.MoveLoad = true
-has_memory_second kind.Address = true
-has_memory_second kind.PushLoad = true
-has_memory_second kind.BranchLoad = true
-has_memory_second kind.CallLoad = true
-has_memory_second kind.ScanBitsLoad = true
-has_memory_second kind.Load64 = true
-has_memory_second kind.Load32 = true
-has_memory_second kind.LoadByte = true
-has_memory_second _ = false
+has_memory_second kind = is_second (meaning kind).memory
 
 -- the form of a kind's instructions
 abbrev pub form_by : Kind → Form
-form_by kind.Slow = Data data_form.Nothing
-form_by kind.Combine = Data data_form.Combine
-form_by kind.CombineLoad = Data data_form.Combine
-form_by kind.CombineStore = Data data_form.Combine
-form_by kind.Compare = Data data_form.Compare
-form_by kind.CompareLoad = Data data_form.Compare
-form_by kind.CompareStore = Data data_form.Compare
-form_by kind.Move = Data data_form.Move
-form_by kind.MoveLoad = Data data_form.Move
-form_by kind.MoveStore = Data data_form.Move
-form_by kind.Address = Data data_form.Address
-form_by kind.Push = Data data_form.Push
-form_by kind.PushLoad = Data data_form.Push
-form_by kind.Pop = Data data_form.Pop
-form_by kind.Leave = Data data_form.Leave
-form_by kind.Branch = Flow flow_form.Branch
-form_by kind.BranchLoad = Flow flow_form.Branch
-form_by kind.Call = Flow flow_form.Call
-form_by kind.CallLoad = Flow flow_form.Call
-form_by kind.Return = Flow flow_form.Return
-form_by kind.CountDown = Flow flow_form.CountDown
-form_by kind.ScanBits = Data data_form.ScanBits
-form_by kind.ScanBitsLoad = Data data_form.ScanBits
-form_by kind.Multiply = Data data_form.Multiply
-form_by kind.MultiplyLoad = Data data_form.Multiply
-form_by kind.Divide = Data data_form.Divide
-form_by kind.DivideLoad = Data data_form.Divide
-form_by kind.Widen = Data data_form.Widen
-form_by kind.Double = Data data_form.Double
-form_by kind.ChangeFlag = Data data_form.ChangeFlag
-form_by kind.Nothing = Data data_form.Nothing
-form_by kind.MoveString = Data data_form.MoveString
-form_by kind.StoreString = Data data_form.StoreString
-form_by kind.LoadString = Data data_form.LoadString
-form_by kind.CompareStrings = Data data_form.CompareStrings
-form_by kind.ScanString = Data data_form.ScanString
-form_by kind.Add64 = Data data_form.Combine
-form_by kind.Add32 = Data data_form.Combine
-form_by kind.Sub64 = Data data_form.Combine
-form_by kind.Sub32 = Data data_form.Combine
-form_by kind.And64 = Data data_form.Combine
-form_by kind.And32 = Data data_form.Combine
-form_by kind.Or64 = Data data_form.Combine
-form_by kind.Or32 = Data data_form.Combine
-form_by kind.Xor64 = Data data_form.Combine
-form_by kind.Xor32 = Data data_form.Combine
-form_by kind.Inc64 = Data data_form.Combine
-form_by kind.Inc32 = Data data_form.Combine
-form_by kind.Dec64 = Data data_form.Combine
-form_by kind.Dec32 = Data data_form.Combine
-form_by kind.Cmp64 = Data data_form.Compare
-form_by kind.Cmp32 = Data data_form.Compare
-form_by kind.Test64 = Data data_form.Compare
-form_by kind.Test32 = Data data_form.Compare
-form_by kind.Mov64 = Data data_form.Move
-form_by kind.Mov32 = Data data_form.Move
-form_by kind.Load64 = Data data_form.Move
-form_by kind.Load32 = Data data_form.Move
-form_by kind.LoadByte = Data data_form.Move
-form_by kind.Store64 = Data data_form.Move
-form_by kind.Store32 = Data data_form.Move
-form_by kind.Loop = Flow flow_form.CountDown
-form_by kind.Jump = Flow flow_form.Branch
-form_by kind.JumpZero = Flow flow_form.Branch
-form_by kind.JumpNotZero = Flow flow_form.Branch
-form_by kind.JumpBelow = Flow flow_form.Branch
-form_by kind.JumpNotBelow = Flow flow_form.Branch
-form_by kind.JumpNotAbove = Flow flow_form.Branch
-form_by kind.JumpAbove = Flow flow_form.Branch
-form_by kind.JumpLess = Flow flow_form.Branch
-form_by kind.JumpNotLess = Flow flow_form.Branch
-form_by kind.JumpNotGreater = Flow flow_form.Branch
-form_by kind.JumpGreater = Flow flow_form.Branch
+form_by kind = (meaning kind).form
 
 -- the operation of a kind that has one alone, and else the quick form's own
 abbrev pub op_by : Kind → Op → Op
-op_by kind.Add64 own = op.Add
-op_by kind.Add32 own = op.Add
-op_by kind.Sub64 own = op.Sub
-op_by kind.Sub32 own = op.Sub
-op_by kind.And64 own = op.And
-op_by kind.And32 own = op.And
-op_by kind.Or64 own = op.Or
-op_by kind.Or32 own = op.Or
-op_by kind.Xor64 own = op.Xor
-op_by kind.Xor32 own = op.Xor
-op_by kind.Inc64 own = op.Inc
-op_by kind.Inc32 own = op.Inc
-op_by kind.Dec64 own = op.Dec
-op_by kind.Dec32 own = op.Dec
-op_by kind.Cmp64 own = op.Cmp
-op_by kind.Cmp32 own = op.Cmp
-op_by kind.Test64 own = op.Test
-op_by kind.Test32 own = op.Test
-op_by kind.Mov64 own = op.Mov
-op_by kind.Mov32 own = op.Mov
-op_by kind.Load64 own = op.Mov
-op_by kind.Load32 own = op.Mov
-op_by kind.LoadByte own = op.Movzx8
-op_by kind.Store64 own = op.Mov
-op_by kind.Store32 own = op.Mov
-op_by kind.Loop own = op.Loop
-op_by kind.Jump own = op.Jmp
-op_by kind.JumpZero own = op.J 4
-op_by kind.JumpNotZero own = op.J 5
-op_by kind.JumpBelow own = op.J 2
-op_by kind.JumpNotBelow own = op.J 3
-op_by kind.JumpNotAbove own = op.J 6
-op_by kind.JumpAbove own = op.J 7
-op_by kind.JumpLess own = op.J 12
-op_by kind.JumpNotLess own = op.J 13
-op_by kind.JumpNotGreater own = op.J 14
-op_by kind.JumpGreater own = op.J 15
-op_by _ own = own
+op_by kind own = unwrap_or (meaning kind).operation own
 
 -- the width of a kind that has one alone, and else the quick form's own
 abbrev pub width_by : Kind → ℕ → ℕ
-width_by kind.Add64 own = 64
-width_by kind.Add32 own = 32
-width_by kind.Sub64 own = 64
-width_by kind.Sub32 own = 32
-width_by kind.And64 own = 64
-width_by kind.And32 own = 32
-width_by kind.Or64 own = 64
-width_by kind.Or32 own = 32
-width_by kind.Xor64 own = 64
-width_by kind.Xor32 own = 32
-width_by kind.Inc64 own = 64
-width_by kind.Inc32 own = 32
-width_by kind.Dec64 own = 64
-width_by kind.Dec32 own = 32
-width_by kind.Cmp64 own = 64
-width_by kind.Cmp32 own = 32
-width_by kind.Test64 own = 64
-width_by kind.Test32 own = 32
-width_by kind.Mov64 own = 64
-width_by kind.Mov32 own = 32
-width_by kind.Load64 own = 64
-width_by kind.Load32 own = 32
-width_by kind.LoadByte own = 32
-width_by kind.Store64 own = 64
-width_by kind.Store32 own = 32
-width_by _ own = own
+width_by kind own = unwrap_or (meaning kind).width own
+
+-- the kinds whose first operand is a register
+abbrev pub has_register_first : Kind → Bool
+has_register_first kind = (meaning kind).register
+
+-- the kinds whose instructions are made at CPL 0 alone
+abbrev pub is_supervisor : Kind → Bool
+is_supervisor kind.PushFlags = true
+is_supervisor kind.PopFlags = true
+is_supervisor kind.ClearInterrupts = true
+is_supervisor kind.FromControl = true
+is_supervisor _ = false
 
 -- a register of an address: 16 is none
 abbrev pub register_of : ℕ → Option ℕ
@@ -244,50 +306,13 @@ pub record IsQuick (q : Quick) : Type 0 where
   pub base : q.base ≤ 16
   pub index : q.index ≤ 16
 
--- the kinds whose first operand is a register
-abbrev pub has_register_first : Kind → Bool
-has_register_first kind.Combine = true
-has_register_first kind.CombineLoad = true
-has_register_first kind.Compare = true
-has_register_first kind.CompareLoad = true
-has_register_first kind.Move = true
-has_register_first kind.MoveLoad = true
-has_register_first kind.Address = true
-has_register_first kind.Pop = true
-has_register_first kind.ScanBits = true
-has_register_first kind.ScanBitsLoad = true
-has_register_first kind.Add64 = true
-has_register_first kind.Add32 = true
-has_register_first kind.Sub64 = true
-has_register_first kind.Sub32 = true
-has_register_first kind.And64 = true
-has_register_first kind.And32 = true
-has_register_first kind.Or64 = true
-has_register_first kind.Or32 = true
-has_register_first kind.Xor64 = true
-has_register_first kind.Xor32 = true
-has_register_first kind.Inc64 = true
-has_register_first kind.Inc32 = true
-has_register_first kind.Dec64 = true
-has_register_first kind.Dec32 = true
-has_register_first kind.Cmp64 = true
-has_register_first kind.Cmp32 = true
-has_register_first kind.Test64 = true
-has_register_first kind.Test32 = true
-has_register_first kind.Mov64 = true
-has_register_first kind.Mov32 = true
-has_register_first kind.Load64 = true
-has_register_first kind.Load32 = true
-has_register_first kind.LoadByte = true
-has_register_first _ = false
-
--- a quick form stands for what code decoded to: that is its instruction, which no condition refuses
+-- a quick form stands for what code decoded to: that is its instruction, which no condition refuses where it is made
 pub record StandsFor (q : Quick) (answer : Decoded) : Type 0 where
   pub means : answer ≡ Whole (instruction_of q) q.size
   pub ready : IsQuick q
   pub register : has_register_first q.kind ≡ true → q.to < 16
   pub form : instr_form (instruction_of q) ≡ form_by q.kind
-  pub lawful : (cpl : ℕ) → refusal (instruction_of q) cpl ≡ None
+  pub lawful : (cpl : ℕ) → (is_supervisor q.kind ≡ true → cpl ≡ 0) → refusal (instruction_of q) cpl ≡ None
 
 -- an effect whose write is made
 pub record Settled : Type 0 where
@@ -330,3 +355,7 @@ went Left next regs = regs
 -- the bytes of the page at this place stay
 abbrev pub IsSameOnPage : ℕ → List ℕ → List ℕ → Type 0
 IsSameOnPage place m n = (p : ℕ) → place ≤ p → p < place + 4096 → byte_at n p ≡ byte_at m p
+
+-- the bytes of each of the four pages at these places stay
+abbrev pub AreSameOnPages : List ℕ → List ℕ → List ℕ → Type 0
+AreSameOnPages places m n = (i : ℕ) → i < 4 → IsSameOnPage (slice_index_or places i 0) m n

@@ -4,7 +4,7 @@ use Rattle.x86_decode.specs.declared.operation.Op.{Op}
 use Rattle.exec_quick.specs.declared.quick.Kind.{Kind}
 use Rattle.x86_decode.specs.declared.instruction.Instr.{Instr}
 use Rattle.exec_quick.specs.declared.quick.Quick.{Quick}
-use Rattle.exec_quick.specs.QuickForms.{IsQuick, form_by, has_memory_first, has_memory_second, has_register_first, instruction_of, is_slow, op_by, width_by}
+use Rattle.exec_quick.specs.QuickForms.{IsQuick, form_by, has_memory_first, has_memory_second, has_register_first, instruction_of, is_slow, is_supervisor, op_by, width_by}
 
 -- the parts of this instruction, which has so many bytes
 pub record HasParts (q : Quick) (instr : Instr) (size : ℕ) : Type 0 where
@@ -21,4 +21,5 @@ pub record IsKindOf (like : Kind) (op : Op) (width : ℕ) (kind : Kind) : Type 0
   pub first : has_memory_first kind ≡ has_memory_first like
   pub second : has_memory_second kind ≡ has_memory_second like
   pub register : has_register_first kind ≡ has_register_first like
+  pub supervisor : is_supervisor kind ≡ is_supervisor like
   pub form : form_by kind ≡ form_by like

@@ -9,18 +9,18 @@ ghost use Rattle.page_walk.specs.declared.plan.Origin.TheVariants.{Is};
 ghost use Rattle.x86_regs.specs.OperandOutcomes.{target_by};
 ghost use Rattle.x86_regs.specs.Operands.{source_by};
 ghost use Rattle.mem_access.specs.Windows.{IsWindow};
-ghost use Rattle.exec_quick.specs.QuickForms.{IsQuick, IsSameOnPage, effect_made, is_left, next_address, operand_of, operand_value, quiet_outcome, went};
+ghost use Rattle.exec_quick.specs.QuickForms.{AreSameOnPages, IsQuick, effect_made, is_left, next_address, operand_of, operand_value, quiet_outcome, went};
 
 use crate::kept::load;
 use crate::operands::{address, next_address};
 use crate::quick::{Quick, Went};
+use crate::running::Running;
 use mem_access::Window;
 use nk_bits::{Control, canonical};
 use phys_mem::PhysMem;
 use tlb_model::Tlb;
-use x86_alu::ZF;
 use x86_decode::Op;
-use x86_regs::{Regs, bit, count_by, count_taken, is_taken, set_count};
+use x86_regs::{count_by, count_taken};
 
 /// A branch's target: a displacement from the next instruction, or what a register holds.
 #[inline(always)]
@@ -49,7 +49,7 @@ pub(crate) fn branch(
     quick: &Quick,
     op: Op,
     at: u64,
-    regs: &mut Regs,
+    regs: &mut Running,
     control: &Control,
     mem: &mut PhysMem,
     tlb: &Tlb,
@@ -64,7 +64,7 @@ pub(crate) fn branch(
     ensures privilege { regs.new.cpl ≡ regs.old.cpl }
 {
     let next = next_address(quick, at);
-    if !is_taken(op, regs.flags) {
+    if !regs.flags.is_taken(op) {
         return Went::On;
     }
     let target = target(quick, next, &regs.general);
@@ -81,7 +81,7 @@ pub(crate) fn branch(
 pub(crate) fn branch_load(
     quick: &Quick,
     at: u64,
-    regs: &mut Regs,
+    regs: &mut Running,
     control: &Control,
     mem: &mut PhysMem,
     tlb: &Tlb,
@@ -97,11 +97,11 @@ pub(crate) fn branch_load(
         ≡ effect_made (Flow FlowForm.Branch) quick.now (record regs.old { rip = at }) control.now mem.old tlb.now }
     ensures left { is_left result ≡ true → (regs.new ≡ regs.old) × (mem.new ≡ mem.old) }
     ensures off { window.new.off ≡ window.old.off }
-    ensures code { IsSameOnPage window.old.off mem.old mem.new }
+    ensures code { AreSameOnPages window.old.off mem.old mem.new }
     ensures length { length mem.new ≡ length mem.old }
     ensures privilege { regs.new.cpl ≡ regs.old.cpl }
 {
-    if !is_taken(quick.op, regs.flags) {
+    if !regs.flags.is_taken(quick.op) {
         return Went::Left;
     }
     let next = next_address(quick, at);
@@ -124,7 +124,7 @@ pub(crate) fn count_down(
     quick: &Quick,
     op: Op,
     at: u64,
-    regs: &mut Regs,
+    regs: &mut Running,
     control: &Control,
     mem: &mut PhysMem,
     tlb: &Tlb,
@@ -140,7 +140,7 @@ pub(crate) fn count_down(
 {
     let next = next_address(quick, at);
     let count = count_by(op, &regs.general);
-    let rip = if count_taken(op, count, bit(regs.flags, ZF)) {
+    let rip = if count_taken(op, count, regs.flags.is_zero()) {
         next.wrapping_add(quick.value)
     } else {
         next
@@ -148,7 +148,7 @@ pub(crate) fn count_down(
     if !canonical(rip) {
         return Went::Left;
     }
-    set_count(op, count, regs);
+    regs.set_count(op, count);
     regs.rip = rip;
     Went::Off
 }

@@ -1,9 +1,10 @@
 //! Loads and stores on one page at a place that was found kept: they are those of the address.
 
-ghost use Rattle.std.specs.Prelude.{◌≡◌, ◌⊎◌, ◌+◌, ◌^◌, ◌<◌, ◌≤◌, false, length};
+ghost use Rattle.std.specs.Prelude.{◌≡◌, ◌+◌, ◌^◌, ◌<◌, ◌≤◌, false, length};
 ghost use Rattle.phys_mem.specs.Memory.{stored};
 ghost use Rattle.nk_bits.specs.Accesses.{IsAccessSize, crosses};
-ghost use Rattle.exec_quick.specs.QuickForms.{IsSameOnPage};
+ghost use Rattle.exec_quick.specs.QuickForms.{AreSameOnPages};
+ghost use Rattle.mem_access.specs.Windows.{AreBeside};
 ghost use Rattle.page_walk.specs.MemoryAccess.{stores_at, value_at};
 
 use mem_access::{Window, kept_number, one_page_law, put_kept};
@@ -28,8 +29,8 @@ pub(crate) fn store(mem: &mut PhysMem, window: &Window, place: u64, va: u64, byt
     requires bytes { IsAccessSize bytes }
     requires one { crosses va bytes ≡ false }
     requires fits { place + bytes ≤ length mem.old }
-    requires apart { (place + bytes ≤ window.now.off) ⊎ (window.now.off + 4096 ≤ place) }
-    ensures code { IsSameOnPage window.now.off mem.old mem.new }
+    requires apart { AreBeside window.now.off place bytes }
+    ensures code { AreSameOnPages window.now.off mem.old mem.new }
     ensures stored { mem.new ≡ stored mem.old (stores_at va bytes (record { first = place; second = 0 }) value) }
     ensures length { length mem.new ≡ length mem.old }
 {

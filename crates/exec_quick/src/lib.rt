@@ -8,11 +8,14 @@ mod kinds;
 mod quick;
 mod taken_apart;
 
+// What it works on.
+mod running;
+
 // Loads and stores at a place that was found kept.
 mod kept;
 
-// The kinds: over registers, over memory, over the stack, of branches, of products and scans, of no operand, and of
-// strings.
+// The kinds: over registers, over memory, over the stack, of branches, of products and scans, of no operand, of strings,
+// and of the supervisor.
 mod branches;
 mod memory;
 mod operands;
@@ -22,10 +25,12 @@ mod registers;
 mod scans;
 mod stack;
 mod strings;
+mod system;
 
 // The call.
 mod turn;
 
 pub use quick::{Kind, Quick, SLOW, Went};
+pub use running::Running;
 pub use taken_apart::quick_of;
-pub use turn::{make, make_at};
+pub use turn::make_at;

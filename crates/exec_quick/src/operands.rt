@@ -9,9 +9,9 @@ ghost use Rattle.x86_regs.specs.Registers.{written};
 ghost use Rattle.exec_quick.specs.QuickForms.{IsQuick, next_address, quick_address, operand_of, operand_value, register_of};
 
 use crate::quick::Quick;
+use crate::running::Running;
 use decode_fields::Place;
-use x86_alu::Out;
-use x86_regs::{Regs, set_place};
+use x86_regs::set_place;
 
 /// The value of an operand that isn't in memory, of which the low bits count.
 #[inline(always)]
@@ -40,7 +40,7 @@ pub(crate) fn next_address(quick: &Quick, at: u64) -> u64
 
 /// The value of the first operand, which isn't in memory, of which so many low bits count.
 #[inline(always)]
-pub(crate) fn first(quick: &Quick, width: u8, at: u64, regs: &Regs) -> u64
+pub(crate) fn first(quick: &Quick, width: u8, at: u64, regs: &Running) -> u64
     requires ready { IsQuick quick.now }
     requires width { IsWidth width }
     ensures source { source_by regs.now.general (next_address at quick.now.size) width quick.now.value
@@ -53,7 +53,7 @@ pub(crate) fn first(quick: &Quick, width: u8, at: u64, regs: &Regs) -> u64
 
 /// The value of the first operand, which is a register, of which so many low bits count.
 #[inline(always)]
-pub(crate) fn first_register(quick: &Quick, width: u8, at: u64, regs: &Regs) -> u64
+pub(crate) fn first_register(quick: &Quick, width: u8, at: u64, regs: &Running) -> u64
     requires register { quick.now.to < 16 }
     requires width { IsWidth width }
     ensures source { source_by regs.now.general (next_address at quick.now.size) width quick.now.value
@@ -64,23 +64,21 @@ pub(crate) fn first_register(quick: &Quick, width: u8, at: u64, regs: &Regs) -> 
     regs.general[usize::from(quick.to)]
 }
 
-/// Puts a result into the first operand, which is a register, with flags.
+/// Puts a result into the first operand, which is a register, whose flags are put already.
 #[inline(always)]
-pub(crate) fn put_result(quick: &Quick, width: u8, it: Out, regs: &mut Regs)
+pub(crate) fn put_result(quick: &Quick, width: u8, value: u64, regs: &mut Running)
     requires register { quick.now.to < 16 }
     requires width { IsWidth width }
     ensures put { regs.new ≡ record regs.old {
-      general = written regs.old.general (operand_of quick.now.to) width it.value;
-      flags = it.flags;
+      general = written regs.old.general (operand_of quick.now.to) width value;
     } }
 {
-    set_place(&mut regs.general, &Place::Reg(quick.to), width, it.value);
-    regs.flags = it.flags;
+    set_place(&mut regs.general, &Place::Reg(quick.to), width, value);
 }
 
 /// The value of the second operand, which isn't in memory, of which so many low bits count.
 #[inline(always)]
-pub(crate) fn source(quick: &Quick, width: u8, at: u64, regs: &Regs) -> u64
+pub(crate) fn source(quick: &Quick, width: u8, at: u64, regs: &Running) -> u64
     requires ready { IsQuick quick.now }
     requires width { IsWidth width }
     ensures source { source_by regs.now.general (next_address at quick.now.size) width quick.now.value

@@ -9,11 +9,12 @@ ghost use Rattle.exec_quick.specs.declared.quick.Kind.TheVariants as Kind;
 ghost use Rattle.exec_quick.specs.QuickForms.{IsQuick, effect_made, is_left, next_address, quiet_outcome, went};
 
 use crate::quick::{Quick, Went};
+use crate::running::Running;
 use decode_fields::Place;
 use nk_bits::Control;
 use phys_mem::PhysMem;
 use tlb_model::Tlb;
-use x86_regs::{RAX, RDX, Regs, extended, flags_changed, low, ones, set_place, sign, source_width};
+use x86_regs::{RAX, RDX, extended, flags_changed, low, ones, set_place, sign, source_width};
 
 /// NOP.
 #[inline(always)]
@@ -21,7 +22,7 @@ use x86_regs::{RAX, RDX, Regs, extended, flags_changed, low, ones, set_place, si
 pub(crate) fn nothing(
     quick: &Quick,
     at: u64,
-    regs: &mut Regs,
+    regs: &mut Running,
     control: &Control,
     mem: &mut PhysMem,
     tlb: &Tlb,
@@ -44,7 +45,7 @@ pub(crate) fn nothing(
 pub(crate) fn widen(
     quick: &Quick,
     at: u64,
-    regs: &mut Regs,
+    regs: &mut Running,
     control: &Control,
     mem: &mut PhysMem,
     tlb: &Tlb,
@@ -71,7 +72,7 @@ pub(crate) fn widen(
 pub(crate) fn double(
     quick: &Quick,
     at: u64,
-    regs: &mut Regs,
+    regs: &mut Running,
     control: &Control,
     mem: &mut PhysMem,
     tlb: &Tlb,
@@ -109,7 +110,7 @@ fn signs(width: u8, number: u64) -> u64
 pub(crate) fn change_flag(
     quick: &Quick,
     at: u64,
-    regs: &mut Regs,
+    regs: &mut Running,
     control: &Control,
     mem: &mut PhysMem,
     tlb: &Tlb,
@@ -123,6 +124,7 @@ pub(crate) fn change_flag(
     ensures memory { mem.new ≡ mem.old }
     ensures privilege { regs.new.cpl ≡ regs.old.cpl }
 {
-    regs.flags = flags_changed(quick.op, regs.flags);
+    let flags = flags_changed(quick.op, regs.flags.word());
+    regs.flags.put(flags);
     Went::On
 }

@@ -8,20 +8,21 @@ ghost use Rattle.x86_regs.specs.declared.form.DataForm.TheVariants as DataForm;
 ghost use Rattle.x86_regs.specs.OperandOutcomes.{divided, is_signed, multiplied_wide, quietly};
 ghost use Rattle.exec_quick.specs.declared.quick.Kind.TheVariants as Kind;
 ghost use Rattle.mem_access.specs.Windows.{IsWindow};
-ghost use Rattle.exec_quick.specs.QuickForms.{IsQuick, IsSameOnPage, effect_made, instruction_of, is_left, next_address, quiet_outcome, went, width_by};
+ghost use Rattle.exec_quick.specs.QuickForms.{AreSameOnPages, IsQuick, effect_made, instruction_of, is_left, next_address, quiet_outcome, went, width_by};
 
 use crate::kept::load;
 use crate::operands::{address, first, next_address};
 use crate::quick::{Quick, Went};
+use crate::running::Running;
 use mem_access::Window;
 use nk_bits::Control;
 use phys_mem::PhysMem;
 use tlb_model::Tlb;
-use x86_regs::{RAX, Regs, is_signed, set_halves, upper_half};
+use x86_regs::{RAX, is_signed, set_halves, upper_half};
 
 /// The accumulator times a number, into both halves, with CF and OF.
 #[inline(always)]
-fn multiply_by(quick: &Quick, at: u64, regs: &mut Regs, by: u64)
+fn multiply_by(quick: &Quick, at: u64, regs: &mut Running, by: u64)
     requires ready { IsQuick quick.now }
     requires width { width_by quick.now.kind quick.now.width ≡ quick.now.width }
     ensures product { quietly (record regs.new { rip = next_address at quick.now.size })
@@ -30,17 +31,18 @@ fn multiply_by(quick: &Quick, at: u64, regs: &mut Regs, by: u64)
     ensures privilege { regs.new.cpl ≡ regs.old.cpl }
 {
     let signed = is_signed(quick.op);
+    let flags = regs.flags.word();
     let accumulator = regs.general[usize::from(RAX)];
-    let low = x86_alu::multiply(signed, false, quick.width, accumulator, by, regs.flags);
-    let high = x86_alu::multiply(signed, true, quick.width, accumulator, by, regs.flags);
+    let low = x86_alu::multiply(signed, false, quick.width, accumulator, by, flags);
+    let high = x86_alu::multiply(signed, true, quick.width, accumulator, by, flags);
     set_halves(&mut regs.general, quick.width, low.value, high.value);
-    regs.flags = low.flags;
+    regs.flags.put(low.flags);
 }
 
 /// Both halves by a number, into quotient and remainder; where the number is 0 or the
 /// quotient doesn't fit, nothing.
 #[inline(always)]
-fn divide_by(quick: &Quick, at: u64, regs: &mut Regs, by: u64) -> Went
+fn divide_by(quick: &Quick, at: u64, regs: &mut Running, by: u64) -> Went
     requires ready { IsQuick quick.now }
     requires width { width_by quick.now.kind quick.now.width ≡ quick.now.width }
     ensures quotient { is_left result ≡ false
@@ -66,7 +68,7 @@ fn divide_by(quick: &Quick, at: u64, regs: &mut Regs, by: u64) -> Went
 pub(crate) fn multiply(
     quick: &Quick,
     at: u64,
-    regs: &mut Regs,
+    regs: &mut Running,
     control: &Control,
     mem: &mut PhysMem,
     tlb: &Tlb,
@@ -91,7 +93,7 @@ pub(crate) fn multiply(
 pub(crate) fn multiply_load(
     quick: &Quick,
     at: u64,
-    regs: &mut Regs,
+    regs: &mut Running,
     control: &Control,
     mem: &mut PhysMem,
     tlb: &Tlb,
@@ -107,7 +109,7 @@ pub(crate) fn multiply_load(
         ≡ effect_made (Data DataForm.Multiply) quick.now (record regs.old { rip = at }) control.now mem.old tlb.now }
     ensures left { is_left result ≡ true → (regs.new ≡ regs.old) × (mem.new ≡ mem.old) }
     ensures off { window.new.off ≡ window.old.off }
-    ensures code { IsSameOnPage window.old.off mem.old mem.new }
+    ensures code { AreSameOnPages window.old.off mem.old mem.new }
     ensures length { length mem.new ≡ length mem.old }
     ensures privilege { regs.new.cpl ≡ regs.old.cpl }
 {
@@ -128,7 +130,7 @@ pub(crate) fn multiply_load(
 pub(crate) fn divide(
     quick: &Quick,
     at: u64,
-    regs: &mut Regs,
+    regs: &mut Running,
     control: &Control,
     mem: &mut PhysMem,
     tlb: &Tlb,
@@ -152,7 +154,7 @@ pub(crate) fn divide(
 pub(crate) fn divide_load(
     quick: &Quick,
     at: u64,
-    regs: &mut Regs,
+    regs: &mut Running,
     control: &Control,
     mem: &mut PhysMem,
     tlb: &Tlb,
@@ -168,7 +170,7 @@ pub(crate) fn divide_load(
         ≡ effect_made (Data DataForm.Divide) quick.now (record regs.old { rip = at }) control.now mem.old tlb.now }
     ensures left { is_left result ≡ true → (regs.new ≡ regs.old) × (mem.new ≡ mem.old) }
     ensures off { window.new.off ≡ window.old.off }
-    ensures code { IsSameOnPage window.old.off mem.old mem.new }
+    ensures code { AreSameOnPages window.old.off mem.old mem.new }
     ensures length { length mem.new ≡ length mem.old }
     ensures privilege { regs.new.cpl ≡ regs.old.cpl }
 {

@@ -9,14 +9,13 @@ ghost use Rattle.exec_quick.specs.QuickForms.{IsQuick, effect_made, is_left, nex
 
 use crate::operands::{address, first_register, next_address, put_result, source};
 use crate::quick::{Quick, Went};
+use crate::running::Running;
 use decode_fields::Place;
 use nk_bits::Control;
 use phys_mem::PhysMem;
 use tlb_model::Tlb;
 use x86_decode::Op;
-use x86_regs::{
-    Regs, frequent_combination, frequent_comparison, low, movement, set_place, source_width,
-};
+use x86_regs::{low, set_place, source_width};
 
 /// ADD and all that writes its first operand by both.
 #[inline(always)]
@@ -26,7 +25,7 @@ pub(crate) fn combine(
     op: Op,
     width: u8,
     at: u64,
-    regs: &mut Regs,
+    regs: &mut Running,
     control: &Control,
     mem: &mut PhysMem,
     tlb: &Tlb,
@@ -46,8 +45,8 @@ pub(crate) fn combine(
     let to = first_register(quick, width, at, regs);
     let bits = source_width(op, width);
     let from = source(quick, bits, at, regs);
-    let it = frequent_combination(op, width, to, from, quick.value, regs.flags);
-    put_result(quick, width, it, regs);
+    let value = regs.combine(op, width, to, from, quick.value);
+    put_result(quick, width, value, regs);
     Went::On
 }
 
@@ -59,7 +58,7 @@ pub(crate) fn compare(
     op: Op,
     width: u8,
     at: u64,
-    regs: &mut Regs,
+    regs: &mut Running,
     control: &Control,
     mem: &mut PhysMem,
     tlb: &Tlb,
@@ -78,7 +77,7 @@ pub(crate) fn compare(
 {
     let to = first_register(quick, width, at, regs);
     let from = source(quick, width, at, regs);
-    regs.flags = frequent_comparison(op, width, to, from, regs.flags);
+    regs.compare(op, width, to, from);
     Went::On
 }
 
@@ -90,7 +89,7 @@ pub(crate) fn move_over(
     op: Op,
     width: u8,
     at: u64,
-    regs: &mut Regs,
+    regs: &mut Running,
     control: &Control,
     mem: &mut PhysMem,
     tlb: &Tlb,
@@ -109,7 +108,7 @@ pub(crate) fn move_over(
 {
     let bits = source_width(op, width);
     let from = source(quick, bits, at, regs);
-    let value = movement(op, width, from, regs.flags);
+    let value = regs.flags.movement(op, width, from);
     set_place(&mut regs.general, &Place::Reg(quick.to), width, value);
     Went::On
 }
@@ -120,7 +119,7 @@ pub(crate) fn move_over(
 pub(crate) fn load_address(
     quick: &Quick,
     at: u64,
-    regs: &mut Regs,
+    regs: &mut Running,
     control: &Control,
     mem: &mut PhysMem,
     tlb: &Tlb,

@@ -8,23 +8,24 @@ ghost use Rattle.x86_regs.specs.declared.form.DataForm.TheVariants as DataForm;
 ghost use Rattle.x86_regs.specs.OperandOutcomes.{bits_scanned, is_forward, quietly};
 ghost use Rattle.exec_quick.specs.declared.quick.Kind.TheVariants as Kind;
 ghost use Rattle.mem_access.specs.Windows.{IsWindow};
-ghost use Rattle.exec_quick.specs.QuickForms.{IsQuick, IsSameOnPage, effect_made, has_memory_first, instruction_of, is_left, next_address, quiet_outcome, went, width_by};
+ghost use Rattle.exec_quick.specs.QuickForms.{AreSameOnPages, IsQuick, effect_made, has_memory_first, instruction_of, is_left, next_address, quiet_outcome, went, width_by};
 
 use crate::kept::load;
 use crate::operands::{address, next_address, source};
 use crate::quick::{Quick, Went};
+use crate::running::Running;
 use decode_fields::Place;
 use mem_access::Window;
 use nk_bits::Control;
 use phys_mem::PhysMem;
 use tlb_model::Tlb;
 use x86_alu::scan_bit;
-use x86_regs::{Regs, is_forward, low, set_place};
+use x86_regs::{is_forward, low, set_place};
 
 /// The place of the first or the last set bit of a number, into the register; where no bit
 /// is set the register keeps its whole value.
 #[inline(always)]
-fn scan(quick: &Quick, at: u64, regs: &mut Regs, from: u64)
+fn scan(quick: &Quick, at: u64, regs: &mut Running, from: u64)
     requires ready { IsQuick quick.now }
     requires width { width_by quick.now.kind quick.now.width ≡ quick.now.width }
     requires first { has_memory_first quick.now.kind ≡ false }
@@ -34,7 +35,7 @@ fn scan(quick: &Quick, at: u64, regs: &mut Regs, from: u64)
         (is_forward quick.now.op) (cut quick.now.width from) }
     ensures privilege { regs.new.cpl ≡ regs.old.cpl }
 {
-    let it = scan_bit(is_forward(quick.op), quick.width, from, regs.flags);
+    let it = scan_bit(is_forward(quick.op), quick.width, from, regs.flags.word());
     if low(quick.width, from) != 0 {
         set_place(
             &mut regs.general,
@@ -43,7 +44,7 @@ fn scan(quick: &Quick, at: u64, regs: &mut Regs, from: u64)
             it.value,
         );
     }
-    regs.flags = it.flags;
+    regs.flags.put(it.flags);
 }
 
 /// BSF and BSR of a register.
@@ -52,7 +53,7 @@ fn scan(quick: &Quick, at: u64, regs: &mut Regs, from: u64)
 pub(crate) fn scan_bits(
     quick: &Quick,
     at: u64,
-    regs: &mut Regs,
+    regs: &mut Running,
     control: &Control,
     mem: &mut PhysMem,
     tlb: &Tlb,
@@ -78,7 +79,7 @@ pub(crate) fn scan_bits(
 pub(crate) fn scan_bits_load(
     quick: &Quick,
     at: u64,
-    regs: &mut Regs,
+    regs: &mut Running,
     control: &Control,
     mem: &mut PhysMem,
     tlb: &Tlb,
@@ -95,7 +96,7 @@ pub(crate) fn scan_bits_load(
         ≡ effect_made (Data DataForm.ScanBits) quick.now (record regs.old { rip = at }) control.now mem.old tlb.now }
     ensures left { is_left result ≡ true → (regs.new ≡ regs.old) × (mem.new ≡ mem.old) }
     ensures off { window.new.off ≡ window.old.off }
-    ensures code { IsSameOnPage window.old.off mem.old mem.new }
+    ensures code { AreSameOnPages window.old.off mem.old mem.new }
     ensures length { length mem.new ≡ length mem.old }
     ensures privilege { regs.new.cpl ≡ regs.old.cpl }
 {

@@ -10,25 +10,25 @@ ghost use Rattle.x86_regs.specs.OperandPlans.{is_idle};
 ghost use Rattle.x86_regs.specs.OperandOutcomes.{counted, is_again, pointer_moved};
 ghost use Rattle.exec_quick.specs.declared.quick.Kind.TheVariants as Kind;
 ghost use Rattle.mem_access.specs.Windows.{IsWindow};
-ghost use Rattle.exec_quick.specs.QuickForms.{IsQuick, IsSameOnPage, effect_made, instruction_of, is_left, next_address, quiet_outcome, went};
+ghost use Rattle.exec_quick.specs.QuickForms.{AreSameOnPages, IsQuick, effect_made, instruction_of, is_left, next_address, quiet_outcome, went};
 
 use crate::kept::{load, store};
 use crate::operands::next_address;
 use crate::quick::{Quick, Went};
+use crate::running::Running;
 use decode_fields::Place;
 use mem_access::Window;
 use nk_bits::Control;
 use phys_mem::PhysMem;
 use tlb_model::Tlb;
-use x86_alu::ZF;
+use x86_decode::Op;
 use x86_regs::{
-    DF, RAX, RCX, RDI, RSI, Regs, bit, difference, held, is_asked, is_repeated, low, lowered,
-    set_place, set_register,
+    RAX, RCX, RDI, RSI, held, is_asked, is_repeated, low, lowered, set_place, set_register,
 };
 
 /// A repeated instruction whose count is 0 does nothing.
 #[inline(always)]
-fn is_idle(quick: &Quick, regs: &Regs) -> bool
+fn is_idle(quick: &Quick, regs: &Running) -> bool
     ensures { result ≡ is_idle (instruction_of quick.now) regs.now }
 {
     is_repeated(quick.rep) & (regs.general[usize::from(RCX)] == 0)
@@ -36,14 +36,14 @@ fn is_idle(quick: &Quick, regs: &Regs) -> bool
 
 /// Moves a pointer by an operand of `width` bits, down where DF is set.
 #[inline(always)]
-fn move_pointer(regs: &mut Regs, width: u8, number: u8)
+fn move_pointer(regs: &mut Running, width: u8, number: u8)
     requires width { IsWidth width }
     requires number { number < 16 }
     ensures { regs.new ≡ record regs.old { general = pointer_moved regs.old width number regs.old.general } }
 {
     let at = regs.general[usize::from(number)];
     let step = u64::from(width / 8);
-    let moved = if bit(regs.flags, DF) {
+    let moved = if regs.flags.is_down() {
         lowered(at, step)
     } else {
         at.wrapping_add(step)
@@ -53,7 +53,7 @@ fn move_pointer(regs: &mut Regs, width: u8, number: u8)
 
 /// Counts a repeated instruction.
 #[inline(always)]
-fn count(quick: &Quick, regs: &mut Regs)
+fn count(quick: &Quick, regs: &mut Running)
     ensures { regs.new ≡ record regs.old { general = counted (instruction_of quick.now) regs.old.general } }
 {
     if is_repeated(quick.rep) {
@@ -64,7 +64,7 @@ fn count(quick: &Quick, regs: &mut Regs)
 
 /// Counts a repeated instruction and goes on: at itself where it is made again, else at the next one.
 #[inline(always)]
-fn go_on(quick: &Quick, at: u64, regs: &mut Regs, asked: bool)
+fn go_on(quick: &Quick, at: u64, regs: &mut Running, asked: bool)
     ensures { let after = counted (instruction_of quick.now) regs.old.general in
         regs.new ≡ record regs.old {
           general = after;
@@ -82,7 +82,7 @@ fn go_on(quick: &Quick, at: u64, regs: &mut Regs, asked: bool)
 pub(crate) fn move_string(
     quick: &Quick,
     at: u64,
-    regs: &mut Regs,
+    regs: &mut Running,
     control: &Control,
     mem: &mut PhysMem,
     tlb: &Tlb,
@@ -98,7 +98,7 @@ pub(crate) fn move_string(
         ≡ effect_made (Data DataForm.MoveString) quick.now (record regs.old { rip = at }) control.now mem.old tlb.now }
     ensures left { is_left result ≡ true → (regs.new ≡ regs.old) × (mem.new ≡ mem.old) }
     ensures off { window.new.off ≡ window.old.off }
-    ensures code { IsSameOnPage window.old.off mem.old mem.new }
+    ensures code { AreSameOnPages window.old.off mem.old mem.new }
     ensures length { length mem.new ≡ length mem.old }
     ensures privilege { regs.new.cpl ≡ regs.old.cpl }
 {
@@ -128,7 +128,7 @@ pub(crate) fn move_string(
 pub(crate) fn store_string(
     quick: &Quick,
     at: u64,
-    regs: &mut Regs,
+    regs: &mut Running,
     control: &Control,
     mem: &mut PhysMem,
     tlb: &Tlb,
@@ -144,7 +144,7 @@ pub(crate) fn store_string(
         ≡ effect_made (Data DataForm.StoreString) quick.now (record regs.old { rip = at }) control.now mem.old tlb.now }
     ensures left { is_left result ≡ true → (regs.new ≡ regs.old) × (mem.new ≡ mem.old) }
     ensures off { window.new.off ≡ window.old.off }
-    ensures code { IsSameOnPage window.old.off mem.old mem.new }
+    ensures code { AreSameOnPages window.old.off mem.old mem.new }
     ensures length { length mem.new ≡ length mem.old }
     ensures privilege { regs.new.cpl ≡ regs.old.cpl }
 {
@@ -169,7 +169,7 @@ pub(crate) fn store_string(
 pub(crate) fn load_string(
     quick: &Quick,
     at: u64,
-    regs: &mut Regs,
+    regs: &mut Running,
     control: &Control,
     mem: &mut PhysMem,
     tlb: &Tlb,
@@ -185,7 +185,7 @@ pub(crate) fn load_string(
         ≡ effect_made (Data DataForm.LoadString) quick.now (record regs.old { rip = at }) control.now mem.old tlb.now }
     ensures left { is_left result ≡ true → (regs.new ≡ regs.old) × (mem.new ≡ mem.old) }
     ensures off { window.new.off ≡ window.old.off }
-    ensures code { IsSameOnPage window.old.off mem.old mem.new }
+    ensures code { AreSameOnPages window.old.off mem.old mem.new }
     ensures length { length mem.new ≡ length mem.old }
     ensures privilege { regs.new.cpl ≡ regs.old.cpl }
 {
@@ -210,7 +210,7 @@ pub(crate) fn load_string(
 pub(crate) fn compare_strings(
     quick: &Quick,
     at: u64,
-    regs: &mut Regs,
+    regs: &mut Running,
     control: &Control,
     mem: &mut PhysMem,
     tlb: &Tlb,
@@ -226,7 +226,7 @@ pub(crate) fn compare_strings(
         ≡ effect_made (Data DataForm.CompareStrings) quick.now (record regs.old { rip = at }) control.now mem.old tlb.now }
     ensures left { is_left result ≡ true → (regs.new ≡ regs.old) × (mem.new ≡ mem.old) }
     ensures off { window.new.off ≡ window.old.off }
-    ensures code { IsSameOnPage window.old.off mem.old mem.new }
+    ensures code { AreSameOnPages window.old.off mem.old mem.new }
     ensures length { length mem.new ≡ length mem.old }
     ensures privilege { regs.new.cpl ≡ regs.old.cpl }
 {
@@ -246,8 +246,9 @@ pub(crate) fn compare_strings(
     let from = load(mem, from_place, from, bytes);
     move_pointer(regs, quick.width, RSI);
     move_pointer(regs, quick.width, RDI);
-    regs.flags = difference(quick.width, to, from, false, regs.flags).flags;
-    go_on(quick, at, regs, is_asked(quick.rep, bit(regs.flags, ZF)));
+    regs.compare(Op::Cmp, quick.width, to, from);
+    let asked = is_asked(quick.rep, regs.flags.is_zero());
+    go_on(quick, at, regs, asked);
     Went::Off
 }
 
@@ -257,7 +258,7 @@ pub(crate) fn compare_strings(
 pub(crate) fn scan_string(
     quick: &Quick,
     at: u64,
-    regs: &mut Regs,
+    regs: &mut Running,
     control: &Control,
     mem: &mut PhysMem,
     tlb: &Tlb,
@@ -273,7 +274,7 @@ pub(crate) fn scan_string(
         ≡ effect_made (Data DataForm.ScanString) quick.now (record regs.old { rip = at }) control.now mem.old tlb.now }
     ensures left { is_left result ≡ true → (regs.new ≡ regs.old) × (mem.new ≡ mem.old) }
     ensures off { window.new.off ≡ window.old.off }
-    ensures code { IsSameOnPage window.old.off mem.old mem.new }
+    ensures code { AreSameOnPages window.old.off mem.old mem.new }
     ensures length { length mem.new ≡ length mem.old }
     ensures privilege { regs.new.cpl ≡ regs.old.cpl }
 {
@@ -288,7 +289,8 @@ pub(crate) fn scan_string(
     let from = load(mem, place, from, bytes);
     let to = regs.general[usize::from(RAX)];
     move_pointer(regs, quick.width, RDI);
-    regs.flags = difference(quick.width, to, from, false, regs.flags).flags;
-    go_on(quick, at, regs, is_asked(quick.rep, bit(regs.flags, ZF)));
+    regs.compare(Op::Cmp, quick.width, to, from);
+    let asked = is_asked(quick.rep, regs.flags.is_zero());
+    go_on(quick, at, regs, asked);
     Went::Off
 }

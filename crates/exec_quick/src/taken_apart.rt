@@ -8,24 +8,47 @@ ghost use Rattle.x86_regs.specs.declared.form.Form.TheVariants.{Data, Flow};
 ghost use Rattle.x86_regs.specs.declared.form.DataForm.TheVariants as DataForm;
 ghost use Rattle.x86_regs.specs.declared.form.FlowForm.TheVariants as FlowForm;
 ghost use Rattle.x86_regs.specs.OperandPlans.{instr_form};
-ghost use Rattle.exec_quick.specs.QuickForms.{StandsFor, form_by, has_memory_first, has_memory_second, has_register_first, is_slow, op_by, operand_of, register_of, width_by};
+ghost use Rattle.exec_quick.specs.QuickForms.{StandsFor, form_by, has_memory_first, has_memory_second, has_register_first, is_slow, is_supervisor, op_by, operand_of, register_of, width_by};
 ghost use Rattle.exec_quick.specs.QuickParts.{HasParts};
 
 use crate::kinds::of_its_kind;
 use crate::quick::{Kind, Quick, SLOW};
 use decode_fields::{Address, Place};
-use x86_decode::Instr;
-use x86_regs::{DataForm, FlowForm, Form, instr_form, is_unconditional};
+use x86_decode::{Instr, Op};
+use x86_regs::{DataForm, FlowForm, Form, instr_form, is_unconditional, refusal};
 
 /// The quick form of an instruction of so many bytes, or `SLOW`.
 pub fn quick_of(instr: &Instr, size: u8) -> Quick
     requires formed { IsWellFormed instr.now }
     ensures stands { is_slow result.kind ≡ false → StandsFor result (Whole instr.now size) }
 {
-    if !instr.lock && is_unconditional(instr) {
+    if instr.lock {
+        SLOW
+    } else if is_unconditional(instr) {
         of_its_kind(by_form(instr, size))
+    } else if refusal(instr, 0).is_none() {
+        supervising(instr, size)
     } else {
         SLOW
+    }
+}
+
+/// The quick form of an instruction that no condition refuses at CPL 0, where it is the supervisor's alone.
+fn supervising(instr: &Instr, size: u8) -> Quick
+    requires formed { IsWellFormed instr.now }
+    requires lock { instr.now.lock ≡ false }
+    ensures parts { is_slow result.kind ≡ false → HasParts result instr.now size }
+    ensures form { is_slow result.kind ≡ false → instr_form instr.now ≡ form_by result.kind }
+    ensures supervisor { is_slow result.kind ≡ false → is_supervisor result.kind ≡ true }
+{
+    match (instr_form(instr), instr.op) {
+        (Form::Flow(FlowForm::PushFlags), _) => without_register(Kind::PushFlags, instr, size),
+        (Form::Flow(FlowForm::PopFlags), _) => without_register(Kind::PopFlags, instr, size),
+        (Form::Flow(FlowForm::ChangeInterruptFlag), Op::Cli) => {
+            without_register(Kind::ClearInterrupts, instr, size)
+        }
+        (Form::Flow(FlowForm::FromControl), _) => with_register(Kind::FromControl, instr, size),
+        _ => SLOW,
     }
 }
 

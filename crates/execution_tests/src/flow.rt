@@ -2,6 +2,7 @@
 //! be read and written, page 1 may be read alone, and page 2 has no translation; pages 0 and 1
 //! stand in frames 8 and 9.
 
+mod acts;
 mod branches;
 mod faults;
 mod rows;

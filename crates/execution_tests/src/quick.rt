@@ -2,12 +2,14 @@
 //! 0 is kept and may be read and written, page 1 is kept and may be read alone, and page 2 isn't
 //! kept; pages 0 and 1 stand in frames 8 and 9.
 
+mod beside;
 mod kinds;
 mod plain;
 mod products;
 mod rows;
 mod stack;
 mod strings;
+mod supervisor;
 mod usual;
 
 ghost use Rattle.std.specs.Prelude.{◌≡◌, ◌<◌, true, IfOk, IfSome, length};
@@ -15,7 +17,7 @@ ghost use Rattle.nk_bits.specs.Translations.{NamesFramesIn};
 ghost use Rattle.x86_decode.specs.WellFormed.{IsWellFormed};
 ghost use Rattle.exec_quick.specs.QuickForms.{IsQuick, has_register_first};
 
-use exec_quick::{Kind, Quick, make, quick_of};
+use exec_quick::{Kind, Quick, Running, Went, make_at, quick_of};
 use mem_access::{Window, load};
 use memory_kit::{CONTROL, PAGES, memory_with};
 use phys_mem::{NoMemory, PhysMem};
@@ -79,16 +81,23 @@ fn form_of(instr: &Instr, size: u8) -> Option<Quick>
     }
 }
 
-/// Makes a quick form with a window of its own.
+/// Makes a quick form that stands at RIP, with a window of its own, and goes on behind it where it
+/// doesn't lead elsewhere.
 fn make_alone(quick: &Quick, regs: &mut Regs, mem: &mut PhysMem, tlb: &Tlb) -> bool
     requires ready { IsQuick quick.now }
     requires register { has_register_first quick.now.kind ≡ true → quick.now.to < 16 }
-    requires cpl { regs.old.cpl ≡ 3 }
     requires frames { NamesFramesIn (length mem.old) tlb.now }
     ensures length { length mem.new ≡ length mem.old }
 {
     let mut window = Window::new();
-    make(quick, regs, &CONTROL, mem, tlb, &mut window)
+    let mut running = Running::new(regs);
+    let at = running.rip();
+    let went = make_at(quick, at, &mut running, &CONTROL, mem, tlb, &mut window);
+    if went == Went::On {
+        running.set_rip(at.wrapping_add(u64::from(quick.size)));
+    }
+    *regs = running.regs();
+    went != Went::Left
 }
 
 /// Whether a turn is made, the registers after it, and what addresses 40 and 48 hold.
@@ -113,7 +122,7 @@ fn is_made(mem: &mut PhysMem, tlb: &Tlb, bytes: &[u8], regs: &mut Regs) -> bool
     requires frames { NamesFramesIn (length mem.old) tlb.now }
     ensures length { length mem.new ≡ length mem.old }
 {
-    if bytes.len() > 15 || regs.cpl != 3 {
+    if bytes.len() > 15 {
         return false;
     }
     match decode(bytes) {

@@ -1,7 +1,9 @@
 -- Quick turns in a row of the processor, as steps of the machine: each a turn that shows nothing, from a safe state.
-use Rattle.std.proofs.Common.{◌≡◌, ℕ, zero, suc, ◌+◌, ◌/◌, ◌≤◌, ◌<◌, true, false, List, length, refl, sym, ap, subst, ◌∙◌, arith}
+use Rattle.std.proofs.Common.{◌≡◌, ℕ, zero, suc, ◌+◌, ◌/◌, ◌≤◌, ◌<◌, true, false, List, length, refl, sym, ap, subst, ◌∙◌, arith, inl, inr}
 use Rattle.std.specs.Prelude.{Option, None, Some, IfSome, is_none, ◌&&◌, ◌||◌, if◌then◌else◌, slice_get}
-use Rattle.std.proofs.lemmas.Bool.{lt-leb}
+use Rattle.std.proofs.lemmas.Bool.{false≢true, lt-leb}
+use Rattle.nk_bits.specs.Accesses.{wp_of}
+use Rattle.nk_bits.specs.declared.control.Control.{Control}
 use Rattle.irq_plan.specs.declared.event.Event.{Event}
 use Rattle.phys_mem.specs.MaskedMemory.{is_book_frame, masked, seen}
 use Rattle.phys_mem.specs.Memory.{byte_at}
@@ -16,6 +18,7 @@ use Rattle.gate_state.specs.MachineSteps.{after_turn, move_by, move_of, next, sh
 use Rattle.gate_state.specs.QuietSteps.{AreQuietSteps, IsHurried, IsQuietStep}
 use Rattle.gate_state.specs.SafeStates.{IsSafe, TakesTurn}
 use Rattle.gate_state.specs.WholeMachine.{IsWhole, WholeState}
+use Rattle.gate_state.specs.WindowLeft.{HasFewerLeft, IsNearer, left}
 use Rattle.gate_state.proofs.WholeLemmas.{KeepLength, Stay, masked_is, next_is, state_by, turn_is, turn_whole}
 
 -- what the laws say of a turn
@@ -26,6 +29,8 @@ pub record TurnLaws (o : Opening) : Type 0 where
   pub books : (s : MachineState) (books : Books) → IsAdmitted o → TakesTurn s.processor → IsGuarded o s
       → books.frames.kinds ≡ s.kinds → AreBooks books s.memory → AreBooks books (after_turn s).memory
   pub safe : (s : MachineState) → IsAdmitted o → IsGuarded o s → IsSafe o s
+  pub nearer : (s : MachineState) → IsAdmitted o → IsGuarded o s → TakesTurn s.processor
+      → wp_of s.processor.control.cr0 ≡ false → IsNearer s.processor (after_turn s).processor
   pub masked_turn : (s : MachineState) (m : List ℕ) → IsAdmitted o → TakesTurn s.processor → IsGuarded o s
       → masked (is_book_frame o.frames) m ≡ s.memory
       → ((turned s.processor m).processor ≡ (turn_of s).processor)
@@ -62,6 +67,12 @@ pub record IsReached (o : Opening) (own : OwnState) (plan : List Event) (k : ℕ
   pub quiet : AreQuietSteps k o plan s after
   pub whole : IsWhole o after own n
   pub control : after.processor.control ≡ s.processor.control
+  pub nearer : wp_of s.processor.control.cr0 ≡ false → HasFewerLeft s after
+
+-- a turn that left fewer, before turns that left as many fewer as there were
+closer : (turns count all before later last : ℕ) → count ≡ turns + 1 → all + last ≤ count + later → later < before
+    → all + last ≤ turns + before
+closer turns count all before later last next rest fewer = omega (arith, next, rest, fewer)
 
 module _ (o : Opening) (laws : TurnLaws o) (own : OwnState) (plan : List Event) (taken : ℕ) where
   -- one turn, over the memory with the books
@@ -112,6 +123,17 @@ module _ (o : Opening) (laws : TurnLaws o) (own : OwnState) (plan : List Event) 
     next_after : IfSome (slice_get plan taken) (λ e. turns < e.due) → After ≡ next plan Before
     next_after before = after_is ∙ next_is plan Before move.Turn (sym (turns_next plan Before takes before))
 
+    clear_after : wp_of p.control.cr0 ≡ false → wp_of (turned p m).processor.control.cr0 ≡ false
+    clear_after clear = ap (λ (x : Control). wp_of x.cr0) quick.control ∙ clear
+
+    fewer_after : wp_of p.control.cr0 ≡ false → left (turned p m).processor < left p
+    fewer_after clear =
+        elim (subst (λ (s : MachineState). IsNearer p s.processor) (sym after_is)
+        (laws.nearer Before whole.admitted whole.guarded takes clear)) [
+          | inl set ↦ absurd (false≢true (sym (clear_after clear) ∙ set))
+          | inr fewer ↦ fewer
+        ]
+
   -- and so many of them
   pub quick_turns : (k : ℕ) (p : Processor) (m : List ℕ) (turns : ℕ) (q : Processor) (n : List ℕ)
       → IsWhole o (state_by p m own turns taken) own m
@@ -126,6 +148,7 @@ module _ (o : Opening) (laws : TurnLaws o) (own : OwnState) (plan : List Event) 
         whole = subst (λ (x : Processor × List ℕ × ℕ). IsWhole o (state_by x.0 x.1 own x.2 taken) own x.1)
             (λ i. (sym are.0 i, sym are.1 i, sym end i)) whole;
         control = ap (λ (x : Processor). x.control) are.0;
+        nearer = λ clear. subst (λ (x : Processor). turns + 0 + left x ≤ turns + left p) (sym are.0) (omega arith);
       }
   quick_turns (suc k) p m turns q n whole before are =
       let count : (turns + 1) + k ≡ turns + suc k = omega arith in
@@ -144,6 +167,8 @@ module _ (o : Opening) (laws : TurnLaws o) (own : OwnState) (plan : List Event) 
         );
         whole = rest.whole;
         control = rest.control ∙ are.0.control;
+        nearer = λ clear. closer turns (turns + 1) (turns + suc k) (left p) (left (turned p m).processor) (left q) refl
+            (rest.nearer (clear_after p m turns whole are.0 clear)) (fewer_after p m turns whole are.0 clear);
       }
 
   -- the machine w after them, by what the callees ensure
@@ -183,3 +208,8 @@ module _ (o : Opening) (laws : TurnLaws o) (own : OwnState) (plan : List Event) 
 
     pub control_then : q.control ≡ w.state.processor.control
     control_then = reached.control ∙ ap (λ (x : WholeState). x.state.processor.control) view_is
+
+    pub nearer_then : wp_of w.state.processor.control.cr0 ≡ false → HasFewerLeft w.state End
+    nearer_then =
+        subst (λ (before : WholeState). wp_of before.state.processor.control.cr0 ≡ false → HasFewerLeft before.state End)
+        view_is reached.nearer

@@ -46,6 +46,10 @@ ComesNearer (move.Take what) before after = (after.control.cr0 ≡ before.contro
 ComesNearer move.Turn before after = IsNearer before after
 ComesNearer move.Rest before after = after ≡ before
 
+-- where WP stays clear from one state to another, as many turns fewer are left as were taken between them
+abbrev pub HasFewerLeft : MachineState → MachineState → Type 0
+HasFewerLeft before after = after.turns + left after.processor ≤ before.turns + left before.processor
+
 -- where WP is clear in each state of a run from number i to i + n, at most ten turns go by between these two: so a turn
 -- from state i + n is at most the eleventh in a row that begins with WP clear
 abbrev pub IsShortWindow : List Event → MachineState → Type 0

@@ -1,6 +1,7 @@
 //! The machine in the gates: WP is clear, and the supervisor stands at a gate point that isn't the body's place.
 
 ghost use Rattle.std.specs.Prelude.{◌≡◌, ◌<◌, ◌≤◌, false, length, ◌*◌};
+ghost use Rattle.nk_bits.specs.Accesses.{wp_of};
 ghost use Rattle.phys_mem.specs.MaskedMemory.{seen};
 ghost use Rattle.page_desc.specs.DescriptorBytes.{kinds_in};
 ghost use Rattle.nk_body.specs.NestedRecord.{HoldsBooks, books_in};
@@ -8,11 +9,12 @@ ghost use Rattle.cpu_step.specs.FramesTouched.{StaysOutside};
 ghost use Rattle.cpu_step.specs.Turns.{enters_body};
 ghost use Rattle.gate_state.specs.MachineOf.{IsStanding, IsInGates, IsOf, real_of, whole_of};
 ghost use Rattle.gate_state.specs.MachineSteps.{move_of, seen_by};
+ghost use Rattle.gate_state.specs.QuietSteps.{IsHurried};
 ghost use Rattle.gate_state.specs.SafeStates.{IsSafe};
 ghost use Rattle.gate_state.specs.WholeMachine.{is_rest, known_of, next_whole, touched_by_move};
-ghost use Rattle.gate_state.specs.WindowLeft.{ComesNearer, left};
+ghost use Rattle.gate_state.specs.WindowLeft.{ComesNearer, HasFewerLeft, left};
 
-use crate::machine::{Machine, step};
+use crate::machine::{Machine, sorted, step};
 use crate::seen::Seen;
 use crate::whole::{Finished, Whole};
 use cpu_step::Touched;
@@ -79,11 +81,18 @@ impl<'i> GateMachine<'i> {
         step(whole, plan)
     }
 
-    /// What every machine in the gates is.
-    pub(crate) fn in_gates_law(&self)
-        ensures { IsStanding IsInGates self.now.opening self.now.state }
+    /// Goes on by quick turns, if there are any: steps that show nothing, each from a safe state, until the plan's next event
+    /// is due or so many turns were taken in all. WP stays clear, and each leaves fewer turns until it is set. The body is no
+    /// quick turn, so that they end in front of it.
+    pub fn hurry(self, plan: &Plan, limit: u64) -> Machine<'i>
+        ensures hurried { IsHurried plan.now limit (known_of self.entry) (whole_of result) }
+        ensures clear { wp_of (whole_of result).state.processor.control.cr0 ≡ false }
+        ensures nearer { HasFewerLeft self.entry.state (whole_of result).state }
+        ensures sorted { IsOf result }
     {
-        self.whole.in_gates_law();
+        let GateMachine { mut whole } = self;
+        whole.hurry(plan, limit);
+        sorted(whole)
     }
 
     /// How many turns at most go by until WP is set, the one that sets it counted in.

@@ -47,18 +47,15 @@ impl<'i> Machine<'i> {
         }
     }
 
-    /// Goes on by quick turns, if there are any and WP is set: steps that show nothing, each from a safe state, until the
-    /// plan's next event is due or so many turns were taken in all.
+    /// Goes on by quick turns, if there are any: steps that show nothing, each from a safe state, until the plan's next event
+    /// is due or so many turns were taken in all. At the nested kernel's body there are none.
     pub fn hurry(self, plan: &Plan, limit: u64) -> Machine<'i>
         ensures hurried { IsHurried plan.now limit (whole_of self.entry) (whole_of result) }
         ensures sorted { IsOf result }
     {
         match self {
             Machine::Outer(machine) => Machine::Outer(machine.hurry(plan, limit)),
-            Machine::Gate(machine) => {
-                machine.in_gates_law();
-                Machine::Gate(machine)
-            }
+            Machine::Gate(machine) => machine.hurry(plan, limit),
             Machine::Nested(machine) => {
                 machine.at_body_law();
                 Machine::Nested(machine)
@@ -170,7 +167,7 @@ impl<'i> Machine<'i> {
 }
 
 /// The state that the machine is in.
-fn sorted<'i>(whole: Box<Whole<'i>>) -> Machine<'i>
+pub(crate) fn sorted<'i>(whole: Box<Whole<'i>>) -> Machine<'i>
     ensures whole { whole_of result ≡ known_of whole.entry.value }
     ensures real { real_of result ≡ whole.entry.value.real }
     ensures sorted { IsOf result }

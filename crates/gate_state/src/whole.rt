@@ -16,7 +16,7 @@ ghost use Rattle.gate_state.specs.MachineSteps.{after_event, after_turn, answere
 ghost use Rattle.gate_state.specs.QuietSteps.{IsHurried};
 ghost use Rattle.gate_state.specs.SafeStates.{IsSafe, TakesTurn};
 ghost use Rattle.gate_state.specs.WholeMachine.{is_rest, known_of, next_whole, served_whole, touched_by_move};
-ghost use Rattle.gate_state.specs.WindowLeft.{ComesNearer, left};
+ghost use Rattle.gate_state.specs.WindowLeft.{ComesNearer, HasFewerLeft, left};
 
 use crate::laws::{steps_law, window_law};
 use crate::moves::Move;
@@ -146,8 +146,10 @@ impl<'i> Whole<'i> {
     pub fn hurry(&mut self, plan: &Plan, limit: u64)
         ensures hurried { IsHurried plan.now limit (known_of self.old) (known_of self.new) }
         ensures control { self.new.state.processor.control ≡ self.old.state.processor.control }
+        ensures nearer { wp_of self.old.state.processor.control.cr0 ≡ false → HasFewerLeft self.old.state self.new.state }
     {
         steps_law();
+        window_law();
         mask_law();
         held_law();
         let until = self.until(plan, limit);

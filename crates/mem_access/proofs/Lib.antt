@@ -1,7 +1,9 @@
 mod Canonical
 mod Frames
 mod Judgements
+mod KeptOff
 mod Lent
 mod Numbers
+mod RunPlaces
 mod Spans
 mod Steps

@@ -10,6 +10,7 @@
 mod access;
 mod kept;
 mod pages;
+mod runs;
 mod span;
 mod window;
 
@@ -27,4 +28,5 @@ pub use nk_bits::{AccessFault, Control, Target};
 pub use page_walk::{AccessPlan, Gathered, Missing, Origin, Span, SpanFault};
 pub use pages::{translate, walk_kept};
 pub use plan::{check_span, gather};
+pub use runs::kept_run;
 pub use window::{KeptPage, Window};

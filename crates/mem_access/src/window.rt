@@ -1,14 +1,15 @@
-//! A window of data: the page that was read last and the page that was written last, where their translations are kept.
-//! While control registers, CPL and translations stay the same, an access on one of them needs no look-up.
+//! A window of data: pages that were read and pages that were written, where their translations are kept. While control
+//! registers, CPL and translations stay the same, an access on one of them needs no look-up.
 
-ghost use Rattle.std.specs.Prelude.{◌≡◌, ◌⊎◌, ℕ, ◌+◌, ◌-◌, ◌/◌, ◌%◌, ◌^◌, ◌<◌, ◌≤◌, IfSome, false, length};
+ghost use Rattle.std.specs.Prelude.{◌≡◌, ◌≢◌, ℕ, ◌+◌, ◌-◌, ◌/◌, ◌%◌, ◌^◌, ◌<◌, ◌≤◌, All, IfSome, false, length, slice_index_or};
 ghost use Rattle.nk_bits.specs.declared.access.Access.TheVariants.{Read, Write};
 ghost use Rattle.nk_bits.specs.declared.control.Control.{Control};
 ghost use Rattle.nk_bits.specs.Translations.{NamesFramesIn, Translations};
 ghost use Rattle.nk_bits.specs.Outcomes.{answered};
 ghost use Rattle.nk_bits.specs.Accesses.{IsTarget, accessed, crosses};
 ghost use Rattle.page_walk.specs.MemoryAccess.{view_of};
-ghost use Rattle.mem_access.specs.Windows.{IsKeptPage, IsWindow};
+ghost use Rattle.mem_access.specs.declared.window.KeptPage.{KeptPage};
+ghost use Rattle.mem_access.specs.Windows.{AreBeside, IsKeptPage, IsLeftWithout, IsWindow};
 
 use crate::kept::kept_page;
 use crate::span::crosses;
@@ -27,13 +28,13 @@ pub struct KeptPage {
     room: u64,
 }
 
-/// The page that was read last, and the one that was written last.
+/// The pages that were read last, and those that were written last, each under the low bits of its number.
 #[derive(Drop)]
 pub struct Window {
-    read: KeptPage,
-    write: KeptPage,
-    /// The place in memory of the page that isn't kept for writes.
-    off: u64,
+    read: [KeptPage; 8],
+    write: [KeptPage; 8],
+    /// The places in memory of the pages that aren't kept for writes.
+    off: [u64; 4],
 }
 
 const NO_PAGE: KeptPage = KeptPage {
@@ -44,6 +45,9 @@ const NO_PAGE: KeptPage = KeptPage {
 
 /// The place of a page that memory doesn't reach.
 const NOWHERE: u64 = 0xFFFF_FFFF_FFFF_F000;
+
+/// The pages that are kept for reads, and as many for writes.
+const PAGES: usize = 8;
 
 /// At so many addresses of a page eight bytes lie on it.
 const ROOM: u64 = 4089;
@@ -67,6 +71,40 @@ impl KeptPage {
             None
         }
     }
+
+    /// This page, or none where its first byte has this place.
+    fn unless_at(self, place: u64) -> KeptPage
+        ensures { IsLeftWithout place self result }
+    {
+        if self.base == place { NO_PAGE } else { self }
+    }
+}
+
+/// Where the page of an address is kept.
+#[inline(always)]
+fn page_slot(va: u64) -> usize
+    ensures { result < 8 }
+{
+    (va / 4096 % 8) as usize
+}
+
+/// No pages.
+fn no_pages() -> [KeptPage; 8]
+    ensures { All (λ page. page.room ≡ 0) result }
+{
+    [NO_PAGE; PAGES]
+}
+
+/// Keeps no page any longer whose first byte has this place.
+fn drop_pages(pages: &mut [KeptPage; 8], place: u64)
+    ensures length { length pages.new ≡ 8 }
+    ensures pages { (i : ℕ) (d : KeptPage) → i < 8 → IsLeftWithout place (slice_index_or pages.old i d) (slice_index_or pages.new i d) }
+{
+    let mut slot = 0;
+    while slot < PAGES {
+        pages[slot] = pages[slot].unless_at(place);
+        slot += 1;
+    }
 }
 
 impl Window {
@@ -74,23 +112,40 @@ impl Window {
     pub fn new() -> Window
         ensures { (size : ℕ) (control : Control) (cpl : ℕ) (tlb : Translations) → IsWindow size control cpl tlb result }
     {
+        Window::beside(NOWHERE)
+    }
+
+    /// A window without a page, which keeps no page for writes whose bytes are those of the page of this place.
+    pub fn beside(place: u64) -> Window
+        ensures off { (i : ℕ) → i < 4 → slice_index_or result.off i 0 ≡ place - place % 4096 }
+        ensures window { (size : ℕ) (control : Control) (cpl : ℕ) (tlb : Translations) → IsWindow size control cpl tlb result }
+    {
         Window {
-            read: NO_PAGE,
-            write: NO_PAGE,
-            off: NOWHERE,
+            read: no_pages(),
+            write: no_pages(),
+            off: [place - place % 4096; 4],
         }
     }
 
-    /// Keeps no page for writes whose bytes are those of the page of this place.
-    pub fn keep_off(&mut self, place: u64)
-        ensures off { self.new.off ≡ place - place % 4096 }
+    /// Keeps no page for writes whose bytes are those of the page of this place, in the place of the page that was kept off
+    /// so under this number.
+    pub fn keep_off(&mut self, slot: usize, place: u64)
+        requires slot { slot < 4 }
+        ensures off { slice_index_or self.new.off slot 0 ≡ place - place % 4096 }
+        ensures others { (i : ℕ) → i ≢ slot → slice_index_or self.new.off i 0 ≡ slice_index_or self.old.off i 0 }
         ensures window { (size : ℕ) (control : Control) (cpl : ℕ) (tlb : Translations)
             → IsWindow size control cpl tlb self.old → IsWindow size control cpl tlb self.new }
     {
-        self.off = place - place % 4096;
-        if self.write.base == self.off {
-            self.write = NO_PAGE;
-        }
+        let page = place - place % 4096;
+        self.off[slot] = page;
+        drop_pages(&mut self.write, page);
+    }
+
+    /// Whether the page of this place is kept off.
+    fn is_off(&self, place: u64) -> bool
+        ensures { result ≡ false → (i : ℕ) → i < 4 → place ≢ slice_index_or self.now.off i 0 }
+    {
+        self.off[0] == place || self.off[1] == place || self.off[2] == place || self.off[3] == place
     }
 
     /// The place of the first byte of a read that changes nothing: its address is canonical, its bytes lie on one page, and
@@ -118,7 +173,7 @@ impl Window {
     {
         // places are below 2^64
         let _frames = mem.frames();
-        match self.read.place(va) {
+        match self.read[page_slot(va)].place(va) {
             Some(place) => Some(place),
             None => self.read_elsewhere(mem, tlb, control, cpl, va, width),
         }
@@ -151,7 +206,7 @@ impl Window {
         }
         match kept_around(mem, tlb, Access::Read, control, cpl, va) {
             Some(page) => {
-                self.read = page;
+                self.read[page_slot(va)] = page;
                 Some(page.base + va % 4096)
             }
             None => None,
@@ -174,7 +229,7 @@ impl Window {
         requires window { IsWindow (length mem.now) control.now cpl tlb.now self.old }
         ensures window { IsWindow (length mem.now) control.now cpl tlb.now self.new }
         ensures off { self.new.off ≡ self.old.off }
-        ensures apart { IfSome result (λ first. (first + width ≤ self.old.off) ⊎ (self.old.off + 4096 ≤ first)) }
+        ensures apart { IfSome result (λ first. AreBeside self.old.off first width) }
         ensures place { IfSome result (λ first. answered (record { first = first; second = 0 }) tlb.now
             ≡ accessed (view_of mem.now control.now cpl) Write tlb.now va width) }
         ensures read { IfSome result (λ first. answered (record { first = first; second = 0 }) tlb.now
@@ -185,7 +240,7 @@ impl Window {
     {
         // places are below 2^64
         let _frames = mem.frames();
-        match self.write.place(va) {
+        match self.write[page_slot(va)].place(va) {
             Some(place) => Some(place),
             None => self.write_elsewhere(mem, tlb, control, cpl, va, width),
         }
@@ -207,7 +262,7 @@ impl Window {
         requires window { IsWindow (length mem.now) control.now cpl tlb.now self.old }
         ensures window { IsWindow (length mem.now) control.now cpl tlb.now self.new }
         ensures off { self.new.off ≡ self.old.off }
-        ensures apart { IfSome result (λ first. (first + width ≤ self.old.off) ⊎ (self.old.off + 4096 ≤ first)) }
+        ensures apart { IfSome result (λ first. AreBeside self.old.off first width) }
         ensures place { IfSome result (λ first. answered (record { first = first; second = 0 }) tlb.now
             ≡ accessed (view_of mem.now control.now cpl) Write tlb.now va width) }
         ensures read { IfSome result (λ first. answered (record { first = first; second = 0 }) tlb.now
@@ -220,8 +275,8 @@ impl Window {
             return None;
         }
         match kept_around(mem, tlb, Access::Write, control, cpl, va) {
-            Some(page) if page.base != self.off => {
-                self.write = page;
+            Some(page) if !self.is_off(page.base) => {
+                self.write[page_slot(va)] = page;
                 Some(page.base + va % 4096)
             }
             _ => None,

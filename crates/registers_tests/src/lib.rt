@@ -5,3 +5,5 @@
 mod ports;
 #[cfg(test)]
 mod registers;
+#[cfg(test)]
+mod status_flags;

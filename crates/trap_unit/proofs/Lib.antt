@@ -1,5 +1,7 @@
 mod AlikeReads
 mod DeliveryLaws
+mod KeptPushes
+mod KeptReads
 mod RefutedDeliveries
 mod StoresMade
 mod WorkedDeliveries

@@ -1,14 +1,15 @@
 //! The gate of a vector (SDM volume 3, 6.14.1).
 
-ghost use Rattle.std.specs.Prelude.{◌≡◌, ◌+◌, length};
+ghost use Rattle.std.specs.Prelude.{◌≡◌, ◌+◌, IfSome, length};
 ghost use Rattle.nk_bits.specs.Translations.{IsAccessible, NamesFramesIn};
-ghost use Rattle.nk_bits.specs.Outcomes.{outcome_of};
+ghost use Rattle.nk_bits.specs.Outcomes.{answered, outcome_of};
 ghost use Rattle.trap_unit.specs.TrapDelivery.{descriptor_address, gate_found, gate_level, gate_offset, gate_read, interrupt_allowed, is_good, passes_limit};
 
 use crate::reads::read_at;
 use crate::selectors::SUPERVISOR_CODE;
 use crate::shutdown::Shut;
-use nk_bits::{Control, canonical};
+use mem_access::{kept_number, kept_run, one_page_law};
+use nk_bits::{Access, Control, canonical};
 use phys_mem::PhysMem;
 use tlb_model::Tlb;
 use x86_regs::Tables;
@@ -21,6 +22,9 @@ pub struct Gate {
     /// Bytes 8 to 15.
     pub high: u64,
 }
+
+/// The bytes of a gate.
+const GATE_SIZE: u16 = 16;
 
 /// An interrupt gate's type.
 const INTERRUPT_GATE: u64 = 14;
@@ -78,8 +82,52 @@ pub(crate) fn gate_found(
     }
 }
 
-#[tactic(auto, unfolding(crate::specs::TrapDelivery::gate_read))]
 fn gate_read(
+    mem: &PhysMem,
+    tlb: &mut Tlb,
+    control: &Control,
+    tables: &Tables,
+    vector: u8,
+) -> Result<Gate, Shut>
+    requires context { IsAccessible (length mem.now) control.now.root tlb.old }
+    ensures outcome { outcome_of result tlb.new ≡ gate_read control.now tables.now vector mem.now tlb.old }
+    ensures frames { NamesFramesIn (length mem.now) tlb.new }
+{
+    match kept_gate(mem, tlb, control, tables, vector) {
+        Some(gate) => Ok(gate),
+        None => gate_by_halves(mem, tlb, control, tables, vector),
+    }
+}
+
+/// The gate of a vector, where its bytes lie on one page that is kept: one look-up reads both halves, and changes nothing.
+#[inline(always)]
+fn kept_gate(
+    mem: &PhysMem,
+    tlb: &Tlb,
+    control: &Control,
+    tables: &Tables,
+    vector: u8,
+) -> Option<Gate>
+    requires frames { NamesFramesIn (length mem.now) tlb.now }
+    ensures { IfSome result (λ gate. answered gate tlb.now ≡ gate_read control.now tables.now vector mem.now tlb.now) }
+{
+    one_page_law();
+    // places are below 2^64
+    let _frames = mem.frames();
+    let address = gate_address(tables, vector);
+    match kept_run(mem, tlb, Access::Read, control, 0, address, GATE_SIZE) {
+        Some(place) => Some(Gate {
+            low: kept_number(mem, place, 8),
+            high: kept_number(mem, place + 8, 8),
+        }),
+        None => None,
+    }
+}
+
+/// The gate of a vector, half by half.
+#[inline(never)]
+#[tactic(auto, unfolding(crate::specs::TrapDelivery::gate_read))]
+fn gate_by_halves(
     mem: &PhysMem,
     tlb: &mut Tlb,
     control: &Control,

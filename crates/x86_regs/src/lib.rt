@@ -57,7 +57,7 @@ pub use operands::{
     RAX, RBP, RCX, RDI, RDX, RSI, RSP, fallen, from_address, from_source, going_on, lowered,
     next_of, place_span, pop_source, push_span, risen, stack_span, string_span, to_source,
 };
-pub use questions::{is_asked, is_forward, is_repeated, is_signed};
+pub use questions::{control_value, is_asked, is_forward, is_repeated, is_signed};
 pub use refusals::{is_unconditional, raised, refusal};
 pub use registers::{Regs, held, low, set_place, set_register, with_register, written};
 pub use sums::{difference, sum};

@@ -1,10 +1,12 @@
-//! Questions on an operation or its prefix: whether its numbers have signs, which way it goes, whether it is repeated.
+//! Questions on an operation or its prefix: whether its numbers have signs, which way it goes, whether it is repeated; and
+//! what a control register holds.
 
 ghost use Rattle.std.specs.Prelude.{◌≡◌};
-ghost use Rattle.x86_regs.specs.OperandOutcomes.{is_asked, is_forward, is_signed};
+ghost use Rattle.x86_regs.specs.OperandOutcomes.{control_value, is_asked, is_forward, is_signed};
 ghost use Rattle.x86_regs.specs.OperandPlans.{is_repeated};
 
 use decode_fields::Rep;
+use nk_bits::Control;
 use x86_decode::Op;
 
 /// Whether a product or a quotient of twice the width is one of signed numbers.
@@ -43,5 +45,17 @@ pub fn is_asked(rep: Rep, zero: bool) -> bool
         Rep::No => false,
         Rep::WhileEqual => zero,
         Rep::WhileNot => !zero,
+    }
+}
+
+/// What the control register of this number holds: CR0, CR2, CR3, or else CR4 (SDM volume 3, 2.5).
+pub fn control_value(control: &Control, number: u64) -> u64
+    ensures { result ≡ control_value control.now number }
+{
+    match number {
+        0 => control.cr0,
+        2 => control.cr2,
+        3 => 4096 * u64::from(control.root),
+        _ => control.cr4,
     }
 }

@@ -22,9 +22,11 @@ pub enum Question {
     Writable(u64, Width, Option<u64>),
     /// The frame for an access at this CPL, whatever the window is.
     Frame(Access, u8, u64, Option<u64>),
+    /// The page of this place is kept off from now on, under this number, which is below four.
+    KeptOff(usize, u64),
 }
 
-use Question::{Frame, Readable, Writable};
+use Question::{Frame, KeptOff, Readable, Writable};
 
 /// A window of the user's, without a page.
 fn empty(mem: &PhysMem, tlb: &Tlb, control: &Control) -> Window
@@ -65,6 +67,13 @@ fn is_answered(
             window.writable(mem, tlb, control, 3, va, width.bytes()) == place
         }
         Frame(access, cpl, va, frame) => { kept_frame(mem, tlb, access, control, cpl, va) == frame }
+        KeptOff(number, place) => {
+            if number > 3 {
+                return false;
+            }
+            window.keep_off(number, place);
+            true
+        }
     }
 }
 
@@ -122,6 +131,36 @@ fn places_on_pages_that_are_kept(rt: HostRuntime) {
         Holds(0x8010, 0xFFFF_1234_5678_FFFF),
         HoldsKept(0x8013, Two, 0x3456),
         HoldsKept(0x8010, Eight, 0xFFFF_1234_5678_FFFF),
+    ];
+    assert_eq!(rt; wrong_step(rt.alloc(), steps), None);
+}
+
+/// Pages of one number take each other's place; no write is served on a page that is kept off, whatever address leads to
+/// it, until another page is kept off in its place.
+#[test]
+fn pages_that_are_kept_off(rt: HostRuntime) {
+    let steps = &[
+        Set(Start(ALL, ALL)),
+        Set(KeepPage(1, 9)),
+        Set(KeepPage(2, 9)),
+        Set(KeepPage(9, 8)),
+        Ask(&[
+            Writable(0x1002, Four, Some(0x9002)),
+            Writable(0x9002, Four, Some(0x8002)),
+            Writable(0x1FF8, Eight, Some(0x9FF8)),
+            Writable(0x2010, One, Some(0x9010)),
+            KeptOff(2, 0x9123),
+            Writable(0x1002, Four, None),
+            Writable(0x2010, One, None),
+            Readable(0x2010, One, Some(0x9010)),
+            Writable(0x9002, Four, Some(0x8002)),
+            KeptOff(0, 0x8000),
+            Writable(0x9002, Four, None),
+            Writable(0x1002, Four, None),
+            KeptOff(2, 0x7000),
+            Writable(0x1002, Four, Some(0x9002)),
+            Writable(0x9002, Four, None),
+        ]),
     ];
     assert_eq!(rt; wrong_step(rt.alloc(), steps), None);
 }

@@ -8,7 +8,10 @@ use x86_regs::{RDI, RSI, RSP, Regs, with_register};
 /// The flags, among the numbers of registers.
 pub(crate) const FLAGS: u8 = 16;
 
-/// Numbers of registers, or `FLAGS`, and what they are set to. All others are those of `REGS`.
+/// CPL, among the numbers of registers: it becomes 0.
+pub(crate) const CPL_0: u8 = 17;
+
+/// Numbers of registers, `FLAGS` or `CPL_0`, and what they are set to. All others are those of `REGS`.
 pub(crate) type Settings = &'static [(u8, u64)];
 
 /// What a turn leaves.
@@ -55,13 +58,15 @@ fn outcome(before: &Regs, after: &After) -> Option<Outcome> {
 }
 
 /// These registers with others set, or None where a setting has no register.
-fn with_all(regs: &Regs, settings: &[(u8, u64)]) -> Option<Regs> {
+pub(crate) fn with_all(regs: &Regs, settings: &[(u8, u64)]) -> Option<Regs> {
     let mut after = *regs;
     for (number, value) in settings {
         if *number < FLAGS {
             after.general = with_register(&after.general, *number, *value);
         } else if *number == FLAGS {
             after.flags = *value;
+        } else if *number == CPL_0 {
+            after.cpl = 0;
         } else {
             return None;
         }
@@ -92,7 +97,7 @@ static WRONG: [Row; 6] = [
         After::Stores(&[(RSI, 0x41), (RDI, 0x49)], 2, 0x1000, [HELD, 0x11]),
     ),
     (b"\x90", &[], After::Left),
-    (b"\xF4", &[(17, 0)], After::Left),
+    (b"\xF4", &[(18, 0)], After::Left),
 ];
 
 #[test]

@@ -1,4 +1,4 @@
-use Rattle.std.proofs.Common.{◌≡◌, ◌+◌, ◌-◌, ◌*◌, ◌/◌, ◌%◌, ◌<◌, ◌≤◌, All, ℕ, length, slice_index_or}
+use Rattle.std.proofs.Common.{◌≡◌, ◌+◌, ◌-◌, ◌*◌, ◌/◌, ◌%◌, ◌≤◌, All, ℕ, length, slice_index_or}
 use Rattle.exec_quick.specs.declared.quick.Quick.{Quick}
 use Rattle.cpu_step.specs.CodeLines.{IsFormIn, IsRow}
 use Rattle.cpu_step.proofs.lines.forms_of.Given as goal

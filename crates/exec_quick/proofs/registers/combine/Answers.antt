@@ -9,10 +9,11 @@ returns-clause-made c _ =
     let value = rw c.source_width-bits.ensures.width at c.source-from.ensures.value in
     rw (
       c.put_result.ensures.put,
+      c.combine-value.ensures.value,
+      c.combine-value.ensures.flags,
       c.first_register-to.ensures.span,
       c.first_register-to.ensures.source,
       from,
       ← value,
       cut_again,
-      ← c.frequent_combination-it.ensures,
     )

@@ -5,4 +5,4 @@ use Rattle.exec_quick.proofs.registers.compare.Goals as goal
 pub returns-clause-made : goal.returns-clause-made
 unfolding gathered
 returns-clause-made c _ =
-    rw (c.first_register-to.ensures.source, c.source-from.ensures.source, ← c.source-from.ensures.value, cut_again, ← c.frequent_comparison-regs.ensures)
+    rw (c.compare.ensures, c.first_register-to.ensures.source, c.source-from.ensures.source, ← c.source-from.ensures.value, cut_again)

@@ -18,11 +18,6 @@ stays plan limit w = record {
   within = λ few. few;
 }
 
-pub returns-in-Gate-clause-hurried : goal.returns-in-Gate-clause-hurried
-returns-in-Gate-clause-hurried c =
-    subst (λ (m : Machine). IsHurried c.args.plan.now c.args.limit (whole_of m) (known_of c.in-Gate.machine)) (sym c.in-Gate.is)
-    (stays c.args.plan.now c.args.limit (known_of c.in-Gate.machine))
-
 pub returns-in-Nested-clause-hurried : goal.returns-in-Nested-clause-hurried
 returns-in-Nested-clause-hurried c =
     subst (λ (m : Machine). IsHurried c.args.plan.now c.args.limit (whole_of m) (known_of c.in-Nested.machine)) (sym c.in-Nested.is)

@@ -1,7 +1,7 @@
 use Rattle.std.proofs.Common.{◌+◌, ◌≤◌, ap, arith}
 use Rattle.gate_state.specs.MachineStates.{MachineState, Opening}
 use Rattle.gate_state.specs.WholeMachine.{known_of}
-use Rattle.gate_state.proofs.QuietTurns.{TurnLaws, control_then, hurried_then, whole_then}
+use Rattle.gate_state.proofs.QuietTurns.{TurnLaws, control_then, hurried_then, nearer_then, whole_then}
 use Rattle.gate_state.proofs.WholeLemmas.{sound_is, state_by}
 use Rattle.gate_state.proofs.whole.Whole.hurry.Goals as goal
 
@@ -22,6 +22,7 @@ invariant_of-self c =
       stays = c.steps_law.ensures.stays o;
       books = c.steps_law.ensures.books o;
       safe = c.steps_law.ensures.safe o;
+      nearer = c.window_law.ensures.turn o;
       masked_turn = c.steps_law.ensures.masked_turn o;
       masked_stays = c.steps_law.ensures.masked_stays o;
       keep = c.mask_law.ensures.length;
@@ -44,6 +45,7 @@ returns-then-self-until-clause-hurried c =
       stays = c.steps_law.ensures.stays o;
       books = c.steps_law.ensures.books o;
       safe = c.steps_law.ensures.safe o;
+      nearer = c.window_law.ensures.turn o;
       masked_turn = c.steps_law.ensures.masked_turn o;
       masked_stays = c.steps_law.ensures.masked_stays o;
       keep = c.mask_law.ensures.length;
@@ -64,6 +66,7 @@ returns-then-self-until-clause-control c =
       stays = c.steps_law.ensures.stays o;
       books = c.steps_law.ensures.books o;
       safe = c.steps_law.ensures.safe o;
+      nearer = c.window_law.ensures.turn o;
       masked_turn = c.steps_law.ensures.masked_turn o;
       masked_stays = c.steps_law.ensures.masked_stays o;
       keep = c.mask_law.ensures.length;
@@ -72,6 +75,27 @@ returns-then-self-until-clause-control c =
     let most : c.self.inside.turns + c.quick_turns.result ≤ c.until-until.result =
     omega (arith, c.quick_turns.ensures.most, c.if-self-until.true) in
     control_then o laws c.self.inside.kernel c.args.plan.now c.self.inside.taken (known_of c.args.self.now) c.quick_turns.result c.args.limit
+    c.until-until.result c.self.inside.cpu c.self.inside.mem c.self.inside.turns c.quick_turns.new.self c.quick_turns.new.mem
+    c.self.inside.source.items (ap known_of c.self.view_is) c.self.invariant.0 c.until-until.ensures.event most c.until-until.ensures.limit
+    c.quick_turns.ensures.turns
+
+pub returns-then-self-until-clause-nearer : goal.returns-then-self-until-clause-nearer
+returns-then-self-until-clause-nearer c =
+    let o : Opening = record { image = c.self.inside.image.now; frames = c.self.inside.layout.now.frames } in
+    let laws : TurnLaws o = record {
+      turn = c.steps_law.ensures.turn o;
+      stays = c.steps_law.ensures.stays o;
+      books = c.steps_law.ensures.books o;
+      safe = c.steps_law.ensures.safe o;
+      nearer = c.window_law.ensures.turn o;
+      masked_turn = c.steps_law.ensures.masked_turn o;
+      masked_stays = c.steps_law.ensures.masked_stays o;
+      keep = c.mask_law.ensures.length;
+      held = c.held_law.ensures.stays;
+    } in
+    let most : c.self.inside.turns + c.quick_turns.result ≤ c.until-until.result =
+    omega (arith, c.quick_turns.ensures.most, c.if-self-until.true) in
+    nearer_then o laws c.self.inside.kernel c.args.plan.now c.self.inside.taken (known_of c.args.self.now) c.quick_turns.result c.args.limit
     c.until-until.result c.self.inside.cpu c.self.inside.mem c.self.inside.turns c.quick_turns.new.self c.quick_turns.new.mem
     c.self.inside.source.items (ap known_of c.self.view_is) c.self.invariant.0 c.until-until.ensures.event most c.until-until.ensures.limit
     c.quick_turns.ensures.turns

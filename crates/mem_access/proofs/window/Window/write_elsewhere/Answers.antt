@@ -1,4 +1,4 @@
-use Rattle.std.proofs.Common.{rules, ◌+◌, ◌%◌, length, arith, sym, ◌∙◌}
+use Rattle.std.proofs.Common.{get_or, ◌+◌, ◌%◌, length, arith, sym, ◌∙◌}
 use Rattle.mem_access.proofs.Spans.{apart_from, target_of_one, bytes_fit}
 use Rattle.mem_access.proofs.window.Window.write_elsewhere.Goals as goal
 
@@ -13,6 +13,6 @@ returns-in-Some-clause-fits c =
     (omega (arith, c.in-Some.ensures.kept.inside)) (sym c.crosses.ensures ∙ c.if-crosses.false)
 
 pub returns-in-Some-clause-apart : goal.returns-in-Some-clause-apart
-returns-in-Some-clause-apart c =
-    apart_from c.in-Some.page.base c.args.self.now.off c.args.va c.args.width c.in-Some.ensures.kept.base c.requires.window.off_page
-    (search rules) (sym c.crosses.ensures ∙ c.if-crosses.false)
+returns-in-Some-clause-apart c = λ i few.
+    apart_from c.in-Some.page.base (get_or c.args.self.now.off i 0) c.args.va c.args.width c.in-Some.ensures.kept.base (c.requires.window.off i)
+    (c.is_off.ensures c.if-not-is_off.true i few) (sym c.crosses.ensures ∙ c.if-crosses.false)

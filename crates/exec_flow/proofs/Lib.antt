@@ -1,0 +1,2 @@
+mod ActsAlone
+mod KeptFrames
