@@ -1,2 +1,6 @@
 mod Cuts
+mod FlagBits
+mod FlagWords
+mod RefutedForms
 mod WorkedForms
+mod WorkedKinds

@@ -43,7 +43,7 @@ pub(crate) fn target(quick: &Quick, next: u64, general: &[u64; 16]) -> u64
 }
 
 /// Jcc and JMP.
-#[inline(always)]
+#[inline]
 #[tactic(auto, unfolding(page_walk::specs::AccessPlans::gathered))]
 pub(crate) fn branch(
     quick: &Quick,
@@ -118,7 +118,7 @@ pub(crate) fn branch_load(
 }
 
 /// LOOP, LOOPE, LOOPNE and JRCXZ, which count RCX down but for JRCXZ.
-#[inline(always)]
+#[inline]
 #[tactic(auto, unfolding(page_walk::specs::AccessPlans::gathered))]
 pub(crate) fn count_down(
     quick: &Quick,

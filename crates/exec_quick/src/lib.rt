@@ -8,7 +8,8 @@ mod kinds;
 mod quick;
 mod taken_apart;
 
-// What it works on.
+// What it works on: registers whose status flags stand apart.
+mod flags;
 mod running;
 
 // Loads and stores at a place that was found kept.
@@ -30,6 +31,7 @@ mod system;
 // The call.
 mod turn;
 
+pub use flags::FlagParts;
 pub use quick::{Kind, Quick, SLOW, Went};
 pub use running::Running;
 pub use taken_apart::quick_of;

@@ -22,7 +22,7 @@ use x86_decode::Op;
 use x86_regs::{set_place, source_width};
 
 /// ADD and its kin of a register and memory.
-#[inline(always)]
+#[inline]
 #[tactic(auto, unfolding(page_walk::specs::AccessPlans::gathered))]
 pub(crate) fn combine_load(
     quick: &Quick,
@@ -66,7 +66,7 @@ pub(crate) fn combine_load(
 }
 
 /// ADD and its kin of memory, which is read and written: what may be written may be read.
-#[inline(always)]
+#[inline]
 #[tactic(auto, unfolding(page_walk::specs::AccessPlans::gathered))]
 pub(crate) fn combine_store(
     quick: &Quick,
@@ -110,7 +110,7 @@ pub(crate) fn combine_store(
 }
 
 /// CMP and TEST of a register and memory.
-#[inline(always)]
+#[inline]
 #[tactic(auto, unfolding(page_walk::specs::AccessPlans::gathered))]
 pub(crate) fn compare_load(
     quick: &Quick,
@@ -153,7 +153,7 @@ pub(crate) fn compare_load(
 }
 
 /// CMP and TEST of memory.
-#[inline(always)]
+#[inline]
 #[tactic(auto, unfolding(page_walk::specs::AccessPlans::gathered))]
 pub(crate) fn compare_store(
     quick: &Quick,
@@ -195,7 +195,7 @@ pub(crate) fn compare_store(
 }
 
 /// MOV and its kin from memory.
-#[inline(always)]
+#[inline]
 #[tactic(auto, unfolding(page_walk::specs::AccessPlans::gathered))]
 pub(crate) fn move_load(
     quick: &Quick,
@@ -239,7 +239,7 @@ pub(crate) fn move_load(
 }
 
 /// MOV and its kin to memory.
-#[inline(always)]
+#[inline]
 #[tactic(auto, unfolding(page_walk::specs::AccessPlans::gathered))]
 pub(crate) fn move_store(
     quick: &Quick,

@@ -26,7 +26,7 @@ pub(crate) fn operand(number: u8, value: u64, general: &[u64; 16]) -> u64
     } else if number == 17 {
         0
     } else {
-        general[usize::from(number - 18)] >> 8 & 0xFF
+        general[usize::from((number + 2) % 4)] >> 8 & 0xFF
     }
 }
 

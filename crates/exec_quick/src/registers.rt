@@ -18,7 +18,7 @@ use x86_decode::Op;
 use x86_regs::{low, set_place, source_width};
 
 /// ADD and all that writes its first operand by both.
-#[inline(always)]
+#[inline]
 #[tactic(auto, unfolding(page_walk::specs::AccessPlans::gathered))]
 pub(crate) fn combine(
     quick: &Quick,
@@ -51,7 +51,7 @@ pub(crate) fn combine(
 }
 
 /// CMP, TEST and BT.
-#[inline(always)]
+#[inline]
 #[tactic(auto, unfolding(page_walk::specs::AccessPlans::gathered))]
 pub(crate) fn compare(
     quick: &Quick,
@@ -82,7 +82,7 @@ pub(crate) fn compare(
 }
 
 /// MOV and its kin, and SETcc.
-#[inline(always)]
+#[inline]
 #[tactic(auto, unfolding(page_walk::specs::AccessPlans::gathered))]
 pub(crate) fn move_over(
     quick: &Quick,
@@ -114,7 +114,7 @@ pub(crate) fn move_over(
 }
 
 /// LEA.
-#[inline(always)]
+#[inline]
 #[tactic(auto, unfolding(page_walk::specs::AccessPlans::gathered))]
 pub(crate) fn load_address(
     quick: &Quick,

@@ -7,7 +7,7 @@ ghost use Rattle.x86_regs.specs.Combinations.{combination, comparison, source_wi
 ghost use Rattle.x86_regs.specs.Operands.{rcx};
 ghost use Rattle.x86_regs.specs.OperandOutcomes.{count_after, counts_down};
 
-use flag_parts::FlagParts;
+use crate::flags::FlagParts;
 use std::marker::Model;
 use x86_decode::Op;
 use x86_regs::{RCX, Regs};

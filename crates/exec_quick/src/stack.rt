@@ -1,5 +1,4 @@
-//! Kinds over the stack: they are made where its page is kept and serves them. Each is a call of its own: the
-//! turns over registers alone stay smaller by it.
+//! Kinds over the stack: they are made where its page is kept and serves them.
 
 ghost use Rattle.std.specs.Prelude.{◌≡◌, ◌<◌, true, false, length};
 ghost use Rattle.decode_fields.specs.Widths.{IsWidth};
@@ -40,7 +39,7 @@ fn pushed(quick: &Quick, width: u8, at: u64, regs: &Running) -> u64
 }
 
 /// PUSH of a register or a number, which is read before RSP falls.
-#[inline(always)]
+#[inline]
 #[tactic(auto, unfolding(page_walk::specs::AccessPlans::gathered))]
 pub(crate) fn push(
     quick: &Quick,
@@ -121,7 +120,7 @@ pub(crate) fn push_load(
 }
 
 /// POP to a register, which may be RSP: it is written last.
-#[inline(always)]
+#[inline]
 #[tactic(auto, unfolding(page_walk::specs::AccessPlans::gathered))]
 pub(crate) fn pop(
     quick: &Quick,
@@ -161,7 +160,7 @@ pub(crate) fn pop(
 }
 
 /// CALL, which pushes the address of the next instruction.
-#[inline(always)]
+#[inline]
 #[tactic(auto, unfolding(page_walk::specs::AccessPlans::gathered))]
 pub(crate) fn call(
     quick: &Quick,
@@ -247,7 +246,7 @@ pub(crate) fn call_load(
 }
 
 /// RET, which lets as many bytes go as the instruction's number says beyond the address that it pops.
-#[inline(always)]
+#[inline]
 #[tactic(auto, unfolding(page_walk::specs::AccessPlans::gathered))]
 pub(crate) fn ret(
     quick: &Quick,

@@ -8,4 +8,6 @@ mod flow;
 #[cfg(test)]
 mod quick;
 #[cfg(test)]
+mod status_flags;
+#[cfg(test)]
 mod traps;

@@ -92,3 +92,4 @@ mod RefutedPlaces
 mod RefutedReturns
 mod RefutedShown
 mod RefutedSteps
+mod RefutedLeft

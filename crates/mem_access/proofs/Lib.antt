@@ -1,9 +1,12 @@
 mod Canonical
 mod Frames
 mod Judgements
+mod KeptLeaves
 mod KeptOff
 mod Lent
 mod Numbers
 mod RunPlaces
 mod Spans
 mod Steps
+mod RefutedWindows
+mod WorkedWindows

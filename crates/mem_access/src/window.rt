@@ -26,6 +26,8 @@ pub struct KeptPage {
     base: u64,
     /// At how many addresses from the first one on eight bytes lie on it: 0 where there is no page.
     room: u64,
+    /// Nothing: with it a page takes 32 bytes, and is found among others by a shift.
+    spare: u64,
 }
 
 /// The pages that were read last, and those that were written last, each under the low bits of its number.
@@ -41,6 +43,7 @@ const NO_PAGE: KeptPage = KeptPage {
     start: 0,
     base: 0,
     room: 0,
+    spare: 0,
 };
 
 /// The place of a page that memory doesn't reach.
@@ -308,6 +311,7 @@ fn kept_around(
             start: va - va % 4096,
             base: place - va % 4096,
             room: ROOM,
+            spare: 0,
         }),
         None => None,
     }

@@ -5,5 +5,3 @@
 mod ports;
 #[cfg(test)]
 mod registers;
-#[cfg(test)]
-mod status_flags;

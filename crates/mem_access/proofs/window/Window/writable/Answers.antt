@@ -11,29 +11,29 @@ pub returns-in-Some-clause-place : goal.returns-in-Some-clause-place
 returns-in-Some-clause-place c =
     subst (λ at. answered (record { first = at; second = 0 }) c.args.tlb.now
     ≡ accessed (view_of c.args.mem.now c.args.control.now c.args.cpl) Write c.args.tlb.now c.args.va c.args.width) (sym c.in-Some.ensures.place)
-    (((c.requires.window.write c.page_slot.result (record { start = 0; base = 0; room = 0 }) (search rules)).kept c.in-Some.ensures.room).found c.args.mem.now c.args.va c.args.width c.in-Some.ensures.page (omega arith) (c.in-Some.ensures.one c.args.width (omega arith)))
+    (((c.requires.window.write c.page_slot.result (record { start = 0; base = 0; room = 0; spare = 0 }) (search rules)).kept c.in-Some.ensures.room).found c.args.mem.now c.args.va c.args.width c.in-Some.ensures.page (omega arith) (c.in-Some.ensures.one c.args.width (omega arith)))
 
 pub returns-in-Some-clause-read : goal.returns-in-Some-clause-read
 returns-in-Some-clause-read c =
     subst (λ at. answered (record { first = at; second = 0 }) c.args.tlb.now
     ≡ accessed (view_of c.args.mem.now c.args.control.now c.args.cpl) Read c.args.tlb.now c.args.va c.args.width) (sym c.in-Some.ensures.place)
-    (((c.requires.window.write c.page_slot.result (record { start = 0; base = 0; room = 0 }) (search rules)).read c.in-Some.ensures.room).found c.args.mem.now c.args.va c.args.width c.in-Some.ensures.page (omega arith) (c.in-Some.ensures.one c.args.width (omega arith)))
+    (((c.requires.window.write c.page_slot.result (record { start = 0; base = 0; room = 0; spare = 0 }) (search rules)).read c.in-Some.ensures.room).found c.args.mem.now c.args.va c.args.width c.in-Some.ensures.page (omega arith) (c.in-Some.ensures.one c.args.width (omega arith)))
 
 pub returns-in-Some-clause-target : goal.returns-in-Some-clause-target
 returns-in-Some-clause-target c =
-    let kept = (c.requires.window.write c.page_slot.result (record { start = 0; base = 0; room = 0 }) (search rules)).kept c.in-Some.ensures.room in
+    let kept = (c.requires.window.write c.page_slot.result (record { start = 0; base = 0; room = 0; spare = 0 }) (search rules)).kept c.in-Some.ensures.room in
     target_of_one (length c.args.mem.now) c.args.va c.args.width c.in-Some.place
     (omega (arith, c.in-Some.ensures.place, kept.base)) (omega (arith, c.in-Some.ensures.place, kept.inside)) (c.in-Some.ensures.one c.args.width (omega arith))
 
 pub returns-in-Some-clause-fits : goal.returns-in-Some-clause-fits
 returns-in-Some-clause-fits c =
-    let kept = (c.requires.window.write c.page_slot.result (record { start = 0; base = 0; room = 0 }) (search rules)).kept c.in-Some.ensures.room in
+    let kept = (c.requires.window.write c.page_slot.result (record { start = 0; base = 0; room = 0; spare = 0 }) (search rules)).kept c.in-Some.ensures.room in
     bytes_fit (length c.args.mem.now) c.args.va c.args.width c.in-Some.place
     (omega (arith, c.in-Some.ensures.place, kept.inside)) (c.in-Some.ensures.one c.args.width (omega arith))
 
 pub returns-in-Some-clause-apart : goal.returns-in-Some-clause-apart
 returns-in-Some-clause-apart c =
-    let is = (c.requires.window.write c.page_slot.result (record { start = 0; base = 0; room = 0 }) (search rules)) in
+    let is = (c.requires.window.write c.page_slot.result (record { start = 0; base = 0; room = 0; spare = 0 }) (search rules)) in
     subst (λ first. AreBeside c.args.self.now.off first c.args.width) (sym c.in-Some.ensures.place)
-    (λ i few. apart_from (get_or c.args.self.now.write c.page_slot.result (record { start = 0; base = 0; room = 0 })).base (get_or c.args.self.now.off i 0) c.args.va c.args.width
+    (λ i few. apart_from (get_or c.args.self.now.write c.page_slot.result (record { start = 0; base = 0; room = 0; spare = 0 })).base (get_or c.args.self.now.off i 0) c.args.va c.args.width
     (is.kept c.in-Some.ensures.room).base (c.requires.window.off i) (is.apart c.in-Some.ensures.room i few) (c.in-Some.ensures.one c.args.width (omega arith)))

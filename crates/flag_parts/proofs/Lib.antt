@@ -1,2 +1,0 @@
-mod Bits
-mod FlagWords

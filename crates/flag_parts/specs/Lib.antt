@@ -1,2 +1,0 @@
--- What a reader must believe.
-pub mod StatusFlags
