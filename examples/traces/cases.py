@@ -11,7 +11,7 @@ OPENING = (
     " rdx 0000000000000000 rbx 0000000000000000 rsp ffffff8000004000 rbp 0000000000000000 rsi 0000000000000200"
     " rdi 0000000000000047 r8 0000000000000000 r9 0000000000000000 r10 0000000000000000 r11 0000000000000000"
     " r12 0000000000000000 r13 0000000000000000 r14 0000000000000000 r15 0000000000000000 ss 0010"
-    " cr0 0000000080010001 cr2 0000000000000000 cr3 0000000000005000 cr4 0000000000100020\n")
+    " cr0 0000000080010001 cr2 0000000000000000 cr3 0000000000005000 cr4 0000000000100020 pending 0000 shielded 0 halted 0\n")
 
 
 @dataclasses.dataclass(frozen=True)
@@ -61,14 +61,14 @@ CASES = [
          + "0 outer 0 ffffffff80000000 8b042500100000 mov.32 r0 [-,-,1,1000] 0; rip ffffff80000010b0;"
            " rsp ffffff8000003fd0; cr2 0000000000001000; mem 0000000000003fdb 80ffffffff080000000000000002;"
            " mem 0000000000003ff1 40000080ffffff10; fill ffffffff80000000 frame 67 r-x-;"
-           " fill ffffff8000003000 frame 3 rw--; fill ffffff8000000000 frame 0 r---;"
+           " fill ffffff8000000000 frame 0 r---; fill ffffff8000003000 frame 3 rw--;"
            " deliver 14 #PF code 0 (absent read supervisor data) cr2 0000000000001000\nend to\nturns 1\n"),
     # The RIP that is pushed is behind the instruction; the bytes before the code segment's selector change.
     Case("INT 20 has no error code", bytes.fromhex("cd20"), ("0", "0"), whole=OPENING
          + "0 outer 0 ffffffff80000000 cd20 int.64 - value 20; rip ffffff8000001140; rsp ffffff8000003fd8;"
            " mem 0000000000003fd8 02000080ffffffff080000000000000002; mem 0000000000003ff1 40000080ffffff10;"
-           " fill ffffffff80000000 frame 67 r-x-; fill ffffff8000003000 frame 3 rw--;"
-           " fill ffffff8000000000 frame 0 r---; deliver 32 interrupt\nend to\nturns 1\n"),
+           " fill ffffffff80000000 frame 67 r-x-; fill ffffff8000000000 frame 0 r---;"
+           " fill ffffff8000003000 frame 3 rw--; deliver 32 interrupt\nend to\nturns 1\n"),
     Case("a call and its rule", CALLS, ("--only", "call"), whole=OPENING + CALL + "end halted\nturns 22\n"),
     Case("the gate's steps with WP clear", CALLS, ("--only", "gate"), whole=OPENING
          + "9 gate 0 ffffff8000001010 fa cli.64 - - 0\n"
@@ -81,12 +81,18 @@ CASES = [
          "1 irq 33\n2 drop ffffffff80000000\n", whole=OPENING
          + "1 outer 0 ffffffff80000001 - event irq 33\n"
            "2 outer 0 ffffffff80000002 - event drop ffffffff80000000; drop ffffffff80000000\nend halted\nturns 4\n"),
+    # Entry 511 of the root names frame 6; of an address its pages share, the low 39 bits are clear.
+    Case("upper entries that are kept, and go", bytes.fromhex("909090f4"), ("--only", "event"),
+         "1 keep 4 ffffffff80000000\n2 forget 4 ffffffff80000000\n", whole=OPENING
+         + "1 outer 0 ffffffff80000001 - event keep 4 ffffffff80000000; keep 4 ffffff8000000000 frame 6 rwxu\n"
+           "2 outer 0 ffffffff80000002 - event forget 4 ffffffff80000000; forget 4 ffffff8000000000\n"
+           "end halted\nturns 4\n"),
     # STI shields the next instruction; then the vector is delivered, with IF set in the flags that are pushed.
     Case("an interrupt behind a shield", bytes.fromhex("fb9090f4"), ("0", "2", "--only", "delivery"), "1 irq 33\n",
          whole=OPENING
          + "2 outer 0 ffffffff80000002 - interrupt 33; rip ffffff8000001148; rsp ffffff8000003fd8; if 0;"
            " mem 0000000000003fd8 02000080ffffffff080000000000000002020000000000000040000080ffffff10;"
-           " fill ffffff8000003000 frame 3 rw--; fill ffffff8000000000 frame 0 r---; deliver 33 interrupt\n"
+           " fill ffffff8000000000 frame 0 r---; fill ffffff8000003000 frame 3 rw--; deliver 33 interrupt\n"
            "end to\nturns 3\n"),
     # MOV AL, 41; OUT E9, AL
     Case("the console", bytes.fromhex("b041 e6e9 f4"), ("--only", "console"), whole=OPENING
@@ -95,10 +101,10 @@ CASES = [
          tail="\n1 outer 0 ffffffff80000001 90 nop.64 - - 0\n"
               "2 outer 0 ffffffff80000002 b041 mov.8 r0 value 41; rax 0000000000000041\nend to\nturns 3\n"),
     Case("changes from turn 1 on, until an address", PLAIN, ("1", "--changes", "--until", f"{HOME + 4:x}"),
-         tail=" cr4 0000000000100020\n2 outer 0 ffffffff80000002 b041 mov.8 r0 value 41; rax 0000000000000041\n"
+         tail=" cr4 0000000000100020 pending 0000 shielded 0 halted 0\n2 outer 0 ffffffff80000002 b041 mov.8 r0 value 41; rax 0000000000000041\n"
               "end until\nturns 3\n"),
     Case("a run that ends before the first step shown", PLAIN, ("1", "--changes", "--until", f"{HOME + 4:x}"),
-         steps="1", tail=" cr4 0000000000100020\nend steps\nturns 1\n"),
+         steps="1", tail=" cr4 0000000000100020 pending 0000 shielded 0 halted 0\nend steps\nturns 1\n"),
     # The gates' text begins with PUSHFQ, CLI and MOV R10, RSP.
     Case("memory frame by frame", b"\xf4", ("0", "0", "--memory"), once=("\nframe 1 9cfa4989e20f20c0",)),
     Case("a protected encoding, as a run says it", bytes.fromhex("0f30"), status=1,

@@ -41,4 +41,4 @@ pub use assembling::{TextFault, assemble, assembly_law};
 pub use least::encode;
 pub use printing::{hex_digit, print};
 pub use reading::read;
-pub use text_laws::{round_trip, text_law};
+pub use text_laws::{more_digits_law, one_digit_law, round_trip, text_law};

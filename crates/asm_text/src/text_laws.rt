@@ -1,10 +1,11 @@
 //! What follows of texts: none is the text of two instructions, and what is decoded is read back.
 
-ghost use Rattle.std.specs.Prelude.{◌≡◌, ℕ, ◌≤◌, length, IfSome, Some};
+ghost use Rattle.std.specs.Prelude.{◌≡◌, ℕ, ◌/◌, ◌%◌, ◌^◌, ◌<◌, ◌≤◌, ◌∷◌, ◌++◌, [], false, length, IfSome, Some};
+ghost use Rattle.std.specs.Fmt.{digit_glyph};
 ghost use Rattle.x86_decode.specs.declared.instruction.Decoded.TheVariants.{Whole};
 ghost use Rattle.x86_decode.specs.Decoding.{IfWhole};
 ghost use Rattle.x86_decode.specs.Reader.{decoded_of};
-ghost use Rattle.asm_text.specs.InstructionTexts.{HasText};
+ghost use Rattle.asm_text.specs.InstructionTexts.{HasText, hex_digits};
 ghost use Rattle.asm_text.specs.TextLaws.{TextLaws};
 
 use crate::printing::print;
@@ -17,6 +18,17 @@ pub fn text_law()
 {
     spelling_law();
 }
+
+/// A number below 16 has one hexadecimal digit.
+pub fn one_digit_law()
+    ensures { (n : ℕ) → n < 16 → hex_digits n ≡ digit_glyph false n ∷ [] }
+{}
+
+/// Of more hexadecimal digits the last is the rest by 16, and those before it are of a sixteenth.
+pub fn more_digits_law()
+    ensures { (n : ℕ) → 16 ≤ n → n < 2 ^ 64
+        → hex_digits n ≡ hex_digits (n / 16) ++ (digit_glyph false (n % 16) ∷ []) }
+{}
 
 /// An instruction by way of its text.
 fn read_back(instr: &Instr) -> Option<Instr>

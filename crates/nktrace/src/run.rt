@@ -1,10 +1,11 @@
 //! The trace of a run: the run's own refusals, or its steps as far as they are shown.
 
-ghost use Rattle.std.specs.Prelude.{◌≡◌, ◌≤◌, None, MatchResult};
+ghost use Rattle.std.specs.Prelude.{◌≡◌, ◌≤◌, ℕ, None, MatchResult};
 ghost use Rattle.byte_scanner.specs.FirstFound.{first_found};
 ghost use Rattle.boot_map.specs.Division.{IsLayout};
 ghost use Rattle.file_scan.specs.ShelfChanges.{shelf_change};
 ghost use Rattle.nk_run.specs.Witness.{sink_change};
+ghost use Rattle.step_trace.specs.TraceFaults.{FailsBy};
 ghost use Rattle.nktrace.specs.TracedRuns.{IsTraced, IsTraceStatus};
 
 use command_words::Request;
@@ -14,7 +15,7 @@ use nk_host::{Shelf, Sink, SinkFault, put_all};
 use nk_run::{ReadyRun, begin, ready_run};
 use phys_mem::PhysMem;
 use std::alloc::Global;
-use step_trace::{Shown, drive_shown};
+use step_trace::{Shown, TraceFault, drive_shown};
 
 /// The status where all was written.
 const DONE: u8 = 0;
@@ -42,6 +43,17 @@ fn no_memory<O: Sink>(sink: &mut O) -> u8
     unless_cut(NO_MEMORY, put_all(sink, b"no memory\n"))
 }
 
+/// The status of a trace: all was written, or the sink failed, or there was no memory for a line.
+fn told_status(told: Result<(), TraceFault>) -> u8
+    ensures { (before after : ℕ) → FailsBy before after told → IsTraceStatus before after result }
+{
+    match told {
+        Ok(()) => DONE,
+        Err(TraceFault::Cut(_)) => CUT,
+        Err(TraceFault::NoMemory) => NO_MEMORY,
+    }
+}
+
 /// Shows the steps of a machine.
 fn show_machine<O: Sink>(
     alloc: Global,
@@ -58,10 +70,7 @@ fn show_machine<O: Sink>(
     match PhysMem::new(alloc, frames) {
         Ok(copy) => {
             let mut copy = copy;
-            unless_cut(
-                DONE,
-                drive_shown(machine, plan, steps, shown, &mut copy, sink),
-            )
+            told_status(drive_shown(alloc, machine, plan, steps, shown, &mut copy, sink))
         }
         Err(_) => {
             let _finished = machine.finish();

@@ -42,3 +42,4 @@ pub use image_lines::{ShortLine, admitted_line, image_line, protected_line};
 pub use region_audit::audit;
 pub use run_lines::{console, delivery, ending};
 pub use two_states::Auditing;
+pub use words::hexadecimal_law;

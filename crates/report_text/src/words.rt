@@ -1,7 +1,8 @@
 //! Words of a line. Each is put before the one behind it, so that the line stands at the end of its room, which is on
 //! the stack. A text of hexadecimal digits has room for just its bytes, so that its encoding never fails.
-ghost use Rattle.std.specs.Prelude.{◌≡◌, ◌+◌, ◌*◌, ◌<◌, ◌≤◌, ◌++◌, false, drop, length, codes, decimal};
+ghost use Rattle.std.specs.Prelude.{◌≡◌, ℕ, ◌+◌, ◌*◌, ◌^◌, ◌<◌, ◌≤◌, ◌++◌, false, drop, length, codes, decimal};
 ghost use Rattle.std.specs.Fmt.{digits};
+ghost use Rattle.std.specs.Int.{bytes_high_first};
 ghost use Rattle.hex.specs.Hex.{encode_lower};
 ghost use Rattle.report_text.specs.RunLines.{hex_16, hex_16_word, hex_word};
 
@@ -116,3 +117,8 @@ pub(crate) fn numbered<'a>(room: &'a mut [u8; NUMBERED], word: &str, number: u64
     let start = put(room, digits, word.as_bytes());
     room.split_at(start).1
 }
+
+/// Sixteen hexadecimal digits are the text of a number's eight bytes, the highest first.
+pub fn hexadecimal_law()
+    ensures { (n : ℕ) → n < 2 ^ 64 → encode_lower (bytes_high_first 8 n) ≡ hex_16 n }
+{}

@@ -1,2 +1,11 @@
+-- What a reader must believe.
+pub mod StepChanges
+pub mod StepLines
+pub mod StepTexts
+pub mod TraceFaults
+pub mod Traces
 -- Words of private clauses and proofs.
+pub mod CodePlaces
 pub mod StepsLeft
+pub mod ToldSteps
+pub mod Writable

@@ -1,308 +1,280 @@
-//! The bytes of memory that a step changed, by a copy of memory as it was.
+//! The bytes of memory that a step changed, told by a copy of memory as it was.
 
-ghost use Rattle.std.specs.Prelude.{◌≡◌, ◌+◌, ◌*◌, ◌<◌, ◌≤◌, OnErr, length};
-ghost use Rattle.nk_host.specs.FaultCounts.{RoseTo};
+ghost use Rattle.std.specs.Prelude.{◌≡◌, ◌≢◌, ℕ, ◌+◌, ◌*◌, ◌/◌, ◌<◌, ◌≤◌, ◌++◌, true, drop, length, slice_index, IfOk, OnOk};
+ghost use Rattle.phys_mem.specs.Memory.{IsBytes, byte_at, frame_bytes};
+ghost use Rattle.cpu_step.specs.FramesTouched.{StaysOutside};
+ghost use Rattle.step_trace.specs.StepChanges.{Stored, memory_changes, run_rest, runs, stay};
+ghost use Rattle.step_trace.specs.StepTexts.{change_text, changes_text};
 
-use crate::line::Line;
+use crate::words::{put_bytes, put_named, put_text};
 use cpu_step::Touched;
-use nk_host::{Pieces, Sink, SinkFault};
 use phys_mem::PhysMem;
+use std::alloc::AllocError;
 
-/// The bytes of a frame.
-const FRAME: usize = 4096;
-
-/// How many bytes in a row that stay end a run of bytes that change.
-const APART: usize = 8;
-
-/// The frames that both have.
-fn frames(mem: &PhysMem, copy: &PhysMem) -> u32
-    ensures mem { 4096 * result ≤ length mem.now }
-    ensures copy { 4096 * result ≤ length copy.now }
+/// Whether the first eight bytes stay, or all where there are fewer.
+fn stay(old: &[u8], new: &[u8]) -> bool
+    requires { length old.now ≡ length new.now }
+    ensures { result ≡ stay 8 old.now new.now }
 {
-    mem.frames().min(copy.frames())
-}
-
-/// The bits in which two memories differ in the eight bytes at a place.
-#[inline(always)]
-fn other_bits(mem: &PhysMem, copy: &PhysMem, at: u64) -> u64
-    requires mem { at + 8 ≤ length mem.now }
-    requires copy { at + 8 ≤ length copy.now }
-{
-    mem.load64(at) ^ copy.load64(at)
-}
-
-/// The bits in which two memories differ in the 32 bytes at a place, joined.
-#[inline(always)]
-fn other_bits_of_four(mem: &PhysMem, copy: &PhysMem, at: u64) -> u64
-    requires mem { at + 32 ≤ length mem.now }
-    requires copy { at + 32 ≤ length copy.now }
-{
-    let _frames = mem.frames();
-    (other_bits(mem, copy, at) | other_bits(mem, copy, at + 8))
-        | (other_bits(mem, copy, at + 16) | other_bits(mem, copy, at + 24))
-}
-
-/// Whether a frame has the same bytes in both. It is asked of each frame behind each step, so it goes by 64 bytes.
-fn is_same(mem: &PhysMem, copy: &PhysMem, frame: u32) -> bool
-    requires mem { 4096 * frame < length mem.now }
-    requires copy { 4096 * frame < length copy.now }
-{
-    let _frames = (mem.frames(), copy.frames());
-    let start = 4096 * u64::from(frame);
-    for i in 0..64 {
-        let at = start + 64 * i;
-        if other_bits_of_four(mem, copy, at) | other_bits_of_four(mem, copy, at + 32) != 0 {
+    for i in 0..new.len().min(8) {
+        if old[i] != new[i] {
             return false;
         }
     }
     true
 }
 
-/// Whether a frame that both have has other bytes now.
-fn is_other(mem: &PhysMem, copy: &PhysMem, frame: u32) -> bool {
-    frame < frames(mem, copy) && !is_same(mem, copy, frame)
-}
-
-/// The first frame of those that were touched that has other bytes now.
-pub(crate) fn first_changed(mem: &PhysMem, copy: &PhysMem, touched: Touched) -> Option<u32> {
-    match touched {
-        Touched::Nothing => None,
-        Touched::Frames(one, two) => first_of_two(mem, copy, one.min(two), one.max(two)),
-        Touched::Any => first_of_all(mem, copy),
-    }
-}
-
-/// The first of two frames that has other bytes now.
-fn first_of_two(mem: &PhysMem, copy: &PhysMem, one: u64, two: u64) -> Option<u32> {
-    let one = number_of(one);
-    let two = number_of(two);
-    if is_other(mem, copy, one) {
-        Some(one)
-    } else if is_other(mem, copy, two) {
-        Some(two)
-    } else {
-        None
-    }
-}
-
-/// The number of a frame, or one that no memory has.
-fn number_of(frame: u64) -> u32 {
-    if frame < 0xFFFF_FFFF {
-        frame as u32
-    } else {
-        0xFFFF_FFFF
-    }
-}
-
-/// The first frame that has other bytes now.
-fn first_of_all(mem: &PhysMem, copy: &PhysMem) -> Option<u32> {
-    let most = frames(mem, copy);
-    for frame in 0..most {
-        if !is_same(mem, copy, frame) {
-            return Some(frame);
-        }
-    }
-    None
-}
-
-/// Behind which frame no other was touched.
-pub(crate) fn end_of(touched: Touched) -> u32 {
-    match touched {
-        Touched::Nothing => 0,
-        Touched::Frames(one, two) => number_of(one.max(two)).saturating_add(1),
-        Touched::Any => 0xFFFF_FFFF,
-    }
-}
-
-/// Whether a frame was touched.
-fn is_touched(touched: Touched, frame: u32) -> bool {
-    match touched {
-        Touched::Nothing => false,
-        Touched::Frames(one, two) => u64::from(frame) == one || u64::from(frame) == two,
-        Touched::Any => true,
-    }
-}
-
-/// Makes the copy that of memory as it is, where it was touched.
-pub(crate) fn settle_touched(mem: &PhysMem, copy: &mut PhysMem, from: u32, touched: Touched) {
-    let most = frames(mem, copy).min(end_of(touched));
-    for frame in from..most {
-        if is_touched(touched, frame) && frame < copy.frames() && !is_same(mem, copy, frame) {
-            copy.frame_mut(frame).copy_from_slice(mem.frame(frame));
-        }
-    }
-}
-
-/// Makes the copy that of memory as it is, from a frame on.
-pub(crate) fn settle(mem: &PhysMem, copy: &mut PhysMem, from: u32) {
-    let most = frames(mem, copy);
-    for frame in from..most {
-        if frame < copy.frames() && !is_same(mem, copy, frame) {
-            copy.frame_mut(frame).copy_from_slice(mem.frame(frame));
-        }
-    }
-}
-
-/// The first place from this one on at which two frames differ, or their end.
-fn first_other(old: &[u8], new: &[u8], from: usize) -> usize
-    requires old { length old.now ≡ 4096 }
-    requires new { length new.now ≡ 4096 }
-    requires from { from ≤ 4096 }
-    ensures bounds { (from ≤ result) × (result ≤ 4096) }
+/// Where a run of bytes ends that goes on to a place.
+fn run_end(old: &[u8], new: &[u8], from: usize) -> usize
+    requires same { length old.now ≡ length new.now }
+    requires from { from ≤ length new.now }
+    ensures run { result ≡ from + run_rest (drop from old.now) (drop from new.now) }
+    ensures inside { (from ≤ result) × (result ≤ length new.now) }
 {
-    for i in from..FRAME {
+    for i in from..new.len() {
+        if stay(&old[i..], &new[i..]) {
+            return i;
+        }
+    }
+    new.len()
+}
+
+/// The first place from this one on at which a byte changed, or the end. Behind it are all runs.
+fn first_other(old: &[u8], new: &[u8], from: usize) -> usize
+    requires same { length old.now ≡ length new.now }
+    requires from { from ≤ length new.now }
+    ensures runs { (place : ℕ) → runs (place + from) 0 (drop from old.now) (drop from new.now) ≡ runs (place + result) 0 (drop result old.now) (drop result new.now) }
+    ensures other { result < length new.now → slice_index old.now result ≢ slice_index new.now result }
+    ensures inside { (from ≤ result) × (result ≤ length new.now) }
+{
+    for i in from..new.len() {
         if old[i] != new[i] {
             return i;
         }
     }
-    FRAME
+    new.len()
 }
 
-/// Where the run of changed bytes ends that begins at this place: before eight bytes that stay.
-fn run_end(old: &[u8], new: &[u8], start: usize) -> usize
-    requires old { length old.now ≡ 4096 }
-    requires new { length new.now ≡ 4096 }
-    requires start { start < 4096 }
-    ensures bounds { (start < result) × (result ≤ 4096) }
+/// Puts bytes that a step stored.
+fn put_stored(line: &mut Vec<u8>, place: u64, bytes: &[u8]) -> Result<(), AllocError>
+    ensures { OnOk result (line.new.items ≡ line.old.items ++ change_text (Stored place bytes.now)) }
 {
-    let mut end = start + 1;
-    for i in start..FRAME {
-        if old[i] != new[i] {
-            end = i + 1;
-        } else if i + 1 >= end + APART {
-            return end;
-        }
-    }
-    end
+    put_text(line, "; ")?;
+    put_named(line, "mem", place)?;
+    put_text(line, " ")?;
+    put_bytes(line, bytes)
 }
 
-/// Takes up bytes, each as two hexadecimal digits.
-fn push_digits<O: Sink>(pieces: &mut Pieces, sink: &mut O, bytes: &[u8]) -> Result<(), SinkFault>
-    ensures never_falls { O.faults sink.old ≤ O.faults sink.new }
-    ensures failed { OnErr result (RoseTo (O.faults sink.old) (O.faults sink.new)) }
-{
-    for byte in bytes {
-        if let Err(fault) = pieces.push_hex(sink, *byte) {
-            return Err(fault);
-        }
-    }
-    Ok(())
-}
-
-/// Takes up a change of memory: the place of the first byte, and the bytes as they are.
-fn push_run<O: Sink>(
-    pieces: &mut Pieces,
-    sink: &mut O,
-    place: u64,
-    bytes: &[u8],
-) -> Result<(), SinkFault>
-    ensures never_falls { O.faults sink.old ≤ O.faults sink.new }
-    ensures failed { OnErr result (RoseTo (O.faults sink.old) (O.faults sink.new)) }
-{
-    let mut line = Line::new();
-    line.change("mem ");
-    line.word(place);
-    line.text(" ");
-    if let Err(fault) = pieces.push_all(sink, line.as_bytes()) {
-        return Err(fault);
-    }
-    push_digits(pieces, sink, bytes)
-}
-
-/// Takes up the changes of a frame.
-fn push_frame<O: Sink>(
-    pieces: &mut Pieces,
-    sink: &mut O,
+/// Puts the next run of a frame from a place on, and tells the place behind it.
+fn put_run(
+    line: &mut Vec<u8>,
     frame: u32,
     old: &[u8],
     new: &[u8],
-) -> Result<(), SinkFault>
+    from: usize,
+) -> Result<usize, AllocError>
+    requires same { length old.now ≡ length new.now }
+    requires small { length new.now ≤ 4096 }
+    requires from { from < length new.now }
+    ensures text { IfOk result (λ next. line.new.items ++ changes_text (runs (4096 * frame + next) 0 (drop next old.now) (drop next new.now)) ≡ line.old.items ++ changes_text (runs (4096 * frame + from) 0 (drop from old.now) (drop from new.now))) }
+    ensures behind { IfOk result (λ next. (from < next) × (next ≤ length new.now)) }
+{
+    let at = first_other(old, new, from);
+    if at == new.len() {
+        return Ok(at);
+    }
+    let end = run_end(old, new, at + 1);
+    put_stored(line, 4096 * u64::from(frame) + at as u64, &new[at..end])?;
+    Ok(end)
+}
+
+/// Puts the changes of a frame.
+fn put_frame(line: &mut Vec<u8>, frame: u32, old: &[u8], new: &[u8]) -> Result<(), AllocError>
     requires old { length old.now ≡ 4096 }
     requires new { length new.now ≡ 4096 }
-    ensures never_falls { O.faults sink.old ≤ O.faults sink.new }
-    ensures failed { OnErr result (RoseTo (O.faults sink.old) (O.faults sink.new)) }
+    ensures { OnOk result (line.new.items ≡ line.old.items ++ changes_text (runs (4096 * frame) 0 old.now new.now)) }
 {
-    let mut at = first_other(old, new, 0);
-    while at < FRAME {
-        let end = run_end(old, new, at);
-        let place = 4096 * u64::from(frame) + at as u64;
-        if let Err(fault) = push_run(pieces, sink, place, &new[at..end]) {
-            return Err(fault);
-        }
-        at = first_other(old, new, end);
+    let mut at = 0;
+    while at < new.len() {
+        at = put_run(line, frame, old, new, at)?;
     }
     Ok(())
 }
 
-/// Takes up the changes of memory, from a frame on, and makes the copy that of memory as it is.
-pub(crate) fn push_changes<O: Sink>(
-    pieces: &mut Pieces,
-    sink: &mut O,
+/// Whether eight bytes are those of the copy.
+#[inline(always)]
+fn is_same_8(mem: &PhysMem, copy: &PhysMem, at: u64) -> bool
+    requires mem { at + 8 ≤ length mem.now }
+    requires copy { at + 8 ≤ length copy.now }
+    requires bytes { (IsBytes mem.now) × (IsBytes copy.now) }
+    ensures { result ≡ true → (k : ℕ) → k < 8 → byte_at copy.now (at + k) ≡ byte_at mem.now (at + k) }
+{
+    mem.load64(at) == copy.load64(at)
+}
+
+/// Whether 32 bytes are those of the copy, without a branch.
+#[inline(always)]
+fn is_same_32(mem: &PhysMem, copy: &PhysMem, at: u64) -> bool
+    requires mem { at + 32 ≤ length mem.now }
+    requires copy { at + 32 ≤ length copy.now }
+    requires bytes { (IsBytes mem.now) × (IsBytes copy.now) }
+    ensures { result ≡ true → (k : ℕ) → k < 32 → byte_at copy.now (at + k) ≡ byte_at mem.now (at + k) }
+{
+    let _frames = mem.frames();
+    (is_same_8(mem, copy, at) & is_same_8(mem, copy, at + 8))
+        & (is_same_8(mem, copy, at + 16) & is_same_8(mem, copy, at + 24))
+}
+
+/// Whether a frame has the same bytes in both. It is asked behind each step, so it goes by 64 bytes.
+fn is_same(mem: &PhysMem, copy: &PhysMem, frame: u32) -> bool
+    requires mem { 4096 * frame < length mem.now }
+    requires size { length copy.now ≡ length mem.now }
+    ensures { result ≡ true → frame_bytes copy.now frame ≡ frame_bytes mem.now frame }
+{
+    let _frames = mem.frames();
+    mem.bytes_law();
+    copy.bytes_law();
+    let start = 4096 * u64::from(frame);
+    for i in 0..64 {
+        let at = start + 64 * i;
+        if !(is_same_32(mem, copy, at) & is_same_32(mem, copy, at + 32)) {
+            return false;
+        }
+    }
+    true
+}
+
+/// Makes a frame of the copy that of memory.
+fn settle_frame(mem: &PhysMem, copy: &mut PhysMem, frame: u32)
+    requires mem { 4096 * frame < length mem.now }
+    requires size { length copy.old ≡ length mem.now }
+    ensures copied { (p : ℕ) → p / 4096 ≡ frame → byte_at copy.new p ≡ byte_at mem.now p }
+    ensures others { (p : ℕ) → p / 4096 ≢ frame → byte_at copy.new p ≡ byte_at copy.old p }
+    ensures size { length copy.new ≡ length mem.now }
+{
+    let _frames = mem.frames();
+    copy.frame_mut(frame).copy_from_slice(mem.frame(frame));
+}
+
+/// Puts the changes of a frame that memory has, and makes its copy the frame as it is.
+fn put_changed(
+    line: &mut Vec<u8>,
     mem: &PhysMem,
     copy: &mut PhysMem,
-    from: u32,
-    touched: Touched,
-) -> Result<(), SinkFault>
-    ensures never_falls { O.faults sink.old ≤ O.faults sink.new }
-    ensures failed { OnErr result (RoseTo (O.faults sink.old) (O.faults sink.new)) }
+    frame: u32,
+) -> Result<(), AllocError>
+    requires mem { 4096 * frame < length mem.now }
+    requires size { length copy.old ≡ length mem.now }
+    ensures text { OnOk result (line.new.items ≡ line.old.items ++ changes_text (runs (4096 * frame) 0 (frame_bytes copy.old frame) (frame_bytes mem.now frame))) }
+    ensures copied { OnOk result ((p : ℕ) → p / 4096 ≡ frame → byte_at copy.new p ≡ byte_at mem.now p) }
+    ensures others { (p : ℕ) → p / 4096 ≢ frame → byte_at copy.new p ≡ byte_at copy.old p }
+    ensures size { length copy.new ≡ length mem.now }
 {
-    let most = frames(mem, copy).min(end_of(touched));
-    for frame in from..most {
-        if is_touched(touched, frame) && frame < copy.frames() && !is_same(mem, copy, frame) {
-            if let Err(fault) = push_frame(
-                pieces,
-                sink,
-                frame,
-                copy.frame(frame),
-                mem.frame(frame),
-            ) {
-                return Err(fault);
-            }
-            copy.frame_mut(frame).copy_from_slice(mem.frame(frame));
-        }
+    if is_same(mem, copy, frame) {
+        return Ok(());
     }
+    put_frame(line, frame, copy.frame(frame), mem.frame(frame))?;
+    settle_frame(mem, copy, frame);
     Ok(())
 }
 
-/// Whether a frame's bytes are all 0.
-fn is_empty(bytes: &[u8]) -> bool {
-    bytes.iter().all(|byte| *byte == 0)
-}
-
-/// Writes the line of a frame with all its bytes.
-fn put_frame<O: Sink>(sink: &mut O, frame: u32, bytes: &[u8]) -> Result<(), SinkFault>
-    ensures never_falls { O.faults sink.old ≤ O.faults sink.new }
-    ensures failed { OnErr result (RoseTo (O.faults sink.old) (O.faults sink.new)) }
+/// The same of a frame that memory may not have.
+fn put_touched(
+    line: &mut Vec<u8>,
+    mem: &PhysMem,
+    copy: &mut PhysMem,
+    frame: u64,
+) -> Result<(), AllocError>
+    requires size { length copy.old ≡ length mem.now }
+    ensures text { OnOk result (line.new.items ≡ line.old.items ++ changes_text (runs (4096 * frame) 0 (frame_bytes copy.old frame) (frame_bytes mem.now frame))) }
+    ensures copied { OnOk result ((p : ℕ) → p / 4096 ≡ frame → byte_at copy.new p ≡ byte_at mem.now p) }
+    ensures others { (p : ℕ) → p / 4096 ≢ frame → byte_at copy.new p ≡ byte_at copy.old p }
+    ensures size { length copy.new ≡ length mem.now }
 {
-    let mut line = Line::new();
-    line.text("frame ");
-    line.decimal(u64::from(frame));
-    line.text(" ");
-    let mut pieces = Pieces::new();
-    if let Err(fault) = pieces.push_all(sink, line.as_bytes()) {
-        return Err(fault);
+    if frame < u64::from(mem.frames()) {
+        put_changed(line, mem, copy, frame as u32)
+    } else {
+        Ok(())
     }
-    if let Err(fault) = push_digits(&mut pieces, sink, bytes) {
-        return Err(fault);
-    }
-    if let Err(fault) = pieces.push(sink, b'\n') {
-        return Err(fault);
-    }
-    pieces.finish(sink)
 }
 
-/// Writes a line for each frame that isn't all zeros.
-pub(crate) fn put_memory<O: Sink>(sink: &mut O, mem: &PhysMem) -> Result<(), SinkFault>
-    ensures never_falls { O.faults sink.old ≤ O.faults sink.new }
-    ensures failed { OnErr result (RoseTo (O.faults sink.old) (O.faults sink.new)) }
+/// Puts the changes of two frames, of which the first may be the second too, where no other changed.
+fn put_two(
+    line: &mut Vec<u8>,
+    mem: &PhysMem,
+    copy: &mut PhysMem,
+    first: u64,
+    last: u64,
+) -> Result<(), AllocError>
+    requires size { length copy.old ≡ length mem.now }
+    requires order { first ≤ last }
+    requires others { (p : ℕ) → p / 4096 ≢ first → p / 4096 ≢ last → byte_at mem.now p ≡ byte_at copy.old p }
+    ensures text { OnOk result (line.new.items ≡ line.old.items ++ changes_text (memory_changes (length mem.now / 4096) 0 copy.old mem.now)) }
+    ensures copy { OnOk result (copy.new ≡ mem.now) }
+    ensures size { length copy.new ≡ length mem.now }
+{
+    let _frames = mem.frames();
+    put_touched(line, mem, copy, first)?;
+    if first == last {
+        return Ok(());
+    }
+    put_touched(line, mem, copy, last)?;
+    Ok(())
+}
+
+/// Puts the changes of all frames.
+fn put_all(line: &mut Vec<u8>, mem: &PhysMem, copy: &mut PhysMem) -> Result<(), AllocError>
+    requires size { length copy.old ≡ length mem.now }
+    ensures text { OnOk result (line.new.items ≡ line.old.items ++ changes_text (memory_changes (length mem.now / 4096) 0 copy.old mem.now)) }
+    ensures copy { OnOk result (copy.new ≡ mem.now) }
+    ensures size { length copy.new ≡ length mem.now }
 {
     for frame in 0..mem.frames() {
-        let bytes = mem.frame(frame);
-        if !is_empty(bytes) {
-            if let Err(fault) = put_frame(sink, frame, bytes) {
-                return Err(fault);
-            }
-        }
+        put_changed(line, mem, copy, frame)?;
     }
     Ok(())
+}
+
+/// Puts the changes of memory since it was as the copy, and makes the copy memory as it is.
+pub(crate) fn put_memory(
+    line: &mut Vec<u8>,
+    mem: &PhysMem,
+    copy: &mut PhysMem,
+    touched: Touched,
+) -> Result<(), AllocError>
+    requires size { length copy.old ≡ length mem.now }
+    requires touched { StaysOutside touched copy.old mem.now }
+    ensures text { OnOk result (line.new.items ≡ line.old.items ++ changes_text (memory_changes (length mem.now / 4096) 0 copy.old mem.now)) }
+    ensures copy { OnOk result (copy.new ≡ mem.now) }
+    ensures size { length copy.new ≡ length mem.now }
+{
+    match touched {
+        Touched::Nothing => Ok(()),
+        Touched::Frames(one, two) => put_two(line, mem, copy, one.min(two), one.max(two)),
+        Touched::Any => put_all(line, mem, copy),
+    }
+}
+
+/// Makes a frame of the copy that of memory, where it isn't.
+fn settle_changed(mem: &PhysMem, copy: &mut PhysMem, frame: u32)
+    requires mem { 4096 * frame < length mem.now }
+    requires size { length copy.old ≡ length mem.now }
+    ensures copied { (p : ℕ) → p / 4096 ≡ frame → byte_at copy.new p ≡ byte_at mem.now p }
+    ensures others { (p : ℕ) → p / 4096 ≢ frame → byte_at copy.new p ≡ byte_at copy.old p }
+    ensures size { length copy.new ≡ length mem.now }
+{
+    if !is_same(mem, copy, frame) {
+        settle_frame(mem, copy, frame);
+    }
+}
+
+/// Makes the copy memory as it is.
+pub(crate) fn settle(mem: &PhysMem, copy: &mut PhysMem)
+    requires size { length copy.old ≡ length mem.now }
+    ensures copy { copy.new ≡ mem.now }
+    ensures size { length copy.new ≡ length mem.now }
+{
+    for frame in 0..mem.frames() {
+        settle_changed(mem, copy, frame);
+    }
 }

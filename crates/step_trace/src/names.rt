@@ -1,6 +1,8 @@
-//! The names of registers, flags, vectors, calls and rules.
+//! The names of vectors, calls and rules, as a line tells them.
 
-use nk_bits::Rule;
+ghost use Rattle.std.specs.Prelude.{◌≡◌, ◌-◌, ◌≤◌, [], map, slice_index_or};
+ghost use Rattle.step_trace.specs.StepTexts.{call_name, rule_names, vector_name};
+
 use nk_body::Call;
 
 /// The general registers, by their numbers.
@@ -21,49 +23,95 @@ pub(crate) static FLAGS: [(&str, u8); 8] = [
     ("of", 11),
 ];
 
-/// The rules, by their numbers less 1.
-static RULES: [(Rule, &str); 27] = [
-    (Rule::BadCall, "BadCall"),
-    (Rule::BadFrame, "BadFrame"),
-    (Rule::BadLevel, "BadLevel"),
-    (Rule::NotData, "NotData"),
-    (Rule::StillLoose, "StillLoose"),
-    (Rule::NotTable, "NotTable"),
-    (Rule::BadIndex, "BadIndex"),
-    (Rule::KernelSlot, "KernelSlot"),
-    (Rule::BadBits, "BadBits"),
-    (Rule::BadTarget, "BadTarget"),
-    (Rule::TooFree, "TooFree"),
-    (Rule::StillLinked, "StillLinked"),
-    (Rule::NotEmpty, "NotEmpty"),
-    (Rule::NotRoot, "NotRoot"),
-    (Rule::BadRange, "BadRange"),
-    (Rule::BadPolicy, "BadPolicy"),
-    (Rule::TooManyRegions, "TooManyRegions"),
-    (Rule::NoRoom, "NoRoom"),
-    (Rule::BadRegion, "BadRegion"),
-    (Rule::NotAllocated, "NotAllocated"),
-    (Rule::OutOfBounds, "OutOfBounds"),
-    (Rule::BadSource, "BadSource"),
-    (Rule::NoWrite, "NoWrite"),
-    (Rule::WrittenOnce, "WrittenOnce"),
-    (Rule::NotAtEnd, "NotAtEnd"),
-    (Rule::LogFull, "LogFull"),
-    (Rule::NotCanonical, "NotCanonical"),
+/// The vectors, by their numbers (SDM volume 3, table 6-1).
+static VECTORS: [&str; 22] = [
+    "#DE",
+    "#DB",
+    "interrupt",
+    "#BP",
+    "#OF",
+    "#BR",
+    "#UD",
+    "#NM",
+    "#DF",
+    "interrupt",
+    "#TS",
+    "#NP",
+    "#SS",
+    "#GP",
+    "#PF",
+    "interrupt",
+    "#MF",
+    "#AC",
+    "#MC",
+    "#XM",
+    "#VE",
+    "#CP",
 ];
 
-/// The name of the rule with this number; None of another answer.
-pub(crate) fn rule_name(number: u64) -> Option<&'static str> {
-    for (rule, name) in &RULES {
-        if rule.number() == number {
-            return Some(*name);
-        }
+/// The rules, by their numbers less 1.
+static RULES: [&str; 27] = [
+    "BadCall",
+    "BadFrame",
+    "BadLevel",
+    "NotData",
+    "StillLoose",
+    "NotTable",
+    "BadIndex",
+    "KernelSlot",
+    "BadBits",
+    "BadTarget",
+    "TooFree",
+    "StillLinked",
+    "NotEmpty",
+    "NotRoot",
+    "BadRange",
+    "BadPolicy",
+    "TooManyRegions",
+    "NoRoom",
+    "BadRegion",
+    "NotAllocated",
+    "OutOfBounds",
+    "BadSource",
+    "NoWrite",
+    "WrittenOnce",
+    "NotAtEnd",
+    "LogFull",
+    "NotCanonical",
+];
+
+/// The name at a place, or another one behind the last.
+fn name_in(names: &[&'static str], place: usize, other: &'static str) -> &'static str
+    ensures { result.now ≡ slice_index_or (map (λ name. name.now) names.now) place other.now }
+{
+    if place < names.len() {
+        names[place]
+    } else {
+        other
     }
-    None
+}
+
+/// The name of a vector; the manual has none for some.
+#[tactic(auto, unfolding(crate::specs::StepTexts::vector_name, crate::specs::StepTexts::vector_names))]
+pub(crate) fn vector_name(vector: u8) -> &'static str
+    ensures { result.now ≡ vector_name vector }
+{
+    name_in(&VECTORS, vector as usize, "interrupt")
+}
+
+/// The name of the rule with this number.
+#[tactic(auto, unfolding(crate::specs::StepTexts::rule_names))]
+pub(crate) fn rule_name(number: u64) -> &'static str
+    requires least { 1 ≤ number }
+    ensures { result.now ≡ slice_index_or rule_names (number - 1) [] }
+{
+    name_in(&RULES, (number - 1) as usize, "")
 }
 
 /// The name of a call.
-pub(crate) fn call_name(call: Call) -> &'static str {
+pub(crate) fn call_name(call: Call) -> &'static str
+    ensures { result.now ≡ call_name call }
+{
     match call {
         Call::SetHandler { .. } => "set-handler",
         Call::DeclareTable { .. } => "declare-table",
@@ -75,31 +123,5 @@ pub(crate) fn call_name(call: Call) -> &'static str {
         Call::Free { .. } => "free",
         Call::Write { .. } => "write",
         Call::NoCall => "none",
-    }
-}
-
-/// The name of a vector (SDM volume 3, table 6-1).
-pub(crate) fn vector_name(vector: u8) -> &'static str {
-    match vector {
-        0 => "#DE",
-        1 => "#DB",
-        3 => "#BP",
-        4 => "#OF",
-        5 => "#BR",
-        6 => "#UD",
-        7 => "#NM",
-        8 => "#DF",
-        10 => "#TS",
-        11 => "#NP",
-        12 => "#SS",
-        13 => "#GP",
-        14 => "#PF",
-        16 => "#MF",
-        17 => "#AC",
-        18 => "#MC",
-        19 => "#XM",
-        20 => "#VE",
-        21 => "#CP",
-        _ => "interrupt",
     }
 }

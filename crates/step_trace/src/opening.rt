@@ -1,74 +1,64 @@
 //! The opening of a trace: the state before its first step.
 
-ghost use Rattle.std.specs.Prelude.{◌≤◌, OnErr};
-ghost use Rattle.nk_host.specs.FaultCounts.{RoseTo};
+ghost use Rattle.std.specs.Prelude.{◌≤◌};
+ghost use Rattle.step_trace.specs.TraceFaults.{FailsBy};
 
-use crate::before::state_name;
-use crate::changes::cr3_of;
-use crate::line::Line;
-use crate::memory::put_memory;
-use crate::names::REGISTERS;
+use crate::state::put_state;
+use crate::steps::{TraceFault, put_line};
+use crate::words::{put_bytes, put_decimal, put_text};
 use gate_state::Machine;
-use nk_bits::Control;
-use nk_host::{Sink, SinkFault, put_all};
-use x86_regs::Regs;
+use nk_host::Sink;
+use phys_mem::PhysMem;
+use std::alloc::AllocError;
 
-/// A number under its name.
-fn put_named(line: &mut Line, name: &str, number: u64) {
-    line.text(" ");
-    line.text(name);
-    line.text(" ");
-    line.word(number);
-}
-
-/// The registers that instructions name.
-fn put_registers(line: &mut Line, regs: &Regs) {
-    line.text(" cpl ");
-    line.decimal(u64::from(regs.cpl));
-    put_named(line, "rip", regs.rip);
-    put_named(line, "flags", regs.flags);
-    for i in 0..16 {
-        put_named(line, REGISTERS[i], regs.general[i]);
+/// The line of a frame with all its bytes, unless they are zeros.
+fn put_frame(line: &mut Vec<u8>, frame: u32, bytes: &[u8]) -> Result<(), AllocError> {
+    if bytes.iter().all(|byte| *byte == 0) {
+        return Ok(());
     }
-    line.text(" ss ");
-    line.half(regs.ss);
+    put_text(line, "frame ")?;
+    put_decimal(line, u64::from(frame))?;
+    put_text(line, " ")?;
+    put_bytes(line, bytes)?;
+    put_text(line, "\n")
 }
 
-/// The control registers.
-fn put_control(line: &mut Line, control: &Control) {
-    put_named(line, "cr0", control.cr0);
-    put_named(line, "cr2", control.cr2);
-    put_named(line, "cr3", cr3_of(control));
-    put_named(line, "cr4", control.cr4);
-}
-
-/// The line of the state.
-fn state_line(machine: &Machine<'_>) -> Line {
-    let mut line = Line::new();
-    line.text("state turn ");
-    line.decimal(machine.turns());
-    line.text(" ");
-    line.text(state_name(machine));
-    put_registers(&mut line, machine.processor().regs());
-    put_control(&mut line, machine.processor().control());
-    line.text("\n");
-    line
+/// Writes a line for each frame that isn't all zeros.
+fn put_frames<O: Sink>(line: &mut Vec<u8>, mem: &PhysMem, sink: &mut O) -> Result<(), TraceFault>
+    ensures never_falls { O.faults sink.old ≤ O.faults sink.new }
+    ensures failed { FailsBy (O.faults sink.old) (O.faults sink.new) result }
+{
+    for frame in 0..mem.frames() {
+        line.clear();
+        if put_frame(line, frame, mem.frame(frame)).is_err() {
+            return Err(TraceFault::NoMemory);
+        }
+        if let Err(fault) = put_line(sink, line) {
+            return Err(fault);
+        }
+    }
+    Ok(())
 }
 
 /// Writes the state, and with it memory where that is asked for.
 pub(crate) fn put_opening<O: Sink>(
+    line: &mut Vec<u8>,
     machine: &Machine<'_>,
     memory: bool,
     sink: &mut O,
-) -> Result<(), SinkFault>
+) -> Result<(), TraceFault>
     ensures never_falls { O.faults sink.old ≤ O.faults sink.new }
-    ensures failed { OnErr result (RoseTo (O.faults sink.old) (O.faults sink.new)) }
+    ensures failed { FailsBy (O.faults sink.old) (O.faults sink.new) result }
 {
-    if let Err(fault) = put_all(sink, state_line(machine).as_bytes()) {
+    line.clear();
+    if put_state(line, machine.turns(), machine.processor()).is_err() {
+        return Err(TraceFault::NoMemory);
+    }
+    if let Err(fault) = put_line(sink, line) {
         return Err(fault);
     }
     if memory {
-        put_memory(sink, machine.memory())
+        put_frames(line, machine.memory(), sink)
     } else {
         Ok(())
     }

@@ -41,6 +41,13 @@ impl Entries {
         }
     }
 
+    /// The entries, oldest first.
+    pub(crate) fn as_slice(&self) -> &[(u8, u64, Upper)]
+        ensures { result.now ≡ self.now }
+    {
+        self.list.as_slice()
+    }
+
     /// What is kept for a page at a level.
     pub(crate) fn kept(&self, level: u8, page: u64) -> Option<Upper>
         requires level { (2 ≤ level) × (level ≤ 4) }

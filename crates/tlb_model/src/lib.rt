@@ -9,6 +9,7 @@
 // The upper entries; and the translations: slots, which are taken, how they are found, and the table of them.
 mod chains;
 mod entries;
+mod listing;
 mod order;
 mod slot;
 mod steps;

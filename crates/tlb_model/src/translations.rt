@@ -1,6 +1,6 @@
 //! The translations and the upper entries that are kept.
 
-ghost use Rattle.std.specs.Prelude.{◌≡◌, ℕ, ◌+◌, ◌-◌, ◌<◌, ◌≤◌, IfOk, Some, List, [], ◌∷◌, ◌++◌, ◌==◌, None, drop, length, vec_capacity};
+ghost use Rattle.std.specs.Prelude.{◌≡◌, ℕ, ◌+◌, ◌-◌, ◌<◌, ◌≤◌, IfOk, OnOk, Some, List, [], ◌∷◌, ◌++◌, ◌==◌, None, drop, length, vec_capacity};
 ghost use Rattle.std.specs.List.{find};
 ghost use Rattle.nk_bits.specs.UpperEntries.{upper_capacity, kept_for, HasDistinctEntries};
 ghost use Rattle.nk_bits.specs.Translations.{Translations, capacity, look, dropped, youngest, flushed, faulted, invalidated, forgotten, with_leaf, entry_forgotten, entry_kept, HasDistinctPages};
@@ -9,7 +9,7 @@ ghost use Rattle.tlb_model.specs.TranslationTable.{IsTable, pairs_of};
 use crate::entries::Entries;
 use crate::table::Table;
 use nk_bits::{Leaf, Upper};
-use std::alloc::Global;
+use std::alloc::{AllocError, Global};
 use std::marker::Model;
 
 /// The most translations that are kept.
@@ -77,6 +77,23 @@ impl Tlb {
         ensures upper_distinct { HasDistinctEntries self.now.upper }
     {
         self.upper.kept(level, page)
+    }
+
+    /// Puts the translations behind those of a list, each under its page number, in the order in which they are kept.
+    /// Err where there is no memory for them.
+    pub fn list(&self, pairs: &mut Vec<(u64, Leaf)>) -> Result<(), AllocError>
+        ensures listed { OnOk result (pairs.new.items ≡ pairs.old.items ++ self.now.pairs) }
+    {
+        self.table.list(pairs)
+    }
+
+    /// The upper entries in the order in which they are kept, each with its level and the number that its pages share.
+    pub fn upper(&self) -> &[(u8, u64, Upper)]
+        ensures listed { result.now ≡ self.now.upper }
+        ensures bound { length self.now.upper ≤ upper_capacity }
+        ensures distinct { HasDistinctEntries self.now.upper }
+    {
+        self.upper.as_slice()
     }
 
     /// Keeps a page's leaf as the youngest, in place of an older one of the page, or else of the oldest of all where

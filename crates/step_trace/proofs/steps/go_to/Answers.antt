@@ -6,5 +6,5 @@ use Rattle.step_trace.proofs.steps.go_to.Goals as goal
 
 pub loop-hurried-smaller : goal.loop-hurried-smaller
 loop-hurried-smaller c =
-    let less = subst (LeavesFewer c.args.limit c.args.plan.now (whole_of c.hurry-hurried.result)) c.in-Goes.is c.take_step.ensures in
+    let less = subst (LeavesFewer c.args.limit c.args.plan.now (whole_of c.hurry-hurried.result)) c.in-Goes.is c.take_step.ensures.fewer in
     omega (arith, less, hurried_left c.args.limit c.hurry-hurried.ensures.hurried)

@@ -1,5 +1,0 @@
-use Rattle.std.proofs.Common.{◌≤◌}
-use Rattle.step_trace.proofs.memory.push_changes.Given as goal
-
-abbrev pub invariant-loop-frame : goal.invariant-loop-frame
-invariant-loop-frame g l = g.O.Sink.faults l.initial.sink ≤ g.O.Sink.faults l.sink
