@@ -50,6 +50,10 @@ CALL = ("11 nested 0 ffffff800000101b - call 0 none a 0000000000000200 b 0000000
 # NOP; NOP; MOV AL, 41; HLT
 PLAIN = bytes.fromhex("90 90 b041 f4")
 
+FIRST_NOP = "0 outer 0 ffffffff80000000 90 nop.64 - - 0; fill ffffffff80000000 frame 67 r-x-\n"
+
+HALT = "0 outer 0 ffffffff80000000 f4 hlt.64 - - 0; fill ffffffff80000000 frame 67 r-x-; halted\n"
+
 CASES = [
     Case("registers and flags by name, and the place and the bytes of a push", PUSHES, whole=OPENING
          + "0 outer 0 ffffffff80000000 b805000000 mov.32 r0 value 5; rax 0000000000000005;"
@@ -103,10 +107,31 @@ CASES = [
     Case("changes from turn 1 on, until an address", PLAIN, ("1", "--changes", "--until", f"{HOME + 4:x}"),
          tail=" cr4 0000000000100020 pending 0000 shielded 0 halted 0\n2 outer 0 ffffffff80000002 b041 mov.8 r0 value 41; rax 0000000000000041\n"
               "end until\nturns 3\n"),
+    Case("until the second of two addresses", PLAIN, ("--until", f"{HOME + 4:x}", "--until", f"{HOME + 2:x}"), whole=OPENING
+         + FIRST_NOP + "1 outer 0 ffffffff80000001 90 nop.64 - - 0\nend until\nturns 2\n"),
+    Case("until an address whose step isn't shown", PLAIN, ("--only", "console", "--until", f"{HOME + 2:x}"),
+         whole=OPENING + "end until\nturns 2\n"),
     Case("a run that ends before the first step shown", PLAIN, ("1", "--changes", "--until", f"{HOME + 4:x}"),
          steps="1", tail=" cr4 0000000000100020 pending 0000 shielded 0 halted 0\nend steps\nturns 1\n"),
     # The gates' text begins with PUSHFQ, CLI and MOV R10, RSP.
     Case("memory frame by frame", b"\xf4", ("0", "0", "--memory"), once=("\nframe 1 9cfa4989e20f20c0",)),
+    Case("eight bytes of memory", b"\xf4", ("0", "0", "--memory", "1000", "8"), whole=OPENING
+         + "mem 0000000000001000 9cfa4989e20f20c0\n" + HALT + "end to\nturns 1\n"),
+    # 512 frames end at 200000.
+    Case("bytes up to the end of memory", b"\xf4", ("0", "0", "--memory", "1fffff", "8"), whole=OPENING
+         + "mem 00000000001fffff 00\n" + HALT + "end to\nturns 1\n"),
+    Case("bytes behind the end of memory", b"\xf4", ("0", "0", "--memory", "200000", "1"), whole=OPENING
+         + "mem 0000000000200000 -\n" + HALT + "end to\nturns 1\n"),
+    Case("no bytes of memory", b"\xf4", ("0", "0", "--memory", "0", "0"), whole=OPENING
+         + "mem 0000000000000000 -\n" + HALT + "end to\nturns 1\n"),
+    Case("nothing is kept at first", b"\xf4", ("0", "0", "--translations"), whole=OPENING
+         + "kept\n" + HALT + "end to\nturns 1\n"),
+    Case("a translation and an upper entry that are kept", bytes.fromhex("909090f4"), ("2", "1", "--translations"),
+         "1 keep 4 ffffffff80000000\n", head="state turn 2 outer cpl 0 rip ffffffff80000002 flags",
+         tail="\nkept; fill ffffffff80000000 frame 67 r-x-; keep 4 ffffff8000000000 frame 6 rwxu\nend to\nturns 2\n"),
+    *(Case(f"{word} for bytes of memory", b"\xf4", ("--memory", *words), status=2, whole="") for word, words in (
+        ("one word", ("1000",)), ("no address", ("x", "1")), ("a leading zero", ("1000", "01")), ("a sign", ("1000", "+1")))),
+    Case("a second address out of form", b"\xf4", ("--until", "0", "--until", "x"), status=2, whole=""),
     Case("a protected encoding, as a run says it", bytes.fromhex("0f30"), status=1,
          whole="protected ffffffff80000000 0f30\n"),
     Case("a plan out of form, as a run says it", b"\xf4", plan="\n", status=6, whole="plan line 1\n"),

@@ -1,3 +1,4 @@
+mod Arms
 mod Cuts
 mod FlagBits
 mod FlagWords

@@ -3,3 +3,4 @@ pub mod QuickForms
 pub mod StatusFlags
 -- Words of private clauses and proofs.
 pub mod QuickParts
+pub mod TurnsByForm

@@ -3,6 +3,7 @@
 ghost use Rattle.std.specs.Prelude.{◌≡◌, ◌<◌, true, false, length};
 ghost use Rattle.nk_bits.specs.Translations.{NamesFramesIn};
 ghost use Rattle.mem_access.specs.Windows.{IsWindow};
+ghost use Rattle.exec_quick.specs.TurnsByForm.{IsTurn};
 ghost use Rattle.exec_quick.specs.QuickForms.{AreSameOnPages, IsQuick, effect_made, form_by, has_register_first, is_left, is_slow, is_supervisor, next_address, quiet_outcome, went};
 
 use crate::branches::{branch, branch_load, count_down};
@@ -52,6 +53,26 @@ pub fn make_at(
     ensures code { AreSameOnPages window.old.off mem.old mem.new }
     ensures length { length mem.new ≡ length mem.old }
     ensures privilege { regs.new.cpl ≡ regs.old.cpl }
+{
+    make_common(quick, at, regs, control, mem, tlb, window)
+}
+
+/// The same turn, in one record: an arm a kind.
+#[inline(always)]
+fn make_common(
+    quick: &Quick,
+    at: u64,
+    regs: &mut Running,
+    control: &Control,
+    mem: &mut PhysMem,
+    tlb: &Tlb,
+    window: &mut Window,
+) -> Went
+    requires ready { IsQuick quick.now }
+    requires register { has_register_first quick.now.kind ≡ true → quick.now.to < 16 }
+    requires frames { NamesFramesIn (length mem.old) tlb.now }
+    requires window { IsWindow (length mem.old) control.now regs.old.cpl tlb.now window.old }
+    ensures { IsTurn quick.now at control.now tlb.now regs.old mem.old window.old result regs.new mem.new window.new }
 {
     match quick.kind {
         Kind::Slow => Went::Left,
@@ -201,17 +222,7 @@ fn make_rest(
     requires register { has_register_first quick.now.kind ≡ true → quick.now.to < 16 }
     requires frames { NamesFramesIn (length mem.old) tlb.now }
     requires window { IsWindow (length mem.old) control.now regs.old.cpl tlb.now window.old }
-    ensures window { IsWindow (length mem.old) control.now regs.old.cpl tlb.now window.new }
-    ensures quick { is_left result ≡ false → is_slow quick.now.kind ≡ false }
-    ensures supervisor { is_left result ≡ false → is_supervisor quick.now.kind ≡ true → regs.old.cpl ≡ 0 }
-    ensures made { is_left result ≡ false
-        → quiet_outcome (went result (next_address at quick.now.size) regs.new) mem.new tlb.now
-        ≡ effect_made (form_by quick.now.kind) quick.now (record regs.old { rip = at }) control.now mem.old tlb.now }
-    ensures left { is_left result ≡ true → (regs.new ≡ regs.old) × (mem.new ≡ mem.old) }
-    ensures off { window.new.off ≡ window.old.off }
-    ensures code { AreSameOnPages window.old.off mem.old mem.new }
-    ensures length { length mem.new ≡ length mem.old }
-    ensures privilege { regs.new.cpl ≡ regs.old.cpl }
+    ensures { IsTurn quick.now at control.now tlb.now regs.old mem.old window.old result regs.new mem.new window.new }
 {
     match quick.kind {
         Kind::Combine => combine(quick, quick.op, quick.width, at, regs, control, mem, tlb),

@@ -118,6 +118,7 @@ impl<'i> Machine<'i> {
     pub fn memory(&self) -> &PhysMem
         ensures seen { seen result.now ≡ (whole_of self.now).state.memory }
         ensures length { length result.now ≡ length (whole_of self.now).state.memory }
+        ensures size { length result.now ≡ 4096 * (whole_of self.now).opening.frames }
         ensures real { result.now ≡ real_of self.now }
     {
         self.whole().memory()
@@ -144,6 +145,13 @@ impl<'i> Machine<'i> {
             Machine::Gate(machine) => machine.turns(),
             Machine::Nested(machine) => machine.turns(),
         }
+    }
+
+    /// How many events of the plan were taken.
+    pub fn taken(&self) -> usize
+        ensures { result ≡ (whole_of self.now).state.taken }
+    {
+        self.whole().taken
     }
 
     /// Memory as it is and what is kept beside it, at any moment of a run: memory holds the books.

@@ -303,6 +303,7 @@ impl<'i> Whole<'i> {
     pub(crate) fn memory(&self) -> &PhysMem
         ensures seen { seen result.now ≡ self.now.state.memory }
         ensures length { length result.now ≡ length self.now.state.memory }
+        ensures size { length result.now ≡ 4096 * self.now.opening.frames }
         ensures real { result.now ≡ self.now.real }
     {
         mask_law();

@@ -1,12 +1,41 @@
--- What status a text gives that was put, or was cut.
-use Rattle.std.proofs.Common.{◌≡◌, ℕ, ◌⊎◌, inl, inr, Result, Ok, Err, OnErr, ◌∙◌}
-use Rattle.std.specs.Prelude.{MatchResult}
-use Rattle.nk_host.specs.FaultCounts.{RoseTo}
-use Rattle.nktrace.specs.TracedRuns.{IsTraceStatus}
+-- What status a text gives that was put, or was cut, and a trace that was put as a sink's type tells it.
+use Rattle.std.proofs.Common.{◌≡◌, ℕ, inl, inr, List, Option, Result, Ok, Err}
+use Rattle.std.specs.Prelude.{MatchResult, ⊤}
+use Rattle.irq_plan.specs.declared.event.Event.{Event}
+use Rattle.nk_host.specs.TextPuts.{IsTextPut}
+use Rattle.gate_state.specs.MachineStates.{MachineState}
+use Rattle.step_trace.specs.declared.asked.Shown.{Shown}
+use Rattle.step_trace.specs.declared.ends.TraceFault.{TraceFault}
+use Rattle.step_trace.specs.TracesPut.{IsTraceTaken}
+use Rattle.nk_run.specs.Lines.{no_memory_line}
+use Rattle.nk_run.specs.Witness.{sink_change}
+use Rattle.nktrace.specs.TracedRuns.{IsTracePut, IsNoMemoryPut, status_of}
 
--- the status of a text that was put, or was cut
-pub status_of : {A E : Type 0} (put : Result A E) (before after own status : ℕ) → (own ≡ 0) ⊎ (own ≡ 5)
-    → MatchResult put (λ _. status ≡ own) (λ _. status ≡ 4) → OnErr put (RoseTo before after) → IsTraceStatus before after status
-status_of (Ok _) before after own status (inl done) is rose = inl (is ∙ done)
-status_of (Ok _) before after own status (inr want) is rose = inr (inr (is ∙ want))
-status_of (Err _) before after own status kind is rose = inr (inl (is, rose))
+-- the line of a want was put, or was cut
+pub want_put : {O A E : Type 0} (taken : O → Option (List ℕ)) (faults : O → ℕ) (old new : O) (put : Result A E) (status : ℕ)
+    → IsTextPut taken faults old new no_memory_line put → MatchResult put (λ _. status ≡ 5) (λ _. status ≡ 4)
+    → IsNoMemoryPut (sink_change taken faults old new) status
+want_put taken faults old new (Ok _) status put is = inl (is, put.all)
+want_put taken faults old new (Err _) status put is = inr (is, put.failed, put.some)
+
+-- a trace that a sink took
+pub trace_put : {O : Type 0} (taken : O → Option (List ℕ)) (faults : O → ℕ) (old new : O) (shown : Shown) (steps : ℕ) (plan : List Event)
+    (first : MachineState) (put : Result ⊤ TraceFault) (status : ℕ)
+    → IsTraceTaken taken faults old new shown steps plan first put → status ≡ status_of put
+    → IsTracePut shown steps plan first (sink_change taken faults old new) status
+trace_put taken faults old new shown steps plan first put status it is = record {
+  put = put;
+  trace = record {
+    why = it.why;
+    text = it.text;
+    trace = it.trace;
+    is_taken = record {
+      never_falls = it.is_taken.never_falls;
+      failed = it.is_taken.failed;
+      all = it.is_taken.all;
+      some = it.is_taken.some;
+    };
+    whole = it.whole;
+  };
+  status_is = is;
+}

@@ -1,12 +1,13 @@
 //! The trace of a run: the run's own refusals, or its steps as far as they are shown.
 
-ghost use Rattle.std.specs.Prelude.{◌≡◌, ◌≤◌, ℕ, None, MatchResult};
+ghost use Rattle.std.specs.Prelude.{◌≡◌, ◌≤◌, ◌⊎◌, ℕ, None, MatchResult};
 ghost use Rattle.byte_scanner.specs.FirstFound.{first_found};
 ghost use Rattle.boot_map.specs.Division.{IsLayout};
 ghost use Rattle.file_scan.specs.ShelfChanges.{shelf_change};
+ghost use Rattle.gate_state.specs.MachineOf.{whole_of};
+ghost use Rattle.gate_state.specs.MachineOpening.{opening_state};
 ghost use Rattle.nk_run.specs.Witness.{sink_change};
-ghost use Rattle.step_trace.specs.TraceFaults.{FailsBy};
-ghost use Rattle.nktrace.specs.TracedRuns.{IsTraced, IsTraceStatus};
+ghost use Rattle.nktrace.specs.TracedRuns.{IsTraced, IsTracePut, IsNoMemoryPut, status_of};
 
 use command_words::Request;
 use gate_state::Machine;
@@ -38,14 +39,14 @@ fn unless_cut(status: u8, put: Result<(), SinkFault>) -> u8
 
 /// Says that there is no memory.
 fn no_memory<O: Sink>(sink: &mut O) -> u8
-    ensures { IsTraceStatus (O.faults sink.old) (O.faults sink.new) result }
+    ensures { IsNoMemoryPut (sink_change O.taken O.faults sink.old sink.new) result }
 {
     unless_cut(NO_MEMORY, put_all(sink, b"no memory\n"))
 }
 
 /// The status of a trace: all was written, or the sink failed, or there was no memory for a line.
 fn told_status(told: Result<(), TraceFault>) -> u8
-    ensures { (before after : ℕ) → FailsBy before after told → IsTraceStatus before after result }
+    ensures { result ≡ status_of told }
 {
     match told {
         Ok(()) => DONE,
@@ -64,7 +65,8 @@ fn show_machine<O: Sink>(
     sink: &mut O,
 ) -> u8
     requires { steps ≤ 4294967296 }
-    ensures { IsTraceStatus (O.faults sink.old) (O.faults sink.new) result }
+    ensures { IsTracePut shown.now steps plan.now (whole_of machine.entry).state
+        (sink_change O.taken O.faults sink.old sink.new) result ⊎ IsNoMemoryPut (sink_change O.taken O.faults sink.old sink.new) result }
 {
     let frames = machine.memory().frames();
     match PhysMem::new(alloc, frames) {
@@ -84,7 +86,11 @@ fn show_run<O: Sink>(alloc: Global, ready: ReadyRun, shown: &Shown, sink: &mut O
     requires layout { IsLayout ready.opened.image ready.opened.layout }
     requires clean { first_found ready.opened.image ≡ None }
     requires steps { ready.steps ≤ 4294967296 }
-    ensures { IsTraceStatus (O.faults sink.old) (O.faults sink.new) result }
+    ensures { IsTracePut shown.now ready.steps ready.plan (opening_state (record {
+      image = ready.opened.image;
+      frames = ready.opened.layout.frames;
+    }) ready.input.items) (sink_change O.taken O.faults sink.old sink.new) result
+        ⊎ IsNoMemoryPut (sink_change O.taken O.faults sink.old sink.new) result }
 {
     let ReadyRun {
         opened,
@@ -99,7 +105,8 @@ fn show_run<O: Sink>(alloc: Global, ready: ReadyRun, shown: &Shown, sink: &mut O
 }
 
 /// Shows the run that is asked for, or answers as the top call of `nkrun` does where none is, or where it doesn't begin.
-/// Status 4 comes only where the sink failed, and 5 where there is no memory for the run.
+/// With status 0 the text is the trace, whole; with 4, where the sink failed, or 5, where there was no memory, it is a part
+/// from its beginning.
 pub fn trace<S: Shelf, O: Sink>(
     alloc: Global,
     request: &Request<'_>,
@@ -108,7 +115,7 @@ pub fn trace<S: Shelf, O: Sink>(
     sink: &mut O,
 ) -> u8
     ensures files_stay { S.files shelf.new ≡ S.files shelf.old }
-    ensures traced { IsTraced request.now
+    ensures traced { IsTraced shown.now request.now
         (shelf_change S.files S.faults S.wants shelf.old shelf.new)
         (sink_change O.taken O.faults sink.old sink.new) result }
 {

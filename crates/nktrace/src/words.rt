@@ -3,13 +3,13 @@
 use clap::error::ErrorKind;
 use clap::{Arg, ArgAction, ArgMatches, Command, Error};
 use std::alloc::{AllocError, Global};
-use step_trace::{Kind, Shown};
+use step_trace::{Kind, MemoryShown, Shown};
 use text_lines::{decimal, hexadecimal};
 
 /// The most turns of a run.
 const MOST_TURNS: u64 = 4_294_967_296;
 
-/// The most digits of a number of turns, and of an address.
+/// The most digits of a number of turns, or of bytes, and of an address.
 const TURN_DIGITS: usize = 10;
 
 const DIGITS: usize = 16;
@@ -20,6 +20,9 @@ const NO_TURNS: &str =
 
 const NO_ADDRESS: &str = "invalid value for '--until <ADDRESS>': it has 1 to 16 hexadecimal digits";
 
+const NO_BYTES: &str =
+    "invalid values for '--memory [ADDRESS LENGTH]': none, or 1 to 16 hexadecimal digits and a number of bytes, 0 to 4294967296, decimal, without sign or leading zeros";
+
 /// The names of kinds of steps.
 static KINDS: [&str; 6] = ["gate", "call", "delivery", "event", "memory", "console"];
 
@@ -29,8 +32,10 @@ enum Form {
     File,
     /// A number of turns.
     Turns,
-    /// An option with a value, by what the value is called.
-    Value(&'static str),
+    /// An option with a value, which may come more than once, by what the value is called.
+    Values(&'static str),
+    /// An option with two values or none, by what they are called.
+    Two(&'static [&'static str]),
     /// An option without a value.
     Flag,
     /// An option with the name of a kind of steps.
@@ -38,7 +43,7 @@ enum Form {
 }
 
 /// The words, how they stand, and what they are.
-static WORDS: [(&str, Form, &str); 11] = [
+static WORDS: [(&str, Form, &str); 12] = [
     ("IMAGE", Form::File, "the image, as of nkrun run"),
     ("INPUT", Form::File, "the bytes that the image may take"),
     ("PLAN", Form::File, "the plan of events"),
@@ -48,8 +53,8 @@ static WORDS: [(&str, Form, &str); 11] = [
     ("TO", Form::Turns, "the turns before the last step shown"),
     (
         "until",
-        Form::Value("ADDRESS"),
-        "ends behind a step that leaves RIP at this hexadecimal address",
+        Form::Values("ADDRESS"),
+        "ends behind a step that leaves RIP at this hexadecimal address; may come more than once",
     ),
     (
         "changes",
@@ -57,7 +62,16 @@ static WORDS: [(&str, Form, &str); 11] = [
         "leaves out steps that change nothing but RIP and show nothing",
     ),
     ("only", Form::KindName, "leaves out steps of other kinds"),
-    ("memory", Form::Flag, "shows memory as the trace begins"),
+    (
+        "memory",
+        Form::Two(&["ADDRESS", "LENGTH"]),
+        "shows memory as the trace begins, or so many bytes from this physical address on",
+    ),
+    (
+        "translations",
+        Form::Flag,
+        "shows what the processor keeps of walks as the trace begins",
+    ),
 ];
 
 /// What the words ask for.
@@ -77,7 +91,12 @@ fn word<'a>(alloc: Global, name: &'a str, form: &Form, help: &'a str) -> Arg<'a>
     match form {
         Form::File => word.required(true).action(ArgAction::Set),
         Form::Turns => word.action(ArgAction::Set),
-        Form::Value(value) => word.long(name).action(ArgAction::Set).value_name(value),
+        Form::Values(value) => word.long(name).action(ArgAction::Append).value_name(value),
+        Form::Two(values) => word
+            .long(name)
+            .action(ArgAction::Set)
+            .num_args(0..=2)
+            .value_names(values),
         Form::Flag => word.long(name).action(ArgAction::SetTrue),
         Form::KindName => word
             .long(name)
@@ -143,37 +162,60 @@ fn turns_of(matches: &ArgMatches<'_>, name: &str) -> Result<Option<u64>, &'stati
     }
 }
 
-/// The address at which a trace ends, or what is wrong with it.
-fn until_of(matches: &ArgMatches<'_>) -> Result<Option<u64>, &'static str> {
-    match matches.get_str("until") {
-        Some(word) => match hexadecimal(word.as_bytes(), DIGITS) {
-            Some(address) => Ok(Some(address)),
-            None => Err(NO_ADDRESS),
-        },
-        None => Ok(None),
+/// The addresses at which a trace ends; none where one is out of form.
+fn addresses_of(alloc: Global, matches: &ArgMatches<'_>) -> Result<Option<Vec<u64>>, AllocError> {
+    let mut addresses = Vec::new(alloc);
+    for word in matches.get_strs("until").unwrap_or(&[]) {
+        match hexadecimal(word.as_bytes(), DIGITS) {
+            Some(address) => addresses.push(address)?,
+            None => return Ok(None),
+        }
+    }
+    Ok(Some(addresses))
+}
+
+/// What is shown of memory, or what is wrong with its words.
+fn memory_of(matches: &ArgMatches<'_>) -> Result<MemoryShown, &'static str> {
+    match matches.get_strs("memory") {
+        None => Ok(MemoryShown::Nothing),
+        Some([]) => Ok(MemoryShown::Whole),
+        Some([first, count]) => {
+            match (hexadecimal(first.as_bytes(), DIGITS), turns_in(count)) {
+                (Some(first), Some(count)) => Ok(MemoryShown::Bytes { first, count }),
+                _ => Err(NO_BYTES),
+            }
+        }
+        Some(_) => Err(NO_BYTES),
     }
 }
 
-/// What is shown, or what is wrong with a word of it.
-fn shown_of(matches: &ArgMatches<'_>) -> Result<Shown, &'static str> {
+/// What is shown, with the addresses at which the trace ends, or what is wrong with a word of it.
+fn shown_of(matches: &ArgMatches<'_>, until: Vec<u64>) -> Result<Shown, &'static str> {
     Ok(Shown {
         from: turns_of(matches, "FROM")?.unwrap_or(0),
         to: turns_of(matches, "TO")?,
-        until: until_of(matches)?,
+        until,
         changes: matches.get_flag("changes"),
         only: matches.get_str("only").and_then(kind_of),
-        memory: matches.get_flag("memory"),
+        memory: memory_of(matches)?,
+        translations: matches.get_flag("translations"),
     })
+}
+
+/// What is said of a word whose value is out of form.
+fn misused(alloc: Global, wrong: &'static str) -> Result<Asked, AllocError> {
+    let mut command = whole_command(alloc)?;
+    Ok(Asked::Told(command.error(ErrorKind::ValueValidation, wrong)?))
 }
 
 /// What the words that match ask for.
 fn asked_by(alloc: Global, matches: &ArgMatches<'_>) -> Result<Asked, AllocError> {
-    match shown_of(matches) {
+    let Some(until) = addresses_of(alloc, matches)? else {
+        return misused(alloc, NO_ADDRESS);
+    };
+    match shown_of(matches, until) {
         Ok(shown) => Ok(Asked::Trace(run_words(alloc, matches)?, shown)),
-        Err(wrong) => {
-            let mut command = whole_command(alloc)?;
-            Ok(Asked::Told(command.error(ErrorKind::ValueValidation, wrong)?))
-        }
+        Err(wrong) => misused(alloc, wrong),
     }
 }
 

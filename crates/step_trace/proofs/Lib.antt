@@ -1,4 +1,7 @@
 pub mod NearerSteps
+pub mod FirstStates
+pub mod TakenTexts
+pub mod TraceRests
 pub mod HexadecimalFour
 pub mod TextsBehind
 pub mod ChangeTexts
@@ -10,3 +13,11 @@ pub mod SameFrames
 pub mod ToldMemory
 mod StepParts
 mod KeptParts
+mod ToldChanges
+mod WantedLines
+pub mod OpeningTexts
+pub mod WhatSteps
+pub mod LineTexts
+mod WorkedChanges
+mod WorkedTexts
+mod RefutedChanges

@@ -4,8 +4,10 @@ pub mod StepLines
 pub mod StepTexts
 pub mod TraceFaults
 pub mod Traces
+pub mod TracesPut
 -- Words of private clauses and proofs.
 pub mod CodePlaces
+pub mod RestsOfTraces
 pub mod StepsLeft
 pub mod ToldSteps
 pub mod Writable

@@ -1,8 +1,8 @@
 -- Why a trace isn't whole.
 use Rattle.std.specs.Prelude.{ℕ, ⊤, Result, Ok, Err}
 use Rattle.nk_host.specs.FaultCounts.{RoseTo}
-use Rattle.step_trace.specs.declared.steps.TraceFault.{TraceFault}
-use Rattle.step_trace.specs.declared.steps.TraceFault.TheVariants as fault
+use Rattle.step_trace.specs.declared.ends.TraceFault.{TraceFault}
+use Rattle.step_trace.specs.declared.ends.TraceFault.TheVariants as fault
 
 -- where the sink cut it, the count of the sink's faults rose
 abbrev pub FailsBy : {A : Type 0} → ℕ → ℕ → Result A TraceFault → Type 0

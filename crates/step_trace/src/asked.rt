@@ -17,19 +17,31 @@ pub enum Kind {
     Console,
 }
 
-/// What a trace shows of a run.
+/// What of memory is shown as a trace begins.
 #[derive(Clone, Copy, Debug, PartialEq, Eq)]
+pub enum MemoryShown {
+    Nothing,
+    /// Each frame that isn't all zeros.
+    Whole,
+    /// The bytes from a physical address on, at most so many.
+    Bytes { first: u64, count: u64 },
+}
+
+/// What a trace shows of a run.
+#[derive(Drop)]
 pub struct Shown {
     /// The least number of turns taken before a step that is shown.
     pub from: u64,
     /// The most.
     pub to: Option<u64>,
-    /// The trace ends behind a step that leaves RIP there.
-    pub until: Option<u64>,
+    /// The trace ends behind a step that leaves RIP at one of these addresses.
+    pub until: Vec<u64>,
     /// Steps that change nothing but RIP, and show nothing, are left out.
     pub changes: bool,
     /// Steps of other kinds are left out.
     pub only: Option<Kind>,
-    /// Memory is shown as the trace begins.
-    pub memory: bool,
+    /// What of memory is shown as the trace begins.
+    pub memory: MemoryShown,
+    /// All that the processor keeps of walks is shown then.
+    pub translations: bool,
 }

@@ -1,6 +1,6 @@
 //! The steps of a machine, a line each, with what they change: the machine's own calls take them, and it is looked at
-//! between them. Its lines are in docs/FORMATS.md. Each part of a line is the one that `specs/` defines; which lines
-//! come no clause says. Floor: whole.
+//! between them. Its lines are in docs/FORMATS.md. What is written is the trace that `specs/` defines, or a part from its
+//! beginning. Floor: whole.
 #![tactic(auto)]
 
 // What is shown.
@@ -21,9 +21,15 @@ mod shown;
 mod line;
 mod state;
 
-// The steps.
+// How a trace begins and ends.
+mod ends;
 mod opening;
-mod steps;
+mod reach;
 
-pub use crate::asked::{Kind, Shown};
-pub use crate::steps::{TraceFault, drive_shown};
+// The steps.
+mod steps;
+mod telling;
+
+pub use crate::asked::{Kind, MemoryShown, Shown};
+pub use crate::ends::TraceFault;
+pub use crate::steps::drive_shown;

@@ -1,14 +1,13 @@
 //! The line of a step: what it was, what it changed and what it shows, behind the state that it began at.
 
-ghost use Rattle.std.specs.Prelude.{◌≡◌, ◌/◌, ◌++◌, ◌&&◌, ◌==◌, ◌+◌, ℕ, List, IfOk, OnOk, codes, decimal, length, not};
-ghost use Rattle.x86_regs.specs.Operands.{wrapped};
+ghost use Rattle.std.specs.Prelude.{◌≡◌, ◌/◌, ◌++◌, ◌&&◌, ◌+◌, IfOk, OnOk, codes, decimal, length, nat_lt, not};
 ghost use Rattle.cpu_step.specs.FramesTouched.{StaysOutside};
-ghost use Rattle.cpu_step.specs.Processor.{IsSound, Processor};
+ghost use Rattle.cpu_step.specs.Processor.{Processor};
 ghost use Rattle.report_text.specs.RunLines.{hex_16};
-ghost use Rattle.step_trace.specs.StepChanges.{Halted, control_changes, flushes, memory_changes, register_changes, shown_changes, step_changes, translation_changes, where_so};
-ghost use Rattle.step_trace.specs.StepLines.{Code, size_by, stand_in, turn_by};
+ghost use Rattle.step_trace.specs.StepChanges.{Halted, control_changes, flushes, memory_changes, shown_changes, step_changes, translation_changes, where_so};
+ghost use Rattle.step_trace.specs.StepLines.{Code, has, is_stored, size_by, stand_in, turn_by};
 ghost use Rattle.step_trace.specs.StepTexts.{changes_text, stand_name, was_text};
-ghost use Rattle.step_trace.specs.ToldSteps.{IsBefore, kept_lists, registers_behind, was_before};
+ghost use Rattle.step_trace.specs.ToldSteps.{IsBefore, IsToldOf, kept_lists, registers_behind, was_before};
 
 use crate::code::{ToldCode, put_code};
 use crate::kept::{Kept, put_kept};
@@ -143,6 +142,8 @@ fn put_stored(
     requires touched { StaysOutside touched copy.old mem.now }
     ensures text { OnOk result (line.new.items ≡ line.old.items
         ++ changes_text (memory_changes (length mem.now / 4096) 0 copy.old mem.now)) }
+    ensures told { IfOk result (λ stored. stored
+        ≡ has is_stored (memory_changes (length mem.now / 4096) 0 copy.old mem.now)) }
     ensures copy { OnOk result (copy.new ≡ mem.now) }
     ensures size { length copy.new ≡ length mem.now }
 {
@@ -171,6 +172,9 @@ fn put_changes(
         ++ (changes_text (translation_changes (flushes step.now) (kept_lists before.now.kept) (kept_lists after.now))
         ++ (changes_text (shown_changes step.now)
         ++ changes_text (where_so (not before.now.halted && cpu.now.halted) Halted))))))) }
+    ensures stored { IfOk result (λ told. told.is_stored
+        ≡ has is_stored (memory_changes (length mem.now / 4096) 0 copy.old mem.now)) }
+    ensures more { IfOk result (λ told. told.is_more ≡ nat_lt (length line.old.items) (length line.new.items)) }
     ensures copy { OnOk result (copy.new ≡ mem.now) }
     ensures size { length copy.new ≡ length mem.now }
 {
@@ -207,6 +211,8 @@ pub(crate) fn put_step(
         ++ (was_text (was_before before.now step.now event)
         ++ (changes_text (step_changes (size_by (was_before before.now step.now event)) step.now p cpu.now copy.old mem.now)
         ++ codes "\n"))) }
+    ensures told { (p : Processor) → IsBefore before.now p copy.old → IfOk result (λ told. IsToldOf told
+        (step_changes (size_by (was_before before.now step.now event)) step.now p cpu.now copy.old mem.now)) }
     ensures copy { OnOk result (copy.new ≡ mem.now) }
     ensures size { length copy.new ≡ length mem.now }
 {

@@ -1,6 +1,7 @@
-use Rattle.std.proofs.Common.{inr, refl}
-use Rattle.nktrace.proofs.Rises.{status_of}
+use Rattle.nk_run.specs.Lines.{no_memory_line}
+use Rattle.nktrace.proofs.Rises.{want_put}
 use Rattle.nktrace.proofs.run.no_memory.Goals as goal
 
 pub returns : goal.returns
-returns g c = status_of c.put_all.result _ _ 5 _ (inr refl) c.unless_cut.ensures c.put_all.ensures.put.failed
+unfolding no_memory_line
+returns g c = want_put g.O.Sink.taken g.O.Sink.faults _ _ c.put_all.result _ c.put_all.ensures.put c.unless_cut.ensures

@@ -9,7 +9,7 @@ returns-in-Ok-clause-traced g c = inr (record {
   input = _;
   plan = _;
   may = c.in-Ok.ensures.ready;
-  status_is = c.show_run.ensures;
+  put = c.show_run.ensures;
 })
 
 pub returns-in-Err-clause-traced : goal.returns-in-Err-clause-traced

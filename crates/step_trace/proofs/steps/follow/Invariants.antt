@@ -1,15 +1,18 @@
-use Rattle.std.proofs.Common.{◌≡◌, ◌≤◌}
+use Rattle.std.proofs.Common.{◌≡◌}
 use Rattle.gate_state.specs.MachineOf.{real_of, whole_of}
+use Rattle.step_trace.specs.RestsOfTraces.{held_of}
 use Rattle.step_trace.specs.StepsLeft.{steps_left}
 use Rattle.step_trace.specs.ToldSteps.{kept_lists}
+use Rattle.step_trace.proofs.TraceRests.{IsFollowing}
 use Rattle.step_trace.proofs.steps.follow.Given as goal
 
-abbrev pub invariant-loop-why : goal.invariant-loop-why
-invariant-loop-why g l = record {
-  faults : g.O.Sink.faults l.initial.sink ≤ g.O.Sink.faults l.sink;
+abbrev pub invariant-loop-put : goal.invariant-loop-put
+invariant-loop-put g l = record {
+  following : IsFollowing g.O.Sink.taken g.O.Sink.faults l.initial.sink l.sink l.shown l.steps l.plan (held_of l.initial.machine)
+      (held_of l.machine);
   kept : kept_lists l.kept ≡ (whole_of l.machine).state.processor.tlb;
   copy : l.copy ≡ real_of l.machine;
 }
 
-abbrev pub decreases-loop-why : goal.decreases-loop-why
-decreases-loop-why g l = steps_left l.steps l.plan (whole_of l.machine)
+abbrev pub decreases-loop-put : goal.decreases-loop-put
+decreases-loop-put g l = steps_left l.steps l.plan (whole_of l.machine)
