@@ -178,6 +178,16 @@ impl Regions {
         mem.load8(row.place(offset))
     }
 
+    /// The place in memory of the byte at an offset of a live region.
+    pub fn place(&self, mem: &PhysMem, id: u64, offset: u32) -> u64
+        requires held { HoldsRegions self.now mem.now }
+        requires live { IsSome (region_of (book_in self.now mem.now) id) }
+        requires within { IfSome (region_of (book_in self.now mem.now) id) (λ r. offset < r.size) }
+        ensures { IfSome (region_of (book_in self.now mem.now) id) (λ r. result ≡ byte_place r offset) }
+    {
+        self.row(mem, id).unwrap().place(offset)
+    }
+
     /// Whether a range isn't empty and lies in the live region of this identifier.
     pub fn fits(&self, mem: &PhysMem, id: u64, offset: u64, length: u64) -> bool
         requires held { HoldsRegions self.now mem.now }
