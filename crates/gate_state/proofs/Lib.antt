@@ -59,7 +59,11 @@ pub mod RunsShort
 pub mod ShownStates
 pub mod MoveLemmas
 pub mod StepLemmas
+pub mod ShownTouched
+pub mod TurnsSeen
+pub mod WritesTouched
 pub mod WholeLemmas
+mod CallsTouched
 pub mod QuietTurns
 pub mod OpeningWhole
 pub mod CallThroughRows
@@ -83,6 +87,11 @@ mod MaskedDeliveries
 mod MaskedTurns
 mod MaskedSources
 mod MaskedStates
+mod PortWrites
+mod ShownTouches
+mod TrappedStores
+mod MaskedTouches
+mod TurnTouches
 mod RefutedGuards
 mod RefutedCalls
 mod BuiltCalls
@@ -93,3 +102,4 @@ mod RefutedReturns
 mod RefutedShown
 mod RefutedSteps
 mod RefutedLeft
+mod RefutedTouched

@@ -3,8 +3,7 @@ use Rattle.std.proofs.Common.{◌≡◌, ℕ, Bool, true, false, List, Option, N
 use Rattle.std.proofs.lemmas.Bool.{false≢true}
 use Rattle.std.specs.Prelude.{if◌then◌else◌, nat_le, slice_get}
 use Rattle.cpu_step.specs.Processor.{Processor}
-use Rattle.cpu_step.specs.declared.touched.Touched.{Touched}
-use Rattle.cpu_step.specs.declared.touched.Touched.TheVariants.{Nothing}
+use Rattle.gate_state.specs.declared.touched.StepTouched.TheVariants.{Nothing}
 use Rattle.cpu_step.specs.Turns.{enters_body}
 use Rattle.irq_plan.specs.declared.event.Event.{Event}
 use Rattle.gate_state.specs.declared.moves.Move.{Move}
@@ -12,7 +11,8 @@ use Rattle.gate_state.specs.declared.moves.Move.TheVariants as move
 use Rattle.gate_state.specs.declared.seen.Step.TheVariants as step
 use Rattle.gate_state.specs.MachineStates.{MachineState}
 use Rattle.gate_state.specs.MachineSteps.{move_by, move_of, next_by, seen_by, step_by, waits}
-use Rattle.gate_state.specs.WholeMachine.{WholeState, is_rest, next_whole, source_after, stepped_whole, touched_by_move}
+use Rattle.gate_state.specs.WholeMachine.{WholeState, is_rest, next_whole, source_after, stepped_whole}
+use Rattle.gate_state.specs.StepsTouched.{touched_by_move}
 use Rattle.gate_state.proofs.WholeLemmas.{next_is}
 
 -- the machine after a step, by its move
@@ -54,11 +54,11 @@ rests_unseen move.Serve s rests = absurd (false≢true rests)
 rests_unseen (move.Take what) s rests = absurd (false≢true rests)
 rests_unseen move.Turn s rests = absurd (false≢true rests)
 
-pub rests_untouched : (m : Move) (p : Processor) (memory : List ℕ) → is_rest m ≡ true → Nothing ≡ touched_by_move m p memory
-rests_untouched move.Rest p memory rests = refl
-rests_untouched move.Serve p memory rests = absurd (false≢true rests)
-rests_untouched (move.Take what) p memory rests = absurd (false≢true rests)
-rests_untouched move.Turn p memory rests = absurd (false≢true rests)
+pub rests_untouched : (m : Move) (s : MachineState) (memory : List ℕ) → is_rest m ≡ true → Nothing ≡ touched_by_move m s memory
+rests_untouched move.Rest s memory rests = refl
+rests_untouched move.Serve s memory rests = absurd (false≢true rests)
+rests_untouched (move.Take what) s memory rests = absurd (false≢true rests)
+rests_untouched move.Turn s memory rests = absurd (false≢true rests)
 
 -- at the body the step is the nested kernel's
 pub serves : (plan : List Event) (s : MachineState) → enters_body s.processor ≡ true → move.Serve ≡ move_of plan s

@@ -11,6 +11,7 @@ pub mod ShownSteps
 pub mod GuardedStates
 pub mod StepsTaken
 pub mod WholeMachine
+pub mod StepsTouched
 pub mod GateCalls
 pub mod QuietSteps
 pub mod WindowLeft

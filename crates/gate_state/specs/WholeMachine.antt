@@ -3,9 +3,6 @@ use Rattle.std.specs.Prelude.{◌≡◌, ℕ, Bool, true, false, List}
 use Rattle.phys_mem.specs.MaskedMemory.{seen}
 use Rattle.nk_body.specs.NestedRecord.{HoldsBooks, OwnState}
 use Rattle.irq_plan.specs.declared.event.Event.{Event}
-use Rattle.cpu_step.specs.declared.touched.Touched.{Touched}
-use Rattle.cpu_step.specs.declared.touched.Touched.TheVariants.{Nothing, Any}
-use Rattle.cpu_step.specs.FramesTouched.{turn_touched}
 use Rattle.cpu_step.specs.Processor.{Processor}
 use Rattle.gate_state.specs.declared.moves.Move.{Move}
 use Rattle.gate_state.specs.declared.moves.Move.TheVariants as move
@@ -54,13 +51,6 @@ source_after _ w = w.source
 
 abbrev pub stepped_whole : List Event → WholeState → WholeState
 stepped_whole plan w = record w { state = next plan w.state; source = source_after (move_of plan w.state) w }
-
--- what the step from a state with this memory is told to touch
-abbrev pub touched_by_move : Move → Processor → List ℕ → Touched
-touched_by_move move.Serve p m = Any
-touched_by_move (move.Take what) p m = Nothing
-touched_by_move move.Turn p m = turn_touched p m
-touched_by_move move.Rest p m = Nothing
 
 -- no step is left
 abbrev pub is_rest : Move → Bool

@@ -5,19 +5,20 @@ ghost use Rattle.nk_bits.specs.Accesses.{wp_of};
 ghost use Rattle.phys_mem.specs.MaskedMemory.{seen};
 ghost use Rattle.page_desc.specs.DescriptorBytes.{kinds_in};
 ghost use Rattle.nk_body.specs.NestedRecord.{HoldsBooks, books_in};
-ghost use Rattle.cpu_step.specs.FramesTouched.{StaysOutside};
 ghost use Rattle.cpu_step.specs.Turns.{enters_body};
 ghost use Rattle.gate_state.specs.MachineOf.{IsStanding, IsInGates, IsOf, real_of, whole_of};
 ghost use Rattle.gate_state.specs.MachineSteps.{move_of, seen_by};
 ghost use Rattle.gate_state.specs.QuietSteps.{IsHurried};
+ghost use Rattle.gate_state.specs.StepsTouched.{KeepsOutside, ShowsWithin, touched_by_move, touched_if_shown};
+ghost use Rattle.gate_state.specs.declared.seen.Step.TheVariants as told;
 ghost use Rattle.gate_state.specs.SafeStates.{IsSafe};
-ghost use Rattle.gate_state.specs.WholeMachine.{is_rest, known_of, next_whole, touched_by_move};
+ghost use Rattle.gate_state.specs.WholeMachine.{is_rest, known_of, next_whole};
 ghost use Rattle.gate_state.specs.WindowLeft.{ComesNearer, HasFewerLeft, left};
 
 use crate::machine::{Machine, sorted, step};
 use crate::seen::Seen;
+use crate::touched::StepTouched;
 use crate::whole::{Finished, Whole};
-use cpu_step::Touched;
 use irq_plan::Plan;
 use std::marker::Model;
 
@@ -59,7 +60,7 @@ impl<'i> GateMachine<'i> {
     }
 
     /// The same step, with the frames that it may have changed: every byte of memory outside them is as it was.
-    pub(crate) fn step_touching(self, plan: &Plan) -> (Machine<'i>, Seen, Touched)
+    pub(crate) fn step_touching(self, plan: &Plan) -> (Machine<'i>, Seen, StepTouched)
         requires turns { self.state.turns < 4294967296 }
         ensures left { is_rest (move_of plan.now self.entry.state) ≡ false }
         ensures next { whole_of result.0 ≡ next_whole plan.now (known_of self.entry) }
@@ -70,9 +71,9 @@ impl<'i> GateMachine<'i> {
         ensures sorted { IsOf result.0 }
         ensures nearer { ComesNearer (move_of plan.now self.entry.state) self.entry.state.processor
             (whole_of result.0).state.processor }
-        ensures touched { StaysOutside result.2 self.entry.real (real_of result.0) }
-        ensures told { result.2 ≡ touched_by_move (move_of plan.now self.entry.state) self.entry.state.processor
-            self.entry.real }
+        ensures touched { KeepsOutside result.2 self.entry.real (real_of result.0) }
+        ensures told { result.2 ≡ touched_by_move (move_of plan.now self.entry.state) self.entry.state self.entry.real }
+        ensures shown { ShowsWithin (told.Seen result.1) result.2 (touched_if_shown self.entry.state self.entry.real) }
     {
         let GateMachine { whole } = self;
         whole.in_gates_law();

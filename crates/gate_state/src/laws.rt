@@ -1,6 +1,6 @@
 //! What follows from the definitions: the invariant holds in every state of every run, and what it holds of is safe.
 
-ghost use Rattle.std.specs.Prelude.{◌≡◌, ◌⊎◌, ℕ, ◌/◌, ◌^◌, ◌<◌, ◌≤◌, List, length, false, true};
+ghost use Rattle.std.specs.Prelude.{◌≡◌, ◌≢◌, ◌⊎◌, ℕ, ◌/◌, ◌^◌, ◌<◌, ◌≤◌, List, length, false, true};
 ghost use Rattle.irq_plan.specs.declared.event.Event.{Event};
 ghost use Rattle.irq_plan.specs.declared.event.What.{What};
 ghost use Rattle.irq_plan.specs.PlannedEvents.{IsPlan, IsPlannable};
@@ -9,16 +9,19 @@ ghost use Rattle.nk_bits.specs.EntryForms.{has_form, has_leaf_form, has_table_fo
 ghost use Rattle.nk_bits.specs.declared.kind.Kind.TheVariants.{Hidden};
 ghost use Rattle.nk_bits.specs.Kinds.{kind_of, level_of};
 ghost use Rattle.nk_bits.specs.Paging.{is_present};
-ghost use Rattle.phys_mem.specs.MaskedMemory.{is_book_frame, masked};
+ghost use Rattle.phys_mem.specs.MaskedMemory.{is_book_frame, masked, seen};
 ghost use Rattle.phys_mem.specs.Memory.{byte_at, entry_in};
 ghost use Rattle.boot_map.specs.KernelSlot.{IsNamedIn};
 ghost use Rattle.page_walk.specs.MemoryAccess.{view_of};
 ghost use Rattle.cpu_step.specs.EventsTaken.{event_taken};
+ghost use Rattle.cpu_step.specs.declared.touched.Touched.TheVariants.{Any};
+ghost use Rattle.cpu_step.specs.FramesTouched.{turn_touched};
 ghost use Rattle.cpu_step.specs.InstructionFetch.{instruction_at};
 ghost use Rattle.cpu_step.specs.TurnStores.{turn_stores};
 ghost use Rattle.cpu_step.specs.Processor.{IsSound, Processor};
 ghost use Rattle.cpu_step.specs.Turns.{enters_body, turned};
 ghost use Rattle.nk_body.specs.NestedRecord.{AreBooks, Books};
+ghost use Rattle.gate_state.specs.declared.moves.Move.TheVariants.{Turn};
 ghost use Rattle.gate_state.specs.AnyVector.{DeliversAny};
 ghost use Rattle.gate_state.specs.GateCalls.{IsCalledBack, IsCalledThrough, IsCalling};
 ghost use Rattle.gate_state.specs.GuardedStates.{IsAdmitted, IsGuarded};
@@ -51,9 +54,9 @@ use x86_decode::{decoding_law, spelling_law};
 use x86_regs::{alike_law, bound_law, effect_law, grant_law};
 
 /// Each kind of step keeps the invariant, over which a state is safe, the processor sound and, with WP clear, in the gates
-/// or at the body; books stay those of memory
-/// over a turn. What a turn and a call show are bytes, and numbers of 64 bits. With WP clear, a turn sets it or leaves
-/// fewer turns until it is set, and so does the body. Bytes in the books' frames change none of this.
+/// or at the body; books stay those of memory over a turn. What a turn and a call show are bytes, and numbers of 64 bits.
+/// With WP clear, a turn sets it or leaves fewer turns until it is set, and so does the body. Bytes in the books' frames
+/// change none of this. A turn that is told to touch any byte changes none outside the trap stack.
 pub(crate) fn steps_law()
     ensures opening { (o : Opening) (input : List ℕ) → IsAdmitted o → IsGuarded o (opening_state o input) }
     ensures event { (o : Opening) (s : MachineState) (what : What) → IsAdmitted o → IsPlannable what
@@ -97,6 +100,9 @@ pub(crate) fn steps_law()
     ensures masked_stores { (o : Opening) (s : MachineState) (m : List ℕ) → IsAdmitted o → TakesTurn s.processor
         → IsGuarded o s → masked (is_book_frame o.frames) m ≡ s.memory
         → turn_stores s.processor m ≡ turn_stores s.processor s.memory }
+    ensures trapped { (o : Opening) (s : MachineState) (m : List ℕ) (place : ℕ) → IsAdmitted o → TakesTurn s.processor
+        → IsGuarded o s → masked (is_book_frame o.frames) m ≡ s.memory → turn_touched s.processor m ≡ Any
+        → place / 4096 ≢ 3 → byte_at (turned s.processor m).memory place ≡ byte_at m place }
     ensures masked_fetch { (o : Opening) (s : MachineState) (m : List ℕ) → IsAdmitted o → IsGuarded o s
         → masked (is_book_frame o.frames) m ≡ s.memory
         → instruction_at m (view_of m s.processor.control s.processor.regs.cpl) s.processor.regs.rip s.processor.tlb
@@ -258,6 +264,16 @@ pub fn highest_pending_law()
 pub fn moves_law()
     ensures { (plan : List Event) (s : MachineState) → CountsSteps plan (move_of plan s) s (next plan s) }
 {}
+
+/// Behind a turn a guarded state is guarded, and where the books are hidden in its memory, they stay so.
+pub fn turns_law()
+    ensures guarded { (o : Opening) (plan : List Event) (s : MachineState) → IsAdmitted o → IsGuarded o s
+        → move_of plan s ≡ Turn → IsGuarded o (next plan s) }
+    ensures seen { (o : Opening) (plan : List Event) (s : MachineState) → IsAdmitted o → IsGuarded o s
+        → move_of plan s ≡ Turn → seen s.memory ≡ s.memory → seen (next plan s).memory ≡ (next plan s).memory }
+{
+    steps_law();
+}
 
 /// In a guarded state, as every state of every run of an admitted image is, each present entry of a page table has the
 /// form of its level: of the tables by kind, linked or not, and of the kernel slot's own. Of these frame 6 is of level 3,

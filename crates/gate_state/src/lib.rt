@@ -12,6 +12,7 @@ mod seen;
 // The machine as a run begins, and what its three states share.
 mod opening;
 mod source;
+mod touched;
 mod turns_left;
 mod whole;
 
@@ -27,7 +28,7 @@ mod laws;
 pub use gate::GateMachine;
 pub use laws::{
     entry_forms_law, hidden_law, highest_pending_law, masked_law, moves_law, safety_law, shown_law,
-    window_law,
+    turns_law, window_law,
 };
 pub use machine::Machine;
 pub use moves::Move;
@@ -35,4 +36,5 @@ pub use nested::NestedMachine;
 pub use opening::NoMemory;
 pub use outer::OuterMachine;
 pub use seen::{Called, Seen, Step, Took};
+pub use touched::StepTouched;
 pub use whole::Finished;

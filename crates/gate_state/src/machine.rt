@@ -1,7 +1,6 @@
 //! The machine in one of its three states.
 
 ghost use Rattle.std.specs.Prelude.{◌≡◌, ◌<◌, false, length, ◌*◌};
-ghost use Rattle.cpu_step.specs.FramesTouched.{StaysOutside};
 ghost use Rattle.cpu_step.specs.Processor.{IsSound};
 ghost use Rattle.cpu_step.specs.Turns.{enters_body};
 ghost use Rattle.phys_mem.specs.MaskedMemory.{seen};
@@ -13,15 +12,18 @@ ghost use Rattle.gate_state.specs.MachineOf.{IsOf, real_of, whole_of};
 ghost use Rattle.gate_state.specs.MachineSteps.{move_of, seen_by, step_by, took_by};
 ghost use Rattle.gate_state.specs.QuietSteps.{IsHurried};
 ghost use Rattle.gate_state.specs.SafeStates.{IsSafe};
-ghost use Rattle.gate_state.specs.WholeMachine.{is_rest, known_of, next_whole, stepped_whole, touched_by_move};
+ghost use Rattle.gate_state.specs.declared.seen.Step.TheVariants as told;
+ghost use Rattle.gate_state.specs.StepsTouched.{KeepsOutside, ShowsWithin, touched_by_move, touched_if_shown};
+ghost use Rattle.gate_state.specs.WholeMachine.{is_rest, known_of, next_whole, stepped_whole};
 
 use crate::gate::GateMachine;
 use crate::nested::NestedMachine;
 use crate::outer::OuterMachine;
 use crate::seen::{Seen, Step, Took};
 use crate::source::sourced;
+use crate::touched::StepTouched;
 use crate::whole::{Finished, Whole};
-use cpu_step::{Cpu, Touched};
+use cpu_step::Cpu;
 use irq_plan::Plan;
 use nk_body::Source;
 use phys_mem::PhysMem;
@@ -77,21 +79,29 @@ impl<'i> Machine<'i> {
 
     /// The step from this state, with what it shows, and the frames that it may have changed: every byte of memory
     /// outside them is as it was.
-    pub fn step_touching(self, plan: &Plan) -> (Machine<'i>, Step, Touched)
+    pub fn step_touching(self, plan: &Plan) -> (Machine<'i>, Step, StepTouched)
         requires turns { (whole_of self).state.turns < 4294967296 }
         ensures next { whole_of result.0 ≡ stepped_whole plan.now (whole_of self.entry) }
         ensures step { result.1 ≡ step_by (move_of plan.now (whole_of self.entry).state) (whole_of self.entry).state }
         ensures safe { IsSafe (whole_of self.entry).opening (whole_of self.entry).state }
         ensures sorted { IsOf result.0 }
-        ensures touched { StaysOutside result.2 (real_of self.entry) (real_of result.0) }
+        ensures touched { KeepsOutside result.2 (real_of self.entry) (real_of result.0) }
         ensures told { result.2 ≡ touched_by_move (move_of plan.now (whole_of self.entry).state)
-            (whole_of self.entry).state.processor (real_of self.entry) }
+            (whole_of self.entry).state (real_of self.entry) }
+        ensures shown { ShowsWithin result.1 result.2 (touched_if_shown (whole_of self.entry).state (real_of self.entry)) }
     {
         match self {
             Machine::Outer(machine) => step_outer(machine, plan),
             Machine::Gate(machine) => step_gate(machine, plan),
             Machine::Nested(machine) => step_nested(machine, plan),
         }
+    }
+
+    /// What the step from this state may change of memory, if it shows something.
+    pub fn touches_if_shown(&self) -> StepTouched
+        ensures { result ≡ touched_if_shown (whole_of self.now).state (real_of self.now) }
+    {
+        self.whole().touches_if_shown()
     }
 
     /// What a call took that was the last step, with the bytes that were read for it.
@@ -193,57 +203,60 @@ pub(crate) fn sorted<'i>(whole: Box<Whole<'i>>) -> Machine<'i>
 }
 
 /// The step of the outer kernel's machine, with what it shows, unless it rests for good.
-fn step_outer<'i>(machine: OuterMachine<'i>, plan: &Plan) -> (Machine<'i>, Step, Touched)
+fn step_outer<'i>(machine: OuterMachine<'i>, plan: &Plan) -> (Machine<'i>, Step, StepTouched)
     requires turns { machine.state.turns < 4294967296 }
     ensures next { whole_of result.0 ≡ stepped_whole plan.now (known_of machine.entry) }
     ensures step { result.1 ≡ step_by (move_of plan.now machine.entry.state) machine.entry.state }
     ensures safe { IsSafe machine.entry.opening machine.entry.state }
     ensures sorted { IsOf result.0 }
-    ensures touched { StaysOutside result.2 machine.entry.real (real_of result.0) }
-    ensures told { result.2 ≡ touched_by_move (move_of plan.now machine.entry.state) machine.entry.state.processor
+    ensures touched { KeepsOutside result.2 machine.entry.real (real_of result.0) }
+    ensures told { result.2 ≡ touched_by_move (move_of plan.now machine.entry.state) machine.entry.state
         machine.entry.real }
+    ensures shown { ShowsWithin result.1 result.2 (touched_if_shown machine.entry.state machine.entry.real) }
 {
     if machine.done(plan) {
         machine.whole.safe_law();
-        return (Machine::Outer(machine), Step::Rested, Touched::Nothing);
+        return (Machine::Outer(machine), Step::Rested, StepTouched::Nothing);
     }
     let (next, seen, touched) = machine.step_touching(plan);
     (next, Step::Seen(seen), touched)
 }
 
 /// The step of the machine in the gates, with what it shows.
-fn step_gate<'i>(machine: GateMachine<'i>, plan: &Plan) -> (Machine<'i>, Step, Touched)
+fn step_gate<'i>(machine: GateMachine<'i>, plan: &Plan) -> (Machine<'i>, Step, StepTouched)
     requires turns { machine.state.turns < 4294967296 }
     ensures next { whole_of result.0 ≡ stepped_whole plan.now (known_of machine.entry) }
     ensures step { result.1 ≡ step_by (move_of plan.now machine.entry.state) machine.entry.state }
     ensures safe { IsSafe machine.entry.opening machine.entry.state }
     ensures sorted { IsOf result.0 }
-    ensures touched { StaysOutside result.2 machine.entry.real (real_of result.0) }
-    ensures told { result.2 ≡ touched_by_move (move_of plan.now machine.entry.state) machine.entry.state.processor
+    ensures touched { KeepsOutside result.2 machine.entry.real (real_of result.0) }
+    ensures told { result.2 ≡ touched_by_move (move_of plan.now machine.entry.state) machine.entry.state
         machine.entry.real }
+    ensures shown { ShowsWithin result.1 result.2 (touched_if_shown machine.entry.state machine.entry.real) }
 {
     let (next, seen, touched) = machine.step_touching(plan);
     (next, Step::Seen(seen), touched)
 }
 
 /// The body, as a step, with what it shows.
-fn step_nested<'i>(machine: NestedMachine<'i>, plan: &Plan) -> (Machine<'i>, Step, Touched)
+fn step_nested<'i>(machine: NestedMachine<'i>, plan: &Plan) -> (Machine<'i>, Step, StepTouched)
     requires turns { machine.state.turns < 4294967296 }
     ensures next { whole_of result.0 ≡ stepped_whole plan.now (known_of machine.entry) }
     ensures step { result.1 ≡ step_by (move_of plan.now machine.entry.state) machine.entry.state }
     ensures safe { IsSafe machine.entry.opening machine.entry.state }
     ensures sorted { IsOf result.0 }
-    ensures touched { StaysOutside result.2 machine.entry.real (real_of result.0) }
-    ensures told { result.2 ≡ touched_by_move (move_of plan.now machine.entry.state) machine.entry.state.processor
+    ensures touched { KeepsOutside result.2 machine.entry.real (real_of result.0) }
+    ensures told { result.2 ≡ touched_by_move (move_of plan.now machine.entry.state) machine.entry.state
         machine.entry.real }
+    ensures shown { ShowsWithin result.1 result.2 (touched_if_shown machine.entry.state machine.entry.real) }
 {
-    let (next, called) = machine.serve();
-    (Machine::Gate(next), Step::Called(called), Touched::Any)
+    let (next, called, touched) = machine.serve_touching();
+    (Machine::Gate(next), Step::Called(called), touched)
 }
 
 /// The step of a machine that doesn't rest and at which no body is to run, with what it shows, and the frames that it may
 /// have changed.
-pub(crate) fn step<'i>(whole: Box<Whole<'i>>, plan: &Plan) -> (Machine<'i>, Seen, Touched)
+pub(crate) fn step<'i>(whole: Box<Whole<'i>>, plan: &Plan) -> (Machine<'i>, Seen, StepTouched)
     requires no_body { enters_body whole.value.state.processor ≡ false }
     requires left { is_rest (move_of plan.now whole.value.state) ≡ false }
     requires turns { whole.value.state.turns < 4294967296 }
@@ -251,9 +264,10 @@ pub(crate) fn step<'i>(whole: Box<Whole<'i>>, plan: &Plan) -> (Machine<'i>, Seen
     ensures seen { result.1 ≡ seen_by (move_of plan.now whole.entry.value.state) whole.entry.value.state }
     ensures safe { IsSafe whole.entry.value.opening whole.entry.value.state }
     ensures sorted { IsOf result.0 }
-    ensures touched { StaysOutside result.2 whole.entry.value.real (real_of result.0) }
-    ensures told { result.2 ≡ touched_by_move (move_of plan.now whole.entry.value.state)
-        whole.entry.value.state.processor whole.entry.value.real }
+    ensures touched { KeepsOutside result.2 whole.entry.value.real (real_of result.0) }
+    ensures told { result.2 ≡ touched_by_move (move_of plan.now whole.entry.value.state) whole.entry.value.state
+        whole.entry.value.real }
+    ensures shown { ShowsWithin (told.Seen result.1) result.2 (touched_if_shown whole.entry.value.state whole.entry.value.real) }
 {
     whole.safe_law();
     let mut whole = whole;

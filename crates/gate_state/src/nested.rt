@@ -1,6 +1,6 @@
 //! The machine at the nested kernel's body: WP is clear.
 
-ghost use Rattle.std.specs.Prelude.{◌≡◌, ◌<◌, ◌≤◌, false, true, length, OnSome, ◌*◌};
+ghost use Rattle.std.specs.Prelude.{◌≡◌, ◌<◌, ◌≤◌, false, true, length, OnSome, ◌*◌, ◌/◌};
 ghost use Rattle.phys_mem.specs.MaskedMemory.{seen};
 ghost use Rattle.page_desc.specs.DescriptorBytes.{kinds_in};
 ghost use Rattle.nk_body.specs.BooksTouched.{LeavesBooks};
@@ -9,11 +9,13 @@ ghost use Rattle.cpu_step.specs.Turns.{enters_body};
 ghost use Rattle.gate_state.specs.MachineOf.{IsStanding, IsAtBody, IsInGates};
 ghost use Rattle.gate_state.specs.MachineSteps.{asked_in, called_in, move_of, verdict_in};
 ghost use Rattle.gate_state.specs.SafeStates.{IsSafe};
+ghost use Rattle.gate_state.specs.StepsTouched.{KeepsOutside, touched_by_call};
 ghost use Rattle.gate_state.specs.WholeMachine.{is_rest, known_of, served_whole};
 ghost use Rattle.gate_state.specs.WindowLeft.{left};
 
 use crate::gate::GateMachine;
 use crate::seen::Called;
+use crate::touched::StepTouched;
 use crate::whole::{Finished, Whole};
 use irq_plan::Plan;
 use std::marker::Model;
@@ -51,13 +53,34 @@ impl<'i> NestedMachine<'i> {
         ensures in_gates { IsStanding IsInGates result.0.opening result.0.state }
         ensures nearer { left result.0.state.processor < left self.entry.state.processor }
     {
+        let (machine, called, _) = self.serve_touching();
+        (machine, called)
+    }
+
+    /// The same, with the frames that it may have changed: every byte of memory outside them is as it was.
+    pub(crate) fn serve_touching(self) -> (GateMachine<'i>, Called, StepTouched)
+        requires turns { self.state.turns < 4294967296 }
+        ensures next { known_of result.0 ≡ served_whole (known_of self.entry) }
+        ensures called { result.1 ≡ called_in self.entry.state }
+        ensures refused { OnSome (verdict_in self.entry.state) (result.0.real ≡ self.entry.real) }
+        ensures leaves { LeavesBooks self.entry.state.ledger.book (asked_in self.entry.state) self.entry.real
+            result.0.real }
+        ensures body { enters_body self.entry.state.processor ≡ true }
+        ensures safe { IsSafe self.entry.opening self.entry.state }
+        ensures at_body { IsStanding IsAtBody self.entry.opening self.entry.state }
+        ensures in_gates { IsStanding IsInGates result.0.opening result.0.state }
+        ensures nearer { left result.0.state.processor < left self.entry.state.processor }
+        ensures touched { KeepsOutside result.2 self.entry.real result.0.real }
+        ensures told { result.2 ≡ touched_by_call (length self.entry.real / 4096) self.entry.state.ledger.book
+            (asked_in self.entry.state) }
+    {
         let NestedMachine { mut whole } = self;
         whole.at_body_law();
         whole.served_law();
         whole.safe_law();
-        let called = whole.serve();
+        let (called, touched) = whole.serve();
         whole.in_gates_law();
-        (GateMachine { whole }, called)
+        (GateMachine { whole }, called, touched)
     }
 
     /// What every machine at the body is.

@@ -10,24 +10,25 @@ ghost use Rattle.phys_mem.specs.MaskedMemory.{seen};
 ghost use Rattle.page_desc.specs.DescriptorBytes.{kinds_in};
 ghost use Rattle.nk_body.specs.NestedRecord.{HoldsBooks, books_in};
 ghost use Rattle.nk_body.specs.SourceWords.{opening_ledger};
-ghost use Rattle.cpu_step.specs.FramesTouched.{StaysOutside};
 ghost use Rattle.cpu_step.specs.Turns.{enters_body};
 ghost use Rattle.gate_state.specs.MachineOf.{IsStanding, IsOf, IsOuter, real_of, whole_of};
 ghost use Rattle.gate_state.specs.MachineOpening.{opening_state};
 ghost use Rattle.gate_state.specs.MachineSteps.{move_of, seen_by};
 ghost use Rattle.gate_state.specs.QuietSteps.{IsHurried};
+ghost use Rattle.gate_state.specs.StepsTouched.{KeepsOutside, ShowsWithin, touched_by_move, touched_if_shown};
+ghost use Rattle.gate_state.specs.declared.seen.Step.TheVariants as told;
 ghost use Rattle.gate_state.specs.SafeStates.{IsSafe};
-ghost use Rattle.gate_state.specs.WholeMachine.{is_rest, known_of, next_whole, touched_by_move};
+ghost use Rattle.gate_state.specs.WholeMachine.{is_rest, known_of, next_whole};
 
 use crate::laws::safety_law;
 use crate::machine::{Machine, step};
 use crate::moves::Move;
 use crate::opening::{NoMemory, opening_cpu};
 use crate::seen::Seen;
+use crate::touched::StepTouched;
 use crate::whole::{Finished, Whole};
 use boot_map::Layout;
 use byte_scanner::clean_image_law;
-use cpu_step::Touched;
 use elf_image::Image;
 use irq_plan::Plan;
 use nk_body::Kernel;
@@ -128,7 +129,7 @@ impl<'i> OuterMachine<'i> {
     }
 
     /// The same step, with the frames that it may have changed: every byte of memory outside them is as it was.
-    pub(crate) fn step_touching(self, plan: &Plan) -> (Machine<'i>, Seen, Touched)
+    pub(crate) fn step_touching(self, plan: &Plan) -> (Machine<'i>, Seen, StepTouched)
         requires left { is_rest (move_of plan.now self.state) ≡ false }
         requires turns { self.state.turns < 4294967296 }
         ensures next { whole_of result.0 ≡ next_whole plan.now (known_of self.entry) }
@@ -137,9 +138,9 @@ impl<'i> OuterMachine<'i> {
         ensures safe { IsSafe self.entry.opening self.entry.state }
         ensures outer { IsStanding IsOuter self.entry.opening self.entry.state }
         ensures sorted { IsOf result.0 }
-        ensures touched { StaysOutside result.2 self.entry.real (real_of result.0) }
-        ensures told { result.2 ≡ touched_by_move (move_of plan.now self.entry.state) self.entry.state.processor
-            self.entry.real }
+        ensures touched { KeepsOutside result.2 self.entry.real (real_of result.0) }
+        ensures told { result.2 ≡ touched_by_move (move_of plan.now self.entry.state) self.entry.state self.entry.real }
+        ensures shown { ShowsWithin (told.Seen result.1) result.2 (touched_if_shown self.entry.state self.entry.real) }
     {
         let OuterMachine { whole } = self;
         whole.outer_law();

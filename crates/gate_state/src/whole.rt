@@ -1,9 +1,9 @@
 //! What the three states share: the machine with the opening of its run.
 
-ghost use Rattle.std.specs.Prelude.{◌≡◌, ℕ, ◌+◌, ◌<◌, ◌≤◌, ◌^◌, true, false, slice_get, IfSome, OnSome, Some, None, length, ◌*◌};
+ghost use Rattle.std.specs.Prelude.{◌≡◌, ℕ, ◌+◌, ◌<◌, ◌≤◌, ◌^◌, true, false, slice_get, IfSome, OnSome, Some, None, length, ◌*◌, ◌/◌};
 ghost use Rattle.irq_plan.specs.PlannedEvents.{IsPlannable};
 ghost use Rattle.nk_bits.specs.Accesses.{wp_of};
-ghost use Rattle.cpu_step.specs.FramesTouched.{StaysOutside, turn_touched};
+ghost use Rattle.cpu_step.specs.FramesTouched.{turn_touched};
 ghost use Rattle.cpu_step.specs.Processor.{IsSound};
 ghost use Rattle.cpu_step.specs.Turns.{enters_body};
 ghost use Rattle.phys_mem.specs.MaskedMemory.{seen};
@@ -15,21 +15,25 @@ ghost use Rattle.gate_state.specs.MachineOf.{IsStanding, IsAtBody, IsInGates, Is
 ghost use Rattle.gate_state.specs.MachineSteps.{after_event, after_turn, answered_with, asked_in, call_in, called_in, move_by, move_of, next, seen_by, served, shown_by_turn, turn_of, verdict_in, waits};
 ghost use Rattle.gate_state.specs.QuietSteps.{IsHurried};
 ghost use Rattle.gate_state.specs.SafeStates.{IsSafe, TakesTurn};
-ghost use Rattle.gate_state.specs.WholeMachine.{is_rest, known_of, next_whole, served_whole, touched_by_move};
+ghost use Rattle.gate_state.specs.StepsTouched.{KeepsOutside, ShowsWithin, of_turn, touched_by_call, touched_by_move, touched_if_shown};
+ghost use Rattle.gate_state.specs.declared.seen.Step.TheVariants as told;
+ghost use Rattle.gate_state.specs.declared.touched.StepTouched.TheVariants.{Frames};
+ghost use Rattle.gate_state.specs.WholeMachine.{is_rest, known_of, next_whole, served_whole};
 ghost use Rattle.gate_state.specs.WindowLeft.{ComesNearer, HasFewerLeft, left};
 
 use crate::laws::{steps_law, window_law};
 use crate::moves::Move;
 use crate::seen::{Called, Seen};
 use crate::source::{source_place, sourced, take_source};
+use crate::touched::{StepTouched, TRAP_STACK, of_turn, touched_by_call};
 use crate::turns_left::left;
 use boot_map::Layout;
-use cpu_step::{Cpu, Stepped, Touched};
+use cpu_step::{Cpu, Stepped};
 use elf_image::Image;
 use irq_plan::{Event, Plan, What};
 use nk_bits::{Answer, CallWords, EXIT};
 use nk_body::{Kernel, held_law};
-use phys_mem::{PhysMem, mask_law};
+use phys_mem::{PhysMem, frame_law, mask_law, memory_law};
 use std::marker::Model;
 use x86_regs::Regs;
 
@@ -95,17 +99,18 @@ impl<'i> Whole<'i> {
 
     /// Takes the step from a state that doesn't rest and at which no body is to run, and tells the frames that it may have
     /// changed: every byte of memory outside them is as it was.
-    pub fn advance(&mut self, plan: &Plan) -> (Seen, Touched)
+    pub fn advance(&mut self, plan: &Plan) -> (Seen, StepTouched)
         requires no_body { enters_body self.old.state.processor ≡ false }
         requires left { is_rest (move_of plan.now self.old.state) ≡ false }
         requires turns { self.old.state.turns < 4294967296 }
         ensures next { known_of self.new ≡ next_whole plan.now (known_of self.old) }
         ensures seen { result.0 ≡ seen_by (move_of plan.now self.old.state) self.old.state }
-        ensures touched { StaysOutside result.1 self.old.real self.new.real }
-        ensures told { result.1 ≡ touched_by_move (move_of plan.now self.old.state) self.old.state.processor self.old.real }
+        ensures touched { KeepsOutside result.1 self.old.real self.new.real }
+        ensures told { result.1 ≡ touched_by_move (move_of plan.now self.old.state) self.old.state self.old.real }
+        ensures shown { ShowsWithin (told.Seen result.0) result.1 (touched_if_shown self.old.state self.old.real) }
     {
         match self.next_move(plan) {
-            Move::Take(what) => (self.take(what), Touched::Nothing),
+            Move::Take(what) => (self.take(what), StepTouched::Nothing),
             Move::Turn => self.turn(),
             Move::Serve | Move::Rest => unreachable!(),
         }
@@ -126,20 +131,21 @@ impl<'i> Whole<'i> {
     }
 
     /// Takes a turn of the processor, and tells the frames that it may have changed.
-    fn turn(&mut self) -> (Seen, Touched)
+    fn turn(&mut self) -> (Seen, StepTouched)
         requires takes { TakesTurn self.old.state.processor }
         requires turns { self.old.state.turns < 4294967296 }
         ensures turned { known_of self.new ≡ record (known_of self.old) { state = after_turn self.old.state } }
         ensures seen { result.0 ≡ shown_by_turn (turn_of self.old.state).stepped }
-        ensures touched { StaysOutside result.1 self.old.real self.new.real }
-        ensures told { result.1 ≡ turn_touched self.old.state.processor self.old.real }
+        ensures touched { KeepsOutside result.1 self.old.real self.new.real }
+        ensures told { result.1 ≡ of_turn (turn_touched self.old.state.processor self.old.real) }
+        ensures shown { ShowsWithin (told.Seen result.0) result.1 (Frames 3 3) }
     {
         steps_law();
         mask_law();
         held_law();
         let (stepped, touched) = self.cpu.step_touching(&mut self.mem);
         self.turns += 1;
-        (seen_of(stepped), touched)
+        (seen_of(stepped), of_turn(touched))
     }
 
     /// Takes quick turns, if there are any, until the next event is due or so many turns were taken in all.
@@ -170,18 +176,23 @@ impl<'i> Whole<'i> {
         }
     }
 
-    /// Runs the nested kernel's body.
-    pub fn serve(&mut self) -> Called
+    /// Runs the nested kernel's body, and tells the frames that it may have changed.
+    pub fn serve(&mut self) -> (Called, StepTouched)
         requires body { enters_body self.old.state.processor ≡ true }
         requires turns { self.old.state.turns < 4294967296 }
         ensures served { known_of self.new ≡ served_whole (known_of self.old) }
-        ensures called { result ≡ called_in self.old.state }
+        ensures called { result.0 ≡ called_in self.old.state }
         ensures refused { OnSome (verdict_in self.old.state) (self.new.real ≡ self.old.real) }
         ensures leaves { LeavesBooks self.old.state.ledger.book (asked_in self.old.state) self.old.real self.new.real }
+        ensures touched { KeepsOutside result.1 self.old.real self.new.real }
+        ensures told { result.1 ≡ touched_by_call (length self.old.real / 4096) self.old.state.ledger.book (asked_in self.old.state) }
     {
         steps_law();
+        memory_law();
+        frame_law();
         mask_law();
         let call = call_in(self.cpu.regs());
+        let touched = touched_by_call(&self.kernel, &self.mem, &call);
         let wanted = self.kernel.wants(&self.mem, &call);
         let place = source_place(&call);
         let took = take_source(&mut self.cpu, &self.mem, place, wanted, &mut self.source);
@@ -189,10 +200,22 @@ impl<'i> Whole<'i> {
         let answer = self.kernel.serve(&mut self.mem, &call, source);
         answer_with(&mut self.cpu, &answer, self.kernel.root());
         self.turns += 1;
-        Called {
+        let called = Called {
             call,
             source: took,
             answer,
+        };
+        (called, touched)
+    }
+
+    /// What the step from this state may change of memory, if it shows something.
+    pub fn touches_if_shown(&self) -> StepTouched
+        ensures { result ≡ touched_if_shown self.now.state self.now.real }
+    {
+        if self.is_at_body() {
+            touched_by_call(&self.kernel, &self.mem, &call_in(self.cpu.regs()))
+        } else {
+            StepTouched::Frames(TRAP_STACK, TRAP_STACK)
         }
     }
 

@@ -6,6 +6,7 @@ use Rattle.gate_state.proofs.CallThrough.{called_through}
 use Rattle.gate_state.proofs.LowerLaws.{LowerLaws}
 use Rattle.gate_state.proofs.BookFrames.{book_hidden, hidden_book}
 use Rattle.gate_state.proofs.MaskedStates.{masked_event, masked_fetch, masked_source, masked_stays, masked_stores, masked_turn}
+use Rattle.gate_state.proofs.MaskedTouches.{masked_trapped}
 use Rattle.gate_state.proofs.OpeningGuarded.{opening_guarded}
 use Rattle.gate_state.proofs.SceneProofs.{scene_laws}
 use Rattle.gate_state.proofs.ShownStates.{call_shown}
@@ -81,6 +82,8 @@ returns c =
           masked_stays laws o admitted s guarded m is (facts o s admitted guarded) takes place;
       masked_stores = λ o s m admitted takes guarded is.
           masked_stores laws o admitted s guarded m is (facts o s admitted guarded) takes;
+      trapped = λ o s m place admitted takes guarded is.
+          masked_trapped laws o admitted s guarded m is (facts o s admitted guarded) takes place;
       masked_fetch = λ o s m admitted guarded is. masked_fetch laws o admitted s guarded m is;
       masked_event = λ o s m what admitted guarded is. masked_event laws o admitted s guarded m is what;
       masked_source = λ o s m va count admitted guarded is. masked_source laws o admitted s guarded m is va count;

@@ -14,7 +14,7 @@ returns-then-done-clause-step c =
 
 pub returns-then-done-clause-told : goal.returns-then-done-clause-told
 returns-then-done-clause-told c =
-    rests_untouched (move_of c.args.plan.now c.args.machine.state) c.args.machine.state.processor c.args.machine.real
+    rests_untouched (move_of c.args.plan.now c.args.machine.state) c.args.machine.state c.args.machine.real
     (sym c.done.ensures.done ∙ c.if-done.true)
 
 pub returns-clause-next : goal.returns-clause-next

@@ -1,4 +1,4 @@
-use Rattle.std.proofs.Common.{◌≡◌, ℕ, ◌≤◌, refl, sym, ap, subst, ◌∙◌, arith, true}
+use Rattle.std.proofs.Common.{◌≡◌, ℕ, ◌/◌, ◌≤◌, length, refl, sym, ap, subst, ◌∙◌, arith, true}
 use Rattle.std.specs.Prelude.{IfSome, OnSome, Option, vec_capacity}
 use Rattle.phys_mem.specs.MaskedMemory.{seen}
 use Rattle.nk_bits.specs.declared.call.CallWords.{CallWords}
@@ -14,6 +14,9 @@ use Rattle.gate_state.specs.MachineStates.{MachineState, Opening}
 use Rattle.gate_state.specs.MachineSteps.{asked_in, call_in, called_in, source_of, took_by, verdict_in}
 use Rattle.gate_state.specs.SourceBytes.{source_through}
 use Rattle.gate_state.specs.WholeMachine.{HeldState, known_of, served_whole}
+use Rattle.gate_state.specs.declared.touched.StepTouched.{StepTouched}
+use Rattle.gate_state.specs.StepsTouched.{KeepsOutside, touched_by_call}
+use Rattle.gate_state.proofs.CallsTouched.{TouchLaws, call_keeps}
 use Rattle.gate_state.proofs.SourceReads.{source_is}
 use Rattle.gate_state.proofs.SourceWants.{wants_most}
 use Rattle.gate_state.proofs.WholeLemmas.{answer_now, root_stays, second_on, served_is, served_whole_is, sound_is, source_now, source_seen, state_by, tlb_seen, verdict_now}
@@ -149,3 +152,31 @@ returns-clause-leaves c =
     subst (λ (w : HeldState). LeavesBooks w.state.ledger.book (asked_in w.state) w.real c.serve-answer.new.mem) c.self.view_is
     (subst (λ (call : CallWords). LeavesBooks s.ledger.book (call_of call) c.self.inside.mem c.serve-answer.new.mem)
     (c.call_in-call.ensures ∙ ap call_in c.regs.ensures) c.serve-answer.ensures.leaves)
+
+pub returns-clause-touched : goal.returns-clause-touched
+returns-clause-touched c =
+    let o : Opening = record { image = c.self.inside.image.now; frames = c.self.inside.layout.now.frames } in
+    let s : MachineState = state_by c.self.inside.cpu c.self.inside.mem c.self.inside.kernel c.self.inside.turns c.self.inside.taken in
+    let read : Sourced = source_through s.memory s.processor.control.root s.processor.tlb c.source_place-place.result c.wants-wanted.result in
+    let alike = source_seen c.mask_law.ensures.length o s c.self.inside.kernel c.self.inside.mem c.self.invariant.0
+    (λ m va count. c.steps_law.ensures.masked_source o s m va count c.self.invariant.0.admitted c.self.invariant.0.guarded) c.source_place-place.result c.wants-wanted.result in
+    let is : sourced_of c.sourced-source.result ≡ read =
+    c.sourced-source.ensures _ c.take_source-took.ensures.took (c.deref.ensures.value ∙ c.take_source-took.ensures.bytes) ∙ alike in
+    let P : Option ℕ × Sourced → Type 0 = λ pair. IsSourceOf pair.0 pair.1 in
+    let both : (c.wants-wanted.result, read) ≡ (wants (books_in c.self.inside.kernel c.self.inside.mem).ledger.book (call_of c.call_in-call.result), sourced_of c.sourced-source.result) =
+    λ i. (c.wants-wanted.ensures i, sym is i) in
+    let sourced = subst P both
+    (source_is s.memory s.processor.control.root c.self.invariant.0.guarded.memory.are_bytes s.processor.tlb c.source_place-place.result c.wants-wanted.result) in
+    let laws : TouchLaws = record { memory = c.memory_law.ensures; frame = c.frame_law.ensures; mask = c.mask_law.ensures } in
+    subst (λ (w : HeldState). KeepsOutside c.touched_by_call-touched.result w.real c.serve-answer.new.mem) c.self.view_is
+    (subst (λ (it : StepTouched). KeepsOutside it c.self.inside.mem c.serve-answer.new.mem) (sym c.touched_by_call-touched.ensures)
+    (call_keeps laws c.self.inside.kernel c.self.inside.mem c.serve-answer.new.mem (call_of c.call_in-call.result)
+    (sourced_of c.sourced-source.result) c.self.invariant.0.kept sourced c.serve-answer.ensures.memory))
+
+pub returns-clause-told : goal.returns-clause-told
+returns-clause-told c =
+    let s : MachineState = state_by c.self.inside.cpu c.self.inside.mem c.self.inside.kernel c.self.inside.turns c.self.inside.taken in
+    c.touched_by_call-touched.ensures
+    ∙ ap (λ (call : CallWords). touched_by_call (length c.self.inside.mem / 4096) s.ledger.book (call_of call))
+    (c.call_in-call.ensures ∙ ap call_in c.regs.ensures)
+    ∙ ap (λ (w : HeldState). touched_by_call (length w.real / 4096) w.state.ledger.book (asked_in w.state)) c.self.view_is
