@@ -27,7 +27,7 @@ install:
 	mkdir -p "$(BIN)" "$(SHARE)" "$(MANUAL)"
 	install -m 755 crates/nkrun/out/nkrun crates/nktrace/out/nktrace "$(BIN)"
 	cp -R outer tools "$(SHARE)"
-	cd "$(SHARE)" && rm -rf outer/try_build.sh tools/explain_test tools/explain_pictures tools/__pycache__
+	cd "$(SHARE)" && rm -rf outer/try_build.sh tools/*_test tools/explain_pictures tools/__pycache__
 	ln -sf ../../bin/nkrun "$(SHARE)/nkrun"
 	front/manual >"$(MANUAL)/nkrun.1"
 

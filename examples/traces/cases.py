@@ -50,6 +50,9 @@ CALL = ("11 nested 0 ffffff800000101b - call 0 none a 0000000000000200 b 0000000
 # NOP; NOP; MOV AL, 41; HLT
 PLAIN = bytes.fromhex("90 90 b041 f4")
 
+# NOP; JMP to itself
+LOOP = bytes.fromhex("90 ebfe")
+
 FIRST_NOP = "0 outer 0 ffffffff80000000 90 nop.64 - - 0; fill ffffffff80000000 frame 67 r-x-\n"
 
 HALT = "0 outer 0 ffffffff80000000 f4 hlt.64 - - 0; fill ffffffff80000000 frame 67 r-x-; halted\n"
@@ -141,4 +144,13 @@ CASES = [
         ("eleven digits", ("10000000000",)), ("an empty word", ("",)), ("a letter behind FROM", ("0", "x")))),
     Case("the most turns", b"\xf4", ("4294967296",), head="state turn 1 outer"),
     Case("a file that takes ten bytes", b"\xf4", room=10, status=4, whole="state turn"),
+    Case("the addresses at which instructions began, each once, those of the gates not", CALLS, words=("--ran",),
+         whole="ffffffff80000000\nffffffff80000002\nffffffff8000000c\nffffffff8000000e\n"),
+    Case("an address that runs again and again has one line, in as many turns as there may be", LOOP, words=("--ran",),
+         steps="7", whole="ffffffff80000000\nffffffff80000001\n"),
+    Case("an instruction that faults began", ABSENT, words=("--ran",), steps="1", whole="ffffffff80000000\n"),
+    Case("no turn, no address", PLAIN, words=("--ran",), steps="0", whole=""),
+    Case("addresses are cut where their file takes no more", PLAIN, words=("--ran",), room=20, status=4,
+         whole="ffffffff80000000\nfff"),
+    Case("addresses aren't shown beside steps", PLAIN, words=("1", "--ran"), status=2, whole=""),
 ]

@@ -10,7 +10,7 @@ mod run;
 
 use command_words::Request;
 use nk_host::{FileShelf, StdSink};
-use run::trace;
+use run::{ran, trace};
 use std::env::{self, Env};
 use std::io;
 use std::process::ExitCode;
@@ -42,6 +42,12 @@ fn answer<R: Env + AllocGlobal + Files + Print + Eprint>(rt: &R) -> u8 {
             let mut shelf = FileShelf::new(rt);
             let mut sink = StdSink::new(rt);
             trace(rt.alloc(), &request, &shown, &mut shelf, &mut sink)
+        }
+        Asked::Ran(words) => {
+            let request = Request::new(&words);
+            let mut shelf = FileShelf::new(rt);
+            let mut sink = StdSink::new(rt);
+            ran(rt.alloc(), &request, &mut shelf, &mut sink)
         }
         Asked::Told(error) => {
             let _ = error.print(rt);

@@ -7,7 +7,7 @@ ghost use Rattle.file_scan.specs.ShelfChanges.{shelf_change};
 ghost use Rattle.gate_state.specs.MachineOf.{whole_of};
 ghost use Rattle.gate_state.specs.MachineOpening.{opening_state};
 ghost use Rattle.nk_run.specs.Witness.{sink_change};
-ghost use Rattle.nktrace.specs.TracedRuns.{IsTraced, IsTracePut, IsNoMemoryPut, status_of};
+ghost use Rattle.nktrace.specs.TracedRuns.{IsNoMemoryPut, IsRanPut, IsRanTold, IsTraced, IsTracePut, status_of};
 
 use command_words::Request;
 use gate_state::Machine;
@@ -16,7 +16,7 @@ use nk_host::{Shelf, Sink, SinkFault, put_all};
 use nk_run::{ReadyRun, begin, ready_run};
 use phys_mem::PhysMem;
 use std::alloc::Global;
-use step_trace::{Shown, TraceFault, drive_shown};
+use step_trace::{Shown, TraceFault, drive_shown, put_ran};
 
 /// The status where all was written.
 const DONE: u8 = 0;
@@ -121,6 +121,49 @@ pub fn trace<S: Shelf, O: Sink>(
 {
     match ready_run(alloc, request, shelf) {
         Ok(ready) => show_run(alloc, ready, shown, sink),
+        Err(refusal) => refusal.write(sink),
+    }
+}
+
+/// Shows where instructions began in a run that may begin.
+fn show_ran<O: Sink>(alloc: Global, ready: ReadyRun, sink: &mut O) -> u8
+    requires layout { IsLayout ready.opened.image ready.opened.layout }
+    requires clean { first_found ready.opened.image ≡ None }
+    requires steps { ready.steps ≤ 4294967296 }
+    ensures { IsRanPut ready.opened.image ready.steps ready.plan (opening_state (record {
+      image = ready.opened.image;
+      frames = ready.opened.layout.frames;
+    }) ready.input.items) (sink_change O.taken O.faults sink.old sink.new) result
+        ⊎ IsNoMemoryPut (sink_change O.taken O.faults sink.old sink.new) result }
+{
+    let ReadyRun {
+        opened,
+        input,
+        plan,
+        steps,
+    } = ready;
+    match begin(alloc, &opened, input) {
+        Some(machine) => told_status(put_ran(alloc, machine, &opened.image, &plan, steps, sink)),
+        None => no_memory(sink),
+    }
+}
+
+/// Shows the addresses of the image at which instructions began in the run that is asked for, or answers as the top call
+/// of `nkrun` does where none is, or where it doesn't begin. With status 0 the text is whole; with 4, where the sink
+/// failed, or 5, where there was no memory, it is a part from its beginning.
+pub fn ran<S: Shelf, O: Sink>(
+    alloc: Global,
+    request: &Request<'_>,
+    shelf: &mut S,
+    sink: &mut O,
+) -> u8
+    ensures files_stay { S.files shelf.new ≡ S.files shelf.old }
+    ensures told { IsRanTold request.now
+        (shelf_change S.files S.faults S.wants shelf.old shelf.new)
+        (sink_change O.taken O.faults sink.old sink.new) result }
+{
+    match ready_run(alloc, request, shelf) {
+        Ok(ready) => show_ran(alloc, ready, sink),
         Err(refusal) => refusal.write(sink),
     }
 }

@@ -38,12 +38,14 @@ enum Form {
     Two(&'static [&'static str]),
     /// An option without a value.
     Flag,
+    /// The same, which stands beside none that asks for steps.
+    Alone,
     /// An option with the name of a kind of steps.
     KindName,
 }
 
 /// The words, how they stand, and what they are.
-static WORDS: [(&str, Form, &str); 12] = [
+static WORDS: [(&str, Form, &str); 13] = [
     ("IMAGE", Form::File, "the image, as of nkrun run"),
     ("INPUT", Form::File, "the bytes that the image may take"),
     ("PLAN", Form::File, "the plan of events"),
@@ -72,6 +74,22 @@ static WORDS: [(&str, Form, &str); 12] = [
         Form::Flag,
         "shows what the processor keeps of walks as the trace begins",
     ),
+    (
+        "ran",
+        Form::Alone,
+        "shows no steps, but each address of the image at which an instruction began",
+    ),
+];
+
+/// What asks for steps.
+static OF_STEPS: [&str; 7] = [
+    "FROM",
+    "TO",
+    "until",
+    "changes",
+    "only",
+    "memory",
+    "translations",
 ];
 
 /// What the words ask for.
@@ -79,6 +97,8 @@ static WORDS: [(&str, Form, &str); 12] = [
 pub enum Asked {
     /// The words of a run, and what is shown of it.
     Trace(Vec<String>, Shown),
+    /// The words of a run of which the addresses are shown at which instructions began.
+    Ran(Vec<String>),
     /// Help or the version, or what is wrong with the words.
     Told(Error),
     /// There is no memory for the words.
@@ -86,23 +106,34 @@ pub enum Asked {
 }
 
 /// A word of the command line.
-fn word<'a>(alloc: Global, name: &'a str, form: &Form, help: &'a str) -> Arg<'a> {
+fn word<'a>(
+    alloc: Global,
+    name: &'a str,
+    form: &Form,
+    help: &'a str,
+) -> Result<Arg<'a>, AllocError> {
     let word = Arg::new(alloc, name).help(help);
     match form {
-        Form::File => word.required(true).action(ArgAction::Set),
-        Form::Turns => word.action(ArgAction::Set),
-        Form::Values(value) => word.long(name).action(ArgAction::Append).value_name(value),
-        Form::Two(values) => word
+        Form::File => Ok(word.required(true).action(ArgAction::Set)),
+        Form::Turns => Ok(word.action(ArgAction::Set)),
+        Form::Values(value) => Ok(word.long(name).action(ArgAction::Append).value_name(value)),
+        Form::Two(values) => Ok(
+            word.long(name)
+                .action(ArgAction::Set)
+                .num_args(0..=2)
+                .value_names(values),
+        ),
+        Form::Flag => Ok(word.long(name).action(ArgAction::SetTrue)),
+        Form::Alone => word
             .long(name)
-            .action(ArgAction::Set)
-            .num_args(0..=2)
-            .value_names(values),
-        Form::Flag => word.long(name).action(ArgAction::SetTrue),
-        Form::KindName => word
-            .long(name)
-            .action(ArgAction::Set)
-            .value_name("KIND")
-            .value_parser(KINDS.as_slice()),
+            .action(ArgAction::SetTrue)
+            .conflicts_with_all(OF_STEPS.as_slice()),
+        Form::KindName => Ok(
+            word.long(name)
+                .action(ArgAction::Set)
+                .value_name("KIND")
+                .value_parser(KINDS.as_slice()),
+        ),
     }
 }
 
@@ -112,7 +143,7 @@ fn whole_command<'a>(alloc: Global) -> Result<Command<'a>, AllocError> {
         "The steps of a run, a line each, with what they change; docs/FORMATS.md has the lines",
     );
     for (name, form, help) in &WORDS {
-        command = command.arg(word(alloc, name, form, help))?;
+        command = command.arg(word(alloc, name, form, help)?)?;
     }
     Ok(command)
 }
@@ -210,6 +241,9 @@ fn misused(alloc: Global, wrong: &'static str) -> Result<Asked, AllocError> {
 
 /// What the words that match ask for.
 fn asked_by(alloc: Global, matches: &ArgMatches<'_>) -> Result<Asked, AllocError> {
+    if matches.get_flag("ran") {
+        return Ok(Asked::Ran(run_words(alloc, matches)?));
+    }
     let Some(until) = addresses_of(alloc, matches)? else {
         return misused(alloc, NO_ADDRESS);
     };

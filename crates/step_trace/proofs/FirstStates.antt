@@ -1,5 +1,5 @@
 -- The way to the first state at which so many turns were taken, or no step is left.
-use Rattle.std.proofs.Common.{◌≡◌, ℕ, zero, suc, ◌+◌, ◌<◌, ◌≤◌, Bool, true, false, List, refl, sym, ap, subst, ◌∙◌, arith, below_none, below_more}
+use Rattle.std.proofs.Common.{◌≡◌, ℕ, zero, suc, ◌+◌, ◌<◌, ◌≤◌, true, false, List, refl, sym, ap, subst, ◌∙◌, arith, below_none, below_more}
 use Rattle.std.proofs.lemmas.Bool.{leb-false, lt-leb, or_from, or_parts}
 use Rattle.irq_plan.specs.declared.event.Event.{Event}
 use Rattle.gate_state.specs.declared.moves.Move.{Move}
@@ -37,6 +37,10 @@ begins_way limit plan first = record {
   not_before = below_none (λ (k : ℕ). is_there limit plan (state plan first k) ≡ false);
 }
 
+pub begins_first : (limit : ℕ) (plan : List Event) (first : MachineState) → (begins_way limit plan first).steps ≡ 0
+unfolding begins_way
+begins_first limit plan first = refl
+
 -- one step more, from a state that isn't there
 pub one_more : {limit : ℕ} {plan : List Event} {first s : MachineState} → IsOnWay limit plan first s
     → is_there limit plan s ≡ false → IsOnWay limit plan first (next plan s)
@@ -50,6 +54,11 @@ one_more {limit} {plan} {first} {s} way elsewhere =
       state_is = ap (next plan) way.state_is ∙ sym (next_state plan first way.steps);
       not_before = λ k below. before k (omega arith);
     }
+
+pub one_behind : {limit : ℕ} {plan : List Event} {first s : MachineState} (way : IsOnWay limit plan first s)
+    (elsewhere : is_there limit plan s ≡ false) → (one_more way elsewhere).steps ≡ suc way.steps
+unfolding one_more
+one_behind way elsewhere = refl
 
 -- where turns are left and a step is, a state isn't there, and the other way round
 elsewhere_by : (limit : ℕ) (plan : List Event) (s : MachineState) → s.turns < limit → is_rest (move_of plan s) ≡ false

@@ -1,5 +1,5 @@
 -- Sixteen hexadecimal digits are the text of eight bytes, by a law, and four that of two bytes: the last four of sixteen.
-use Rattle.std.proofs.Common.{◌≡◌, ℕ, ◌/◌, ◌%◌, ◌^◌, ◌<◌, List, ◌++◌, drop, replicate, sym, ap, ◌∙◌, arith}
+use Rattle.std.proofs.Common.{◌≡◌, ℕ, ◌/◌, ◌%◌, ◌^◌, ◌<◌, ◌++◌, drop, replicate, sym, ap, ◌∙◌, arith}
 use Rattle.std.specs.Int.{bytes_high_first}
 use Rattle.hex.specs.Hex.{encode_lower, encode_with}
 use Rattle.report_text.specs.RunLines.{hex_16}

@@ -2,6 +2,7 @@ pub mod NearerSteps
 pub mod FirstStates
 pub mod TakenTexts
 pub mod TraceRests
+mod AddressesNoted
 pub mod HexadecimalFour
 pub mod TextsBehind
 pub mod ChangeTexts
@@ -11,6 +12,7 @@ mod ToldPlaces
 pub mod ChangedRuns
 pub mod SameFrames
 pub mod ToldMemory
+mod TwoFrames
 mod StepParts
 mod KeptParts
 mod ToldChanges
@@ -21,3 +23,6 @@ pub mod LineTexts
 mod WorkedChanges
 mod WorkedTexts
 mod RefutedChanges
+mod RefutedTraces
+pub mod PassedTurns
+pub mod PassedRests

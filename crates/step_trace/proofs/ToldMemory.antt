@@ -80,52 +80,6 @@ pub none_told : (was c m : List ℕ) (n : ℕ) → length c ≡ length m → ((p
 none_told was c m n size same =
     sym (ap (λ r. was ++ changes_text r) (none_changed n 0 c m (λ g _. frame_agrees c m g size (λ p _. same p))) ∙ append-nil was)
 
--- a line on which the runs of the one frame were put that changed
-pub one_told : (was now c m : List ℕ) (n a : ℕ) → length c ≡ length m → 4096 * n ≡ length m → ((p : ℕ) → p / 4096 ≢ a → byte_at m p ≡ byte_at c p)
-    → now ≡ was ++ changes_text (runs (4096 * a) 0 (frame_bytes c a) (frame_bytes m a))
-    → now ≡ was ++ changes_text (memory_changes (length m / 4096) 0 c m)
-one_told was now c m n a size whole stays told =
-    told
-    ∙ ap (λ r. was ++ changes_text r)
-    (sym (one_changed (length m / 4096) 0 a c m (omega arith)
-    (λ g _ apart. frame_agrees c m g size (λ p here. sym (stays p (λ e. apart (sym here ∙ e)))))
-    (λ g past. frame_past c m g size (omega arith))))
-
--- and is the copy memory where that frame was copied
-pub one_copied : (c d m : List ℕ) (a : ℕ) → length d ≡ length m → ((p : ℕ) → p / 4096 ≢ a → byte_at m p ≡ byte_at c p)
-    → ((p : ℕ) → p / 4096 ≡ a → byte_at d p ≡ byte_at m p) → ((p : ℕ) → p / 4096 ≢ a → byte_at d p ≡ byte_at c p) → d ≡ m
-one_copied c d m a size stays copied left =
-    same_memory d m size (λ p. elim (cases_eq (p / 4096) a) [ inl here ↦ copied p here | inr there ↦ left p there ∙ sym (stays p there) ])
-
--- the same of two
-pub two_told : (was mid now c d m : List ℕ) (n a b : ℕ) → length c ≡ length m → length d ≡ length m → 4096 * n ≡ length m → a ≤ b → a ≢ b
-    → ((p : ℕ) → p / 4096 ≢ a → p / 4096 ≢ b → byte_at m p ≡ byte_at c p) → ((p : ℕ) → p / 4096 ≢ a → byte_at d p ≡ byte_at c p)
-    → mid ≡ was ++ changes_text (runs (4096 * a) 0 (frame_bytes c a) (frame_bytes m a))
-    → now ≡ mid ++ changes_text (runs (4096 * b) 0 (frame_bytes d b) (frame_bytes m b))
-    → now ≡ was ++ changes_text (memory_changes (length m / 4096) 0 c m)
-two_told was mid now c d m n a b size dsize whole order apart stays left first last =
-    let front : List Change = runs (4096 * a) 0 (frame_bytes c a) (frame_bytes m a) in
-    let back : List Change = runs (4096 * b) 0 (frame_bytes c b) (frame_bytes m b) in
-    let as_before : frame_bytes d b ≡ frame_bytes c b =
-    frame_agrees d c b (dsize ∙ sym size) (λ p here. left p (λ e. apart (sym e ∙ here))) in
-    let changes : memory_changes (length m / 4096) 0 c m ≡ front ++ back =
-    two_changed (length m / 4096) 0 a b c m (omega arith) (omega arith)
-    (λ g _ other away. frame_agrees c m g size (λ p here. sym (stays p (λ e. other (sym here ∙ e)) (λ e. away (sym here ∙ e)))))
-    (λ g past. frame_past c m g size (omega arith)) in
-    last ∙ ap (λ l. mid ++ changes_text (runs (4096 * b) 0 l (frame_bytes m b))) as_before
-    ∙ ap (λ l. l ++ changes_text back) first ∙ append_assoc was (changes_text front) (changes_text back)
-    ∙ ap (λ l. was ++ l) (sym (text_behind front back)) ∙ ap (λ r. was ++ changes_text r) (sym changes)
-
-pub two_copied : (c d e m : List ℕ) (a b : ℕ) → length e ≡ length m → ((p : ℕ) → p / 4096 ≢ a → p / 4096 ≢ b → byte_at m p ≡ byte_at c p)
-    → ((p : ℕ) → p / 4096 ≡ a → byte_at d p ≡ byte_at m p) → ((p : ℕ) → p / 4096 ≢ a → byte_at d p ≡ byte_at c p)
-    → ((p : ℕ) → p / 4096 ≡ b → byte_at e p ≡ byte_at m p) → ((p : ℕ) → p / 4096 ≢ b → byte_at e p ≡ byte_at d p) → e ≡ m
-two_copied c d e m a b size stays first left last others =
-    same_memory e m size
-    (λ p. elim (cases_eq (p / 4096) b) [
-      | inl here ↦ last p here
-      | inr there ↦ others p there ∙ elim (cases_eq (p / 4096) a) [ inl at ↦ first p at | inr away ↦ left p away ∙ sym (stays p away there) ]
-    ])
-
 -- a frame more was put, of all
 pub frame_told : (n f : ℕ) (start was now c d m : List ℕ) → f < n → length c ≡ length m → length d ≡ length m
     → ((p : ℕ) → f ≤ p / 4096 → byte_at d p ≡ byte_at c p)

@@ -1,14 +1,17 @@
 -- The rest of a trace, step by step.
-use Rattle.std.proofs.Common.{◌≡◌, ℕ, ◌+◌, ◌*◌, ◌<◌, ◌≤◌, Bool, true, false, ◌||◌, length, Option, Some, None, Result, Ok, Err, List, [], ◌∷◌, ◌++◌, min, refl, sym, ap, subst, ◌∙◌, arith, append_assoc}
+use Rattle.std.proofs.Common.{◌≡◌, ℕ, ◌*◌, ◌<◌, Bool, true, false, ◌||◌, length, Option, Some, None, Result, Ok, Err, List, [], ◌∷◌, ◌++◌, min, refl, sym, ap, subst, ◌∙◌, append_assoc}
 use Rattle.std.specs.Prelude.{⊤, OnOk, IsSome, if◌then◌else◌, nat_eq, nat_le}
 use Rattle.std.specs.List.{list_any}
 use Rattle.std.proofs.lemmas.Bool.{leb-false}
 use Rattle.irq_plan.specs.declared.event.Event.{Event}
 use Rattle.phys_mem.specs.MaskedMemory.{seen}
+use Rattle.phys_mem.specs.Memory.{byte_at}
+use Rattle.gate_state.specs.declared.touched.StepTouched.{StepTouched}
 use Rattle.gate_state.specs.MachineStates.{MachineState}
 use Rattle.gate_state.specs.MachineSteps.{move_of}
 use Rattle.gate_state.specs.MachineSteps as machine
 use Rattle.gate_state.specs.StepsTaken.{CountsSteps}
+use Rattle.gate_state.specs.StepsTouched.{KeepsOutside}
 use Rattle.gate_state.specs.WholeMachine.{HeldState, WholeState, is_rest, known_of, stepped_whole}
 use Rattle.x86_regs.specs.declared.registers.Regs.{Regs}
 use Rattle.cpu_step.specs.Processor.{Processor}
@@ -17,9 +20,10 @@ use Rattle.step_trace.specs.declared.ends.TraceEnd.{TraceEnd}
 use Rattle.step_trace.specs.declared.ends.TraceEnd.TheVariants as end
 use Rattle.step_trace.specs.declared.ends.TraceFault.{TraceFault}
 use Rattle.step_trace.specs.declared.ends.TraceFault.TheVariants as fault
+use Rattle.step_trace.specs.CopiesOfMemory.{IsCopyFor}
 use Rattle.step_trace.specs.RestsOfTraces.{IsRest, IsRestTaken, IsStepTaken, step_shown}
 use Rattle.step_trace.specs.TracesPut.{IsTaken, IsTraceTaken}
-use Rattle.step_trace.specs.Traces.{IsFirstReached, IsNextHeld, IsTrace, end_text, ending_before, ending_behind, ending_text, is_at, is_past, last_of, lines_text, opening_text, trace_text}
+use Rattle.step_trace.specs.Traces.{IsFirstReached, IsNextHeld, end_text, ending_before, ending_behind, ending_text, is_at, is_past, last_of, lines_text, opening_text, trace_text}
 use Rattle.report_text.specs.RunLines.{turns_line}
 use Rattle.step_trace.proofs.NearerSteps.{nearer}
 use Rattle.step_trace.proofs.TakenTexts.{both_taken, done_as, done_whole, failed_as, first_cut, none_cut, none_taken}
@@ -75,12 +79,21 @@ pub next_held : (plan : List Event) (h next : HeldState) → known_of next ≡ s
     → seen next.real ≡ next.state.memory → IsNextHeld plan h next
 next_held plan h next known real = record { known = known; real = real }
 
--- memory keeps its size
+-- memory keeps its size, and a copy that is memory as it was does for telling what the step changed
 pub same_size : (plan : List Event) (w after : WholeState) (copy real later : List ℕ) → copy ≡ real
     → length real ≡ 4096 * w.opening.frames → after ≡ stepped_whole plan w → length later ≡ 4096 * after.opening.frames
     → length copy ≡ length later
 same_size plan w after copy real later same size is later_size =
     ap length same ∙ (size ∙ (ap (λ (x : WholeState). 4096 * x.opening.frames) (sym is) ∙ sym later_size))
+
+pub same_copy : (plan : List Event) (w after : WholeState) (it : StepTouched) (copy real later : List ℕ) → copy ≡ real
+    → length real ≡ 4096 * w.opening.frames → after ≡ stepped_whole plan w → length later ≡ 4096 * after.opening.frames
+    → KeepsOutside it real later → IsCopyFor it copy real later
+same_copy plan w after it copy real later same size is later_size keeps = record {
+  size = same_size plan w after real real later refl size is later_size;
+  outside = keeps;
+  agrees = λ p _. ap (λ l. byte_at l p) same;
+}
 
 module _ (shown : Shown) (steps : ℕ) (plan : List Event) where
   -- the trace as far as this state
@@ -93,7 +106,7 @@ module _ (shown : Shown) (steps : ℕ) (plan : List Event) where
   rest_so here why h is = record { later = []; follow = tt; ends = is; text_is = refl }
 
   -- a step, and the rest behind it
-  rest_behind : (h next : HeldState) (why : Option TraceEnd) (rest : List ℕ) → ending_before shown steps plan h.state ≡ None
+  pub rest_behind : (h next : HeldState) (why : Option TraceEnd) (rest : List ℕ) → ending_before shown steps plan h.state ≡ None
       → IsNextHeld plan h next → IsRest shown steps plan (ending_behind shown steps plan next.state) next why rest
       → IsRest shown steps plan (ending_before shown steps plan h.state) h why (step_shown shown plan h next ++ rest)
   rest_behind h next why rest goes follows r = record {

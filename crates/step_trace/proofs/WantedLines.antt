@@ -21,7 +21,7 @@ use Rattle.step_trace.specs.declared.asked.Kind.{Kind}
 use Rattle.step_trace.specs.declared.asked.Kind.TheVariants as kind
 use Rattle.step_trace.specs.declared.asked.Shown.{Shown}
 use Rattle.step_trace.specs.declared.line.Told.{Told}
-use Rattle.step_trace.specs.StepLines.{AtBody, InGates, InOuter, StepLine, code_by, code_bytes, has, is_call, is_console, is_delivered, is_event, is_of_kind, is_of_kinds, is_outer, is_stored, is_wanted, line_of, size_by, turn_by, was_by}
+use Rattle.step_trace.specs.StepLines.{AtBody, InGates, InOuter, StepLine, code_by, code_bytes, has, is_call, is_console, is_delivered, is_event, is_of_kind, is_of_kinds, is_outer, is_wanted, line_of, size_by, turn_by, was_by}
 use Rattle.step_trace.specs.ToldSteps.{IsToldOf, are_kinds_told, is_called, is_console_byte, is_delivery_step, is_kind_told, is_taken_event, is_wanted_told}
 use Rattle.step_trace.proofs.ToldChanges.{console_in_step, delivered_in_step}
 

@@ -1,11 +1,10 @@
 -- Changes and lines at worked values.
-use Rattle.std.proofs.Common.{◌≡◌, ℕ, true, false, List, [], ◌∷◌, ◌++◌, None, Some, refl, codes}
+use Rattle.std.proofs.Common.{◌≡◌, ℕ, true, false, [], ◌∷◌, refl}
 use Rattle.nk_bits.specs.declared.leaf.Leaf.{Leaf}
-use Rattle.nk_bits.specs.declared.leaf.Rights.{Rights}
 use Rattle.nk_bits.specs.declared.leaf.Upper.{Upper}
 use Rattle.nk_bits.specs.Translations.{Translations}
-use Rattle.step_trace.specs.StepChanges.{Change, Dropped, Filled, Flag, Flushed, Forgotten, General, Kept, Stored, drops, fills, flag_changes, forgets, general_changes, keeps, named_flags, runs, translation_changes}
-use Rattle.step_trace.specs.Traces.{is_at, kept_shown}
+use Rattle.step_trace.specs.StepChanges.{Dropped, Filled, Flag, Flushed, Forgotten, General, Kept, Stored, drops, fills, flag_changes, forgets, general_changes, keeps, named_flags, runs, translation_changes}
+use Rattle.step_trace.specs.Traces.{is_at}
 
 -- RCX goes from 5 to 7, and RAX stays
 rcx_changes : general_changes 0 (1 ∷ 5 ∷ []) (1 ∷ 7 ∷ []) ≡ General 1 7 ∷ []

@@ -5,9 +5,9 @@ use Rattle.hex.specs.Hex.{encode_with}
 use Rattle.nk_bits.specs.declared.leaf.Rights.{Rights}
 use Rattle.report_text.specs.RunLines.{hex_16, turns_line}
 use Rattle.step_trace.specs.declared.ends.TraceEnd.TheVariants as end
-use Rattle.step_trace.specs.StepChanges.{Answered, Console, ControlRegister, Delivered, Dropped, Filled, Flag, Flushed, Forgotten, General, Halted, Kept, Privilege, Rip, Stack, Stored}
+use Rattle.step_trace.specs.StepChanges.{Answered, Console, ControlRegister, Delivered, Dropped, Filled, Flag, Flushed, General, Halted, Privilege, Rip, Stack, Stored}
 use Rattle.step_trace.specs.StepLines.{AtBody, Code, InGates, InOuter, StepLine, Vector}
-use Rattle.step_trace.specs.StepTexts.{answer_text, change_text, delivery_text, fill_text, flag_names, frame_text, hex_4, keep_text, line_text, page_code_text, register_names, rule_names, selector_code_text, span_text, value_text, vector_name, vector_names}
+use Rattle.step_trace.specs.StepTexts.{answer_text, change_text, delivery_text, fill_text, flag_names, frame_text, hex_4, line_text, page_code_text, register_names, rule_names, value_text, vector_name, vector_names}
 use Rattle.step_trace.specs.Traces.{ending_text}
 
 -- the delivery of a vector that was pending, and three changes

@@ -1,20 +1,17 @@
 -- The rest of a trace from a state on, and what one step adds to it.
-use Rattle.std.specs.Prelude.{◌≡◌, ℕ, ◌<◌, List, ◌++◌, codes, decimal, Option, None, Some, IsSome, Result, Ok, OnOk, ⊤}
+use Rattle.std.specs.Prelude.{◌≡◌, ℕ, ◌<◌, List, ◌++◌, codes, decimal, Option, None, IsSome, Result, Ok, OnOk, ⊤}
 use Rattle.irq_plan.specs.declared.event.Event.{Event}
-use Rattle.irq_plan.specs.declared.event.What.{What}
 use Rattle.cpu_step.specs.Processor.{Processor}
 use Rattle.report_text.specs.RunLines.{hex_16}
 use Rattle.gate_state.specs.declared.machine.Machine.{Machine}
 use Rattle.gate_state.specs.MachineOf.{real_of, whole_of}
-use Rattle.gate_state.specs.MachineStates.{MachineState}
 use Rattle.gate_state.specs.WholeMachine.{HeldState, known_of}
 use Rattle.step_trace.specs.declared.asked.Shown.{Shown}
 use Rattle.step_trace.specs.declared.ends.TraceEnd.{TraceEnd}
 use Rattle.step_trace.specs.declared.ends.TraceFault.{TraceFault}
-use Rattle.step_trace.specs.declared.kept.Kept.{Kept}
 use Rattle.step_trace.specs.declared.steps.Followed.{Followed}
 use Rattle.step_trace.specs.declared.steps.Followed.TheVariants as followed
-use Rattle.step_trace.specs.StepLines.{StepLine, is_wanted, line_of, stand_in}
+use Rattle.step_trace.specs.StepLines.{is_wanted, line_of, stand_in}
 use Rattle.step_trace.specs.StepTexts.{stand_name}
 use Rattle.step_trace.specs.StepsLeft.{steps_left}
 use Rattle.step_trace.specs.ToldSteps.{kept_lists}

@@ -15,7 +15,6 @@ use Rattle.x86_alu.specs.SignedNumbers.{bit, differ}
 use Rattle.x86_regs.specs.declared.registers.Regs.{Regs}
 use Rattle.x86_regs.specs.Operands.{wrapped}
 use Rattle.cpu_step.specs.Processor.{Processor}
-use Rattle.gate_state.specs.declared.seen.Called.{Called}
 use Rattle.gate_state.specs.declared.seen.Seen.TheVariants as seen
 use Rattle.gate_state.specs.declared.seen.Step.{Step}
 use Rattle.gate_state.specs.declared.seen.Step.TheVariants as step

@@ -1,5 +1,5 @@
 -- The line of a step: the state before it, what it was, and what it changed. A trace shows some of the lines of a run.
-use Rattle.std.specs.Prelude.{ℕ, zero, suc, ◌+◌, ◌==◌, Bool, true, false, not, ◌&&◌, ◌||◌, if◌then◌else◌, List, [], ◌∷◌, ◌++◌, length, take, Option, None, Some, Result, Ok, Err}
+use Rattle.std.specs.Prelude.{ℕ, zero, suc, ◌+◌, Bool, true, false, not, ◌&&◌, ◌||◌, if◌then◌else◌, List, [], ◌∷◌, length, take, Option, None, Some, Result, Ok, Err}
 use Rattle.nk_bits.specs.declared.access.Access.TheVariants.{Fetch}
 use Rattle.nk_bits.specs.declared.call.CallWords.{CallWords}
 use Rattle.nk_bits.specs.declared.fault.AccessFault.{AccessFault}
@@ -19,9 +19,6 @@ use Rattle.cpu_step.specs.Processor.{Processor, deliverable}
 use Rattle.cpu_step.specs.Turns.{enters_body}
 use Rattle.gate_state.specs.declared.moves.Move.{Move}
 use Rattle.gate_state.specs.declared.moves.Move.TheVariants as move
-use Rattle.gate_state.specs.declared.seen.Seen.TheVariants as seen
-use Rattle.gate_state.specs.declared.seen.Step.{Step}
-use Rattle.gate_state.specs.declared.seen.Step.TheVariants as step
 use Rattle.gate_state.specs.MachineStates.{MachineState}
 use Rattle.gate_state.specs.MachineSteps.{call_in, move_of, step_by}
 use Rattle.gate_state.specs.WholeMachine.{HeldState}

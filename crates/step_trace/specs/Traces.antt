@@ -1,6 +1,6 @@
 -- A trace: the states of a run, from the first one that is shown on, and its text. Which bytes the body leaves in the books'
 -- frames no definition says, so that the states are told with memory as it is, one behind the other.
-use Rattle.std.specs.Prelude.{◌≡◌, ℕ, ◌<◌, ◌==◌, Bool, true, false, ◌&&◌, ◌||◌, nat_le, nat_lt, if◌then◌else◌, ⊤, List, [], ◌∷◌, ◌++◌, codes, Option, Some, None, drop, min, take}
+use Rattle.std.specs.Prelude.{◌≡◌, ℕ, ◌<◌, ◌==◌, Bool, true, false, ◌||◌, nat_le, nat_lt, if◌then◌else◌, ⊤, List, [], ◌∷◌, ◌++◌, codes, Option, Some, None, drop, min, take}
 use Rattle.nk_bits.specs.Translations.{Translations, flushed}
 use Rattle.irq_plan.specs.declared.event.Event.{Event}
 use Rattle.phys_mem.specs.MaskedMemory.{seen}

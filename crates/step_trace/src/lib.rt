@@ -24,7 +24,11 @@ mod state;
 // How a trace begins and ends.
 mod ends;
 mod opening;
+mod passing;
 mod reach;
+
+// Where instructions began.
+mod ran;
 
 // The steps.
 mod steps;
@@ -32,4 +36,5 @@ mod telling;
 
 pub use crate::asked::{Kind, MemoryShown, Shown};
 pub use crate::ends::TraceFault;
+pub use crate::ran::put_ran;
 pub use crate::steps::drive_shown;

@@ -1,7 +1,8 @@
 //! The line of a step: what it was, what it changed and what it shows, behind the state that it began at.
 
-ghost use Rattle.std.specs.Prelude.{◌≡◌, ◌/◌, ◌++◌, ◌&&◌, ◌+◌, IfOk, OnOk, codes, decimal, length, nat_lt, not};
-ghost use Rattle.cpu_step.specs.FramesTouched.{StaysOutside};
+ghost use Rattle.std.specs.Prelude.{◌≡◌, ℕ, List, ◌/◌, ◌++◌, ◌&&◌, ◌+◌, IfOk, OnOk, codes, decimal, length, nat_lt, not};
+ghost use Rattle.gate_state.specs.StepsTouched.{KeepsOutside};
+ghost use Rattle.step_trace.specs.CopiesOfMemory.{IsCopyFor};
 ghost use Rattle.cpu_step.specs.Processor.{Processor};
 ghost use Rattle.report_text.specs.RunLines.{hex_16};
 ghost use Rattle.step_trace.specs.StepChanges.{Halted, control_changes, flushes, memory_changes, shown_changes, step_changes, translation_changes, where_so};
@@ -16,8 +17,8 @@ use crate::registers::{put_control, put_registers, put_rip};
 use crate::shown::{put_call, put_event, put_halted, put_shown, put_vector};
 use crate::state::put_stand;
 use crate::words::{put_16, put_decimal, put_text};
-use cpu_step::{Cpu, Touched};
-use gate_state::{Seen, Step};
+use cpu_step::Cpu;
+use gate_state::{Seen, Step, StepTouched};
 use irq_plan::What;
 use nk_bits::Control;
 use phys_mem::PhysMem;
@@ -136,15 +137,14 @@ fn put_stored(
     line: &mut Vec<u8>,
     mem: &PhysMem,
     copy: &mut PhysMem,
-    touched: Touched,
+    touched: StepTouched,
 ) -> Result<bool, AllocError>
     requires size { length copy.old ≡ length mem.now }
-    requires touched { StaysOutside touched copy.old mem.now }
-    ensures text { OnOk result (line.new.items ≡ line.old.items
-        ++ changes_text (memory_changes (length mem.now / 4096) 0 copy.old mem.now)) }
-    ensures told { IfOk result (λ stored. stored
-        ≡ has is_stored (memory_changes (length mem.now / 4096) 0 copy.old mem.now)) }
-    ensures copy { OnOk result (copy.new ≡ mem.now) }
+    ensures text { (before : List ℕ) → IsCopyFor touched copy.old before mem.now → OnOk result (line.new.items
+        ≡ line.old.items ++ changes_text (memory_changes (length mem.now / 4096) 0 before mem.now)) }
+    ensures told { (before : List ℕ) → IsCopyFor touched copy.old before mem.now → IfOk result (λ stored. stored
+        ≡ has is_stored (memory_changes (length mem.now / 4096) 0 before mem.now)) }
+    ensures copy { KeepsOutside touched copy.old mem.now → OnOk result (copy.new ≡ mem.now) }
     ensures size { length copy.new ≡ length mem.now }
 {
     let begin = line.len();
@@ -161,21 +161,20 @@ fn put_changes(
     after: &Kept,
     mem: &PhysMem,
     copy: &mut PhysMem,
-    touched: Touched,
+    touched: StepTouched,
 ) -> Result<Told, AllocError>
     requires size { length copy.old ≡ length mem.now }
-    requires touched { StaysOutside touched copy.old mem.now }
-    ensures text { OnOk result (line.new.items ≡ line.old.items
+    ensures text { (m : List ℕ) → IsCopyFor touched copy.old m mem.now → OnOk result (line.new.items ≡ line.old.items
         ++ (changes_text (registers_behind before.now.regs cpu.now.regs)
         ++ (changes_text (control_changes before.now.control cpu.now.control)
-        ++ (changes_text (memory_changes (length mem.now / 4096) 0 copy.old mem.now)
+        ++ (changes_text (memory_changes (length mem.now / 4096) 0 m mem.now)
         ++ (changes_text (translation_changes (flushes step.now) (kept_lists before.now.kept) (kept_lists after.now))
         ++ (changes_text (shown_changes step.now)
         ++ changes_text (where_so (not before.now.halted && cpu.now.halted) Halted))))))) }
-    ensures stored { IfOk result (λ told. told.is_stored
-        ≡ has is_stored (memory_changes (length mem.now / 4096) 0 copy.old mem.now)) }
+    ensures stored { (m : List ℕ) → IsCopyFor touched copy.old m mem.now → IfOk result (λ told. told.is_stored
+        ≡ has is_stored (memory_changes (length mem.now / 4096) 0 m mem.now)) }
     ensures more { IfOk result (λ told. told.is_more ≡ nat_lt (length line.old.items) (length line.new.items)) }
-    ensures copy { OnOk result (copy.new ≡ mem.now) }
+    ensures copy { KeepsOutside touched copy.old mem.now → OnOk result (copy.new ≡ mem.now) }
     ensures size { length copy.new ≡ length mem.now }
 {
     let begin = line.len();
@@ -191,8 +190,8 @@ fn put_changes(
     })
 }
 
-/// What the step was, what it changed and what it shows, to the line's end. The copy is memory as it was, and becomes
-/// memory as it is.
+/// What the step was, what it changed and what it shows, to the line's end. The copy is memory as it was where the step
+/// may have changed it, and becomes memory as it is there.
 pub(crate) fn put_step(
     line: &mut Vec<u8>,
     before: &Before,
@@ -202,18 +201,18 @@ pub(crate) fn put_step(
     after: &Kept,
     mem: &PhysMem,
     copy: &mut PhysMem,
-    touched: Touched,
+    touched: StepTouched,
 ) -> Result<Told, AllocError>
     requires size { length copy.old ≡ length mem.now }
-    requires touched { StaysOutside touched copy.old mem.now }
     requires kept { kept_lists after.now ≡ cpu.now.tlb }
-    ensures text { (p : Processor) → IsBefore before.now p copy.old → OnOk result (line.new.items ≡ line.old.items
-        ++ (was_text (was_before before.now step.now event)
-        ++ (changes_text (step_changes (size_by (was_before before.now step.now event)) step.now p cpu.now copy.old mem.now)
+    ensures text { (p : Processor) (m : List ℕ) → IsBefore before.now p m → IsCopyFor touched copy.old m mem.now
+        → OnOk result (line.new.items ≡ line.old.items ++ (was_text (was_before before.now step.now event)
+        ++ (changes_text (step_changes (size_by (was_before before.now step.now event)) step.now p cpu.now m mem.now)
         ++ codes "\n"))) }
-    ensures told { (p : Processor) → IsBefore before.now p copy.old → IfOk result (λ told. IsToldOf told
-        (step_changes (size_by (was_before before.now step.now event)) step.now p cpu.now copy.old mem.now)) }
-    ensures copy { OnOk result (copy.new ≡ mem.now) }
+    ensures told { (p : Processor) (m : List ℕ) → IsBefore before.now p m → IsCopyFor touched copy.old m mem.now
+        → IfOk result (λ told. IsToldOf told
+        (step_changes (size_by (was_before before.now step.now event)) step.now p cpu.now m mem.now)) }
+    ensures copy { KeepsOutside touched copy.old mem.now → OnOk result (copy.new ≡ mem.now) }
     ensures size { length copy.new ≡ length mem.now }
 {
     let size = put_was(line, before, step, event)?;

@@ -1,13 +1,15 @@
 //! The bytes of memory that a step changed, told by a copy of memory as it was.
 
-ghost use Rattle.std.specs.Prelude.{◌≡◌, ◌≢◌, ℕ, ◌+◌, ◌*◌, ◌/◌, ◌<◌, ◌≤◌, ◌++◌, true, drop, length, slice_index, IfOk, OnOk};
+ghost use Rattle.std.specs.Prelude.{◌≡◌, ◌≢◌, ℕ, List, ◌+◌, ◌-◌, ◌*◌, ◌/◌, ◌<◌, ◌≤◌, ◌++◌, true, drop, length, min, slice_index, IfOk, OnOk};
 ghost use Rattle.phys_mem.specs.Memory.{IsBytes, byte_at, frame_bytes};
-ghost use Rattle.cpu_step.specs.FramesTouched.{StaysOutside};
+ghost use Rattle.gate_state.specs.StepsTouched.{KeepsOutside};
+ghost use Rattle.gate_state.specs.declared.touched.StepTouched.TheVariants.{Body, Frames};
+ghost use Rattle.step_trace.specs.CopiesOfMemory.{AgreesIn, IsCopyFor, IsTouched};
 ghost use Rattle.step_trace.specs.StepChanges.{Stored, memory_changes, run_rest, runs, stay};
 ghost use Rattle.step_trace.specs.StepTexts.{change_text, changes_text};
 
 use crate::words::{put_bytes, put_named, put_text};
-use cpu_step::Touched;
+use gate_state::StepTouched;
 use phys_mem::PhysMem;
 use std::alloc::AllocError;
 
@@ -198,27 +200,87 @@ fn put_touched(
     }
 }
 
-/// Puts the changes of two frames, of which the first may be the second too, where no other changed.
+/// Puts the changes of two frames, unless they are below a number, where no other from there on changed.
 fn put_two(
     line: &mut Vec<u8>,
     mem: &PhysMem,
     copy: &mut PhysMem,
-    first: u64,
-    last: u64,
+    from: u64,
+    one: u64,
+    two: u64,
 ) -> Result<(), AllocError>
     requires size { length copy.old ≡ length mem.now }
-    requires order { first ≤ last }
-    requires others { (p : ℕ) → p / 4096 ≢ first → p / 4096 ≢ last → byte_at mem.now p ≡ byte_at copy.old p }
-    ensures text { OnOk result (line.new.items ≡ line.old.items ++ changes_text (memory_changes (length mem.now / 4096) 0 copy.old mem.now)) }
-    ensures copy { OnOk result (copy.new ≡ mem.now) }
+    ensures text { (before : List ℕ) → length before ≡ length mem.now → KeepsOutside (Body from one two) before mem.now
+        → ((p : ℕ) → from ≤ p / 4096 → IsTouched (Frames one two) p → byte_at copy.old p ≡ byte_at before p)
+        → OnOk result (line.new.items ≡ line.old.items
+        ++ changes_text (memory_changes (length mem.now / 4096 - from) from before mem.now)) }
+    ensures copied { KeepsOutside (Body from one two) copy.old mem.now
+        → OnOk result ((p : ℕ) → from ≤ p / 4096 → byte_at copy.new p ≡ byte_at mem.now p) }
+    ensures below { OnOk result ((p : ℕ) → p / 4096 < from → byte_at copy.new p ≡ byte_at copy.old p) }
     ensures size { length copy.new ≡ length mem.now }
 {
     let _frames = mem.frames();
-    put_touched(line, mem, copy, first)?;
-    if first == last {
+    let first = one.min(two);
+    let last = one.max(two);
+    if last < from {
         return Ok(());
     }
+    if first < from || first == last {
+        put_touched(line, mem, copy, last)?;
+        return Ok(());
+    }
+    put_touched(line, mem, copy, first)?;
     put_touched(line, mem, copy, last)?;
+    Ok(())
+}
+
+/// Puts the changes of the frames below a number.
+fn put_below(
+    line: &mut Vec<u8>,
+    mem: &PhysMem,
+    copy: &mut PhysMem,
+    end: u32,
+) -> Result<(), AllocError>
+    requires size { length copy.old ≡ length mem.now }
+    requires inside { 4096 * end ≤ length mem.now }
+    ensures text { OnOk result (line.new.items ≡ line.old.items ++ changes_text (memory_changes end 0 copy.old mem.now)) }
+    ensures copied { OnOk result ((p : ℕ) → p / 4096 < end → byte_at copy.new p ≡ byte_at mem.now p) }
+    ensures left { OnOk result ((p : ℕ) → end ≤ p / 4096 → byte_at copy.new p ≡ byte_at copy.old p) }
+    ensures size { length copy.new ≡ length mem.now }
+{
+    for frame in 0..end {
+        put_changed(line, mem, copy, frame)?;
+    }
+    Ok(())
+}
+
+/// How many frames below a number memory has.
+fn frames_below(mem: &PhysMem, below: u64) -> u32
+    ensures least { result ≡ min below (length mem.now / 4096) }
+    ensures inside { 4096 * result ≤ length mem.now }
+{
+    below.min(u64::from(mem.frames())) as u32
+}
+
+/// Puts the changes of the frames below a number, and of two more, where no other changed.
+fn put_body(
+    line: &mut Vec<u8>,
+    mem: &PhysMem,
+    copy: &mut PhysMem,
+    below: u64,
+    one: u64,
+    two: u64,
+) -> Result<(), AllocError>
+    requires size { length copy.old ≡ length mem.now }
+    ensures text { (before : List ℕ) → IsCopyFor (Body below one two) copy.old before mem.now
+        → OnOk result (line.new.items ≡ line.old.items ++ changes_text (memory_changes (length mem.now / 4096) 0 before mem.now)) }
+    ensures copy { KeepsOutside (Body below one two) copy.old mem.now → OnOk result (copy.new ≡ mem.now) }
+    ensures size { length copy.new ≡ length mem.now }
+{
+    let _frames = mem.frames();
+    let end = frames_below(mem, below);
+    put_below(line, mem, copy, end)?;
+    put_two(line, mem, copy, below, one, two)?;
     Ok(())
 }
 
@@ -229,30 +291,32 @@ fn put_all(line: &mut Vec<u8>, mem: &PhysMem, copy: &mut PhysMem) -> Result<(), 
     ensures copy { OnOk result (copy.new ≡ mem.now) }
     ensures size { length copy.new ≡ length mem.now }
 {
-    for frame in 0..mem.frames() {
-        put_changed(line, mem, copy, frame)?;
-    }
+    let frames = mem.frames();
+    put_below(line, mem, copy, frames)?;
     Ok(())
 }
 
-/// Puts the changes of memory since it was as the copy, and makes the copy memory as it is.
+/// Puts the changes of memory, of which no more was touched than this, where the copy is memory as it was; and makes it
+/// there memory as it is.
 pub(crate) fn put_memory(
     line: &mut Vec<u8>,
     mem: &PhysMem,
     copy: &mut PhysMem,
-    touched: Touched,
+    touched: StepTouched,
 ) -> Result<(), AllocError>
     requires size { length copy.old ≡ length mem.now }
-    requires touched { StaysOutside touched copy.old mem.now }
-    ensures text { OnOk result (line.new.items ≡ line.old.items ++ changes_text (memory_changes (length mem.now / 4096) 0 copy.old mem.now)) }
-    ensures copy { OnOk result (copy.new ≡ mem.now) }
+    ensures text { (before : List ℕ) → IsCopyFor touched copy.old before mem.now
+        → OnOk result (line.new.items ≡ line.old.items ++ changes_text (memory_changes (length mem.now / 4096) 0 before mem.now)) }
+    ensures copy { KeepsOutside touched copy.old mem.now → OnOk result (copy.new ≡ mem.now) }
     ensures size { length copy.new ≡ length mem.now }
 {
     match touched {
-        Touched::Nothing => Ok(()),
-        Touched::Frames(one, two) => put_two(line, mem, copy, one.min(two), one.max(two)),
-        Touched::Any => put_all(line, mem, copy),
+        StepTouched::Nothing => {}
+        StepTouched::Frames(one, two) => put_two(line, mem, copy, 0, one, two)?,
+        StepTouched::Body { below, one, two } => put_body(line, mem, copy, below, one, two)?,
+        StepTouched::Any => put_all(line, mem, copy)?,
     }
+    Ok(())
 }
 
 /// Makes a frame of the copy that of memory, where it isn't.
@@ -268,13 +332,66 @@ fn settle_changed(mem: &PhysMem, copy: &mut PhysMem, frame: u32)
     }
 }
 
+/// Makes the frames of the copy below a number those of memory.
+fn settle_below(mem: &PhysMem, copy: &mut PhysMem, end: u32)
+    requires size { length copy.old ≡ length mem.now }
+    requires inside { 4096 * end ≤ length mem.now }
+    ensures copied { (p : ℕ) → p / 4096 < end → byte_at copy.new p ≡ byte_at mem.now p }
+    ensures size { length copy.new ≡ length mem.now }
+{
+    for frame in 0..end {
+        settle_changed(mem, copy, frame);
+    }
+}
+
 /// Makes the copy memory as it is.
 pub(crate) fn settle(mem: &PhysMem, copy: &mut PhysMem)
     requires size { length copy.old ≡ length mem.now }
     ensures copy { copy.new ≡ mem.now }
     ensures size { length copy.new ≡ length mem.now }
 {
-    for frame in 0..mem.frames() {
-        settle_changed(mem, copy, frame);
+    let frames = mem.frames();
+    settle_below(mem, copy, frames);
+}
+
+/// Makes a frame of the copy, which memory may not have, that of memory.
+fn settle_touched(mem: &PhysMem, copy: &mut PhysMem, frame: u64)
+    requires size { length copy.old ≡ length mem.now }
+    ensures copied { (p : ℕ) → p / 4096 ≡ frame → byte_at copy.new p ≡ byte_at mem.now p }
+    ensures others { (p : ℕ) → p / 4096 ≢ frame → byte_at copy.new p ≡ byte_at copy.old p }
+    ensures size { length copy.new ≡ length mem.now }
+{
+    if frame < u64::from(mem.frames()) {
+        settle_changed(mem, copy, frame as u32);
+    }
+}
+
+/// Makes two frames of the copy those of memory.
+fn settle_two(mem: &PhysMem, copy: &mut PhysMem, one: u64, two: u64)
+    requires size { length copy.old ≡ length mem.now }
+    ensures copied { AgreesIn (Frames one two) copy.new mem.now }
+    ensures left { (p : ℕ) → byte_at copy.old p ≡ byte_at mem.now p → byte_at copy.new p ≡ byte_at mem.now p }
+    ensures size { length copy.new ≡ length mem.now }
+{
+    settle_touched(mem, copy, one);
+    settle_touched(mem, copy, two);
+}
+
+/// Makes the copy memory as it is, where a step may change it.
+pub(crate) fn settle_in(mem: &PhysMem, copy: &mut PhysMem, touched: StepTouched)
+    requires size { length copy.old ≡ length mem.now }
+    ensures copy { AgreesIn touched copy.new mem.now }
+    ensures size { length copy.new ≡ length mem.now }
+{
+    match touched {
+        StepTouched::Nothing => {}
+        StepTouched::Frames(one, two) => settle_two(mem, copy, one, two),
+        StepTouched::Body { below, one, two } => {
+            let _frames = mem.frames();
+            let end = frames_below(mem, below);
+            settle_below(mem, copy, end);
+            settle_two(mem, copy, one, two);
+        }
+        StepTouched::Any => settle(mem, copy),
     }
 }

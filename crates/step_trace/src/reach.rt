@@ -8,7 +8,7 @@ use gate_state::{Machine, moves_law};
 use irq_plan::Plan;
 
 /// Whether so many turns were taken, or no step is left.
-fn is_there(machine: &Machine<'_>, plan: &Plan, limit: u64) -> bool
+pub(crate) fn is_there(machine: &Machine<'_>, plan: &Plan, limit: u64) -> bool
     ensures { result ≡ is_there limit plan.now (whole_of machine.now).state }
 {
     machine.turns() >= limit || machine.done(plan)

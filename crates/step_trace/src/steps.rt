@@ -13,6 +13,7 @@ use crate::ends::{TraceEnd, TraceFault, end, stop};
 use crate::kept::{Kept, kept_of};
 use crate::memory::settle;
 use crate::opening::put_opening;
+use crate::passing::{follow_shown, passes};
 use crate::reach::go_to;
 use crate::telling::{Here, begin_line, tell};
 use gate_state::{Machine, moves_law};
@@ -22,7 +23,12 @@ use phys_mem::PhysMem;
 use std::alloc::Global;
 
 /// Why the trace ends before a step, if it does.
-fn end_before(machine: &Machine<'_>, plan: &Plan, shown: &Shown, steps: u64) -> Option<TraceEnd>
+pub(crate) fn end_before(
+    machine: &Machine<'_>,
+    plan: &Plan,
+    shown: &Shown,
+    steps: u64,
+) -> Option<TraceEnd>
     ensures { result ≡ ending_before shown.now steps plan.now (whole_of machine.now).state }
 {
     if machine.turns() >= steps {
@@ -36,7 +42,7 @@ fn end_before(machine: &Machine<'_>, plan: &Plan, shown: &Shown, steps: u64) -> 
 }
 
 /// Whether a step left RIP at an address at which the trace ends.
-fn is_at(machine: &Machine<'_>, shown: &Shown) -> bool
+pub(crate) fn is_at(machine: &Machine<'_>, shown: &Shown) -> bool
     ensures { result ≡ is_at shown.now.until.items (whole_of machine.now).state.processor.regs.rip }
 {
     shown.until.contains(&machine.processor().regs().rip)
@@ -162,10 +168,14 @@ pub fn drive_shown<O: Sink>(
     ensures { IsTraceTaken O.taken O.faults sink.old sink.new shown.now steps plan.now (whole_of machine.entry).state result }
 {
     let machine = go_to(machine, plan, steps.min(shown.from));
-    settle(machine.memory(), copy);
+    memory_law(&machine);
     let mut line = Vec::new(alloc);
-    match put_opening(alloc, &mut line, &machine, shown, sink) {
-        Ok(()) => follow(alloc, &mut line, machine, plan, steps, shown, copy, sink),
-        Err(fault) => Err(stop(machine, fault)),
+    if let Err(fault) = put_opening(alloc, &mut line, &machine, shown, sink) {
+        return Err(stop(machine, fault));
     }
+    if passes(shown.only) {
+        return follow_shown(alloc, &mut line, machine, plan, steps, shown, copy, sink);
+    }
+    settle(machine.memory(), copy);
+    follow(alloc, &mut line, machine, plan, steps, shown, copy, sink)
 }

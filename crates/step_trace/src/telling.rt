@@ -1,7 +1,8 @@
 //! The step from a state to the next one, told.
 
 ghost use Rattle.std.specs.Prelude.{◌≡◌, List, [], length, if◌then◌else◌, IfOk, OnOk};
-ghost use Rattle.cpu_step.specs.FramesTouched.{StaysOutside};
+ghost use Rattle.gate_state.specs.StepsTouched.{KeepsOutside};
+ghost use Rattle.step_trace.specs.CopiesOfMemory.{IsCopyFor};
 ghost use Rattle.irq_plan.specs.declared.event.Event.{Event};
 ghost use Rattle.gate_state.specs.MachineOf.{real_of, whole_of};
 ghost use Rattle.gate_state.specs.MachineSteps.{move_of, step_by};
@@ -17,8 +18,7 @@ use crate::code::told_code;
 use crate::ends::{TraceFault, put_line};
 use crate::kept::{Kept, kept_of};
 use crate::line::{Before, Told, put_head, put_step};
-use cpu_step::Touched;
-use gate_state::{Machine, Seen, Step};
+use gate_state::{Machine, Seen, Step, StepTouched};
 use irq_plan::{Plan, What};
 use nk_host::Sink;
 use phys_mem::PhysMem;
@@ -123,7 +123,7 @@ fn is_kind(kind: Kind, in_outer: bool, step: &Step, is_stored: bool) -> bool
 }
 
 /// Whether a step is of the kind that is asked for, if one is.
-fn are_kinds(only: Option<Kind>, in_outer: bool, step: &Step, is_stored: bool) -> bool
+pub(crate) fn are_kinds(only: Option<Kind>, in_outer: bool, step: &Step, is_stored: bool) -> bool
     ensures { result ≡ are_kinds_told only in_outer step.now is_stored }
 {
     match only {
@@ -164,16 +164,17 @@ pub(crate) fn tell<O: Sink>(
     here: &Here,
     step: &Step,
     next: &Machine<'_>,
-    touched: Touched,
+    touched: StepTouched,
     shown: &Shown,
     copy: &mut PhysMem,
     sink: &mut O,
 ) -> Result<Kept, TraceFault>
     requires size { length copy.old ≡ length (real_of next.now) }
-    requires touched { StaysOutside touched copy.old (real_of next.now) }
     ensures kept { IfOk result (λ kept. kept_lists kept ≡ (whole_of next.now).state.processor.tlb) }
-    ensures copy { OnOk result (copy.new ≡ real_of next.now) }
-    ensures told { (plan : List Event) (h : HeldState) → IsHere here.now plan h → h.real ≡ copy.old
+    ensures copy { KeepsOutside touched copy.old (real_of next.now) → OnOk result (copy.new ≡ real_of next.now) }
+    ensures size { length copy.new ≡ length (real_of next.now) }
+    ensures told { (plan : List Event) (h : HeldState) → IsHere here.now plan h
+        → IsCopyFor touched copy.old h.real (real_of next.now)
         → step.now ≡ step_by (move_of plan h.state) h.state → line.old.items ≡ head_text h.state.turns h.state.processor
         → IsTaken O.taken O.faults sink.old sink.new (step_shown shown.now plan h (held_of next.now)) result }
 {

@@ -1,4 +1,4 @@
-use Rattle.std.proofs.Common.{◌≡◌, ◌++◌, ap, sym, refl, ◌∙◌, not, nat_lt, arith}
+use Rattle.std.proofs.Common.{sym, ◌∙◌, arith}
 use Rattle.step_trace.proofs.KeptParts.{no_page, page_behind, page_found}
 use Rattle.step_trace.proofs.kept.first_page_place.Goals as goal
 

@@ -1,5 +1,5 @@
 -- What is still to be looked at tells it.
-use Rattle.std.proofs.Common.{◌≡◌, ◌++◌, drop, is_none}
+use Rattle.std.proofs.Common.{◌≡◌, drop, is_none}
 use Rattle.nk_bits.specs.Translations.{look}
 use Rattle.step_trace.proofs.kept.first_page_place.Given as goal
 

@@ -1,4 +1,4 @@
-use Rattle.std.proofs.Common.{◌≡◌, ◌++◌, ap, sym, refl, ◌∙◌, not, nat_lt, arith}
+use Rattle.std.proofs.Common.{sym, ◌∙◌, arith}
 use Rattle.step_trace.proofs.KeptParts.{entry_at, entry_behind, no_entry}
 use Rattle.step_trace.proofs.kept.has_entry.Goals as goal
 

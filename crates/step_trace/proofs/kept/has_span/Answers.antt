@@ -1,4 +1,4 @@
-use Rattle.std.proofs.Common.{◌≡◌, ◌++◌, ap, sym, refl, ◌∙◌, not, nat_lt, arith}
+use Rattle.std.proofs.Common.{sym, ◌∙◌, arith}
 use Rattle.step_trace.proofs.KeptParts.{no_span, span_at, span_behind}
 use Rattle.step_trace.proofs.kept.has_span.Goals as goal
 

@@ -1,5 +1,5 @@
 -- What is still to be looked at tells it.
-use Rattle.std.proofs.Common.{◌≡◌, ◌++◌, drop, is_none}
+use Rattle.std.proofs.Common.{◌≡◌, drop}
 use Rattle.step_trace.specs.StepChanges.{has_span}
 use Rattle.step_trace.proofs.kept.has_span.Given as goal
 

@@ -1,4 +1,4 @@
-use Rattle.std.proofs.Common.{◌≡◌, ◌++◌, ap, sym, refl, ◌∙◌, not, nat_lt, arith}
+use Rattle.std.proofs.Common.{◌++◌, ap, sym, ◌∙◌, arith}
 use Rattle.step_trace.proofs.KeptParts.{drop_first, no_drop, told_so}
 use Rattle.step_trace.proofs.TextsBehind.{none_left, part_behind}
 use Rattle.step_trace.proofs.kept.put_drops.Goals as goal

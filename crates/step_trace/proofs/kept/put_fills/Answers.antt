@@ -1,4 +1,4 @@
-use Rattle.std.proofs.Common.{◌≡◌, ◌++◌, ap, sym, refl, ◌∙◌, not, nat_lt, arith}
+use Rattle.std.proofs.Common.{◌++◌, ap, sym, ◌∙◌, not, arith}
 use Rattle.step_trace.proofs.KeptParts.{fill_first, no_fill, told_so}
 use Rattle.step_trace.proofs.TextsBehind.{none_left, part_behind}
 use Rattle.step_trace.proofs.kept.put_fills.Goals as goal

@@ -1,4 +1,4 @@
-use Rattle.std.proofs.Common.{◌≡◌, ◌++◌, ap, sym, refl, ◌∙◌, not, nat_lt, arith}
+use Rattle.std.proofs.Common.{◌++◌, ap, sym, ◌∙◌, arith}
 use Rattle.step_trace.proofs.KeptParts.{forget_first, no_forget}
 use Rattle.step_trace.proofs.TextsBehind.{none_left, part_behind}
 use Rattle.step_trace.proofs.kept.put_forgets.Goals as goal

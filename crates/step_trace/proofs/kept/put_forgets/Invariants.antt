@@ -1,5 +1,5 @@
 -- What stands in the line, and what is still to come, are the whole.
-use Rattle.std.proofs.Common.{◌≡◌, ◌++◌, drop, is_none}
+use Rattle.std.proofs.Common.{◌≡◌, ◌++◌, drop}
 use Rattle.step_trace.specs.StepChanges.{forgets}
 use Rattle.step_trace.specs.StepTexts.{changes_text}
 use Rattle.step_trace.proofs.kept.put_forgets.Given as goal

@@ -1,4 +1,4 @@
-use Rattle.std.proofs.Common.{◌≡◌, sym, ◌∙◌}
+use Rattle.std.proofs.Common.{sym, ◌∙◌}
 use Rattle.step_trace.proofs.KeptParts.{pair_found}
 use Rattle.step_trace.proofs.kept.stands_at.Goals as goal
 

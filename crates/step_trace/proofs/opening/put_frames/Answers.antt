@@ -1,4 +1,4 @@
-use Rattle.std.proofs.Common.{Err, ◌++◌, arith}
+use Rattle.std.proofs.Common.{Err, arith}
 use Rattle.phys_mem.specs.Memory.{frame_bytes}
 use Rattle.step_trace.specs.StepTexts.{frame_text, frames_text}
 use Rattle.step_trace.proofs.OpeningTexts.{frame_more, frames_behind, frames_with}

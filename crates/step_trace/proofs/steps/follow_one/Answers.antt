@@ -1,5 +1,5 @@
 use Rattle.std.proofs.Common.{sym, arith}
-use Rattle.gate_state.specs.MachineOf.{real_of, whole_of}
+use Rattle.gate_state.specs.MachineOf.{whole_of}
 use Rattle.step_trace.specs.RestsOfTraces.{held_of}
 use Rattle.step_trace.specs.Traces.{ending_before}
 use Rattle.step_trace.proofs.TraceRests.{cut_here, ends_here, goes_below}

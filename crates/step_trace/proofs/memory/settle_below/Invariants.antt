@@ -1,6 +1,6 @@
 use Rattle.std.proofs.Common.{◌≡◌, ℕ, ◌/◌, ◌<◌, length}
 use Rattle.phys_mem.specs.Memory.{byte_at}
-use Rattle.step_trace.proofs.memory.settle.Given as goal
+use Rattle.step_trace.proofs.memory.settle_below.Given as goal
 
 abbrev pub invariant-loop-frame : goal.invariant-loop-frame
 invariant-loop-frame l = record {
