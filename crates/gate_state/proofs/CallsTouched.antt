@@ -1,6 +1,6 @@
 -- What a call leaves of memory, the books in it: every byte outside the frames that it is told to touch.
 use Rattle.std.proofs.Common.{◌≡◌, ◌≢◌, ◌⊎◌, ℕ, suc, ◌+◌, ◌-◌, ◌*◌, ◌/◌, ◌%◌, ◌<◌, ◌≤◌, Bool, true, false, not, ◌&&◌, List, [], ◌∷◌, length, map, All, arith, refl, sym, ap, subst, ◌∙◌, inl, inr}
-use Rattle.std.specs.Prelude.{nat_le, nat_lt, cond, if◌then◌else◌, slice_index, slice_index_or, replicate, Option, None, Some, ◌==◌}
+use Rattle.std.specs.Prelude.{nat_le, nat_lt, cond, if◌then◌else◌, slice_index, replicate, Option, None, Some, ◌==◌}
 use Rattle.std.specs.List.{find, range_with_len}
 use Rattle.std.proofs.lemmas.Bool.{and_parts, and_right, cases_eq, cases_lt, false≢true, le-ltb, leb-true, ltb-false, ltb-true, not-false}
 use Rattle.std.proofs.lemmas.Option.{same_Some}

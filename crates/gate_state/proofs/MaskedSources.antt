@@ -50,6 +50,12 @@ module _ (laws : LowerLaws) (o : Opening) (ks : List Kind) (scenes : SceneLaws o
       ∙ ap (λ frames. upper_walk (entry_in m) frames control.root page level)
       (frames_same laws o ks m n control seen)
 
+  pub translation_same : (tlb : Translations) (page : ℕ) → AllPass (respecting o ks) tlb
+      → translation (entry_in n) (length n / 4096) control.root tlb page
+      ≡ translation (entry_in m) (length m / 4096) control.root tlb page
+  translation_same tlb page pass =
+      ap (λ (found : Result Leaf ℕ). or_walked (look tlb.pairs page) found) (found_same tlb page pass)
+
   -- one byte of a source, and what is kept
   byte_found : (va : ℕ) (found : Option Leaf) → IfSome found (λ leaf. respects o ks (page_of va, leaf) ≡ true)
       → byte_through n va found ≡ byte_through m va found

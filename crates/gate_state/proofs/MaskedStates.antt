@@ -1,9 +1,10 @@
 -- A turn, an event and a source over a memory of which a guarded state's is seen, as they are over the state's memory.
-use Rattle.std.proofs.Common.{◌≡◌, ℕ, ◌/◌, true, List, sym, ap, ◌∙◌}
+use Rattle.std.proofs.Common.{◌≡◌, ℕ, ◌/◌, true, List, length, sym, ap, ◌∙◌}
 use Rattle.std.proofs.lemmas.Bool.{false≢true}
 use Rattle.nk_bits.specs.Kinds.{is_storable}
 use Rattle.phys_mem.specs.MaskedMemory.{is_book_frame, masked}
-use Rattle.phys_mem.specs.Memory.{byte_at, stored}
+use Rattle.nk_bits.specs.Translations.{translation}
+use Rattle.phys_mem.specs.Memory.{byte_at, entry_in, stored}
 use Rattle.page_walk.specs.MemoryAccess.{view_of}
 use Rattle.cpu_step.specs.InstructionFetch.{instruction_at}
 use Rattle.cpu_step.specs.TurnStores.{turn_stores}
@@ -18,7 +19,7 @@ use Rattle.gate_state.specs.SourceBytes.{source_read}
 use Rattle.gate_state.proofs.BookFrames.{book_hidden}
 use Rattle.gate_state.proofs.LowerLaws.{LowerLaws}
 use Rattle.gate_state.proofs.MaskedScenes.{IsSeen, alike, masked_stored}
-use Rattle.gate_state.proofs.MaskedSources.{event_same, source_same}
+use Rattle.gate_state.proofs.MaskedSources.{event_same, source_same, translation_same}
 use Rattle.gate_state.proofs.MaskedTurns.{Left, left_by, turned_same}
 use Rattle.gate_state.proofs.Scene.{AreStores, SceneLaws}
 use Rattle.gate_state.proofs.SceneProofs.{scene_laws}
@@ -89,4 +90,10 @@ module _ (laws : LowerLaws) (o : Opening) (admitted : IsAdmitted o) (s : Machine
       ≡ source_read s.memory s.processor.control.root s.processor.tlb va count
   masked_source va count =
       sym (source_same laws o s.kinds scenes m s.memory s.processor.control seen s.processor.tlb va count
+      guarded.translations)
+
+  pub masked_translation : (page : ℕ) → translation (entry_in m) (length m / 4096) s.processor.control.root s.processor.tlb page
+      ≡ translation (entry_in s.memory) (length s.memory / 4096) s.processor.control.root s.processor.tlb page
+  masked_translation page =
+      sym (translation_same laws o s.kinds scenes m s.memory s.processor.control seen s.processor.tlb page
       guarded.translations)

@@ -1,6 +1,6 @@
 -- Gate points, openings, registers of control and states that aren't what the invariant says of them, each named by the
 -- sentence that it guards.
-use Rattle.std.proofs.Common.{◌≡◌, ◌≢◌, ◌+◌, ◌/◌, ◌%◌, ◌^◌, ◌≤◌, ℕ, true, false, inl, inr, sym, ◌∙◌, arith}
+use Rattle.std.proofs.Common.{◌≡◌, ◌+◌, ◌/◌, ◌%◌, ◌^◌, ◌≤◌, ℕ, true, false, inl, inr, sym, ◌∙◌, arith}
 use Rattle.std.proofs.lemmas.Bool.{false≢true}
 use Rattle.nk_bits.specs.KernelLayout.{gate_address}
 use Rattle.decode_fields.specs.Protected.{is_protected_at}

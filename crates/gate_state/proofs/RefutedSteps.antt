@@ -1,6 +1,6 @@
 -- Steps that don't count so, runs of quiet turns that lead elsewhere, and moments that no machine has, each named by the
 -- sentence that it guards.
-use Rattle.std.proofs.Common.{◌≡◌, ◌≢◌, ◌∙◌, ◌+◌, ◌<◌, ℕ, false, List, length, inl, inr, sym, arith}
+use Rattle.std.proofs.Common.{◌≡◌, ◌≢◌, ◌∙◌, ◌+◌, ℕ, false, List, length, inl, inr, sym, arith}
 use Rattle.std.proofs.lemmas.Bool.{false≢true}
 use Rattle.nk_bits.specs.Accesses.{wp_of}
 use Rattle.irq_plan.specs.declared.event.Event.{Event}

@@ -1,5 +1,5 @@
 -- What no step is told to touch, each named by the sentence that it guards.
-use Rattle.std.proofs.Common.{◌≡◌, ◌≢◌, ℕ, ◌/◌, List, inl, inr, refl, arith}
+use Rattle.std.proofs.Common.{◌≢◌, ℕ, List, inl, inr, arith}
 use Rattle.irq_plan.specs.declared.event.What.{What}
 use Rattle.phys_mem.specs.Memory.{byte_at}
 use Rattle.region_book.specs.RegionRecords.{Book}

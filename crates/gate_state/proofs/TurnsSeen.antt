@@ -1,5 +1,5 @@
 -- What a turn leaves of a guarded state: it is guarded, and where its memory hides the books, it hides them still.
-use Rattle.std.proofs.Common.{◌≡◌, ℕ, ◌/◌, List, length, arith, sym, ap, ◌∙◌}
+use Rattle.std.proofs.Common.{◌≡◌, ◌/◌, List, length, arith, sym, ap, ◌∙◌}
 use Rattle.irq_plan.specs.declared.event.Event.{Event}
 use Rattle.phys_mem.specs.MaskedMemory.{is_book_frame, masked, seen}
 use Rattle.gate_state.specs.declared.moves.Move.{Move}

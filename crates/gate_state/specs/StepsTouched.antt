@@ -1,5 +1,5 @@
 -- Which frames a step of the machine may have changed, and what that says of memory as it is, the books in it.
-use Rattle.std.specs.Prelude.{◌≡◌, ◌≢◌, ◌⊎◌, ⊤, ℕ, ◌+◌, ◌-◌, ◌*◌, ◌/◌, ◌≤◌, nat_le, if◌then◌else◌, List, length, Option, Some, None}
+use Rattle.std.specs.Prelude.{◌≡◌, ◌≢◌, ◌⊎◌, ⊤, ℕ, ◌+◌, ◌-◌, ◌/◌, ◌≤◌, nat_le, if◌then◌else◌, List, length, Option, Some, None}
 use Rattle.phys_mem.specs.Memory.{byte_at}
 use Rattle.cpu_step.specs.declared.touched.Touched.{Touched}
 use Rattle.cpu_step.specs.declared.touched.Touched.TheVariants as touched

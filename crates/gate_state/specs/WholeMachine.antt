@@ -3,7 +3,6 @@ use Rattle.std.specs.Prelude.{◌≡◌, ℕ, Bool, true, false, List}
 use Rattle.phys_mem.specs.MaskedMemory.{seen}
 use Rattle.nk_body.specs.NestedRecord.{HoldsBooks, OwnState}
 use Rattle.irq_plan.specs.declared.event.Event.{Event}
-use Rattle.cpu_step.specs.Processor.{Processor}
 use Rattle.gate_state.specs.declared.moves.Move.{Move}
 use Rattle.gate_state.specs.declared.moves.Move.TheVariants as move
 use Rattle.gate_state.specs.MachineStates.{MachineState, Opening}

@@ -9,6 +9,7 @@ ghost use Rattle.nk_bits.specs.EntryForms.{has_form, has_leaf_form, has_table_fo
 ghost use Rattle.nk_bits.specs.declared.kind.Kind.TheVariants.{Hidden};
 ghost use Rattle.nk_bits.specs.Kinds.{kind_of, level_of};
 ghost use Rattle.nk_bits.specs.Paging.{is_present};
+ghost use Rattle.nk_bits.specs.Translations.{translation};
 ghost use Rattle.phys_mem.specs.MaskedMemory.{is_book_frame, masked, seen};
 ghost use Rattle.phys_mem.specs.Memory.{byte_at, entry_in};
 ghost use Rattle.boot_map.specs.KernelSlot.{IsNamedIn};
@@ -115,6 +116,10 @@ pub(crate) fn steps_law()
         → masked (is_book_frame o.frames) m ≡ s.memory
         → source_read m s.processor.control.root s.processor.tlb va count
         ≡ source_read s.memory s.processor.control.root s.processor.tlb va count }
+    ensures masked_translation { (o : Opening) (s : MachineState) (m : List ℕ) (page : ℕ) → IsAdmitted o → IsGuarded o s
+        → masked (is_book_frame o.frames) m ≡ s.memory
+        → translation (entry_in m) (length m / 4096) s.processor.control.root s.processor.tlb page
+        ≡ translation (entry_in s.memory) (length s.memory / 4096) s.processor.control.root s.processor.tlb page }
     ensures hidden { (o : Opening) (s : MachineState) (f : ℕ) → IsAdmitted o → IsGuarded o s → f < o.frames
         → kind_of s.kinds f ≡ Hidden → is_book_frame o.frames f ≡ true }
     ensures books_hidden { (o : Opening) (s : MachineState) (f : ℕ) → IsAdmitted o → IsGuarded o s
@@ -216,7 +221,7 @@ pub fn shown_law()
 
 /// Over a memory of which a guarded state's is what is seen where the books' frames are hidden, a turn does what it
 /// does over the state's memory, stores the same bytes at the same places, and leaves the books' bytes; the fetch of an
-/// instruction, an event and the reading of a source do the same there.
+/// instruction, an event, the reading of a source and the translation of a page do the same there.
 pub fn masked_law()
     ensures turn { (o : Opening) (s : MachineState) (m : List ℕ) → IsAdmitted o → TakesTurn s.processor
         → IsGuarded o s → masked (is_book_frame o.frames) m ≡ s.memory
@@ -241,6 +246,10 @@ pub fn masked_law()
         → masked (is_book_frame o.frames) m ≡ s.memory
         → source_read m s.processor.control.root s.processor.tlb va count
         ≡ source_read s.memory s.processor.control.root s.processor.tlb va count }
+    ensures translation { (o : Opening) (s : MachineState) (m : List ℕ) (page : ℕ) → IsAdmitted o → IsGuarded o s
+        → masked (is_book_frame o.frames) m ≡ s.memory
+        → translation (entry_in m) (length m / 4096) s.processor.control.root s.processor.tlb page
+        ≡ translation (entry_in s.memory) (length s.memory / 4096) s.processor.control.root s.processor.tlb page }
 {
     steps_law();
 }

@@ -22,6 +22,9 @@ mod machine;
 mod nested;
 mod outer;
 
+// Looks that change nothing.
+mod looks;
+
 // What follows from the definitions.
 mod laws;
 
@@ -30,6 +33,7 @@ pub use laws::{
     entry_forms_law, hidden_law, highest_pending_law, masked_law, moves_law, safety_law, shown_law,
     turns_law, window_law,
 };
+pub use looks::look_up;
 pub use machine::Machine;
 pub use moves::Move;
 pub use nested::NestedMachine;

@@ -135,7 +135,7 @@ impl<'i> Machine<'i> {
     }
 
     /// What the three states share.
-    fn whole(&self) -> &Whole<'i>
+    pub(crate) fn whole(&self) -> &Whole<'i>
         ensures whole { known_of result.now ≡ whole_of self.now }
         ensures real { result.now.real ≡ real_of self.now }
     {

@@ -39,7 +39,7 @@ pub(crate) fn of_turn(touched: Touched) -> StepTouched
 }
 
 /// The number of the nested kernel's own frames, the first ones of memory: the last are those of the descriptors.
-fn own_frames(frames: u32) -> u64
+pub(crate) fn own_frames(frames: u32) -> u64
     ensures { result ≡ own_frames frames }
 {
     64 + (u64::from(frames) + 255) / 256

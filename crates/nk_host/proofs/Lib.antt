@@ -7,3 +7,5 @@ pub mod RefutedShelves
 mod RefutedCounts
 pub mod RefutedPuts
 mod BuiltPuts
+pub mod RefutedTakes
+mod BuiltTakes

@@ -6,7 +6,7 @@ ghost use Rattle.nk_host.specs.FaultCounts.{RoseTo, raised};
 ghost use Rattle.nk_host.specs.Streams.{HasLength};
 
 use crate::whole::write_whole;
-use crate::{FetchFault, PieceFault, Sink, SinkFault};
+use crate::{FetchFault, PieceFault, Sink, SinkFault, Source, SourceFault};
 use std::io::{Read, Seek, SeekFrom, Write};
 
 /// A reader or a writer, and the count of its faults.
@@ -145,5 +145,21 @@ impl<W: Write> Sink for Counted<W> {
     /// A write that fails, is interrupted, or takes no byte is a fault.
     fn put(&mut self, bytes: &[u8]) -> Result<(), SinkFault> {
         write_whole(self, bytes)
+    }
+}
+
+impl<F: Read> Source for Counted<F> {
+    ghost use Rattle.nk_host.specs.CountedStream.{faults_of, stream_of};
+
+    ghost left = { λ s. F.remaining (stream_of s) };
+
+    ghost faults = { λ s. faults_of s };
+
+    /// A read that fails or is interrupted is a fault.
+    fn take(&mut self, block: &mut [u8]) -> Result<usize, SourceFault> {
+        match self.read(block) {
+            Ok(n) => Ok(n),
+            Err(_) => Err(SourceFault),
+        }
     }
 }

@@ -1,4 +1,4 @@
-//! What the questions to a shelf, a put and the making of a shelf or a sink answer where they fail.
+//! What the questions to a shelf, a put, a take and the making of a shelf, a sink or a source answer where they fail.
 
 /// Why a fetch gave no file, or a size no length.
 #[derive(Clone, Copy, Debug, PartialEq, Eq)]
@@ -23,6 +23,10 @@ pub enum PieceFault {
 /// A put failed, and took only some of the bytes or none.
 #[derive(Clone, Copy, Debug, PartialEq, Eq)]
 pub struct SinkFault;
+
+/// A take failed, and gave no byte.
+#[derive(Clone, Copy, Debug, PartialEq, Eq)]
+pub struct SourceFault;
 
 /// There was no memory.
 #[derive(Clone, Copy, Debug, PartialEq, Eq)]

@@ -1,14 +1,11 @@
 //! The code at RIP, as a line tells it. It is looked at without a fetch: nothing that the processor keeps changes.
 
-ghost use Rattle.std.specs.Prelude.{◌≡◌, ◌+◌, ◌-◌, ◌*◌, ◌/◌, ◌%◌, ◌<◌, ◌≤◌, ◌++◌, IsTrue, IfSome, OnOk, length};
+ghost use Rattle.std.specs.Prelude.{◌≡◌, ◌+◌, ◌-◌, ◌*◌, ◌/◌, ◌%◌, ◌<◌, ◌≤◌, ◌++◌, IfSome, OnOk, length};
 ghost use Rattle.std.specs.Option.{ForSome};
 ghost use Rattle.arrayvec.specs.ArrayVec.{array_vec_len};
-ghost use Rattle.phys_mem.specs.Memory.{entry_in};
 ghost use Rattle.nk_bits.specs.declared.access.Access.TheVariants.{Fetch};
 ghost use Rattle.nk_bits.specs.AccessRights.{may};
 ghost use Rattle.nk_bits.specs.Accesses.{smep_of, wp_of};
-ghost use Rattle.nk_bits.specs.Paging.{is_canonical, page_of};
-ghost use Rattle.nk_bits.specs.Translations.{IsAccessible, translation};
 ghost use Rattle.page_walk.specs.MemoryAccess.{view_of};
 ghost use Rattle.asm_text.specs.InstructionTexts.{HasText};
 ghost use Rattle.cpu_step.specs.Processor.{IsSound};
@@ -21,11 +18,11 @@ use crate::words::{put_bytes, put_text};
 use arrayvec::ArrayVec;
 use asm_text::{print, text_law};
 use cpu_step::Cpu;
-use mem_access::{run_on_page, walk_kept};
-use nk_bits::{Control, Leaf, Rights, canonical, translation_law};
+use gate_state::look_up;
+use mem_access::run_on_page;
+use nk_bits::{Control, Leaf, Rights, canonical};
 use phys_mem::PhysMem;
 use std::alloc::AllocError;
-use tlb_model::Tlb;
 use x86_decode::{Decoded, Instr, decode};
 use x86_regs::bit;
 
@@ -83,23 +80,6 @@ pub(crate) fn put_code(line: &mut Vec<u8>, code: &ToldCode) -> Result<(), AllocE
     put_instruction(line, &code.found)
 }
 
-/// The translation of the page of a canonical address, kept or walked for; what is walked for isn't kept.
-fn leaf_told(mem: &PhysMem, tlb: &Tlb, root: u32, va: u64) -> Option<Leaf>
-    requires context { IsAccessible (length mem.now) root tlb.now }
-    requires canonical { IsTrue (is_canonical va) }
-    ensures found { result ≡ translation (entry_in mem.now) (length mem.now / 4096) root tlb.now (page_of va) }
-    ensures frame { IfSome result (λ leaf. 4096 * leaf.frame < length mem.now) }
-{
-    translation_law();
-    if let Some(leaf) = tlb.look(va / PAGE_SIZE) {
-        return Some(leaf);
-    }
-    match walk_kept(mem, tlb, root, va) {
-        Ok(leaf) => Some(leaf),
-        Err(_) => None,
-    }
-}
-
 /// Whether a translation with these rights serves a fetch.
 #[tactic(auto, unfolding(nk_bits::specs::Accesses::smep_of))]
 fn may_fetch(rights: Rights, control: &Control, cpl: u8) -> bool
@@ -140,7 +120,7 @@ fn code_place(mem: &PhysMem, cpu: &Cpu, va: u64) -> Option<u64>
         return None;
     }
     let control = cpu.control();
-    let leaf = leaf_told(mem, cpu.tlb(), control.root, va);
+    let leaf = look_up(mem, cpu.tlb(), control.root, va);
     place_for(mem, control, cpu.regs().cpl, va, leaf)
 }
 

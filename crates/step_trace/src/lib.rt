@@ -36,5 +36,8 @@ mod telling;
 
 pub use crate::asked::{Kind, MemoryShown, Shown};
 pub use crate::ends::TraceFault;
+pub use crate::opening::put_all_kept;
 pub use crate::ran::put_ran;
+pub use crate::state::put_state;
 pub use crate::steps::drive_shown;
+pub use crate::words::{put_16, put_bytes, put_decimal, put_text};

@@ -112,8 +112,8 @@ fn none_kept(alloc: Global) -> Kept
     }
 }
 
-/// The line of all that a processor keeps of walks.
-fn put_all_kept(alloc: Global, line: &mut Vec<u8>, cpu: &Cpu) -> Result<(), AllocError>
+/// Puts the line of all that a processor keeps of walks. Err where memory for it is wanting.
+pub fn put_all_kept(alloc: Global, line: &mut Vec<u8>, cpu: &Cpu) -> Result<(), AllocError>
     ensures { OnOk result (line.new.items ≡ line.old.items ++ kept_shown true cpu.now.tlb) }
 {
     let none = none_kept(alloc);

@@ -111,8 +111,8 @@ fn put_waits(line: &mut Vec<u8>, cpu: &Cpu) -> Result<(), AllocError>
     put_text(line, "\n")
 }
 
-/// The state behind so many turns.
-pub(crate) fn put_state(line: &mut Vec<u8>, turns: u64, cpu: &Cpu) -> Result<(), AllocError>
+/// Puts the line of a state behind so many turns. Err where memory for it is wanting.
+pub fn put_state(line: &mut Vec<u8>, turns: u64, cpu: &Cpu) -> Result<(), AllocError>
     ensures { OnOk result (line.new.items ≡ line.old.items ++ state_text turns cpu.now) }
 {
     put_place(line, turns, cpu)?;

@@ -9,22 +9,22 @@ use itoa::Buffer;
 use report_text::hexadecimal_law;
 use std::alloc::AllocError;
 
-/// A text.
-pub(crate) fn put_text(line: &mut Vec<u8>, text: &str) -> Result<(), AllocError>
+/// Puts a text behind what stands in a line. Err where memory for it is wanting.
+pub fn put_text(line: &mut Vec<u8>, text: &str) -> Result<(), AllocError>
     ensures { OnOk result (line.new.items ≡ line.old.items ++ text.now) }
 {
     line.extend_from_slice(text.as_bytes())
 }
 
-/// A number's decimal digits.
-pub(crate) fn put_decimal(line: &mut Vec<u8>, number: u64) -> Result<(), AllocError>
+/// Puts a number's decimal digits behind it.
+pub fn put_decimal(line: &mut Vec<u8>, number: u64) -> Result<(), AllocError>
     ensures { OnOk result (line.new.items ≡ line.old.items ++ decimal number) }
 {
     put_text(line, Buffer::new().format(number))
 }
 
-/// Sixteen hexadecimal digits.
-pub(crate) fn put_16(line: &mut Vec<u8>, number: u64) -> Result<(), AllocError>
+/// Puts sixteen hexadecimal digits behind it.
+pub fn put_16(line: &mut Vec<u8>, number: u64) -> Result<(), AllocError>
     ensures { OnOk result (line.new.items ≡ line.old.items ++ hex_16 number) }
 {
     hexadecimal_law();
@@ -52,8 +52,8 @@ pub(crate) fn put_byte(line: &mut Vec<u8>, byte: u8) -> Result<(), AllocError>
     line.extend_from_slice(&digits)
 }
 
-/// Two hexadecimal digits for each byte.
-pub(crate) fn put_bytes(line: &mut Vec<u8>, bytes: &[u8]) -> Result<(), AllocError>
+/// Puts two hexadecimal digits for each byte behind it.
+pub fn put_bytes(line: &mut Vec<u8>, bytes: &[u8]) -> Result<(), AllocError>
     ensures { OnOk result (line.new.items ≡ line.old.items ++ encode_lower bytes.now) }
 {
     for i in 0..bytes.len() {

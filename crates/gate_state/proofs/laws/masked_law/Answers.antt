@@ -8,4 +8,5 @@ returns c = record {
   fetch = c.steps_law.ensures.masked_fetch;
   event = c.steps_law.ensures.masked_event;
   source = c.steps_law.ensures.masked_source;
+  translation = c.steps_law.ensures.masked_translation;
 }

@@ -5,7 +5,7 @@ use Rattle.gate_state.proofs.BodyKept.{body_guarded, body_serves, body_stands}
 use Rattle.gate_state.proofs.CallThrough.{called_through}
 use Rattle.gate_state.proofs.LowerLaws.{LowerLaws}
 use Rattle.gate_state.proofs.BookFrames.{book_hidden, hidden_book}
-use Rattle.gate_state.proofs.MaskedStates.{masked_event, masked_fetch, masked_source, masked_stays, masked_stores, masked_turn}
+use Rattle.gate_state.proofs.MaskedStates.{masked_event, masked_fetch, masked_source, masked_stays, masked_stores, masked_translation, masked_turn}
 use Rattle.gate_state.proofs.MaskedTouches.{masked_trapped}
 use Rattle.gate_state.proofs.OpeningGuarded.{opening_guarded}
 use Rattle.gate_state.proofs.SceneProofs.{scene_laws}
@@ -87,6 +87,7 @@ returns c =
       masked_fetch = λ o s m admitted guarded is. masked_fetch laws o admitted s guarded m is;
       masked_event = λ o s m what admitted guarded is. masked_event laws o admitted s guarded m is what;
       masked_source = λ o s m va count admitted guarded is. masked_source laws o admitted s guarded m is va count;
+      masked_translation = λ o s m page admitted guarded is. masked_translation laws o admitted s guarded m is page;
       hidden = λ o s f admitted guarded inside is. hidden_book laws o s.kinds admitted guarded.kinds f inside is;
       books_hidden = λ o s f admitted guarded is. book_hidden laws o s.kinds admitted guarded.kinds f is;
     }

@@ -10,6 +10,6 @@ returns-then-not-canonical-clause-place c =
 -- the translation of the page was judged
 pub returns-clause-place : goal.returns-clause-place
 returns-clause-place c =
-    place_kept c.args.cpu.now c.args.mem.now c.args.va c.control-control.result.now c.regs.result.now c.tlb.result.now c.leaf_told-leaf.result c.place_for.result
+    place_kept c.args.cpu.now c.args.mem.now c.args.va c.control-control.result.now c.regs.result.now c.tlb.result.now c.look_up-leaf.result c.place_for.result
     (omega arith) (sym c.canonical.ensures.value ∙ c.if-not-canonical.false) c.control-control.ensures c.regs.ensures c.tlb.ensures
-    c.leaf_told-leaf.ensures.found c.place_for.ensures.place
+    c.look_up-leaf.ensures.found c.place_for.ensures.place

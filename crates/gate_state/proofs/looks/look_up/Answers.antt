@@ -1,5 +1,5 @@
 use Rattle.std.proofs.Common.{◌*◌, ◌/◌, ◌<◌, IfSome, length, subst, sym, ◌∙◌}
-use Rattle.step_trace.proofs.code.leaf_told.Goals as goal
+use Rattle.gate_state.proofs.looks.look_up.Goals as goal
 
 -- a translation that is kept names a frame in memory
 pub returns-in-Some-clause-frame : goal.returns-in-Some-clause-frame

@@ -1,0 +1,3 @@
+mod WorkedOrders
+mod WorkedQuestions
+mod RefutedQuestions

@@ -1,0 +1,5 @@
+-- What a reader must believe.
+pub mod Descriptions
+pub mod RegisterTexts
+pub mod ReplyTexts
+pub mod QuestionReplies

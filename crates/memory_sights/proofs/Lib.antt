@@ -1,0 +1,3 @@
+mod SightsFound
+mod SightsLeft
+mod WorkedSights

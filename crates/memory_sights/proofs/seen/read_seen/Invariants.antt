@@ -1,0 +1,8 @@
+use Rattle.std.proofs.Common.{◌≡◌, ◌+◌, ◌-◌, ◌++◌}
+use Rattle.gate_state.specs.MachineOf.{whole_of}
+use Rattle.memory_sights.specs.Sights.{bytes_seen}
+use Rattle.memory_sights.proofs.seen.read_seen.Given as goal
+
+abbrev pub invariant-loop-done : goal.invariant-loop-done
+invariant-loop-done l = l.bytes.items ++ bytes_seen (whole_of l.machine).state (l.address + l.done) (l.count - l.done)
+    ≡ l.initial.bytes.items ++ bytes_seen (whole_of l.machine).state l.address l.count
