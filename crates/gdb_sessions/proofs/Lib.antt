@@ -1,1 +1,2 @@
 pub mod WatchesLeft
+mod RefutedStandings
